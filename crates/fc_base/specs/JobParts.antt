@@ -1,0 +1,31 @@
+-- The limits of a job's settings.
+use Rattle.std.specs.Prelude.{ℕ, ◌%◌, Bool, true, ◌&&◌, ◌==◌, nat_le}
+use Rattle.fc_base.specs.declared.record.JobParts.{JobParts}
+use Rattle.fc_base.specs.declared.record.Verify.{Verify}
+use Rattle.fc_base.specs.declared.record.Verify.TheVariants.{Stamp, Pattern}
+
+-- A block has 512 to 65,536 bytes, in whole sectors of 512.
+abbrev pub has_block_size : JobParts → Bool
+has_block_size job = nat_le 512 job.bs && nat_le job.bs 65536 && (job.bs % 512 == 0)
+
+-- A job has 1 to 65,536 blocks and writes 1 to 1,000,000 times.
+abbrev pub has_region : JobParts → Bool
+has_region job =
+    nat_le 1 job.blocks && nat_le job.blocks 65536 && (nat_le 1 job.total && nat_le job.total 1000000)
+
+-- At most 64 writes may be in flight, and the window is at least that number and at most 256.
+abbrev pub has_queue : JobParts → Bool
+has_queue job =
+    nat_le 1 job.depth && nat_le job.depth 64 && (nat_le job.depth job.window && nat_le job.window 256)
+
+-- Only a job that writes a pattern has one.
+abbrev pub has_pattern : JobParts → Bool
+has_pattern job = is_pattern_of job.verify job.pattern
+  where
+    is_pattern_of : Verify → ℕ → Bool
+    is_pattern_of Stamp byte = byte == 0
+    is_pattern_of Pattern byte = true
+
+-- All limits hold.
+abbrev pub is_within_limits : JobParts → Bool
+is_within_limits job = has_block_size job && has_region job && has_queue job && has_pattern job

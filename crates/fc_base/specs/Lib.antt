@@ -1,0 +1,5 @@
+pub mod Ascending
+pub mod Counted
+pub mod Fault
+pub mod JobParts
+pub mod Report

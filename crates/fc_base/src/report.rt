@@ -1,0 +1,197 @@
+//! What a check of a disk found.
+
+ghost use Rattle.std.specs.Prelude.{◌≡◌, ◌≤◌, IsTrue, Ok, Err, if◌then◌else◌, length};
+ghost use Rattle.std.specs.List.{list_all};
+ghost use Rattle.fc_base.specs.Ascending.{ascends, is_block};
+
+use std::marker::Model;
+
+/// A list of blocks.
+#[derive(Debug, Drop)]
+pub struct Blocks {
+    blocks: Vec<u32>,
+}
+
+impl Model for Blocks {
+    ghost use Rattle.std.specs.Prelude.{ℕ, List};
+
+    ghost Value = { List ℕ };
+
+    ghost view = { λ b. b.blocks.items };
+}
+
+impl Blocks {
+    /// The list of these blocks.
+    pub fn from_vec(blocks: Vec<u32>) -> Blocks
+        ensures { result ≡ blocks.items }
+    {
+        Blocks { blocks }
+    }
+
+    /// The blocks, with the memory that they lie in.
+    pub fn into_vec(self) -> Vec<u32>
+        ensures { result.items ≡ self }
+    {
+        let Blocks { blocks } = self;
+        blocks
+    }
+
+    /// The blocks, in their order.
+    pub fn as_slice(&self) -> &[u32]
+        ensures { result.now ≡ self.now }
+    {
+        &self.blocks
+    }
+}
+
+/// How a check ended.
+#[derive(Clone, Copy, Debug, PartialEq, Eq)]
+pub enum ReportEnd {
+    /// Every block was looked at.
+    Whole,
+    /// At the first fault, since the job asks for that (fio's `verify_fatal`).
+    AtFault,
+    /// At this block, which could not be read.
+    ReadFault(u32),
+}
+
+/// What a report says, with no ranges: what it is made of.
+#[derive(Debug, Drop)]
+pub struct ReportParts {
+    /// How many blocks were checked: at most 65,536.
+    pub checked: u32,
+    /// How many of them were faulty.
+    pub faults: u32,
+    /// The first 32 faulty blocks, ascending.
+    pub first: Blocks,
+    pub end: ReportEnd,
+}
+
+/// A report whose numbers fit together.
+#[derive(Debug, Drop)]
+pub struct CheckReport {
+    parts: ReportParts,
+}
+
+impl Model for CheckReport {
+    ghost use Rattle.std.specs.Prelude.{IsTrue};
+    ghost use Rattle.fc_base.specs.declared.report.ReportParts.{ReportParts};
+    ghost use Rattle.fc_base.specs.Report.{is_report};
+
+    ghost Value = { ReportParts };
+
+    ghost view = { λ r. r.parts };
+
+    ghost invariant = { λ r. IsTrue (is_report r.parts) };
+}
+
+/// How many faulty blocks a report lists.
+const LISTED: u32 = 32;
+
+/// One past the greatest number of a block.
+const BLOCKS_END: u32 = 65_536;
+
+fn are_blocks(blocks: &[u32]) -> bool
+    ensures { result ≡ list_all is_block blocks.now }
+{
+    blocks.iter().all(|b| *b < BLOCKS_END)
+}
+
+fn is_ascending(blocks: &[u32]) -> bool
+    ensures { result ≡ ascends blocks.now }
+{
+    match blocks {
+        [] => true,
+        [_] => true,
+        [first, rest @ ..] => *first < rest[0] && is_ascending(rest),
+    }
+}
+
+impl ReportParts {
+    ghost use Rattle.fc_base.specs.Report.{has_counts, has_list, has_end, is_report};
+
+    fn has_counts(&self) -> bool
+        ensures { result ≡ has_counts self.now }
+    {
+        self.faults <= self.checked && self.checked <= BLOCKS_END
+    }
+
+    fn has_list(&self) -> bool
+        ensures { result ≡ has_list self.now }
+    {
+        let first = self.first.as_slice();
+        first.len() == self.faults.min(LISTED) as usize && are_blocks(first) && is_ascending(first)
+    }
+
+    fn has_end(&self) -> bool
+        ensures { result ≡ has_end self.now }
+    {
+        match self.end {
+            ReportEnd::Whole => true,
+            ReportEnd::AtFault => self.faults == 1,
+            ReportEnd::ReadFault(block) => block < BLOCKS_END,
+        }
+    }
+
+    /// Whether the numbers fit together, so that a report can be made of them.
+    pub fn is_report(&self) -> bool
+        ensures { result ≡ is_report self.now }
+    {
+        self.has_counts() && self.has_list() && self.has_end()
+    }
+}
+
+impl CheckReport {
+    ghost use Rattle.fc_base.specs.Report.{is_report};
+
+    /// The report of these numbers; where they don't fit together, they come back.
+    pub fn make(parts: ReportParts) -> Result<CheckReport, ReportParts>
+        ensures { result ≡ (if is_report parts then Ok parts else Err parts) }
+    {
+        if parts.is_report() {
+            Ok(CheckReport { parts })
+        } else {
+            Err(parts)
+        }
+    }
+
+    /// How many blocks were checked.
+    pub fn checked(&self) -> u32
+        ensures value { result ≡ self.now.checked }
+        ensures range { result ≤ 65536 }
+    {
+        self.parts.checked
+    }
+
+    /// How many of them were faulty.
+    pub fn faults(&self) -> u32
+        ensures value { result ≡ self.now.faults }
+        ensures range { result ≤ self.now.checked }
+    {
+        self.parts.faults
+    }
+
+    /// The first 32 faulty blocks, ascending.
+    pub fn first(&self) -> &[u32]
+        ensures value { result.now ≡ self.now.first }
+        ensures range { length result.now ≤ 32 }
+    {
+        self.parts.first.as_slice()
+    }
+
+    /// How the check ended.
+    pub fn end(&self) -> ReportEnd
+        ensures { result ≡ self.now.end }
+    {
+        self.parts.end
+    }
+
+    /// The numbers that the report is made of.
+    pub fn into_parts(self) -> ReportParts
+        ensures value { result ≡ self }
+        ensures ranges { IsTrue (is_report result) }
+    {
+        let CheckReport { parts } = self;
+        parts
+    }
+}

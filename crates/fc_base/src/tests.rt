@@ -1,0 +1,175 @@
+//! What no clause shows: that the limits, the table and the counting rule are the manual's.
+
+use super::*;
+use std::test::Fail;
+
+const PARTS: JobParts = JobParts {
+    kind: Kind::Sequential,
+    verify: Verify::Stamp,
+    pattern: 0,
+    bs: 512,
+    blocks: 1,
+    total: 1,
+    seed: 1,
+    depth: 1,
+    window: 1,
+};
+
+#[test]
+fn record_gives_its_settings_back(rt: HostRuntime) -> Result<(), Fail> {
+    let parts = JobParts {
+        kind: Kind::RandomFree,
+        verify: Verify::Pattern,
+        pattern: 0xa5,
+        bs: 65_536,
+        blocks: 65_536,
+        total: 1_000_000,
+        seed: u64::MAX,
+        depth: 64,
+        window: 256,
+    };
+    let record = JobRecord::make(parts).ok_or("the greatest settings are within the limits")?;
+    assert_eq!(rt; record.parts(), parts);
+    assert_eq!(rt; record.kind(), Kind::RandomFree);
+    assert_eq!(rt; record.verify(), Verify::Pattern);
+    assert_eq!(rt; record.pattern(), 0xa5);
+    assert_eq!(rt; record.bs(), 65_536);
+    assert_eq!(rt; record.blocks(), 65_536);
+    assert_eq!(rt; record.total(), 1_000_000);
+    assert_eq!(rt; record.seed(), u64::MAX);
+    assert_eq!(rt; record.depth(), 64);
+    assert_eq!(rt; record.window(), 256);
+    Ok(())
+}
+
+#[test]
+fn limits_of_a_record(rt: HostRuntime) {
+    assert!(rt; JobRecord::make(PARTS).is_some());
+    let past = [
+        JobParts { bs: 0, ..PARTS },
+        JobParts { bs: 1000, ..PARTS },
+        JobParts {
+            bs: 66_048,
+            ..PARTS
+        },
+        JobParts { blocks: 0, ..PARTS },
+        JobParts {
+            blocks: 65_537,
+            ..PARTS
+        },
+        JobParts { total: 0, ..PARTS },
+        JobParts {
+            total: 1_000_001,
+            ..PARTS
+        },
+        JobParts { depth: 0, ..PARTS },
+        JobParts {
+            depth: 65,
+            window: 65,
+            ..PARTS
+        },
+        JobParts {
+            depth: 2,
+            window: 1,
+            ..PARTS
+        },
+        JobParts {
+            window: 257,
+            ..PARTS
+        },
+        JobParts {
+            pattern: 1,
+            ..PARTS
+        },
+    ];
+    for parts in past {
+        assert!(rt; JobRecord::make(parts).is_none());
+    }
+}
+
+#[test]
+fn names_and_numbers_of_faults(rt: HostRuntime) -> Result<(), Fail> {
+    let table = [
+        (Fault::JobTooLong, 1, "TooLong", FaultSort::Refusal),
+        (Fault::JobNoMemory, 12, "NoMemory", FaultSort::Memory),
+        (Fault::StateBadField, 32, "BadField", FaultSort::Refusal),
+        (Fault::NoMemory, 35, "NoMemory", FaultSort::Memory),
+        (Fault::FrameBadField, 43, "BadField", FaultSort::Refusal),
+        (Fault::FrameTooLong, 44, "TooLong", FaultSort::Refusal),
+        (Fault::FrameNoMemory, 46, "NoMemory", FaultSort::Memory),
+        (Fault::SaveFault, 53, "SaveFault", FaultSort::Save),
+        (Fault::NoJobs, 62, "NoJobs", FaultSort::Refusal),
+        (Fault::WrongSeat, 93, "WrongSeat", FaultSort::Refusal),
+    ];
+    for (fault, number, name, sort) in table {
+        assert_eq!(rt; fault.number(), number);
+        assert_eq!(rt; fault.name(), name);
+        assert_eq!(rt; fault.sort(), sort);
+        assert_eq!(rt; fault.to_string(rt.alloc())?.as_str(), name);
+    }
+    Ok(())
+}
+
+#[test]
+fn report_gives_its_numbers_back(rt: HostRuntime) -> Result<(), Fail> {
+    let parts = ReportParts {
+        checked: 4,
+        faults: 2,
+        first: Blocks::from_vec(vec![in rt.alloc(); 1, 2]?),
+        end: ReportEnd::Whole,
+    };
+    let report = CheckReport::make(parts)
+        .ok()
+        .ok_or("the numbers fit together")?;
+    assert_eq!(rt; report.checked(), 4);
+    assert_eq!(rt; report.faults(), 2);
+    assert_eq!(rt; report.first(), [1, 2].as_slice());
+    assert_eq!(rt; report.end(), ReportEnd::Whole);
+    assert_eq!(rt;
+        report.into_parts().first.into_vec().as_slice(),
+        [1, 2].as_slice()
+    );
+    Ok(())
+}
+
+#[test]
+fn reports_that_are_none(rt: HostRuntime) -> Result<(), Fail> {
+    let numbers = [
+        (1, 2, [1, 2], ReportEnd::Whole),
+        (65_537, 2, [1, 2], ReportEnd::Whole),
+        (4, 3, [1, 2], ReportEnd::Whole),
+        (4, 2, [2, 1], ReportEnd::Whole),
+        (4, 2, [1, 1], ReportEnd::Whole),
+        (4, 2, [1, 65_536], ReportEnd::Whole),
+        (4, 2, [1, 2], ReportEnd::AtFault),
+        (4, 2, [1, 2], ReportEnd::ReadFault(65_536)),
+    ];
+    for (checked, faults, blocks, end) in numbers {
+        let parts = ReportParts {
+            checked,
+            faults,
+            first: Blocks::from_vec(Vec::from_slice(rt.alloc(), &blocks)?),
+            end,
+        };
+        let refused = CheckReport::make(parts)
+            .err()
+            .ok_or("the numbers don't fit together")?;
+        assert_eq!(rt; refused.first.as_slice(), blocks.as_slice());
+    }
+    Ok(())
+}
+
+/// Writes 0 to 4 are issued at window 3, and completed in the order 2, 1, 0, 3, 4: the last three
+/// completions alone would lose write 2.
+#[test]
+fn completions_out_of_order(rt: HostRuntime) {
+    let all = [Seq(2), Seq(1), Seq(0), Seq(3), Seq(4)];
+    for number in 0..5 {
+        assert!(rt; is_counted(&all, 3, 5, Seq(number)));
+    }
+    let last = [Seq(0), Seq(3), Seq(4)];
+    assert!(rt; !is_counted(&last, 3, 5, Seq(2)));
+    assert!(rt; is_counted(&[], 3, 5, Seq(1)));
+    assert!(rt; !is_counted(&[], 3, 5, Seq(5)));
+    assert!(rt; !is_counted(&[], 256, 5, Seq(u64::MAX)));
+}
