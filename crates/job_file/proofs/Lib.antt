@@ -1,0 +1,5 @@
+pub mod Cut
+pub mod Layers
+pub mod Numerals
+pub mod Sections
+pub mod Texts

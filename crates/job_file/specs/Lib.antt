@@ -1,0 +1,9 @@
+pub mod Bytes
+pub mod Draft
+pub mod Fault
+pub mod JobSet
+pub mod Line
+pub mod Number
+pub mod Reader
+pub mod Section
+pub mod Setting

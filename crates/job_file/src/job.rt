@@ -1,0 +1,128 @@
+//! The jobs of a job file.
+
+ghost use Rattle.std.specs.Prelude.{◌≡◌, ◌≤◌, length};
+
+use crate::text::Text;
+use fc_base::JobRecord;
+use std::alloc::Global;
+use std::marker::Model;
+
+/// Whether the jobs of a file write, or read and check.
+#[derive(Clone, Copy, Debug, PartialEq, Eq)]
+pub enum Phase {
+    Write,
+    Read,
+}
+
+/// One job.
+#[derive(Debug, Drop)]
+pub struct Job {
+    /// The name of its section.
+    pub name: Text,
+    /// fio's `filename`: a label, since job i has file slot i.
+    pub filename: Option<Text>,
+    pub rec: JobRecord,
+    /// Its state is kept at the trigger (fio's `verify_state_save`).
+    pub save: bool,
+    /// It is checked with a kept state (fio's `verify_state_load`).
+    pub load: bool,
+    /// A check ends at the first fault (fio's `verify_fatal`).
+    pub fatal: bool,
+}
+
+/// Jobs, numbered from 0 in the order of the text.
+#[derive(Debug, Drop)]
+pub struct Jobs {
+    jobs: Vec<Job>,
+}
+
+impl Model for Jobs {
+    ghost use Rattle.std.specs.Prelude.{List};
+    ghost use Rattle.job_file.specs.declared.job.Job.{Job};
+
+    ghost Value = { List Job };
+
+    ghost view = { λ j. j.jobs.items };
+}
+
+impl Jobs {
+    /// The list of these jobs.
+    pub fn from_vec(jobs: Vec<Job>) -> Jobs
+        ensures { result ≡ jobs.items }
+    {
+        Jobs { jobs }
+    }
+
+    /// The jobs, with the memory that they lie in.
+    pub fn into_vec(self) -> Vec<Job>
+        ensures { result.items ≡ self }
+    {
+        let Jobs { jobs } = self;
+        jobs
+    }
+
+    /// The jobs, borrowed: job i is at index i.
+    pub fn as_slice(&self) -> &[Job]
+        ensures { result.now ≡ self.now }
+    {
+        &self.jobs
+    }
+}
+
+/// A line whose option is accepted and has no effect.
+#[derive(Debug, Drop)]
+pub struct Note {
+    /// The line, counted from 1.
+    pub line: u32,
+    /// The option as it is spelled there.
+    pub option: Text,
+}
+
+/// Notes, in the order of the lines.
+#[derive(Debug, Drop)]
+pub struct Notes {
+    notes: Vec<Note>,
+}
+
+impl Model for Notes {
+    ghost use Rattle.std.specs.Prelude.{List};
+    ghost use Rattle.job_file.specs.declared.job.Note.{Note};
+
+    ghost Value = { List Note };
+
+    ghost view = { λ n. n.notes.items };
+}
+
+impl Notes {
+    /// The list of these notes.
+    pub fn from_vec(notes: Vec<Note>) -> Notes
+        ensures { result ≡ notes.items }
+    {
+        Notes { notes }
+    }
+
+    /// The notes, with the memory that they lie in.
+    pub fn into_vec(self) -> Vec<Note>
+        ensures { result.items ≡ self }
+    {
+        let Notes { notes } = self;
+        notes
+    }
+
+    /// The notes, borrowed.
+    pub fn as_slice(&self) -> &[Note]
+        ensures { result.now ≡ self.now }
+    {
+        &self.notes
+    }
+}
+
+/// What a job file says.
+#[derive(Debug, Drop)]
+pub struct JobSet {
+    pub phase: Phase,
+    pub jobs: Jobs,
+    pub notes: Notes,
+    ghost some: { 1 ≤ length jobs },
+    ghost few: { length jobs ≤ 16 },
+}

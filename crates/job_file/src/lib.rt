@@ -1,0 +1,23 @@
+//! Job files of fio, as far as fiocut's profile takes them: a text becomes a set of jobs, or the
+//! first of its faults.
+#![tactic(auto)]
+
+mod bytes;
+mod draft;
+mod fault;
+mod job;
+mod line;
+mod number;
+mod option;
+mod parser;
+mod reader;
+mod settings;
+mod text;
+
+pub use fault::JobFault;
+pub use job::{Job, JobSet, Jobs, Note, Notes, Phase};
+pub use parser::parse;
+pub use text::Text;
+
+#[cfg(test)]
+mod tests;

@@ -1,0 +1,85 @@
+//! Text of a job file: borrowed from it, and owned by a job.
+
+ghost use Rattle.std.specs.Prelude.{◌≡◌, IfOk, IsTrue, string_bytes};
+ghost use Rattle.std.specs.List.{list_all};
+ghost use Rattle.job_file.specs.Bytes.{is_text_byte};
+
+use std::alloc::{AllocError, Global};
+use std::marker::Model;
+
+/// A text of its own, such as a job's name: printable ASCII, tabs and carriage returns.
+#[derive(Debug, Drop)]
+pub struct Text {
+    string: String,
+}
+
+impl Model for Text {
+    ghost use Rattle.std.specs.Prelude.{ℕ, List, string_bytes};
+
+    ghost Value = { List ℕ };
+
+    ghost view = { λ t. string_bytes t.string };
+}
+
+impl Text {
+    /// The text that this string has.
+    pub fn from_string(string: String) -> Text
+        ensures { result ≡ string_bytes string }
+    {
+        Text { string }
+    }
+
+    /// The text as a string.
+    pub fn into_string(self) -> String
+        ensures { string_bytes result ≡ self }
+    {
+        let Text { string } = self;
+        string
+    }
+
+    /// The text, borrowed.
+    pub fn as_str(&self) -> &str
+        ensures { result.now ≡ self.now }
+    {
+        self.string.as_str()
+    }
+}
+
+/// A name as it stands in the job file.
+#[derive(Drop)]
+pub(crate) struct Name<'a> {
+    bytes: &'a [u8],
+}
+
+impl<'a> Model for Name<'a> {
+    ghost use Rattle.std.specs.Prelude.{ℕ, List, IsTrue};
+    ghost use Rattle.std.specs.List.{list_all};
+    ghost use Rattle.job_file.specs.Bytes.{is_text_byte};
+
+    ghost Value = { List ℕ };
+
+    ghost view = { λ n. n.bytes.now };
+
+    ghost invariant = { λ n. IsTrue (list_all is_text_byte n.bytes.now) };
+}
+
+impl<'a> Name<'a> {
+    /// The name that these bytes spell.
+    pub(crate) fn new(bytes: &'a [u8]) -> Name<'a>
+        requires { IsTrue (list_all is_text_byte bytes.now) }
+        ensures { result ≡ bytes.now }
+    {
+        Name { bytes }
+    }
+
+    /// A copy of the name, apart from the job file.
+    pub(crate) fn copied(&self, alloc: Global) -> Result<Text, AllocError>
+        ensures { IfOk result (λ text. text ≡ self.now) }
+    {
+        let string = match str::from_utf8(self.bytes) {
+            Ok(text) => String::from_str(alloc, text)?,
+            Err(_) => unreachable!(),
+        };
+        Ok(Text { string })
+    }
+}
