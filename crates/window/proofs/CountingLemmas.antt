@@ -1,0 +1,115 @@
+-- The counting law.
+use Rattle.std.proofs.Common.{◌≡◌, ℕ, ◌+◌, ◌-◌, ◌*◌, ◌<◌, ◌≤◌, suc, true, not, eqb, ltb, List, [], ◌∷◌, ◌++◌, length, drop, get_or, sym, refl, ap, ◌∙◌, subst, inl, inr, arith}
+use Rattle.std.specs.Cmp.{nat_eq_equiv}
+use Rattle.std.specs.Prelude.{nat_eq}
+use Rattle.std.specs.List.{IsDistinct}
+use Rattle.std.proofs.lemmas.Bool.{cases_lt, false≢true, or_left, or_right, or_cases, eqb-true, eq-eqb, lt-ltb, ltb-true}
+use Rattle.std.proofs.lemmas.Bool.Decides.{same_from_decides}
+use Rattle.std.proofs.lemmas.List.{length-append, length-drop, drop_at, drop-append-le, append_assoc, length_push}
+use Rattle.std.proofs.lemmas.List.Elements.{filter_agree, All-drop}
+use Rattle.std.proofs.lemmas.List.Filters.{length-filter_both}
+use Rattle.std.proofs.lemmas.List.Folds.{list_any_at}
+use Rattle.std.proofs.lemmas.Map.Keys.{IsDistinct-push}
+use Rattle.fc_base.specs.Counted.{is_counted}
+use Rattle.window.specs.Numbers.{has, numbers_below}
+use Rattle.window.specs.History.{Event, issue, done, fail, issues, completions, issued, is_done, recent}
+use Rattle.window.specs.Legal.{IsLegal}
+use Rattle.window.specs.Counting.{CountsTheCompleted, ComesToPossible}
+use Rattle.window.proofs.NumberLemmas.{has_push, has_append_right, has_head, has_is_member, has_last_of, length_numbers_below, IsDistinct-drop, length-le_from_range}
+use Rattle.window.proofs.HistoryLemmas.{in_flight_are_numbers, open_is, done_issued, old_is_done, few_in_flight, length-in_flight-completions}
+
+-- no write completes twice
+pub distinct_completions : (depth window : ℕ) (h : List Event) → IsLegal depth window h → IsDistinct nat_eq (completions h)
+unfolding IsDistinct
+distinct_completions depth window [] l = tt
+distinct_completions depth window (issue m ∷ h) l = distinct_completions depth window h l.0
+distinct_completions depth window (done m ∷ h) l =
+    IsDistinct-push nat_eq_equiv (completions h) m (distinct_completions depth window h l.0)
+    (has_is_member (completions h) m ∙ (open_is depth window h l.0 m l.1).1)
+distinct_completions depth window (fail m ∷ h) l = distinct_completions depth window h l.0
+
+-- the completions up to that of k, and those behind it, which lie less than a window below k
+record Completed (window k : ℕ) (h : List Event) : Type 0 where
+  front : List ℕ
+  back : List ℕ
+  parts : completions h ≡ front ++ k ∷ back
+  near : (j : ℕ) → has back j ≡ true → (k < j + window) × (j < issued h)
+
+completed_later : (depth window k m : ℕ) (h : List Event) → IsLegal depth window (done m ∷ h) → is_done h k ≡ true → Completed window k h → Completed window k (done m ∷ h)
+completed_later depth window k m h l before c =
+    let was = open_is depth window h l.0 m l.1 in
+    let near : k < m + window = elim (cases_lt k (m + window)) [
+      | inl lt ↦ lt
+      | inr far ↦ absurd (false≢true (sym was.1 ∙ old_is_done depth window h l.0 m (omega (arith, done_issued depth window h l.0 k before))))
+    ] in
+    record {
+      front = c.front;
+      back = c.back ++ m ∷ [];
+      parts = ap (λ xs. xs ++ m ∷ []) c.parts ∙ append_assoc c.front (k ∷ c.back) (m ∷ []);
+      near = λ j b. elim (or_cases (has c.back j) (eqb m j) (sym (has_push c.back m j) ∙ b)) [
+        | inl old ↦ c.near j old
+        | inr now ↦ let same = eqb-true m j now in (omega arith, omega arith)
+      ];
+    }
+
+completed : (depth window k : ℕ) (h : List Event) → IsLegal depth window h → is_done h k ≡ true → Completed window k h
+completed depth window k [] l e = absurd (false≢true e)
+completed depth window k (issue m ∷ h) l e =
+    let c = completed depth window k h l.0 e in
+    record { front = c.front; back = c.back; parts = c.parts; near = λ j b. ((c.near j b).0, omega (arith, (c.near j b).1, length_push (issues h) m)) }
+completed depth window k (fail m ∷ h) l e =
+    let c = completed depth window k h l.0 e in
+    record { front = c.front; back = c.back; parts = c.parts; near = c.near }
+completed depth window k (done m ∷ h) l e = elim (or_cases (is_done h k) (eqb m k) (sym (has_push (completions h) m k) ∙ e)) [
+  | inl before ↦ completed_later depth window k m h l before (completed depth window k h l.0 before)
+  | inr now ↦ record { front = completions h; back = []; parts = ap (λ j. completions h ++ j ∷ []) (eqb-true m k now); near = λ j b. absurd (false≢true b) }
+]
+
+-- so a completed write that isn't a whole window old is among the last two windows of completions
+is_recent : (window k : ℕ) (h : List Event) → IsDistinct nat_eq (completions h) → k < issued h → issued h ≤ k + window → Completed window k h → has (recent window h) k ≡ true
+is_recent window k h d below near c =
+    let rest = k ∷ c.back in
+    let low = suc k - window in
+    let behind = ap (drop (length c.front)) c.parts ∙ drop_at c.front rest (length c.front) refl in
+    let distinct = subst (IsDistinct nat_eq) behind (IsDistinct-drop (length c.front) (completions h) d) in
+    let few = length-le_from_range low (issued h - low) rest distinct (λ j r. elim (or_cases (eqb k j) (has c.back j) r) [
+      | inl now ↦ let same = eqb-true k j now in (omega arith, omega arith)
+      | inr b ↦ let n = c.near j b in (omega arith, omega arith)
+    ]) in
+    let long = ap length c.parts ∙ length-append c.front rest in
+    let n = length (completions h) - 2 * window in
+    let cut = ap (drop n) c.parts ∙ drop-append-le n c.front rest (omega arith) in
+    ap (λ xs. has xs k) cut ∙ has_append_right (drop n c.front) rest k (has_head k c.back)
+
+pub counts_the_completed : CountsTheCompleted
+counts_the_completed depth window h l k = same_from_decides (is_counted window (issued h) (recent window h) k) (is_done h k) (counted_done, done_counted) (λ e. e, λ e. e)
+  where
+    counted_done : is_counted window (issued h) (recent window h) k ≡ true → is_done h k ≡ true
+    counted_done e = elim (or_cases (has (recent window h) k) (ltb (k + window) (issued h)) e) [
+      | inl among ↦ has_last_of (2 * window) (completions h) k among
+      | inr old ↦ old_is_done depth window h l k (ltb-true (k + window) (issued h) old)
+    ]
+
+    done_counted : is_done h k ≡ true → is_counted window (issued h) (recent window h) k ≡ true
+    done_counted e = elim (cases_lt (k + window) (issued h)) [
+      | inl old ↦ or_right (has (recent window h) k) (ltb (k + window) (issued h)) (lt-ltb (k + window) (issued h) old)
+      | inr near ↦
+          or_left (has (recent window h) k) (ltb (k + window) (issued h))
+          (is_recent window k h (distinct_completions depth window h l) (done_issued depth window h l k e) near (completed depth window k h l e))
+    ]
+
+pub comes_to_possible : ComesToPossible
+comes_to_possible depth window h l =
+    let counted = is_counted window (issued h) (recent window h) in
+    let counts = counts_the_completed depth window h l in
+    let numbers = numbers_below (issued h) in
+    let flying = filter_agree (λ k. not (counted k)) (λ k. not (is_done h k)) (λ k. ap not (counts k)) numbers ∙ sym (in_flight_are_numbers depth window h l) in
+    let done_ones = filter_agree counted (is_done h) counts numbers in
+    let both = length-filter_both (is_done h) (λ k. not (is_done h k)) (λ k. refl) numbers in
+    record {
+      distinct = IsDistinct-drop (length (completions h) - 2 * window) (completions h) (distinct_completions depth window h l);
+      all_issued = All-drop (λ k. k < issued h) (length (completions h) - 2 * window) (completions h)
+          (λ i d lt. done_issued depth window h l (get_or (completions h) i d) (list_any_at (λ j. eqb j (get_or (completions h) i d)) (completions h) i d lt (eq-eqb _ _ refl)));
+      few_uncounted = omega (arith, ap length flying, few_in_flight depth window h l);
+      whole = omega (arith, ap length done_ones, both, ap length (in_flight_are_numbers depth window h l), length-in_flight-completions depth window h l, length_numbers_below (issued h), length-drop (length (completions h) - 2 * window) (completions h));
+    }

@@ -1,0 +1,7 @@
+pub mod CountingLemmas
+pub mod HistoryLemmas
+pub mod NumberLemmas
+pub mod StepLemmas
+pub mod MarkLemmas
+pub mod FlightLemmas
+pub mod PlainLemmas

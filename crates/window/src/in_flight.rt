@@ -1,0 +1,145 @@
+//! The writes in flight, in bits.
+
+ghost use Rattle.std.specs.Prelude.{◌≡◌, ◌+◌, ◌%◌, ◌<◌, ◌≤◌, [], ◌∷◌, ◌++◌, ◌&&◌, nat_lt, nat_le, length, false, IsTrue};
+ghost use Rattle.window.specs.Numbers.{has, without};
+ghost use Rattle.window.specs.Kept.{is_held};
+
+use crate::marks::Marks;
+use fc_base::Seq;
+use std::marker::Model;
+
+/// Which of the last writes are in flight, and which of those are open. All lie within one window
+/// below the next number, so that number `k` has slot `k % window` for itself.
+#[derive(Debug, Drop)]
+pub(crate) struct InFlight {
+    window: u64,
+    issued: u64,
+    /// How many writes are in flight.
+    count: u64,
+    /// The slots of the writes in flight.
+    marks: Marks,
+    /// The slots of the open writes.
+    open_marks: Marks,
+}
+
+impl Model for InFlight {
+    ghost use Rattle.std.specs.Prelude.{◌≡◌, ◌≤◌, length};
+    ghost use Rattle.window.specs.InFlight.{Flights, flights_of, marked_numbers};
+
+    ghost Value = { Flights };
+
+    ghost view = { λ a. flights_of a.window a.issued a.marks a.open_marks };
+
+    ghost invariant = { λ a. (1 ≤ a.window) × (a.window ≤ 256)
+        × (a.count ≡ length (marked_numbers a.marks a.window a.issued)) };
+}
+
+impl InFlight {
+    ghost use Rattle.window.specs.InFlight.{Flights};
+
+    /// Nothing is issued yet.
+    pub(crate) fn new(window: u64) -> Self
+        requires least { 1 ≤ window }
+        requires most { window ≤ 256 }
+        ensures { result ≡ record { window = window; issued = 0; in_flight = []; open_writes = [] } }
+    {
+        InFlight {
+            window,
+            issued: 0,
+            count: 0,
+            marks: Marks::NONE,
+            open_marks: Marks::NONE,
+        }
+    }
+
+    pub(crate) fn issued(&self) -> u64
+        ensures { result ≡ self.now.issued }
+    {
+        self.issued
+    }
+
+    /// How many writes are in flight.
+    pub(crate) fn len(&self) -> u64
+        ensures { result ≡ length self.now.in_flight }
+    {
+        self.count
+    }
+
+    /// Whether a write is in flight.
+    pub(crate) fn has(&self, seq: Seq) -> bool
+        ensures { result ≡ has self.now.in_flight seq }
+    {
+        let number = seq.0;
+        is_last(number, self.issued, self.window) && self.marks.has(slot(number, self.window))
+    }
+
+    /// Whether a write is open.
+    pub(crate) fn is_open(&self, seq: Seq) -> bool
+        ensures { result ≡ has self.now.open_writes seq }
+    {
+        self.has(seq) && self.open_marks.has(slot(seq.0, self.window))
+    }
+
+    /// Whether a write in flight lies a whole window below the next one: only one can.
+    pub(crate) fn is_held(&self) -> bool
+        ensures { result ≡ is_held self.now.window self.now.issued self.now.in_flight }
+    {
+        self.issued >= self.window && self.has(Seq(self.issued - self.window))
+    }
+
+    /// Issues the next write.
+    pub(crate) fn issue(&mut self)
+        requires clear { is_held self.old.window self.old.issued self.old.in_flight ≡ false }
+        requires fewer { self.old.issued < 1000000 }
+        ensures { self.new ≡ record self.old {
+          issued = self.old.issued + 1;
+          in_flight = self.old.in_flight ++ self.old.issued ∷ [];
+          open_writes = self.old.open_writes ++ self.old.issued ∷ [];
+        } }
+    {
+        let slot = slot(self.issued, self.window);
+        self.marks.set(slot);
+        self.open_marks.set(slot);
+        self.count += 1;
+        self.issued += 1;
+    }
+
+    /// Takes a write out of the writes in flight.
+    pub(crate) fn complete(&mut self, seq: Seq)
+        requires { IsTrue (has self.old.open_writes seq) }
+        ensures { self.new ≡ record self.old {
+          in_flight = without seq self.old.in_flight;
+          open_writes = without seq self.old.open_writes;
+        } }
+    {
+        let slot = slot(seq.0, self.window);
+        self.marks.clear(slot);
+        self.open_marks.clear(slot);
+        self.count -= 1;
+    }
+
+    /// Takes a write out of the open ones.
+    pub(crate) fn fail(&mut self, seq: Seq)
+        requires { IsTrue (has self.old.open_writes seq) }
+        ensures { self.new ≡ record self.old { open_writes = without seq self.old.open_writes } }
+    {
+        self.open_marks.clear(slot(seq.0, self.window));
+    }
+}
+
+/// Whether a number is among the last of those issued, as many as the window is long.
+fn is_last(number: u64, issued: u64, window: u64) -> bool
+    ensures { result ≡ (nat_lt number issued && nat_le issued (number + window)) }
+{
+    number < issued && issued - number <= window
+}
+
+/// The slot of a number.
+fn slot(number: u64, window: u64) -> usize
+    requires least { 1 ≤ window }
+    requires most { window ≤ 256 }
+    ensures value { result ≡ number % window }
+    ensures within { result < 256 }
+{
+    (number % window) as usize
+}

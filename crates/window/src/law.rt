@@ -1,0 +1,16 @@
+//! What holds of every legal history. The functions have nothing to run.
+
+ghost use Rattle.window.specs.Counting.{CountsTheCompleted, ComesToPossible, StaysInOneWindow};
+
+/// Why a verify state may forget old completions: the last two windows of them and the number of
+/// writes issued count exactly the completed writes, and never make an impossible state.
+pub fn counting_law()
+    ensures counts_the_completed { CountsTheCompleted }
+    ensures comes_to_possible { ComesToPossible }
+{}
+
+/// Why a window needs one slot for each of its numbers: all writes in flight lie within one window
+/// below the next number.
+pub fn in_flight_law()
+    ensures { StaysInOneWindow }
+{}
