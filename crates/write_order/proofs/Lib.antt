@@ -1,0 +1,5 @@
+mod WordSteps
+mod PickSteps
+mod OrderSteps
+mod Permutations
+mod StampSteps

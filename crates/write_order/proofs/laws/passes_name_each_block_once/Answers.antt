@@ -1,0 +1,8 @@
+use Rattle.write_order.specs.Words.{word}
+use Rattle.write_order.proofs.Permutations.{IsPermutation-pass}
+use Rattle.write_order.proofs.laws.passes_name_each_block_once.Goals as goal
+
+pub returns : goal.returns
+returns c kind p =
+    let job = c.args.job.now in
+    rw kind (IsPermutation-pass (word job.seed) job.blocks p)

@@ -1,0 +1,10 @@
+pub mod Ahead
+pub mod Blocks
+pub mod Filling
+pub mod Passes
+pub mod Picks
+pub mod Places
+pub mod Progress
+pub mod Stamps
+pub mod UnderWay
+pub mod Words

@@ -1,0 +1,287 @@
+//! Values that were computed apart from this program, by another reading of the rules.
+
+use fc_base::{JobNo, Key, Kind, RunNo, ServerNo, Verify};
+
+/// A seed, and the first words of its generator.
+pub const WORDS: [(u64, [u64; 8]); 6] = [
+    (
+        0,
+        [
+            0x5317_5d61_490b_23df,
+            0x61da_6f3d_c380_d507,
+            0x5c0f_df91_ec9a_7bfc,
+            0x02ee_bf8c_3bbe_5e1a,
+            0x7eca_04eb_af4a_5eea,
+            0x0543_c377_57f0_8d9a,
+            0xdb74_90c7_5ab5_026e,
+            0xd873_43e6_464b_c959,
+        ],
+    ),
+    (
+        1,
+        [
+            0xcfc5_d07f_6f03_c29b,
+            0xbf42_4132_963f_e08d,
+            0x19a3_7d57_57aa_f520,
+            0xbf08_119f_05cd_56d6,
+            0x2f47_184b_8618_6fa4,
+            0x9729_9fca_e720_2345,
+            0xfca3_c795_08f4_1507,
+            0x85fe_a5c9_0363_f221,
+        ],
+    ),
+    (
+        2,
+        [
+            0xc3e6_7584_b5c4_fc2a,
+            0x8983_7ec3_9e40_f2c8,
+            0xa6bb_0b29_87ac_94cd,
+            0x4b31_e5fb_dd21_0a72,
+            0x7dad_9d2b_709a_04f7,
+            0xc593_b0c1_cc06_3418,
+            0x5655_42e1_2607_44a6,
+            0xbdbc_fe1e_0dbd_de17,
+        ],
+    ),
+    (
+        42,
+        [
+            0xd076_4d4f_4476_689f,
+            0x519e_4174_576f_3791,
+            0xfbe0_7cfb_0c24_ed8c,
+            0xb37d_9f60_0cd8_35b8,
+            0xcb23_1c38_7484_6a73,
+            0x968d_9f00_4e50_de7d,
+            0x2017_18ff_221a_3556,
+            0x9ae9_4e07_0ed8_cb46,
+        ],
+    ),
+    (
+        4_294_967_296,
+        [
+            0x6658_10f2_ba1d_6351,
+            0x4be2_ebc6_0ad0_dae2,
+            0x6e94_302c_72b7_99d9,
+            0x22bb_55c9_d95f_765d,
+            0xf68b_e9ae_aa93_46bf,
+            0xebcb_7b3c_42f2_39e4,
+            0x1e56_52f3_e1d8_2c63,
+            0x03ba_1d93_36ae_ac4c,
+        ],
+    ),
+    (
+        u64::MAX,
+        [
+            0x56cc_f8ce_948e_27b2,
+            0xe685_8843_2e5a_5b90,
+            0xe3e9_b5a4_8119_ca8b,
+            0x460f_1949_5532_ae73,
+            0xa7d6_2040_ea92_63e1,
+            0x66f1_fb2a_c940_2c14,
+            0xe243_b47d_e8a7_3f68,
+            0x7c93_fdab_4c7b_3dff,
+        ],
+    ),
+];
+
+/// A seed, a number of writes of a random order, and the place after them.
+pub const PLACES: [(u64, u64, [u64; 4]); 5] = [
+    (
+        1,
+        0,
+        [
+            0xcfc5_d07f_6f03_c29b,
+            0xbf42_4132_963f_e08d,
+            0x19a3_7d57_57aa_f520,
+            0xbf08_119f_05cd_56d6,
+        ],
+    ),
+    (
+        1,
+        1,
+        [
+            0xbf42_4132_963f_e08d,
+            0x19a3_7d57_57aa_f520,
+            0xbf08_119f_05cd_56d6,
+            0x2f47_184b_8618_6fa4,
+        ],
+    ),
+    (
+        1,
+        5,
+        [
+            0x9729_9fca_e720_2345,
+            0xfca3_c795_08f4_1507,
+            0x85fe_a5c9_0363_f221,
+            0x18ba_e5b3_0d33_4bd0,
+        ],
+    ),
+    (
+        42,
+        1000,
+        [
+            0xd438_4621_4ce2_d08d,
+            0xd022_9de0_7708_eb62,
+            0x4a87_5d48_eb20_6e8b,
+            0xfc83_4359_7d8d_d650,
+        ],
+    ),
+    (
+        7,
+        999_999,
+        [
+            0x0699_fc34_8ddd_7152,
+            0x2390_ec50_5874_5b32,
+            0xcf78_fb42_9ab3_3a87,
+            0x7772_d179_ef83_4945,
+        ],
+    ),
+];
+/// An order, its seed, how many blocks it has, and the blocks of its first writes.
+pub const BLOCKS: [(Kind, u64, u64, &[u32]); 12] = [
+    (Kind::Sequential, 1, 4, &[0, 1, 2, 3, 0, 1, 2, 3, 0, 1]),
+    (
+        Kind::Sequential,
+        42,
+        7,
+        &[
+            0, 1, 2, 3, 4, 5, 6, 0, 1, 2, 3, 4, 5, 6, 0, 1, 2, 3, 4, 5, 6, 0,
+        ],
+    ),
+    (Kind::Sequential, u64::MAX, 1, &[0, 0, 0]),
+    (
+        Kind::Sequential,
+        5,
+        16,
+        &[
+            0, 1, 2, 3, 4, 5, 6, 7, 8, 9, 10, 11, 12, 13, 14, 15, 0, 1, 2, 3, 4, 5, 6, 7, 8, 9, 10,
+            11, 12, 13, 14, 15, 0, 1, 2, 3, 4, 5, 6, 7,
+        ],
+    ),
+    (Kind::RandomMap, 1, 4, &[3, 2, 0, 1, 0, 2, 1, 3, 0, 2]),
+    (
+        Kind::RandomMap,
+        42,
+        7,
+        &[
+            3, 5, 0, 4, 2, 1, 6, 2, 3, 5, 6, 4, 0, 1, 3, 4, 1, 2, 5, 6, 0, 2,
+        ],
+    ),
+    (Kind::RandomMap, u64::MAX, 1, &[0, 0, 0]),
+    (
+        Kind::RandomMap,
+        5,
+        16,
+        &[
+            14, 0, 13, 7, 12, 10, 3, 6, 2, 5, 1, 4, 9, 15, 8, 11, 0, 5, 4, 3, 9, 6, 11, 13, 7, 1,
+            2, 8, 10, 12, 15, 14, 0, 8, 12, 15, 5, 3, 2, 9,
+        ],
+    ),
+    (Kind::RandomFree, 1, 4, &[3, 1, 0, 2, 0, 1, 3, 1, 0, 2]),
+    (
+        Kind::RandomFree,
+        42,
+        7,
+        &[
+            3, 0, 5, 3, 2, 0, 0, 2, 3, 4, 4, 1, 5, 6, 3, 3, 4, 5, 3, 1, 1, 2,
+        ],
+    ),
+    (Kind::RandomFree, u64::MAX, 1, &[0, 0, 0]),
+    (
+        Kind::RandomFree,
+        5,
+        16,
+        &[
+            14, 6, 15, 14, 15, 10, 13, 10, 10, 7, 1, 1, 3, 12, 9, 0, 0, 11, 12, 7, 5, 4, 5, 2, 15,
+            14, 4, 3, 13, 12, 14, 8, 0, 10, 10, 9, 5, 5, 8, 10,
+        ],
+    ),
+];
+/// A write, and the first bytes of its block: its key, what it writes, the block size, its number, its block.
+pub const FRONTS: [(Key, Verify, u8, u64, u64, u32, [u8; 40]); 5] = [
+    (
+        Key {
+            run: RunNo(1),
+            server: ServerNo(0),
+            job: JobNo(0),
+        },
+        Verify::Stamp,
+        0x00,
+        512,
+        5,
+        1,
+        [
+            0x00, 0x00, 0x00, 0x00, 0x00, 0x00, 0x00, 0x01, 0x00, 0x00, 0x00, 0x00, 0x00, 0x00,
+            0x00, 0x00, 0x00, 0x00, 0x00, 0x00, 0x00, 0x00, 0x00, 0x05, 0x00, 0x00, 0x00, 0x00,
+            0x00, 0x00, 0x00, 0x01, 0x00, 0x00, 0x00, 0x00, 0x05, 0x06, 0x07, 0x08,
+        ],
+    ),
+    (
+        Key {
+            run: RunNo(u64::MAX),
+            server: ServerNo(7),
+            job: JobNo(15),
+        },
+        Verify::Stamp,
+        0x00,
+        4096,
+        999_999,
+        65_535,
+        [
+            0xff, 0xff, 0xff, 0xff, 0xff, 0xff, 0xff, 0xff, 0x00, 0x00, 0x00, 0x07, 0x00, 0x00,
+            0x00, 0x0f, 0x00, 0x00, 0x00, 0x00, 0x00, 0x0f, 0x42, 0x3f, 0x00, 0x00, 0x00, 0x00,
+            0x00, 0x00, 0xff, 0xff, 0x00, 0x00, 0x00, 0x00, 0x3f, 0x40, 0x41, 0x42,
+        ],
+    ),
+    (
+        Key {
+            run: RunNo(3),
+            server: ServerNo(1),
+            job: JobNo(2),
+        },
+        Verify::Stamp,
+        0x00,
+        65_536,
+        255,
+        0,
+        [
+            0x00, 0x00, 0x00, 0x00, 0x00, 0x00, 0x00, 0x03, 0x00, 0x00, 0x00, 0x01, 0x00, 0x00,
+            0x00, 0x02, 0x00, 0x00, 0x00, 0x00, 0x00, 0x00, 0x00, 0xff, 0x00, 0x00, 0x00, 0x00,
+            0x00, 0x00, 0x00, 0x00, 0x00, 0x00, 0x00, 0x00, 0xff, 0x00, 0x01, 0x02,
+        ],
+    ),
+    (
+        Key {
+            run: RunNo(1),
+            server: ServerNo(0),
+            job: JobNo(0),
+        },
+        Verify::Pattern,
+        0xa5,
+        1024,
+        0,
+        0,
+        [
+            0xa5, 0xa5, 0xa5, 0xa5, 0xa5, 0xa5, 0xa5, 0xa5, 0xa5, 0xa5, 0xa5, 0xa5, 0xa5, 0xa5,
+            0xa5, 0xa5, 0xa5, 0xa5, 0xa5, 0xa5, 0xa5, 0xa5, 0xa5, 0xa5, 0xa5, 0xa5, 0xa5, 0xa5,
+            0xa5, 0xa5, 0xa5, 0xa5, 0xa5, 0xa5, 0xa5, 0xa5, 0xa5, 0xa5, 0xa5, 0xa5,
+        ],
+    ),
+    (
+        Key {
+            run: RunNo(9),
+            server: ServerNo(2),
+            job: JobNo(3),
+        },
+        Verify::Stamp,
+        0x00,
+        1536,
+        256,
+        77,
+        [
+            0x00, 0x00, 0x00, 0x00, 0x00, 0x00, 0x00, 0x09, 0x00, 0x00, 0x00, 0x02, 0x00, 0x00,
+            0x00, 0x03, 0x00, 0x00, 0x00, 0x00, 0x00, 0x00, 0x01, 0x00, 0x00, 0x00, 0x00, 0x00,
+            0x00, 0x00, 0x00, 0x4d, 0x00, 0x00, 0x00, 0x00, 0x00, 0x01, 0x02, 0x03,
+        ],
+    ),
+];
