@@ -1,15 +1,17 @@
 -- What is carried from line to line is what the whole text says.
-use Rattle.std.proofs.Common.{◌≡◌, ℕ, List, [], ◌∷◌, ◌++◌, Option, Some, None, append-nil, refl, sym, ◌∙◌, ap}
+use Rattle.std.proofs.Common.{◌≡◌, ℕ, Bool, List, [], ◌∷◌, ◌++◌, Option, Some, None, append-nil, refl, sym, ◌∙◌, ap}
 use Rattle.std.specs.Option.{option_or}
 use Rattle.std.proofs.lemmas.Grind.{flat_map-append}
 use Rattle.std.proofs.lemmas.List.Sums.{fold-append}
 use Rattle.job_file.specs.declared.line.Line.{Line}
-use Rattle.job_file.specs.declared.line.Line.TheVariants.{Blank, Global, Job, Set, Faulty}
+use Rattle.job_file.specs.declared.line.Line.TheVariants.{Blank, Global, Job, Set, Ignored, Faulty}
+use Rattle.fc_base.specs.declared.record.Verify.{Verify}
 use Rattle.job_file.specs.declared.option.ReadWrite.{ReadWrite}
 use Rattle.job_file.specs.declared.option.Setting.{Setting}
 use Rattle.job_file.specs.declared.settings.Settings.{Settings}
 use Rattle.job_file.specs.declared.draft.Draft.{Draft}
-use Rattle.job_file.specs.Section.{Section, own_options, sections_of, defaults_in, global_options, last_in, value_of, read_write_in, block_size_in, size_in, settings_of, none_set, with_setting, drafts_below, drafts_of}
+use Rattle.job_file.specs.Section.{Section, own_options, sections_of, defaults_in, global_options, drafts_below, drafts_of}
+use Rattle.job_file.specs.Settings.{last_in, value_of, read_write_in, block_size_in, size_in, io_size_in, number_ios_in, io_depth_in, x_window_in, num_jobs_in, rand_seed_in, no_random_map_in, verify_in, verify_pattern_in, verify_fatal_in, verify_state_save_in, verify_state_load_in, filename_in, settings_of, none_set, with_setting}
 use Rattle.job_file.specs.Reader.{with_all, drafts_with}
 
 option_or_assoc : {X : Type 0} (a b c : Option X) → option_or a (option_or b c) ≡ option_or (option_or a b) c
@@ -32,10 +34,26 @@ value_is gives get step none own above =
     value_after gives get step (with_all none_set above) own
     ∙ ap (option_or (last_in gives own)) (value_after gives get step none_set above ∙ ap (option_or (last_in gives above)) none ∙ option_or_none (last_in gives above))
 
-same_settings : (a b : Settings) → a.read_write ≡ b.read_write → a.block_size ≡ b.block_size → a.size ≡ b.size → a ≡ b
-same_settings a b read_write block_size size =
-    let of_parts : Option ReadWrite → Option ℕ → Option ℕ → Settings = λ r k s. record { read_write = r; block_size = k; size = s } in
-    ap (λ r. of_parts r a.block_size a.size) read_write ∙ ap (λ k. of_parts b.read_write k a.size) block_size ∙ ap (λ s. of_parts b.read_write b.block_size s) size
+same_settings : (a b : Settings) → a.read_write ≡ b.read_write → a.block_size ≡ b.block_size → a.size ≡ b.size → a.io_size ≡ b.io_size → a.number_ios ≡ b.number_ios → a.io_depth ≡ b.io_depth → a.x_window ≡ b.x_window → a.num_jobs ≡ b.num_jobs → a.rand_seed ≡ b.rand_seed → a.no_random_map ≡ b.no_random_map → a.verify ≡ b.verify → a.verify_pattern ≡ b.verify_pattern → a.verify_fatal ≡ b.verify_fatal → a.verify_state_save ≡ b.verify_state_save → a.verify_state_load ≡ b.verify_state_load → a.filename ≡ b.filename → a ≡ b
+same_settings a b p0 p1 p2 p3 p4 p5 p6 p7 p8 p9 p10 p11 p12 p13 p14 p15 =
+    let of_parts : Option ReadWrite → Option ℕ → Option ℕ → Option ℕ → Option ℕ → Option ℕ → Option ℕ → Option ℕ → Option ℕ → Option Bool → Option Verify → Option ℕ → Option Bool → Option Bool → Option Bool → Option (List ℕ) → Settings =
+    λ v0 v1 v2 v3 v4 v5 v6 v7 v8 v9 v10 v11 v12 v13 v14 v15. record { read_write = v0; block_size = v1; size = v2; io_size = v3; number_ios = v4; io_depth = v5; x_window = v6; num_jobs = v7; rand_seed = v8; no_random_map = v9; verify = v10; verify_pattern = v11; verify_fatal = v12; verify_state_save = v13; verify_state_load = v14; filename = v15 } in
+    ap (λ v. of_parts v a.block_size a.size a.io_size a.number_ios a.io_depth a.x_window a.num_jobs a.rand_seed a.no_random_map a.verify a.verify_pattern a.verify_fatal a.verify_state_save a.verify_state_load a.filename) p0
+    ∙ ap (λ v. of_parts b.read_write v a.size a.io_size a.number_ios a.io_depth a.x_window a.num_jobs a.rand_seed a.no_random_map a.verify a.verify_pattern a.verify_fatal a.verify_state_save a.verify_state_load a.filename) p1
+    ∙ ap (λ v. of_parts b.read_write b.block_size v a.io_size a.number_ios a.io_depth a.x_window a.num_jobs a.rand_seed a.no_random_map a.verify a.verify_pattern a.verify_fatal a.verify_state_save a.verify_state_load a.filename) p2
+    ∙ ap (λ v. of_parts b.read_write b.block_size b.size v a.number_ios a.io_depth a.x_window a.num_jobs a.rand_seed a.no_random_map a.verify a.verify_pattern a.verify_fatal a.verify_state_save a.verify_state_load a.filename) p3
+    ∙ ap (λ v. of_parts b.read_write b.block_size b.size b.io_size v a.io_depth a.x_window a.num_jobs a.rand_seed a.no_random_map a.verify a.verify_pattern a.verify_fatal a.verify_state_save a.verify_state_load a.filename) p4
+    ∙ ap (λ v. of_parts b.read_write b.block_size b.size b.io_size b.number_ios v a.x_window a.num_jobs a.rand_seed a.no_random_map a.verify a.verify_pattern a.verify_fatal a.verify_state_save a.verify_state_load a.filename) p5
+    ∙ ap (λ v. of_parts b.read_write b.block_size b.size b.io_size b.number_ios b.io_depth v a.num_jobs a.rand_seed a.no_random_map a.verify a.verify_pattern a.verify_fatal a.verify_state_save a.verify_state_load a.filename) p6
+    ∙ ap (λ v. of_parts b.read_write b.block_size b.size b.io_size b.number_ios b.io_depth b.x_window v a.rand_seed a.no_random_map a.verify a.verify_pattern a.verify_fatal a.verify_state_save a.verify_state_load a.filename) p7
+    ∙ ap (λ v. of_parts b.read_write b.block_size b.size b.io_size b.number_ios b.io_depth b.x_window b.num_jobs v a.no_random_map a.verify a.verify_pattern a.verify_fatal a.verify_state_save a.verify_state_load a.filename) p8
+    ∙ ap (λ v. of_parts b.read_write b.block_size b.size b.io_size b.number_ios b.io_depth b.x_window b.num_jobs b.rand_seed v a.verify a.verify_pattern a.verify_fatal a.verify_state_save a.verify_state_load a.filename) p9
+    ∙ ap (λ v. of_parts b.read_write b.block_size b.size b.io_size b.number_ios b.io_depth b.x_window b.num_jobs b.rand_seed b.no_random_map v a.verify_pattern a.verify_fatal a.verify_state_save a.verify_state_load a.filename) p10
+    ∙ ap (λ v. of_parts b.read_write b.block_size b.size b.io_size b.number_ios b.io_depth b.x_window b.num_jobs b.rand_seed b.no_random_map b.verify v a.verify_fatal a.verify_state_save a.verify_state_load a.filename) p11
+    ∙ ap (λ v. of_parts b.read_write b.block_size b.size b.io_size b.number_ios b.io_depth b.x_window b.num_jobs b.rand_seed b.no_random_map b.verify b.verify_pattern v a.verify_state_save a.verify_state_load a.filename) p12
+    ∙ ap (λ v. of_parts b.read_write b.block_size b.size b.io_size b.number_ios b.io_depth b.x_window b.num_jobs b.rand_seed b.no_random_map b.verify b.verify_pattern b.verify_fatal v a.verify_state_load a.filename) p13
+    ∙ ap (λ v. of_parts b.read_write b.block_size b.size b.io_size b.number_ios b.io_depth b.x_window b.num_jobs b.rand_seed b.no_random_map b.verify b.verify_pattern b.verify_fatal b.verify_state_save v a.filename) p14
+    ∙ ap (λ v. of_parts b.read_write b.block_size b.size b.io_size b.number_ios b.io_depth b.x_window b.num_jobs b.rand_seed b.no_random_map b.verify b.verify_pattern b.verify_fatal b.verify_state_save b.verify_state_load v) p15
 
 settings_are : (own above : List Setting) → with_all (with_all none_set above) own ≡ settings_of own above
 settings_are own above =
@@ -43,6 +61,19 @@ settings_are own above =
     (value_is read_write_in (λ s. s.read_write) (λ s x. refl) refl own above)
     (value_is block_size_in (λ s. s.block_size) (λ s x. refl) refl own above)
     (value_is size_in (λ s. s.size) (λ s x. refl) refl own above)
+    (value_is io_size_in (λ s. s.io_size) (λ s x. refl) refl own above)
+    (value_is number_ios_in (λ s. s.number_ios) (λ s x. refl) refl own above)
+    (value_is io_depth_in (λ s. s.io_depth) (λ s x. refl) refl own above)
+    (value_is x_window_in (λ s. s.x_window) (λ s x. refl) refl own above)
+    (value_is num_jobs_in (λ s. s.num_jobs) (λ s x. refl) refl own above)
+    (value_is rand_seed_in (λ s. s.rand_seed) (λ s x. refl) refl own above)
+    (value_is no_random_map_in (λ s. s.no_random_map) (λ s x. refl) refl own above)
+    (value_is verify_in (λ s. s.verify) (λ s x. refl) refl own above)
+    (value_is verify_pattern_in (λ s. s.verify_pattern) (λ s x. refl) refl own above)
+    (value_is verify_fatal_in (λ s. s.verify_fatal) (λ s x. refl) refl own above)
+    (value_is verify_state_save_in (λ s. s.verify_state_save) (λ s x. refl) refl own above)
+    (value_is verify_state_load_in (λ s. s.verify_state_load) (λ s x. refl) refl own above)
+    (value_is filename_in (λ s. s.filename) (λ s x. refl) refl own above)
 
 -- What the lines below give with the defaults so far is what their sections give below the sections so far.
 drafts_are : (above : List Section) (ls : List Line) → drafts_with (with_all none_set (global_options above)) ls ≡ drafts_below above (sections_of ls)
@@ -61,6 +92,7 @@ drafts_are above (Job n ∷ ls) =
     ap (λ d. first d ∷ drafts_with (with_all none_set (global_options above)) ls) own
     ∙ ap (λ rest. first (settings_of (own_options ls) (global_options above)) ∷ rest) (ap (λ d. drafts_with (with_all none_set d) ls) (sym options) ∙ drafts_are (above ++ s ∷ []) ls)
 drafts_are above (Set setting ∷ ls) = drafts_are above ls
+drafts_are above (Ignored name ∷ ls) = drafts_are above ls
 drafts_are above (Faulty fault ∷ ls) = drafts_are above ls
 
 -- Reading line after line gives the jobs of the text.

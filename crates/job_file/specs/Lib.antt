@@ -7,3 +7,4 @@ pub mod Number
 pub mod Reader
 pub mod Section
 pub mod Setting
+pub mod Settings

@@ -4,12 +4,12 @@ use Rattle.std.specs.List.{list_all, list_any, before_first, after_first, starts
 use Rattle.std.specs.Char.{is_ascii_alphanumeric}
 use Rattle.std.specs.Str.Lines.{lines}
 use Rattle.job_file.specs.declared.line.Line.{Line}
-use Rattle.job_file.specs.declared.line.Line.TheVariants.{Blank, Global, Job, Set, Faulty}
+use Rattle.job_file.specs.declared.line.Line.TheVariants.{Blank, Global, Job, Set, Ignored, Faulty}
 use Rattle.job_file.specs.declared.line.LineFault.TheVariants.{BadLine, UnknownOption, BadValue}
 use Rattle.job_file.specs.declared.option.OptionName.{OptionName}
 use Rattle.job_file.specs.declared.option.Setting.{Setting}
 use Rattle.job_file.specs.Bytes.{is_text_byte, trimmed}
-use Rattle.job_file.specs.Setting.{option_named, setting_of}
+use Rattle.job_file.specs.Setting.{option_named, is_ignored, setting_of}
 
 -- A line is skipped where it is empty or begins with `;` or `#`.
 abbrev pub is_skipped : List ℕ → Bool
@@ -43,6 +43,7 @@ is_option_byte b = is_ascii_alphanumeric b || b == 95
 abbrev pub is_option_name : List ℕ → Bool
 is_option_name name = nat_lt 0 (length name) && list_all is_option_byte name
 
+-- The sign between an option's name and its value.
 abbrev pub is_equals : ℕ → Bool
 is_equals b = b == 61
 
@@ -54,11 +55,12 @@ name_in line = trimmed (before_first is_equals line)
 abbrev pub value_in : List ℕ → Option (List ℕ)
 value_in line = if list_any is_equals line then Some (trimmed (after_first is_equals line)) else None
 
--- The option of that name with that value.
+-- A setting, where the option takes the value.
 abbrev pub with_setting : Option Setting → Line
 with_setting None = Faulty BadValue
 with_setting (Some setting) = Set setting
 
+-- An option that is known, with the value behind it.
 abbrev pub with_option : Option OptionName → Option (List ℕ) → Line
 with_option None value = Faulty UnknownOption
 with_option (Some option) value = with_setting (setting_of option value)
@@ -66,14 +68,16 @@ with_option (Some option) value = with_setting (setting_of option value)
 -- An option's line: a name, or a name, `=` and a value.
 abbrev pub option_of : List ℕ → Line
 option_of line =
-    if is_option_name (name_in line) then with_option (option_named (name_in line)) (value_in line) else Faulty BadLine
+    if not (is_option_name (name_in line)) then Faulty BadLine else (
+    if is_ignored (name_in line) then Ignored (name_in line) else with_option (option_named (name_in line)) (value_in line))
 
--- What a line says, without the blanks at its ends.
+-- What a line says that has no blanks at its ends.
 abbrev pub content_of : List ℕ → Line
 content_of line =
     if is_skipped line then Blank else (
     if starts_with nat_eq line (codes "[") then section_of (drop 1 line) else option_of line)
 
+-- What a line says.
 abbrev pub line_of : List ℕ → Line
 line_of line = content_of (trimmed line)
 

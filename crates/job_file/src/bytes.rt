@@ -1,7 +1,7 @@
 //! The bytes of a job file: which there may be, and where a part of a line begins and ends.
 
 ghost use Rattle.std.specs.Prelude.{◌≡◌, ◌≤◌, length};
-ghost use Rattle.std.specs.List.{prefix_len, suffix_len};
+ghost use Rattle.std.specs.List.{list_all, prefix_len, suffix_len};
 ghost use Rattle.job_file.specs.Bytes.{is_text_byte, is_blank, trimmed};
 
 /// Tab, line feed, carriage return, and printable ASCII.
@@ -9,6 +9,13 @@ pub(crate) fn is_text_byte(byte: u8) -> bool
     ensures { result ≡ is_text_byte byte }
 {
     matches!(byte, b'\t' | b'\n' | b'\r' | b' '..=b'~')
+}
+
+/// Whether each byte is a text's.
+pub(crate) fn is_text(bytes: &[u8]) -> bool
+    ensures { result ≡ list_all is_text_byte bytes.now }
+{
+    bytes.iter().all(|byte| is_text_byte(*byte))
 }
 
 /// Space and tab.

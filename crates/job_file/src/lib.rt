@@ -13,6 +13,7 @@ mod parser;
 mod reader;
 mod settings;
 mod text;
+mod value;
 
 pub use fault::JobFault;
 pub use job::{Job, JobSet, Jobs, Note, Notes, Phase};

@@ -8,7 +8,7 @@ ghost use Rattle.job_file.specs.JobSet.{fault_at};
 
 use crate::bytes::{is_text_byte, trimmed};
 use crate::fault::JobFault;
-use crate::option::{Setting, option_named, setting_of};
+use crate::option::{Setting, is_ignored, option_named, setting_of};
 use crate::text::Name;
 
 /// What a line says.
@@ -21,7 +21,9 @@ pub(crate) enum Line<'a> {
     /// It opens the section of a job of this name.
     Job(Name<'a>),
     /// It sets an option.
-    Set(Setting),
+    Set(Setting<'a>),
+    /// It names an option that is accepted and has no effect.
+    Ignored(Name<'a>),
     /// It breaks a rule.
     Faulty(LineFault),
 }
@@ -118,6 +120,9 @@ fn option_of(line: &[u8]) -> Line<'_>
     let (name, value) = name_and_value(line);
     if !is_option_name(name) {
         return Line::Faulty(LineFault::BadLine);
+    }
+    if is_ignored(name) {
+        return Line::Ignored(Name::new(name));
     }
     let Some(option) = option_named(name) else {
         return Line::Faulty(LineFault::UnknownOption);

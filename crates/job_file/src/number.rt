@@ -17,7 +17,8 @@ pub(crate) fn number_of(value: &[u8]) -> Option<u64>
     }
 }
 
-fn is_hexadecimal(value: &[u8]) -> bool
+/// Whether the value begins with `0x`.
+pub(crate) fn is_hexadecimal(value: &[u8]) -> bool
     ensures value { result ≡ is_hexadecimal value.now }
     ensures length { IsTrue result → 2 ≤ length value.now }
 {
@@ -69,7 +70,9 @@ fn is_word(bytes: &[u8], word: &[u8]) -> bool
     bytes.eq_ignore_ascii_case(word)
 }
 
-fn numeral(radix: u32, digits: &[u8]) -> Option<u64>
+/// The value of digits in a base; `None` where there are none, or other characters, or where 64 bits
+/// don't hold it.
+pub(crate) fn numeral(radix: u32, digits: &[u8]) -> Option<u64>
     requires low { 2 ≤ radix }
     requires high { radix ≤ 36 }
     ensures { result ≡ numeral radix digits.now }

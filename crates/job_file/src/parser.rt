@@ -1,17 +1,16 @@
 //! From a text to its set of jobs.
 
-ghost use Rattle.std.specs.Prelude.{◌≡◌, ◌<◌, ◌≤◌, length, OnOk, IfOk};
-ghost use Rattle.std.specs.List.{list_all};
-ghost use Rattle.job_file.specs.Bytes.{is_text_byte};
-ghost use Rattle.job_file.specs.Draft.{jobs_from, faults_from};
+ghost use Rattle.std.specs.Prelude.{◌≡◌, ◌+◌, ◌-◌, ◌^◌, ◌≤◌, min, [], ◌++◌, length, replicate, OnOk, IfOk};
+ghost use Rattle.job_file.specs.Draft.{copies_of, count_of, with_copies, jobs_from, faults_from};
 ghost use Rattle.job_file.specs.Fault.{Checks, Gives};
-ghost use Rattle.job_file.specs.JobSet.{byte_faults, count_faults, some_write, some_read, phase_faults, phase_of, Answers};
+ghost use Rattle.job_file.specs.JobSet.{byte_faults, count_faults, same_file, shares_file, file_faults, some_write, some_read, phase_faults, phase_of, Answers};
 
-use crate::bytes::is_text_byte;
+use crate::bytes::is_text;
 use crate::draft::Draft;
 use crate::fault::JobFault;
 use crate::job::{Job, JobSet, Jobs, Notes, Phase};
-use crate::reader::drafts_of;
+use crate::reader::{Contents, contents_of};
+use crate::text::Text;
 use fc_base::JobNo;
 use std::alloc::Global;
 
@@ -19,7 +18,7 @@ use std::alloc::Global;
 const MAX_TEXT: usize = 16_384;
 
 /// The most jobs of a set.
-const MAX_JOBS: usize = 16;
+const MAX_JOBS: u64 = 16;
 
 /// Reads a job file (fio's manual, "Job file format"): the jobs of the text, or the first of its
 /// faults. Faults are looked for in this order: the length of the text, its bytes, its lines one by
@@ -29,14 +28,15 @@ pub fn parse(alloc: Global, text: &[u8]) -> Result<JobSet, JobFault>
     ensures { Answers result text.now }
 {
     check_bytes(text)?;
-    let drafts = drafts_of(alloc, text)?;
+    let Contents { drafts, notes } = contents_of(alloc, text)?;
     check_count(&drafts)?;
     let jobs = jobs_of(alloc, &drafts)?;
+    check_files(&jobs)?;
     let phase = phase_of(&drafts)?;
     Ok(JobSet {
         phase,
         jobs: Jobs::from_vec(jobs),
-        notes: Notes::from_vec(Vec::new(alloc)),
+        notes: Notes::from_vec(notes),
     })
 }
 
@@ -53,37 +53,88 @@ fn check_bytes(text: &[u8]) -> Result<(), JobFault>
     Ok(())
 }
 
-fn is_text(text: &[u8]) -> bool
-    ensures { result ≡ list_all is_text_byte text.now }
-{
-    text.iter().all(|byte| is_text_byte(*byte))
-}
-
 fn check_count(drafts: &[Draft]) -> Result<(), JobFault>
     ensures faults { Checks result (count_faults drafts.now) }
-    ensures some { OnOk result (1 ≤ length drafts.now) }
-    ensures few { OnOk result (length drafts.now ≤ 16) }
+    ensures some { OnOk result (1 ≤ count_of drafts.now) }
+    ensures few { OnOk result (count_of drafts.now ≤ 16) }
 {
-    if drafts.is_empty() {
+    let count = count_of(drafts);
+    if count == 0 {
         return Err(JobFault::NoJobs);
     }
-    if drafts.len() > MAX_JOBS {
+    if count > MAX_JOBS {
         return Err(JobFault::TooManyJobs);
     }
     Ok(())
 }
 
-fn jobs_of(alloc: Global, drafts: &[Draft]) -> Result<Vec<Job>, JobFault>
-    requires { length drafts.now ≤ 16 }
-    ensures jobs { Gives (λ jobs. jobs.items) result (faults_from 0 drafts.now) (jobs_from 0 drafts.now) }
-    ensures length { IfOk result (λ jobs. length jobs.items ≡ length drafts.now) }
+/// How many jobs the sections make, as far as 64 bits can tell.
+fn count_of(drafts: &[Draft]) -> u64
+    ensures { result ≡ min (count_of drafts.now) (2 ^ 64 - 1) }
 {
-    let mut jobs = Vec::with_capacity(alloc, drafts.len())?;
-    for (number, draft) in drafts.iter().enumerate() {
-        let job = draft.job(alloc, JobNo(number as u32))?;
-        jobs.push(job)?;
+    let mut count = 0u64;
+    for draft in drafts {
+        count = count.saturating_add(draft.copies());
+    }
+    count
+}
+
+/// The jobs of the sections, the copies of each in a row.
+fn jobs_of(alloc: Global, drafts: &[Draft]) -> Result<Vec<Job>, JobFault>
+    requires { count_of drafts.now ≤ 16 }
+    ensures jobs { Gives (λ jobs. jobs.items) result (faults_from 0 (with_copies drafts.now)) (jobs_from 0 (with_copies drafts.now)) }
+    ensures length { IfOk result (λ jobs. length jobs.items ≡ count_of drafts.now) }
+{
+    let mut jobs = Vec::new(alloc);
+    for draft in drafts {
+        add_copies(alloc, draft, &mut jobs)?;
     }
     Ok(jobs)
+}
+
+/// Adds the copies of one section, numbered on from the jobs that are there.
+fn add_copies(alloc: Global, draft: &Draft, jobs: &mut Vec<Job>) -> Result<(), JobFault>
+    requires { length jobs.old.items + copies_of draft.now ≤ 16 }
+    ensures faults { Checks result (faults_from (length jobs.old.items) (replicate (copies_of draft.now) draft.now)) }
+    ensures jobs { OnOk result (jobs.new.items ≡ jobs.old.items ++ jobs_from (length jobs.old.items) (replicate (copies_of draft.now) draft.now)) }
+    ensures length { OnOk result (length jobs.new.items ≡ length jobs.old.items + copies_of draft.now) }
+{
+    for _ in 0..draft.copies() {
+        let number = JobNo(jobs.len() as u32);
+        let job = draft.job(alloc, number)?;
+        jobs.push(job)?;
+    }
+    Ok(())
+}
+
+/// No two jobs may have one file.
+fn check_files(jobs: &[Job]) -> Result<(), JobFault>
+    requires { length jobs.now ≤ 16 }
+    ensures { Checks result (file_faults [] jobs.now) }
+{
+    for (number, job) in jobs.iter().enumerate() {
+        if shares_file(&jobs[..number], job) {
+            return Err(JobFault::SharedFile(JobNo(number as u32)));
+        }
+    }
+    Ok(())
+}
+
+fn shares_file(earlier: &[Job], job: &Job) -> bool
+    ensures { result ≡ shares_file earlier.now job.now }
+{
+    earlier
+        .iter()
+        .any(|other| same_file(&other.filename, &job.filename))
+}
+
+fn same_file(name: &Option<Text>, other: &Option<Text>) -> bool
+    ensures { result ≡ same_file name.now other.now }
+{
+    match (name, other) {
+        (Some(name), Some(other)) => name.as_str() == other.as_str(),
+        _ => false,
+    }
 }
 
 fn phase_of(drafts: &[Draft]) -> Result<Phase, JobFault>

@@ -2,17 +2,22 @@
 
 ghost use Rattle.std.specs.Prelude.{◌≡◌, ◌+◌, ◌<◌, ◌≤◌, ◌==◌, Bool, false, ◌||◌, List, [], ◌∷◌, ◌++◌, length, position, OnOk, IfErr};
 ghost use Rattle.std.specs.Str.Lines.{lines, strip_carriage_return};
+ghost use Rattle.job_file.specs.declared.draft.Draft.{Draft};
+ghost use Rattle.job_file.specs.declared.job.Note.{Note};
 ghost use Rattle.job_file.specs.declared.line.Line.{Line};
 ghost use Rattle.job_file.specs.Fault.{Checks, Gives};
-ghost use Rattle.job_file.specs.JobSet.{faults_in, line_faults, opens};
+ghost use Rattle.job_file.specs.JobSet.{faults_in, line_faults, opens, note_in, notes_from};
 ghost use Rattle.job_file.specs.Line.{lines_of};
-ghost use Rattle.job_file.specs.Section.{none_set, drafts_of};
+ghost use Rattle.job_file.specs.Section.{drafts_of};
+ghost use Rattle.job_file.specs.Settings.{none_set};
 
 use crate::draft::Draft;
 use crate::fault::JobFault;
+use crate::job::Note;
 use crate::line::{Line, line_of};
 use crate::option::Setting;
 use crate::settings::Settings;
+use crate::text::Name;
 use std::alloc::Global;
 use std::mem;
 
@@ -30,9 +35,18 @@ enum Place<'a> {
 struct Reader<'a> {
     place: Place<'a>,
     /// The options of the global sections.
-    defaults: Settings,
+    defaults: Settings<'a>,
     /// The jobs whose sections are over.
     drafts: Vec<Draft<'a>>,
+    /// The lines that have no effect.
+    notes: Vec<Note>,
+}
+
+/// What all lines have said.
+#[derive(Drop)]
+pub(crate) struct Contents<'a> {
+    pub(crate) drafts: Vec<Draft<'a>>,
+    pub(crate) notes: Vec<Note>,
 }
 
 impl<'a> Reader<'a> {
@@ -41,28 +55,32 @@ impl<'a> Reader<'a> {
     fn new(alloc: Global) -> Reader<'a>
         ensures outside { is_inside result.place ≡ false }
         ensures coming { (below : List Line) → coming result below ≡ drafts_with none_set below }
+        ensures notes { result.notes.items ≡ [] }
     {
         Reader {
             place: Place::Nowhere,
             defaults: Settings::new(),
             drafts: Vec::new(alloc),
+            notes: Vec::new(alloc),
         }
     }
 
     /// Takes the line of this number.
-    fn take(&mut self, number: u32, line: Line<'a>) -> Result<(), JobFault>
+    fn take(&mut self, alloc: Global, number: u32, line: Line<'a>) -> Result<(), JobFault>
         ensures fault { Checks result (faults_in number (is_inside self.old.place) line.entry) }
         ensures inside { OnOk result (is_inside self.new.place ≡ (is_inside self.old.place || opens line.entry)) }
         ensures coming { OnOk result ((below : List Line) → coming self.new below ≡ coming self.old (line.entry ∷ below)) }
+        ensures notes { OnOk result (self.new.notes.items ≡ self.old.notes.items ++ note_in number line.entry) }
     {
         match line {
             Line::Blank => Ok(()),
             Line::Global => self.open(Place::Global),
             Line::Job(name) => {
-                let settings = self.defaults;
+                let settings = self.defaults.inherited();
                 self.open(Place::Job(Draft { name, settings }))
             }
             Line::Set(setting) => self.set(number, setting),
+            Line::Ignored(name) => self.note(alloc, number, &name),
             Line::Faulty(fault) => match self.place {
                 Place::Nowhere => Err(JobFault::BadLine(number)),
                 _ => Err(fault.at(number)),
@@ -76,6 +94,7 @@ impl<'a> Reader<'a> {
         ensures place { OnOk result (self.new.place ≡ next.entry) }
         ensures defaults { OnOk result (self.new.defaults ≡ self.old.defaults) }
         ensures drafts { OnOk result (self.new.drafts.items ≡ self.old.drafts.items ++ draft_in self.old.place) }
+        ensures notes { OnOk result (self.new.notes.items ≡ self.old.notes.items) }
     {
         if let Place::Job(draft) = mem::replace(&mut self.place, next) {
             self.drafts.push(draft)?;
@@ -84,10 +103,11 @@ impl<'a> Reader<'a> {
     }
 
     /// Sets an option of the section that is open.
-    fn set(&mut self, number: u32, setting: Setting) -> Result<(), JobFault>
-        ensures fault { Checks result (faults_in number (is_inside self.old.place) (Line.Set setting)) }
+    fn set(&mut self, number: u32, setting: Setting<'a>) -> Result<(), JobFault>
+        ensures fault { Checks result (faults_in number (is_inside self.old.place) (Line.Set setting.entry)) }
         ensures inside { is_inside self.new.place ≡ is_inside self.old.place }
-        ensures coming { OnOk result ((below : List Line) → coming self.new below ≡ coming self.old (Line.Set setting ∷ below)) }
+        ensures coming { OnOk result ((below : List Line) → coming self.new below ≡ coming self.old (Line.Set setting.entry ∷ below)) }
+        ensures notes { self.new.notes.items ≡ self.old.notes.items }
     {
         match &mut self.place {
             Place::Nowhere => return Err(JobFault::BadLine(number)),
@@ -97,31 +117,51 @@ impl<'a> Reader<'a> {
         Ok(())
     }
 
-    /// Ends the section that is open, and gives the jobs.
-    fn finish(mut self) -> Result<Vec<Draft<'a>>, JobFault>
-        ensures { Gives (λ drafts. drafts.items) result [] (coming self.entry []) }
+    /// Notes an option that has no effect.
+    fn note(&mut self, alloc: Global, number: u32, name: &Name) -> Result<(), JobFault>
+        ensures fault { Checks result (faults_in number (is_inside self.old.place) (Line.Ignored name.now)) }
+        ensures inside { is_inside self.new.place ≡ is_inside self.old.place }
+        ensures coming { OnOk result ((below : List Line) → coming self.new below ≡ coming self.old (Line.Ignored name.now ∷ below)) }
+        ensures notes { OnOk result (self.new.notes.items ≡ self.old.notes.items ++ note_in number (Line.Ignored name.now)) }
+    {
+        if let Place::Nowhere = self.place {
+            return Err(JobFault::BadLine(number));
+        }
+        let option = name.copied(alloc)?;
+        self.notes.push(Note {
+            line: number,
+            option,
+        })?;
+        Ok(())
+    }
+
+    /// Ends the section that is open, and gives what the lines have said.
+    fn finish(mut self) -> Result<Contents<'a>, JobFault>
+        ensures { Gives {Y = List Draft × List Note} (λ c. (c.drafts.items, c.notes.items)) result [] (coming self.entry [], self.entry.notes.items) }
     {
         self.open(Place::Nowhere)?;
         let Reader {
             place: _,
             defaults: _,
             drafts,
+            notes,
         } = self;
-        Ok(drafts)
+        Ok(Contents { drafts, notes })
     }
 }
 
-/// The jobs of a text, or the fault of its first faulty line.
-pub(crate) fn drafts_of(alloc: Global, text: &[u8]) -> Result<Vec<Draft<'_>>, JobFault>
+/// What the lines of a text say, or the fault of the first faulty line.
+pub(crate) fn contents_of(alloc: Global, text: &[u8]) -> Result<Contents<'_>, JobFault>
     requires { length text.now ≤ 16384 }
-    ensures { Gives (λ drafts. drafts.items) result (line_faults 1 false (lines_of text.now)) (drafts_of (lines_of text.now)) }
+    ensures { Gives {Y = List Draft × List Note} (λ c. (c.drafts.items, c.notes.items)) result (line_faults 1 false (lines_of text.now))
+        (drafts_of (lines_of text.now), notes_from 1 (lines_of text.now)) }
 {
     let mut reader = Reader::new(alloc);
     let mut number = 1u32;
     let mut rest = text;
     while !rest.is_empty() {
         let (line, after) = first_line(rest);
-        reader.take(number, line_of(line))?;
+        reader.take(alloc, number, line_of(line))?;
         number += 1;
         rest = after;
     }

@@ -72,6 +72,13 @@ impl<'a> Name<'a> {
         Name { bytes }
     }
 
+    /// The same name.
+    pub(crate) fn again(&self) -> Name<'a>
+        ensures { result ≡ self.now }
+    {
+        Name { bytes: self.bytes }
+    }
+
     /// A copy of the name, apart from the job file.
     pub(crate) fn copied(&self, alloc: Global) -> Result<Text, AllocError>
         ensures { IfOk result (λ text. text ≡ self.now) }
