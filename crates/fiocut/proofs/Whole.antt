@@ -1,0 +1,65 @@
+-- What is answered to the front of an input that was read is the answer to the whole of it.
+use Rattle.std.proofs.Common.{◌≡◌, inl, inr, ℕ, ◌<◌, ◌≤◌, Bool, true, false, nat_lt, List, [], ◌++◌, length, Option, None, Some, Result, Ok, Err, IfSome, slice_get, refl, sym, ap, subst, ◌∙◌, arith, append-nil, length-append}
+use Rattle.std.proofs.lemmas.Bool.{cases_lt}
+use Rattle.std.proofs.lemmas.Bool.Decides.{nat_tests}
+use Rattle.job_file.specs.declared.fault.JobFault.{JobFault}
+use Rattle.job_file.specs.declared.fault.JobFault.TheVariants.{TooLong}
+use Rattle.job_file.specs.Fault.{when}
+use Rattle.job_file.specs.JobSet.{faults_of}
+use Rattle.fiocut.specs.declared.refusal.Refusal.{Refusal}
+use Rattle.fiocut.specs.Input.{IsRead}
+use Rattle.fiocut.specs.Refusal.{RefusesText}
+use Rattle.fiocut.specs.Answer.{AreLinesOf, AnswersText}
+
+-- Fewer bytes than the bound are all bytes.
+all_read : (bound : ℕ) (text : List ℕ) (new : Option (List ℕ)) (bytes : List ℕ) → IsRead bound (Some text) new bytes → length bytes < bound → bytes ≡ text
+all_read bound text None bytes read short = absurd read.taken
+all_read bound text (Some rest) bytes read short =
+    sym (append-nil bytes) ∙ (ap (λ l. bytes ++ l) (sym (read.whole short)) ∙ sym read.taken)
+
+-- The bytes are no more than there are.
+no_more : (bound : ℕ) (text : List ℕ) (new : Option (List ℕ)) (bytes : List ℕ) → IsRead bound (Some text) new bytes → length bytes ≤ length text
+no_more bound text None bytes read = absurd read.taken
+no_more bound text (Some rest) bytes read = omega (arith, length-append bytes rest, ap length read.taken)
+
+first_is_long : (test : Bool) (faults more : List JobFault) → test ≡ true → slice_get ((when test TooLong ++ faults) ++ more) 0 ≡ Some TooLong
+first_is_long true faults more e = refl
+first_is_long false faults more e = absurd (cc)
+
+none_is_long : (test : Bool) (faults more : List JobFault) → (when test TooLong ++ faults) ++ more ≡ [] → test ≡ false
+none_is_long true faults more e = absurd (cc)
+none_is_long false faults more e = refl
+
+-- A longer text is refused as such.
+refused_long : (text : List ℕ) → 16384 < length text → slice_get (faults_of text) 0 ≡ Some TooLong
+refused_long text long = first_is_long (nat_lt 16384 (length text)) _ _ (grind (arith, nat_tests))
+
+sound_is_short : (text : List ℕ) → faults_of text ≡ [] → length text < 16385
+sound_is_short text sound =
+    let short : nat_lt 16384 (length text) ≡ false = none_is_long (nat_lt 16384 (length text)) _ _ sound in
+    grind (arith, nat_tests)
+
+-- The lines of what was read are those of the whole.
+lines_of_whole : (text : List ℕ) (new : Option (List ℕ)) (bytes lines : List ℕ) → IsRead 16385 (Some text) new bytes → AreLinesOf lines bytes → AreLinesOf lines text
+lines_of_whole text new bytes lines read are =
+    subst (AreLinesOf lines) (all_read 16385 text new bytes read (sound_is_short bytes are.sound)) are
+
+-- The first fault of what was read is that of the whole.
+refuses_whole : (text : List ℕ) (new : Option (List ℕ)) (bytes : List ℕ) (refusal : Refusal) → IsRead 16385 (Some text) new bytes → RefusesText refusal bytes → RefusesText refusal text
+refuses_whole text new bytes refusal read refuses =
+    elim (cases_lt (length bytes) 16385) [
+      | inl short ↦ subst (RefusesText refusal) (all_read 16385 text new bytes read short) refuses
+      | inr long ↦ record {
+        fault = refuses.fault;
+        first = refused_long text (omega (arith, long, no_more 16385 text new bytes read)) ∙ (sym (refused_long bytes (omega (arith, long))) ∙ refuses.first);
+        refused = refuses.refused;
+      }
+    ]
+
+-- The answer to what was read of an input is the answer to all of it.
+pub answers_whole : {X : Type 0} (view : X → List ℕ) (old new : Option (List ℕ)) (bytes : List ℕ) (answer : Result X Refusal)
+    → IsRead 16385 old new bytes → AnswersText view answer bytes → IfSome old (AnswersText view answer)
+answers_whole view None new bytes answer read h = tt
+answers_whole view (Some text) new bytes (Ok lines) read h = lines_of_whole text new bytes (view lines) read h
+answers_whole view (Some text) new bytes (Err refusal) read (inl first) = inl (refuses_whole text new bytes refusal read first)
+answers_whole view (Some text) new bytes (Err refusal) read (inr other) = inr other

@@ -1,0 +1,9 @@
+-- What a bounded read of an input gives.
+use Rattle.std.specs.Prelude.{ℕ, ◌<◌, ◌≤◌, List, length, Option}
+use Rattle.std.specs.Io.KnownBytes.{Consumes, IsAtEnd}
+
+-- These bytes are the next of the input, at most so many, and all that are left where they are fewer.
+pub record IsRead (bound : ℕ) (old new : Option (List ℕ)) (bytes : List ℕ) : Type 0 where
+  pub bounded : length bytes ≤ bound
+  pub taken : Consumes old new bytes
+  pub whole : length bytes < bound → IsAtEnd new

@@ -1,0 +1,4 @@
+pub mod Input
+pub mod Lines
+pub mod Refusal
+pub mod Answer

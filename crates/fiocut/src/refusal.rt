@@ -1,0 +1,67 @@
+//! A refusal as it is printed.
+
+ghost use Rattle.std.specs.Prelude.{◌≡◌, Some};
+ghost use Rattle.fc_base.specs.declared.fault.Fault.TheVariants.{JobNoMemory};
+
+use fc_base::Fault;
+use job_file::JobFault;
+use std::alloc::AllocError;
+use std::fmt;
+
+/// A fault, and the line or the job where it is found, if it has one. It prints as
+/// `refused CODE NAME` or `refused CODE NAME PLACE`, and takes no memory for that.
+#[derive(Clone, Copy, Debug, PartialEq, Eq)]
+pub struct Refusal {
+    pub fault: Fault,
+    /// The line, counted from 1, or the job, counted from 0.
+    pub place: Option<u32>,
+}
+
+impl fmt::Display for Refusal {
+    ghost use Rattle.fiocut.specs.Refusal.{refusal_line};
+
+    ghost output = { λ refusal. Some (refusal_line refusal) };
+
+    fn fmt<W: fmt::Write>(&self, f: &mut fmt::Formatter<W>) -> fmt::Result {
+        let fault = self.fault;
+        match self.place {
+            Some(place) => write!(f, "refused {} {fault} {place}", fault.number()),
+            None => write!(f, "refused {} {fault}", fault.number()),
+        }
+    }
+}
+
+impl From<Fault> for Refusal {
+    ghost use Rattle.fiocut.specs.Refusal.{plain};
+
+    ghost from_gives = { λ fault refusal. refusal ≡ plain fault };
+
+    fn from(fault: Fault) -> Refusal {
+        Refusal { fault, place: None }
+    }
+}
+
+impl From<JobFault> for Refusal {
+    ghost use Rattle.fiocut.specs.Refusal.{refusal_of};
+
+    ghost from_gives = { λ fault refusal. refusal ≡ refusal_of fault };
+
+    fn from(found: JobFault) -> Refusal {
+        // A fault is passed on whole, so the second call gets a copy.
+        let again = found;
+        Refusal {
+            fault: found.fault(),
+            place: again.place(),
+        }
+    }
+}
+
+impl From<AllocError> for Refusal {
+    ghost use Rattle.fiocut.specs.Refusal.{plain};
+
+    ghost from_gives = { λ _ refusal. refusal ≡ plain JobNoMemory };
+
+    fn from(_error: AllocError) -> Refusal {
+        Refusal::from(Fault::JobNoMemory)
+    }
+}

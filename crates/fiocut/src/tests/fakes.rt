@@ -1,0 +1,81 @@
+//! An input and an output in memory that fail where a test wants it.
+
+use std::alloc::Global;
+use std::io;
+use std::io::{ErrorKind, Read, Write};
+
+/// An input: some interrupted reads, then a text in steps, then its end or a failed read.
+#[derive(Drop)]
+pub struct Source<'a> {
+    pub interruptions: u32,
+    pub text: &'a [u8],
+    pub step: usize,
+    pub fails: bool,
+    pub reads: u32,
+}
+
+impl Read for Source<'_> {
+    fn read(&mut self, buf: &mut [u8]) -> io::Result<usize> {
+        self.reads = self.reads.saturating_add(1);
+        if self.interruptions > 0 {
+            self.interruptions -= 1;
+            return Err(ErrorKind::Interrupted.into());
+        }
+        if self.text.is_empty() && self.fails {
+            return Err(ErrorKind::Other.into());
+        }
+        let count = self.step.min(buf.len()).min(self.text.len());
+        let (now, later) = self.text.split_at(count);
+        buf[..count].copy_from_slice(now);
+        self.text = later;
+        Ok(count)
+    }
+}
+
+pub fn source_of(text: &[u8]) -> Source<'_> {
+    Source {
+        interruptions: 0,
+        text,
+        step: usize::MAX,
+        fails: false,
+        reads: 0,
+    }
+}
+
+/// An output with room for so many bytes. It counts the writes that come behind a failed one.
+#[derive(Drop)]
+pub struct Page {
+    pub room: usize,
+    pub text: Vec<u8>,
+    pub has_failed: bool,
+    pub late_writes: u32,
+}
+
+impl Write for Page {
+    fn write(&mut self, buf: &[u8]) -> io::Result<usize> {
+        if self.has_failed {
+            self.late_writes = self.late_writes.saturating_add(1);
+        }
+        let count = buf.len().min(self.room);
+        if count == 0 && !buf.is_empty() {
+            self.has_failed = true;
+            return Err(ErrorKind::Other.into());
+        }
+        self.text.extend_from_slice(&buf[..count])?;
+        self.room -= count;
+        Ok(count)
+    }
+
+    fn flush(&mut self) -> io::Result<()> {
+        Ok(())
+    }
+}
+
+pub fn page_with(alloc: Global, room: usize) -> Page {
+    Page {
+        room,
+        text: Vec::new(alloc),
+        has_failed: false,
+        late_writes: 0,
+    }
+}
