@@ -1,0 +1,3 @@
+pub mod SectorLemmas
+pub mod PickLemmas
+pub mod ContentLemmas

@@ -1,0 +1,11 @@
+pub mod File
+pub mod Disk
+pub mod Picks
+pub mod Run
+pub mod Sectors
+pub mod MemDisk
+pub mod Notes
+pub mod MemNotes
+pub mod Countdown
+pub mod FaultNotes
+pub mod FaultDisk

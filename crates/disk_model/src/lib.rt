@@ -1,0 +1,23 @@
+//! Disks and durable notes: what they promise, models that keep it, and models that fail.
+#![tactic(auto)]
+
+mod countdown;
+mod disk;
+mod fault_disk;
+mod fault_notes;
+mod mem_disk;
+mod mem_notes;
+mod notes;
+mod picks;
+mod run;
+mod sectors;
+
+pub use disk::Disk;
+pub use fault_disk::FaultDisk;
+pub use fault_notes::FaultNotes;
+pub use mem_disk::MemDisk;
+pub use mem_notes::MemNotes;
+pub use notes::Notes;
+
+#[cfg(test)]
+mod tests;

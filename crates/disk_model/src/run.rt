@@ -1,0 +1,88 @@
+//! A run of sectors.
+
+ghost use Rattle.std.specs.Prelude.{◌≡◌, ℕ, ◌+◌, ◌*◌, ◌/◌, ◌%◌, ◌<◌, ◌≤◌, length, replicate, IfOk};
+ghost use Rattle.disk_model.specs.File.{zeros, sector_of, sectors, landed};
+ghost use Rattle.disk_model.specs.Picks.{is_picked};
+
+use crate::picks::Picks;
+use std::alloc::{AllocError, Global};
+use std::marker::Model;
+
+/// Bytes of a sector.
+pub(crate) const SECTOR: usize = 512;
+
+/// Sectors of a run.
+pub(crate) const RUN_SECTORS: usize = 128;
+
+/// 128 sectors, one after another.
+#[derive(Debug, Drop)]
+pub(crate) struct Run {
+    bytes: Vec<u8>,
+}
+
+impl Model for Run {
+    ghost use Rattle.std.specs.Prelude.{◌≡◌, ℕ, List, length};
+
+    ghost Value = { List ℕ };
+
+    ghost view = { λ r. r.bytes.items };
+
+    ghost invariant = { λ r. length r.bytes.items ≡ 65536 };
+}
+
+fn zero_bytes(alloc: Global, len: usize) -> Result<Vec<u8>, AllocError>
+    ensures { IfOk result (λ bytes. bytes.items ≡ replicate len 0) }
+{
+    vec![in alloc; 0; len]
+}
+
+fn zero_sectors(alloc: Global, len: usize) -> Result<Vec<u8>, AllocError>
+    ensures len { IfOk result (λ bytes. length bytes.items ≡ len) }
+    ensures zeros { IfOk result
+        (λ bytes. (i : ℕ) → 512 * i + 512 ≤ len → sector_of bytes.items i ≡ zeros) }
+{
+    let bytes = zero_bytes(alloc, len)?;
+    Ok(bytes)
+}
+
+impl Run {
+    /// A run of zeros.
+    pub(crate) fn zeroed(alloc: Global) -> Result<Run, AllocError>
+        ensures { IfOk result (λ run. (i : ℕ) → i < 128 → sector_of run i ≡ zeros) }
+    {
+        Ok(Run {
+            bytes: zero_sectors(alloc, RUN_SECTORS * SECTOR)?,
+        })
+    }
+
+    /// Reads sectors from `first` on.
+    pub(crate) fn read(&self, first: usize, bytes: &mut [u8])
+        requires within { first + length bytes.old / 512 ≤ 128 }
+        requires whole { length bytes.old % 512 ≡ 0 }
+        ensures { bytes.new ≡ sectors (sector_of self.now) first (length bytes.old / 512) }
+    {
+        let start = first * SECTOR;
+        bytes.copy_from_slice(&self.bytes[start..start + bytes.len()]);
+    }
+
+    /// Writes the picked sectors of these, from `first` on.
+    pub(crate) fn land(&mut self, first: usize, bytes: &[u8], picks: Picks)
+        requires within { first + length bytes.now / 512 ≤ 128 }
+        requires whole { length bytes.now % 512 ≡ 0 }
+        ensures { (i : ℕ) → i < 128 → sector_of self.new i
+            ≡ landed (is_picked picks) first bytes.now (sector_of self.old) i }
+    {
+        land_bytes(&mut self.bytes, first, bytes, picks);
+    }
+}
+
+fn land_bytes(run: &mut [u8], first: usize, bytes: &[u8], picks: Picks)
+    requires len { length run.old ≡ 65536 }
+    requires within { first + length bytes.now / 512 ≤ 128 }
+    requires whole { length bytes.now % 512 ≡ 0 }
+    ensures { (i : ℕ) → i < 128 → sector_of run.new i
+        ≡ landed (is_picked picks) first bytes.now (sector_of run.old) i }
+{
+    let start = first * SECTOR;
+    picks.copy(bytes, &mut run[start..start + bytes.len()]);
+}
