@@ -1,5 +1,6 @@
 pub mod Ascending
 pub mod Counted
 pub mod Fault
+pub mod Faults
 pub mod JobParts
 pub mod Report

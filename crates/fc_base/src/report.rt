@@ -187,6 +187,14 @@ impl CheckReport {
     }
 
     /// The numbers that the report is made of.
+    pub fn parts(&self) -> &ReportParts
+        ensures value { result.now ≡ self.now }
+        ensures ranges { IsTrue (is_report result.now) }
+    {
+        &self.parts
+    }
+
+    /// The numbers that the report is made of, with the memory of its list.
     pub fn into_parts(self) -> ReportParts
         ensures value { result ≡ self }
         ensures ranges { IsTrue (is_report result) }

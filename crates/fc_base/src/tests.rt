@@ -16,33 +16,6 @@ const PARTS: JobParts = JobParts {
 };
 
 #[test]
-fn record_gives_its_settings_back(rt: HostRuntime) -> Result<(), Fail> {
-    let parts = JobParts {
-        kind: Kind::RandomFree,
-        verify: Verify::Pattern,
-        pattern: 0xa5,
-        bs: 65_536,
-        blocks: 65_536,
-        total: 1_000_000,
-        seed: u64::MAX,
-        depth: 64,
-        window: 256,
-    };
-    let record = JobRecord::make(parts).ok_or("the greatest settings are within the limits")?;
-    assert_eq!(rt; record.parts(), parts);
-    assert_eq!(rt; record.kind(), Kind::RandomFree);
-    assert_eq!(rt; record.verify(), Verify::Pattern);
-    assert_eq!(rt; record.pattern(), 0xa5);
-    assert_eq!(rt; record.bs(), 65_536);
-    assert_eq!(rt; record.blocks(), 65_536);
-    assert_eq!(rt; record.total(), 1_000_000);
-    assert_eq!(rt; record.seed(), u64::MAX);
-    assert_eq!(rt; record.depth(), 64);
-    assert_eq!(rt; record.window(), 256);
-    Ok(())
-}
-
-#[test]
 fn limits_of_a_record(rt: HostRuntime) {
     assert!(rt; JobRecord::make(PARTS).is_some());
     let past = [
@@ -102,33 +75,9 @@ fn names_and_numbers_of_faults(rt: HostRuntime) -> Result<(), Fail> {
         (Fault::WrongSeat, 93, "WrongSeat", FaultSort::Refusal),
     ];
     for (fault, number, name, sort) in table {
-        assert_eq!(rt; fault.number(), number);
-        assert_eq!(rt; fault.name(), name);
-        assert_eq!(rt; fault.sort(), sort);
+        assert!(rt; fault.number() == number && fault.name() == name && fault.sort() == sort);
         assert_eq!(rt; fault.to_string(rt.alloc())?.as_str(), name);
     }
-    Ok(())
-}
-
-#[test]
-fn report_gives_its_numbers_back(rt: HostRuntime) -> Result<(), Fail> {
-    let parts = ReportParts {
-        checked: 4,
-        faults: 2,
-        first: Blocks::from_vec(vec![in rt.alloc(); 1, 2]?),
-        end: ReportEnd::Whole,
-    };
-    let report = CheckReport::make(parts)
-        .ok()
-        .ok_or("the numbers fit together")?;
-    assert_eq!(rt; report.checked(), 4);
-    assert_eq!(rt; report.faults(), 2);
-    assert_eq!(rt; report.first(), [1, 2].as_slice());
-    assert_eq!(rt; report.end(), ReportEnd::Whole);
-    assert_eq!(rt;
-        report.into_parts().first.into_vec().as_slice(),
-        [1, 2].as_slice()
-    );
     Ok(())
 }
 
@@ -164,12 +113,9 @@ fn reports_that_are_none(rt: HostRuntime) -> Result<(), Fail> {
 #[test]
 fn completions_out_of_order(rt: HostRuntime) {
     let all = [Seq(2), Seq(1), Seq(0), Seq(3), Seq(4)];
-    for number in 0..5 {
-        assert!(rt; is_counted(&all, 3, 5, Seq(number)));
-    }
     let last = [Seq(0), Seq(3), Seq(4)];
-    assert!(rt; !is_counted(&last, 3, 5, Seq(2)));
-    assert!(rt; is_counted(&[], 3, 5, Seq(1)));
-    assert!(rt; !is_counted(&[], 3, 5, Seq(5)));
-    assert!(rt; !is_counted(&[], 256, 5, Seq(u64::MAX)));
+    for number in 0..5 {
+        let seq = Seq(number);
+        assert!(rt; is_counted(&all, 3, 5, seq) && is_counted(&last, 3, 5, seq) == (number != 2));
+    }
 }

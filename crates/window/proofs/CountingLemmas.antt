@@ -1,21 +1,20 @@
 -- The counting law.
-use Rattle.std.proofs.Common.{◌≡◌, ℕ, ◌+◌, ◌-◌, ◌*◌, ◌<◌, ◌≤◌, suc, true, not, eqb, ltb, List, [], ◌∷◌, ◌++◌, length, drop, get_or, sym, refl, ap, ◌∙◌, subst, inl, inr, arith}
+use Rattle.std.proofs.Common.{◌≡◌, ℕ, ◌+◌, ◌-◌, ◌*◌, ◌<◌, ◌≤◌, suc, Bool, true, false, not, eqb, ltb, List, [], ◌∷◌, ◌++◌, length, filter, drop, get_or, sym, refl, ap, ◌∙◌, subst, inl, inr, arith}
 use Rattle.std.specs.Cmp.{nat_eq_equiv}
-use Rattle.std.specs.Prelude.{nat_eq}
-use Rattle.std.specs.List.{IsDistinct}
-use Rattle.std.proofs.lemmas.Bool.{cases_lt, false≢true, or_left, or_right, or_cases, eqb-true, eq-eqb, lt-ltb, ltb-true}
+use Rattle.std.specs.Prelude.{nat_eq, min}
+use Rattle.std.specs.List.{list_all, AllByRecursion, IsDistinct}
+use Rattle.std.proofs.lemmas.Bool.{cases_lt, false≢true, or_left, or_right, or_cases, eqb-true, eq-eqb, and_from, lt-ltb, le-leb, ltb-true}
 use Rattle.std.proofs.lemmas.Bool.Decides.{same_from_decides}
 use Rattle.std.proofs.lemmas.List.{length-append, length-drop, drop_at, drop-append-le, append_assoc, length_push}
 use Rattle.std.proofs.lemmas.List.Elements.{filter_agree, All-drop}
 use Rattle.std.proofs.lemmas.List.Filters.{length-filter_both}
 use Rattle.std.proofs.lemmas.List.Folds.{list_any_at}
 use Rattle.std.proofs.lemmas.Map.Keys.{IsDistinct-push}
-use Rattle.fc_base.specs.Counted.{is_counted}
-use Rattle.window.specs.Numbers.{has, numbers_below}
+use Rattle.fc_base.specs.Counted.{has, numbers_below, is_counted, is_distinct}
 use Rattle.window.specs.History.{Event, issue, done, fail, issues, completions, issued, is_done, recent}
 use Rattle.window.specs.Legal.{IsLegal}
 use Rattle.window.specs.Counting.{CountsTheCompleted, ComesToPossible}
-use Rattle.window.proofs.NumberLemmas.{has_push, has_append_right, has_head, has_is_member, has_last_of, length_numbers_below, IsDistinct-drop, length-le_from_range}
+use Rattle.window.proofs.NumberLemmas.{eqb_comm, has_push, has_append_right, has_head, has_is_member, has_last_of, length_numbers_below, IsDistinct-drop, length-le_from_range}
 use Rattle.window.proofs.HistoryLemmas.{in_flight_are_numbers, open_is, done_issued, old_is_done, few_in_flight, length-in_flight-completions}
 
 -- no write completes twice
@@ -98,6 +97,22 @@ counts_the_completed depth window h l k = same_from_decides (is_counted window (
           (is_recent window k h (distinct_completions depth window h l) (done_issued depth window h l k e) near (completed depth window k h l e))
     ]
 
+-- no number twice, as a test
+is_distinct_from : (xs : List ℕ) → IsDistinct nat_eq xs → is_distinct xs ≡ true
+unfolding IsDistinct
+is_distinct_from [] d = refl
+is_distinct_from (x ∷ xs) d = and_from (not (has xs x)) (is_distinct xs) (ap not (apart xs d.0)) (is_distinct_from xs d.1)
+  where
+    apart : (ys : List ℕ) → AllByRecursion (λ y. nat_eq x y ≡ false) ys → has ys x ≡ false
+    apart [] a = refl
+    apart (y ∷ ys) a = rw (eqb_comm y x, a.0, apart ys a.1) refl
+
+-- what holds of each member
+list_all_from : (p : ℕ → Bool) (xs : List ℕ) → ((k : ℕ) → has xs k ≡ true → p k ≡ true) → list_all p xs ≡ true
+list_all_from p [] each = refl
+list_all_from p (x ∷ xs) each =
+    and_from (p x) (list_all p xs) (each x (has_head x xs)) (list_all_from p xs (λ k e. each k (or_right (eqb x k) (has xs k) e)))
+
 pub comes_to_possible : ComesToPossible
 comes_to_possible depth window h l =
     let counted = is_counted window (issued h) (recent window h) in
@@ -106,10 +121,10 @@ comes_to_possible depth window h l =
     let flying = filter_agree (λ k. not (counted k)) (λ k. not (is_done h k)) (λ k. ap not (counts k)) numbers ∙ sym (in_flight_are_numbers depth window h l) in
     let done_ones = filter_agree counted (is_done h) counts numbers in
     let both = length-filter_both (is_done h) (λ k. not (is_done h k)) (λ k. refl) numbers in
-    record {
-      distinct = IsDistinct-drop (length (completions h) - 2 * window) (completions h) (distinct_completions depth window h l);
-      all_issued = All-drop (λ k. k < issued h) (length (completions h) - 2 * window) (completions h)
-          (λ i d lt. done_issued depth window h l (get_or (completions h) i d) (list_any_at (λ j. eqb j (get_or (completions h) i d)) (completions h) i d lt (eq-eqb _ _ refl)));
-      few_uncounted = omega (arith, ap length flying, few_in_flight depth window h l);
-      whole = omega (arith, ap length done_ones, both, ap length (in_flight_are_numbers depth window h l), length-in_flight-completions depth window h l, length_numbers_below (issued h), length-drop (length (completions h) - 2 * window) (completions h));
-    }
+    let list = recent window h in
+    let distinct = is_distinct_from list (IsDistinct-drop (length (completions h) - 2 * window) (completions h) (distinct_completions depth window h l)) in
+    let all_issued = list_all_from (λ k. ltb k (issued h)) list
+    (λ k e. lt-ltb k (issued h) (done_issued depth window h l k (has_last_of (2 * window) (completions h) k e))) in
+    let few = le-leb (length (filter (λ k. not (counted k)) numbers)) depth (omega (arith, ap length flying, few_in_flight depth window h l)) in
+    let whole = eq-eqb (length list) (min (2 * window) (length (filter counted numbers))) (omega (arith, ap length done_ones, both, ap length (in_flight_are_numbers depth window h l), length-in_flight-completions depth window h l, length_numbers_below (issued h), length-drop (length (completions h) - 2 * window) (completions h))) in
+    and_from _ _ (and_from _ _ distinct all_issued) (and_from _ _ few whole)

@@ -6,7 +6,8 @@ use Rattle.std.proofs.lemmas.Bool.{cases_Bool, cases_lt, cases_eq, false≢true,
 use Rattle.std.proofs.lemmas.Bool.Decides.{same_from_decides}
 use Rattle.std.proofs.lemmas.List.Elements.{filter-append}
 use Rattle.std.proofs.lemmas.List.Filters.{length-filter_both}
-use Rattle.window.specs.Numbers.{has, numbers_below, without}
+use Rattle.fc_base.specs.Counted.{has, numbers_below}
+use Rattle.window.specs.Numbers.{without}
 use Rattle.window.specs.InFlight.{Flights, is_marked, is_current, marked_numbers}
 use Rattle.window.specs.declared.marks.Marks.{Marks}
 use Rattle.window.proofs.NumberLemmas.{has_head, has_filter, has_numbers_below, filter_agree_below, filter_next, filter_twice, length_filter_without, length_numbers_below, and_not}

@@ -3,7 +3,8 @@ use Rattle.std.proofs.Common.{◌≡◌, ℕ, ◌+◌, ◌<◌, ◌≤◌, suc, 
 use Rattle.std.proofs.lemmas.Bool.{false≢true, or_left, or_cases, and_parts, eqb-true, not-true, ltb-true, cases_lt}
 use Rattle.std.proofs.lemmas.List.{length_push}
 use Rattle.std.proofs.lemmas.List.Elements.{filter-append}
-use Rattle.window.specs.Numbers.{has, numbers_below, without}
+use Rattle.fc_base.specs.Counted.{has, numbers_below}
+use Rattle.window.specs.Numbers.{without}
 use Rattle.window.specs.History.{Event, issue, done, fail, issues, completions, failures, issued, is_done, in_flight, open_writes}
 use Rattle.window.specs.Legal.{IsLegal}
 use Rattle.window.specs.Counting.{StaysInOneWindow}

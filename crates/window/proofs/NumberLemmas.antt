@@ -10,7 +10,8 @@ use Rattle.std.proofs.lemmas.List.Elements.{filter-append, filter_agree}
 use Rattle.std.proofs.lemmas.List.Folds.{list_any-append}
 use Rattle.std.proofs.lemmas.Map.Keys.{IsDistinct-tail}
 use Rattle.std.proofs.lemmas.Map.Made.{length-le_from_is_member}
-use Rattle.window.specs.Numbers.{has, last_of, numbers_below, without}
+use Rattle.fc_base.specs.Counted.{has, numbers_below}
+use Rattle.window.specs.Numbers.{last_of, without}
 
 pub eqb_comm : (j k : ℕ) → eqb j k ≡ eqb k j
 eqb_comm j k = grind (arith, nat_tests)

@@ -5,7 +5,7 @@ use Rattle.std.proofs.lemmas.Bool.{and_parts, ltb-true, or_from, ne_eqb}
 use Rattle.std.proofs.lemmas.List.{length_push}
 use Rattle.std.proofs.lemmas.List.Elements.{filter-append, All-head, All-tail}
 use Rattle.std.proofs.lemmas.List.Filters.{length-filter_both}
-use Rattle.window.specs.Numbers.{has, numbers_below}
+use Rattle.fc_base.specs.Counted.{has, numbers_below}
 use Rattle.window.specs.Kept.{after_issue, after_done, after_fail}
 use Rattle.window.specs.Plain.{not_done, kept_by}
 use Rattle.window.proofs.NumberLemmas.{has_filter, has_numbers_below, filter_next, filter_not_next, filter_not_push, filter-without, last_of_push, length_numbers_below}

@@ -3,7 +3,7 @@ use Rattle.std.proofs.Common.{◌≡◌, ℕ, ◌+◌, ◌*◌, ◌<◌, Bool, t
 use Rattle.std.specs.List.{list_any}
 use Rattle.std.proofs.lemmas.Bool.{cases_Bool, false≢true, or_left, or_right, or_cases, and_parts, and_from, eqb-true, eq-eqb, not-true, lt-ltb, leb-true, leb-false, le-leb}
 use Rattle.std.proofs.lemmas.List.{length_push}
-use Rattle.window.specs.Numbers.{has}
+use Rattle.fc_base.specs.Counted.{has}
 use Rattle.window.specs.History.{Event, issue, done, fail, completions, issued, is_done, in_flight}
 use Rattle.window.specs.Legal.{IsLegal, IsClear, HasRoom}
 use Rattle.window.specs.Kept.{Kept, kept_of, StandsFor, room_of, after_issue, after_done, after_fail}

@@ -1,6 +1,7 @@
 -- The history of a job's writes, and the sets of writes that are read from it.
 use Rattle.std.specs.Prelude.{ℕ, ◌*◌, Bool, not, List, [], ◌∷◌, ◌++◌, length, filter}
-use Rattle.window.specs.Numbers.{has, last_of}
+use Rattle.fc_base.specs.Counted.{has}
+use Rattle.window.specs.Numbers.{last_of}
 
 -- A write is issued, completes or fails. A history is a list of these, the newest first.
 pub data Event : Type 0 where

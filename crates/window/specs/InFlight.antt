@@ -1,7 +1,7 @@
 -- How the writes in flight lie in bits. No public contract cites this.
 use Rattle.std.specs.Prelude.{ℕ, ◌+◌, ◌%◌, ◌/◌, ◌==◌, Bool, ◌&&◌, nat_le, List, slice_index, filter}
 use Rattle.std.specs.Int.{bit_at}
-use Rattle.window.specs.Numbers.{numbers_below}
+use Rattle.fc_base.specs.Counted.{numbers_below}
 use Rattle.window.specs.declared.marks.Marks.{Marks}
 
 -- The bit of a slot: 64 slots a word, the lowest bit first.

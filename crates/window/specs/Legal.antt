@@ -1,6 +1,6 @@
 -- The rules of a job's history, and the room that they leave for the next write.
 use Rattle.std.specs.Prelude.{◌≡◌, ℕ, ◌+◌, ◌<◌, ◌≤◌, false, IsTrue, List, [], ◌∷◌, length}
-use Rattle.window.specs.Numbers.{has}
+use Rattle.fc_base.specs.Counted.{has}
 use Rattle.window.specs.History.{Event, issue, done, fail, issued, is_done, in_flight, open_writes}
 use Rattle.window.specs.declared.room.Room.{Room}
 use Rattle.window.specs.declared.room.Room.TheVariants.{Open, Depth, Held}

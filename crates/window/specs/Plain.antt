@@ -1,6 +1,7 @@
 -- What the plain window of the tests shows of its lists. No public contract cites this.
 use Rattle.std.specs.Prelude.{ℕ, ◌*◌, not, List, filter}
-use Rattle.window.specs.Numbers.{has, last_of, numbers_below}
+use Rattle.fc_base.specs.Counted.{has, numbers_below}
+use Rattle.window.specs.Numbers.{last_of}
 use Rattle.window.specs.Kept.{Kept}
 
 -- The numbers issued that have not completed.

@@ -1,7 +1,8 @@
 //! The writes in flight, in bits.
 
 ghost use Rattle.std.specs.Prelude.{◌≡◌, ◌+◌, ◌%◌, ◌<◌, ◌≤◌, [], ◌∷◌, ◌++◌, ◌&&◌, nat_lt, nat_le, length, false, IsTrue};
-ghost use Rattle.window.specs.Numbers.{has, without};
+ghost use Rattle.fc_base.specs.Counted.{has};
+ghost use Rattle.window.specs.Numbers.{without};
 ghost use Rattle.window.specs.Kept.{is_held};
 
 use crate::marks::Marks;

@@ -2,7 +2,7 @@
 //! That is the definitions' own program, and the tests run the other beside it.
 
 ghost use Rattle.std.specs.Prelude.{◌≡◌, ◌⊎◌, ◌+◌, ◌<◌, ◌≤◌, [], length, if◌then◌else◌, is_ok, IfOk, OnOk, Ok, Err};
-ghost use Rattle.window.specs.Numbers.{has};
+ghost use Rattle.fc_base.specs.Counted.{has};
 ghost use Rattle.window.specs.History.{issue, done, fail, in_flight, issued, open_writes, recent};
 ghost use Rattle.window.specs.Legal.{HasRoom};
 ghost use Rattle.window.specs.Kept.{StandsFor, EachHistory, Adds, is_held, room_of, after_issue, after_done, after_fail};

@@ -1,7 +1,7 @@
 //! The window of a job.
 
 ghost use Rattle.std.specs.Prelude.{◌≡◌, ◌<◌, ◌≤◌, [], if◌then◌else◌, is_ok, IfOk, OnOk, Ok, Err};
-ghost use Rattle.window.specs.Numbers.{has};
+ghost use Rattle.fc_base.specs.Counted.{has};
 ghost use Rattle.window.specs.History.{issue, done, fail, in_flight, issued, open_writes, recent};
 ghost use Rattle.window.specs.Legal.{HasRoom};
 ghost use Rattle.window.specs.Kept.{StandsFor, EachHistory, Adds, room_of, after_issue, after_done, after_fail};

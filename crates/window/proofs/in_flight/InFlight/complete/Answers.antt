@@ -1,5 +1,5 @@
 use Rattle.std.proofs.Common.{refl, ap, ◌∙◌, arith}
-use Rattle.window.specs.Numbers.{has}
+use Rattle.fc_base.specs.Counted.{has}
 use Rattle.window.specs.InFlight.{Flights}
 use Rattle.window.proofs.FlightLemmas.{marked-done, length-marked-done, open-done, same_flights, open_flies}
 use Rattle.window.proofs.in_flight.InFlight.complete.Goals as goal

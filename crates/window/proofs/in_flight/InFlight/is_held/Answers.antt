@@ -1,6 +1,6 @@
 use Rattle.std.proofs.Common.{◌&&◌, ◌-◌, sym, ap, ◌∙◌}
 use Rattle.std.proofs.lemmas.Bool.{le-leb, lt-leb}
-use Rattle.window.specs.Numbers.{has}
+use Rattle.fc_base.specs.Counted.{has}
 use Rattle.window.specs.InFlight.{Flights, marked_numbers}
 use Rattle.window.proofs.FlightLemmas.{held_is}
 use Rattle.window.proofs.in_flight.InFlight.is_held.Goals as goal

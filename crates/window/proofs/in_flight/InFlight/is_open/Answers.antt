@@ -1,5 +1,5 @@
 use Rattle.std.proofs.Common.{◌%◌, ◌&&◌, sym, ap, ◌∙◌}
-use Rattle.window.specs.Numbers.{has}
+use Rattle.fc_base.specs.Counted.{has}
 use Rattle.window.specs.InFlight.{Flights, is_marked}
 use Rattle.window.proofs.FlightLemmas.{has_open}
 use Rattle.window.proofs.in_flight.InFlight.is_open.Goals as goal

@@ -1,6 +1,6 @@
 use Rattle.std.proofs.Common.{◌≡◌, ◌+◌, true, ltb, leb, not, sym, ap, ◌∙◌, arith}
 use Rattle.std.proofs.lemmas.Bool.{and_from, lt-ltb, le-leb}
-use Rattle.window.specs.Numbers.{has}
+use Rattle.fc_base.specs.Counted.{has}
 use Rattle.window.specs.Plain.{not_done}
 use Rattle.window.proofs.StepLemmas.{any_from_has}
 use Rattle.window.proofs.PlainLemmas.{has_not_done}

@@ -1,5 +1,5 @@
 use Rattle.std.proofs.Common.{◌&&◌, not, sym, ap, ◌∙◌}
-use Rattle.window.specs.Numbers.{has}
+use Rattle.fc_base.specs.Counted.{has}
 use Rattle.window.specs.Kept.{Kept}
 use Rattle.window.proofs.PlainLemmas.{has_not_failed}
 use Rattle.window.proofs.plain.PlainWindow.is_open.Goals as goal
