@@ -1,0 +1,14 @@
+use Rattle.std.proofs.Common.{◌≡◌, ◌+◌, arith, sym, length}
+use Rattle.fc_base.specs.Counted.{counted}
+use Rattle.verify_state.proofs.CountLemmas.{length_counted, counted_and_uncounted}
+use Rattle.verify_state.proofs.counting.completed.Goals as goal
+
+sum_is : (c : goal.After-count_from) → c.saturating_sub-floor.result + c.count_from.result ≡ length (counted c.args.window c.args.issued c.args.list.now)
+sum_is c = rw (c.count_from.ensures, c.saturating_sub-floor.ensures, c.from.ensures) (sym (length_counted c.args.window c.args.issued c.args.list.now c.requires.distinct c.requires.below))
+
+pub overflow_add-result : goal.overflow_add-result
+overflow_add-result c =
+    omega (arith, sum_is c, counted_and_uncounted c.args.window c.args.issued c.args.list.now, c.ranges.issued.fits)
+
+pub returns : goal.returns
+returns c = sum_is c

@@ -1,0 +1,5 @@
+use Rattle.verify_state.proofs.SpellingLemmas.{no_prefix}
+use Rattle.verify_state.proofs.laws.no_spelling_begins_another.Goals as goal
+
+pub returns : goal.returns
+returns c = no_prefix

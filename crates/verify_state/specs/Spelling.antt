@@ -1,0 +1,44 @@
+-- The bytes of a verify state, layout 1.
+use Rattle.std.specs.Prelude.{ℕ, List, [], ◌∷◌, ◌++◌, length, codes}
+use Rattle.std.specs.List.{flat_map}
+use Rattle.std.specs.Int.{w32, w64, to_be_bytes}
+use Rattle.fc_base.specs.declared.numbers.Key.{Key}
+use Rattle.fc_base.specs.declared.record.JobParts.{JobParts}
+use Rattle.fc_base.specs.declared.record.Kind.{Kind}
+use Rattle.fc_base.specs.declared.record.Kind.TheVariants.{Sequential, RandomMap, RandomFree}
+use Rattle.fc_base.specs.declared.record.Verify.{Verify}
+use Rattle.fc_base.specs.declared.record.Verify.TheVariants.{Stamp, Pattern}
+use Rattle.verify_state.specs.State.{State}
+
+-- The code of an order.
+abbrev pub kind_code : Kind → ℕ
+kind_code Sequential = 0
+kind_code RandomMap = 1
+kind_code RandomFree = 2
+
+-- The code of what is written.
+abbrev pub verify_code : Verify → ℕ
+verify_code Stamp = 0
+verify_code Pattern = 1
+
+-- Numbers of eight bytes, one behind the other.
+abbrev pub words : List ℕ → List ℕ
+words ns = flat_map (to_be_bytes w64) ns
+
+-- Whose state it is.
+unfoldable pub key_bytes : Key → List ℕ
+key_bytes key = to_be_bytes w64 key.run ++ to_be_bytes w32 key.server ++ to_be_bytes w32 key.job
+
+-- The settings of its job.
+unfoldable pub job_bytes : JobParts → List ℕ
+job_bytes job =
+    (kind_code job.kind ∷ verify_code job.verify ∷ job.pattern ∷ 0 ∷ []) ++ to_be_bytes w32 job.bs
+    ++ to_be_bytes w32 job.blocks ++ to_be_bytes w64 job.total ++ to_be_bytes w64 job.seed
+    ++ to_be_bytes w32 job.depth ++ to_be_bytes w32 job.window
+
+-- The mark, the key, the settings, the number issued, the place, the number of completions, and the
+-- completions, oldest first.
+abbrev pub spelling : State → List ℕ
+spelling s =
+    codes "FCV1" ++ key_bytes s.key ++ job_bytes s.job ++ to_be_bytes w64 s.issued
+    ++ words s.place ++ to_be_bytes w32 (length s.completions) ++ words s.completions

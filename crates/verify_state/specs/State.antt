@@ -1,0 +1,70 @@
+-- What a verify state is, and when two are the same.
+use Rattle.std.specs.Prelude.{◌≡◌, ℕ, ◌*◌, ◌^◌, ◌<◌, Bool, not, ◌&&◌, nat_lt, nat_le, List, ◌++◌, length, IsTrue}
+use Rattle.std.specs.List.{AllByRecursion}
+use Rattle.fc_base.specs.declared.numbers.Key.{Key}
+use Rattle.fc_base.specs.declared.record.JobParts.{JobParts}
+use Rattle.fc_base.specs.declared.fault.Fault.{Fault}
+use Rattle.fc_base.specs.declared.fault.Fault.TheVariants.{StateBadField, Impossible}
+use Rattle.fc_base.specs.JobParts.{is_within_limits}
+use Rattle.fc_base.specs.Counted.{counted, is_possible}
+use Rattle.fc_base.specs.Faults.{when}
+
+-- The key and the record of a job, the number of writes issued, the generator's place after them, the
+-- writes that it counts as completed (ascending), and the last completions (oldest first).
+pub record State : Type 0 where
+  pub key : Key
+  pub job : JobParts
+  pub issued : ℕ
+  pub place : List ℕ
+  pub counted : List ℕ
+  pub completions : List ℕ
+
+-- The state with this list of completions: it counts what the list and the number issued count.
+abbrev pub state_of : Key → JobParts → ℕ → List ℕ → List ℕ → State
+state_of key job issued place completions = record {
+  key = key;
+  job = job;
+  issued = issued;
+  place = place;
+  counted = counted job.window issued completions;
+  completions = completions;
+}
+
+-- Two states are the same where key, record, number issued, place and counted writes are equal.
+pub record IsSame (a b : State) : Type 0 where
+  pub key : a.key ≡ b.key
+  pub job : a.job ≡ b.job
+  pub issued : a.issued ≡ b.issued
+  pub place : a.place ≡ b.place
+  pub counted : a.counted ≡ b.counted
+
+-- Runs count from 1, and there are 8 servers and 16 jobs.
+abbrev pub is_key : Key → Bool
+is_key key = nat_le 1 key.run && nat_lt key.server 8 && nat_lt key.job 16
+
+-- At most a million writes are issued, and at most two windows of completions are kept.
+abbrev pub has_counts : ℕ → ℕ → ℕ → Bool
+has_counts window issued count = nat_le issued 1000000 && nat_le count (2 * window)
+
+-- No more writes were issued than the job has, and some job can have come to this list.
+unfoldable pub has_come : JobParts → ℕ → List ℕ → Bool
+has_come job issued completions =
+    nat_le issued job.total && is_possible job.depth job.window issued completions
+
+-- What is wrong with a state of these fields.
+abbrev pub field_faults : Key → JobParts → ℕ → List ℕ → List Fault
+field_faults key job issued completions =
+    when (not (is_key key && has_counts job.window issued (length completions))) StateBadField
+    ++ when (not (has_come job issued completions)) Impossible
+
+-- What every state keeps.
+pub record IsState (s : State) : Type 0 where
+  pub key : IsTrue (is_key s.key)
+  pub run : s.key.run < 2 ^ 64
+  pub limits : IsTrue (is_within_limits s.job)
+  pub seed : s.job.seed < 2 ^ 64
+  pub pattern : s.job.pattern < 256
+  pub come : IsTrue (has_come s.job s.issued s.completions)
+  pub words : length s.place ≡ 4
+  pub word : AllByRecursion (λ word. word < 2 ^ 64) s.place
+  pub counted : s.counted ≡ counted s.job.window s.issued s.completions

@@ -1,0 +1,183 @@
+//! Reading a verify state.
+
+ghost use Rattle.std.specs.Prelude.{◌≡◌, ◌+◌, ◌*◌, ◌≤◌, length, IfSome, IfOk, IsTrue, Some, None, if◌then◌else◌};
+ghost use Rattle.std.specs.Int.{w8, w32, w64};
+ghost use Rattle.verify_state.specs.Reading.{field, words_at, key_in, job_in, place_in, has_codes, has_fields, has_ranges, kind_of, verify_of};
+ghost use Rattle.verify_state.specs.State.{is_key};
+ghost use Rattle.verify_state.specs.Front.{front_in, Fronts};
+
+use crate::ranges::{has_counts, is_key};
+use fc_base::{Fault, JobNo, JobParts, JobRecord, Key, Kind, RunNo, Seq, ServerNo, Verify};
+
+/// Bytes before the completions.
+pub(crate) const FRONT: usize = 100;
+
+/// What stands before the completions.
+#[derive(Drop)]
+pub(crate) struct Front {
+    pub key: Key,
+    pub rec: JobRecord,
+    pub issued: u64,
+    pub place: [u64; 4],
+    pub count: usize,
+}
+
+#[tactic(auto, unfolding(crate::specs::Reading::field))]
+fn u8_at(bytes: &[u8], at: usize) -> u8
+    requires { at + 1 ≤ length bytes.now }
+    ensures { result ≡ field w8 at bytes.now }
+{
+    bytes[at]
+}
+
+#[tactic(auto, unfolding(crate::specs::Reading::field))]
+fn u32_at(bytes: &[u8], at: usize) -> u32
+    requires { at + 4 ≤ length bytes.now }
+    ensures { result ≡ field w32 at bytes.now }
+{
+    let field = &bytes[at..at + 4];
+    u32::from_be_bytes([field[0], field[1], field[2], field[3]])
+}
+
+#[tactic(auto, unfolding(crate::specs::Reading::field))]
+fn u64_at(bytes: &[u8], at: usize) -> u64
+    requires { at + 8 ≤ length bytes.now }
+    ensures { result ≡ field w64 at bytes.now }
+{
+    let field = &bytes[at..at + 8];
+    u64::from_be_bytes([
+        field[0], field[1], field[2], field[3], field[4], field[5], field[6], field[7],
+    ])
+}
+
+fn kind_of(code: u8) -> Kind
+    ensures { result ≡ kind_of code }
+{
+    match code {
+        0 => Kind::Sequential,
+        1 => Kind::RandomMap,
+        _ => Kind::RandomFree,
+    }
+}
+
+fn verify_of(code: u8) -> Verify
+    ensures { result ≡ verify_of code }
+{
+    match code {
+        0 => Verify::Stamp,
+        _ => Verify::Pattern,
+    }
+}
+
+fn key_in(bytes: &[u8]) -> Key
+    requires { 100 ≤ length bytes.now }
+    ensures { result ≡ key_in bytes.now }
+{
+    Key {
+        run: RunNo(u64_at(bytes, 4)),
+        server: ServerNo(u32_at(bytes, 12)),
+        job: JobNo(u32_at(bytes, 16)),
+    }
+}
+
+fn job_in(bytes: &[u8]) -> JobParts
+    requires { 100 ≤ length bytes.now }
+    ensures { result ≡ job_in bytes.now }
+{
+    JobParts {
+        kind: kind_of(u8_at(bytes, 20)),
+        verify: verify_of(u8_at(bytes, 21)),
+        pattern: u8_at(bytes, 22),
+        bs: u64::from(u32_at(bytes, 24)),
+        blocks: u64::from(u32_at(bytes, 28)),
+        total: u64_at(bytes, 32),
+        seed: u64_at(bytes, 40),
+        depth: u64::from(u32_at(bytes, 48)),
+        window: u64::from(u32_at(bytes, 52)),
+    }
+}
+
+fn place_in(bytes: &[u8]) -> [u64; 4]
+    requires { 100 ≤ length bytes.now }
+    ensures { result ≡ place_in bytes.now }
+{
+    [
+        u64_at(bytes, 64),
+        u64_at(bytes, 72),
+        u64_at(bytes, 80),
+        u64_at(bytes, 88),
+    ]
+}
+
+fn has_codes(bytes: &[u8]) -> bool
+    requires { 100 ≤ length bytes.now }
+    ensures { result ≡ has_codes bytes.now }
+{
+    u8_at(bytes, 20) < 3 && u8_at(bytes, 21) < 2 && u8_at(bytes, 23) == 0
+}
+
+fn has_fields(bytes: &[u8]) -> bool
+    requires { 100 ≤ length bytes.now }
+    ensures { result ≡ has_fields bytes.now }
+{
+    has_codes(bytes)
+        && is_key(&key_in(bytes))
+        && has_counts(
+            u32_at(bytes, 52),
+            u64_at(bytes, 56),
+            u64::from(u32_at(bytes, 96)),
+        )
+}
+
+/// What stands before the completions, or `None` where a field is out of its range.
+fn ranged(bytes: &[u8]) -> Option<Front>
+    requires { 100 ≤ length bytes.now }
+    ensures few { IfSome result (λ front. front.count ≤ 512) }
+    ensures key { IfSome result (λ front. IsTrue (is_key front.key)) }
+    ensures value { result ≡ (if has_ranges bytes.now then Some (front_in bytes.now) else None) }
+{
+    let rec = JobRecord::make(job_in(bytes))?;
+    if !has_fields(bytes) {
+        return None;
+    }
+    Some(Front {
+        key: key_in(bytes),
+        rec,
+        issued: u64_at(bytes, 56),
+        place: place_in(bytes),
+        count: u32_at(bytes, 96) as usize,
+    })
+}
+
+/// What stands before the completions, which are there, and nothing else behind them.
+pub(crate) fn front_of(bytes: &[u8]) -> Result<Front, Fault>
+    ensures value { Fronts result bytes.now }
+    ensures few { IfOk result (λ front. front.count ≤ 512) }
+    ensures key { IfOk result (λ front. IsTrue (is_key front.key)) }
+{
+    if bytes.len() < FRONT {
+        return Err(Fault::StateShort);
+    }
+    if !bytes.starts_with(b"FCV1") {
+        return Err(Fault::StateBadMagic);
+    }
+    let front = ranged(bytes).ok_or(Fault::StateBadField)?;
+    let length = FRONT + 8 * front.count;
+    if bytes.len() < length {
+        return Err(Fault::StateShort);
+    }
+    if bytes.len() > length {
+        return Err(Fault::StateTrailing);
+    }
+    Ok(front)
+}
+
+/// Reads as many completions as there is room for, from the first on.
+pub(crate) fn read_completions(bytes: &[u8], completions: &mut [Seq])
+    requires { FRONT + 8 * length completions.old ≤ length bytes.now }
+    ensures { completions.new ≡ words_at (length completions.old) 100 bytes.now }
+{
+    for (i, seq) in completions.iter_mut().enumerate() {
+        *seq = Seq(u64_at(bytes, FRONT + 8 * i));
+    }
+}

@@ -1,0 +1,71 @@
+//! Writing a verify state.
+
+ghost use Rattle.std.specs.Prelude.{◌≡◌, ◌++◌, OnOk};
+ghost use Rattle.verify_state.specs.Spelling.{kind_code, verify_code, words, key_bytes, job_bytes};
+
+use fc_base::{JobRecord, Key, Kind, Seq, Verify};
+use std::alloc::AllocError;
+
+fn kind_code(kind: Kind) -> u8
+    ensures { result ≡ kind_code kind }
+{
+    match kind {
+        Kind::Sequential => 0,
+        Kind::RandomMap => 1,
+        Kind::RandomFree => 2,
+    }
+}
+
+fn verify_code(verify: Verify) -> u8
+    ensures { result ≡ verify_code verify }
+{
+    match verify {
+        Verify::Stamp => 0,
+        Verify::Pattern => 1,
+    }
+}
+
+pub(crate) fn push_key(bytes: &mut Vec<u8>, key: &Key) -> Result<(), AllocError>
+    ensures { OnOk result (bytes.new.items ≡ bytes.old.items ++ key_bytes key.now) }
+{
+    bytes.extend_from_slice(&key.run.0.to_be_bytes())?;
+    bytes.extend_from_slice(&key.server.0.to_be_bytes())?;
+    bytes.extend_from_slice(&key.job.0.to_be_bytes())?;
+    Ok(())
+}
+
+pub(crate) fn push_job(bytes: &mut Vec<u8>, job: &JobRecord) -> Result<(), AllocError>
+    ensures { OnOk result (bytes.new.items ≡ bytes.old.items ++ job_bytes job.now) }
+{
+    bytes.extend_from_slice(&[
+        kind_code(job.kind()),
+        verify_code(job.verify()),
+        job.pattern(),
+        0,
+    ])?;
+    bytes.extend_from_slice(&job.bs().to_be_bytes())?;
+    bytes.extend_from_slice(&job.blocks().to_be_bytes())?;
+    bytes.extend_from_slice(&job.total().to_be_bytes())?;
+    bytes.extend_from_slice(&job.seed().to_be_bytes())?;
+    bytes.extend_from_slice(&job.depth().to_be_bytes())?;
+    bytes.extend_from_slice(&job.window().to_be_bytes())?;
+    Ok(())
+}
+
+pub(crate) fn push_place(bytes: &mut Vec<u8>, place: &[u64; 4]) -> Result<(), AllocError>
+    ensures { OnOk result (bytes.new.items ≡ bytes.old.items ++ words place.now) }
+{
+    for word in place {
+        bytes.extend_from_slice(&word.to_be_bytes())?;
+    }
+    Ok(())
+}
+
+pub(crate) fn push_completions(bytes: &mut Vec<u8>, completions: &[Seq]) -> Result<(), AllocError>
+    ensures { OnOk result (bytes.new.items ≡ bytes.old.items ++ words completions.now) }
+{
+    for seq in completions {
+        bytes.extend_from_slice(&seq.0.to_be_bytes())?;
+    }
+    Ok(())
+}
