@@ -1,0 +1,6 @@
+pub mod AnswerLemmas
+pub mod InsideLemmas
+pub mod ProgressLemmas
+pub mod RunningLemmas
+pub mod TakenLemmas
+pub mod WriteLemmas

@@ -1,0 +1,5 @@
+pub mod Answers
+pub mod Inside
+pub mod Legal
+pub mod Running
+pub mod Taken

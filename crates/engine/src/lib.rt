@@ -1,0 +1,14 @@
+//! One job of a run, from the issue of its writes to their completion.
+#![tactic(auto)]
+
+mod engine;
+mod issue;
+mod law;
+mod writes;
+
+pub use engine::Engine;
+pub use issue::{Issue, Ticket};
+pub use law::progress_law;
+
+#[cfg(test)]
+mod tests;
