@@ -1,0 +1,111 @@
+-- How many bytes a body has, and that its numbers fit their widths.
+use Rattle.std.proofs.Common.{◌≡◌, ℕ, ◌≤◌, Bool, true, false, ◌&&◌, Option, Some, None, if◌then◌else◌, List, length, drop, subst, refl, arith}
+use Rattle.std.proofs.lemmas.Bool.Decides.{nat_tests}
+use Rattle.std.specs.Prelude.{IsTrue, ◌==◌}
+use Rattle.std.specs.Int.{w8, w32, w64}
+use Rattle.std.proofs.lemmas.List.{length-append}
+use Rattle.fc_base.specs.declared.report.ReportParts.{ReportParts}
+use Rattle.fc_base.specs.Report.{is_report}
+use Rattle.messages.specs.declared.body.Body.{Body}
+use Rattle.messages.specs.declared.body.Body.TheVariants.{Jobs, JobsOk, Start, Started, Trigger, State, NoState, StateAck, Stop, Stopped, Verify, WantState, Saved, NoSaved, Report, Refused}
+use Rattle.messages.specs.declared.kind.PacketKind.{PacketKind}
+use Rattle.messages.specs.declared.kind.PacketKind.TheVariants as kinds
+use Rattle.messages.specs.Layouts.{number_in, size, spelled, numbers}
+use Rattle.messages.specs.Ranges.{is_run, is_attempt, is_job_of, is_text, is_body, KeepsState}
+use Rattle.messages.specs.Bodies.{kind_of, layout, numbers_of, tail_of, spelled_body, length_of, body_of, is_whole, whole, body_at}
+use Rattle.messages.specs.Choices.{asked_numbered, reason_numbered}
+use Rattle.messages.specs.declared.refusal.Asked.{Asked}
+use Rattle.messages.specs.declared.refusal.Reason.{Reason}
+use Rattle.messages.proofs.TestLemmas.{both, le_of}
+use Rattle.messages.proofs.StateLemmas.{length-spelled_state}
+use Rattle.messages.proofs.LayoutLemmas.{length-spelled, length-spelled_blocks, AreWide, wide8, wide32, wide64}
+
+pub are_wide : (k : PacketKind) → AreWide (layout k)
+are_wide kinds.Jobs = (wide64, tt)
+are_wide kinds.JobsOk = (wide64, (wide32, tt))
+are_wide kinds.Start = (wide64, tt)
+are_wide kinds.Started = (wide64, tt)
+are_wide kinds.Trigger = (wide64, (wide8, tt))
+are_wide kinds.State = (wide32, tt)
+are_wide kinds.NoState = (wide64, (wide32, (wide32, tt)))
+are_wide kinds.StateAck = (wide64, (wide32, tt))
+are_wide kinds.Stop = (wide64, tt)
+are_wide kinds.Stopped = (wide64, tt)
+are_wide kinds.Verify = (wide64, (wide64, tt))
+are_wide kinds.WantState = (wide64, (wide64, (wide32, tt)))
+are_wide kinds.Saved = (wide64, tt)
+are_wide kinds.NoSaved = (wide64, (wide64, (wide32, tt)))
+are_wide kinds.Report = (wide64, (wide64, (wide32, (wide32, (wide8, (wide32, (wide32, (wide32, (wide32, tt)))))))))
+are_wide kinds.Refused = (wide8, (wide8, (wide32, (wide32, (wide64, (wide64, (wide64, tt)))))))
+
+pub length-numbers_of : (b : Body) → length (numbers_of b) ≡ length (layout (kind_of b))
+length-numbers_of (Jobs run text) = refl
+length-numbers_of (JobsOk run jobs) = refl
+length-numbers_of (Start run) = refl
+length-numbers_of (Started run) = refl
+length-numbers_of (Trigger run act) = refl
+length-numbers_of (State jobs state) = refl
+length-numbers_of (NoState run job jobs) = refl
+length-numbers_of (StateAck run job) = refl
+length-numbers_of (Stop run) = refl
+length-numbers_of (Stopped run) = refl
+length-numbers_of (Verify run attempt text) = refl
+length-numbers_of (WantState run attempt job) = refl
+length-numbers_of (Saved attempt state) = refl
+length-numbers_of (NoSaved run attempt job) = refl
+length-numbers_of (Report run attempt job jobs report) = refl
+length-numbers_of (Refused asked reason job jobs run attempt value) = refl
+
+pub length-spelled_body : (b : Body) → length (spelled_body b) ≡ length_of b
+length-spelled_body b =
+    omega (arith, length-append (spelled (layout (kind_of b)) (numbers_of b)) (tail_of b), length-spelled (layout (kind_of b)) (numbers_of b) (length-numbers_of b))
+
+report_length : (r : ReportParts) → IsTrue (is_report r) → length r.first ≤ 32
+report_length r h = grind (arith, nat_tests)
+
+-- No body has more bytes than a frame may have.
+pub length_of-limit : (b : Body) → is_body b ≡ true → KeepsState b → length_of b ≤ 16400
+length_of-limit (Jobs run text) h keeps = omega (arith, le_of (length text) 16384 (both (is_run run) (is_text text) h).1)
+length_of-limit (JobsOk run jobs) h keeps = omega arith
+length_of-limit (Start run) h keeps = omega arith
+length_of-limit (Started run) h keeps = omega arith
+length_of-limit (Trigger run act) h keeps = omega arith
+length_of-limit (State jobs state) h keeps = omega (arith, length-spelled_state state keeps)
+length_of-limit (NoState run job jobs) h keeps = omega arith
+length_of-limit (StateAck run job) h keeps = omega arith
+length_of-limit (Stop run) h keeps = omega arith
+length_of-limit (Stopped run) h keeps = omega arith
+length_of-limit (Verify run attempt text) h keeps = omega (arith, le_of (length text) 16384 (both (is_run run && is_attempt attempt) (is_text text) h).1)
+length_of-limit (WantState run attempt job) h keeps = omega arith
+length_of-limit (Saved attempt state) h keeps = omega (arith, length-spelled_state state keeps)
+length_of-limit (NoSaved run attempt job) h keeps = omega arith
+length_of-limit (Report run attempt job jobs r) h keeps =
+    omega (arith, length-spelled_blocks r.first, report_length r (both (is_run run && is_attempt attempt && is_job_of job jobs) (is_report r) h).1)
+length_of-limit (Refused asked reason job jobs run attempt value) h keeps = omega arith
+
+some_is : (x y : Body) → Some x ≡ Some y → x ≡ y
+some_is x y same = cc
+
+-- What was read as a whole body is in its ranges.
+pub whole_some : (bytes : List ℕ) (o : Option Body) (b : Body) → whole bytes o ≡ Some b → (o ≡ Some b) × (is_whole bytes b ≡ true)
+whole_some bytes None b e = absurd cc
+whole_some bytes (Some x) b e = pick (is_whole bytes x) refl e
+  where
+    pick : (test : Bool) → is_whole bytes x ≡ test → (if test then Some x else None) ≡ Some b → (Some x ≡ Some b) × (is_whole bytes b ≡ true)
+    pick true is same = (same, subst (λ (y : Body). is_whole bytes y ≡ true) (some_is x b same) is)
+    pick false is same = absurd cc
+
+pub body_at-in_range : (k : PacketKind) (bytes : List ℕ) (b : Body) → body_at k bytes ≡ Some b → is_body b ≡ true
+body_at-in_range k bytes b e =
+    (both (length_of b == length bytes) (is_body b) (whole_some bytes (body_of k (numbers (layout k) bytes) (drop (size (layout k)) bytes)) b e).1).1
+
+-- The refusal that the numbers say, once its request and its reason are known.
+abbrev pub refusal_in : List ℕ → Asked → Reason → Body
+refusal_in bytes a r =
+    let job = drop 1 (drop 1 bytes) in
+    let run = drop 4 (drop 4 job) in
+    Refused a r (number_in w32 job) (number_in w32 (drop 4 job)) (number_in w64 run) (number_in w64 (drop 8 run)) (number_in w64 (drop 8 (drop 8 run)))
+
+pub refused_at : (bytes : List ℕ) (a : Asked) (r : Reason) → length bytes ≡ 34 → asked_numbered (number_in w8 bytes) ≡ Some a → reason_numbered (number_in w8 (drop 1 bytes)) ≡ Some r
+    → body_at kinds.Refused bytes ≡ (if is_body (refusal_in bytes a r) then Some (refusal_in bytes a r) else None)
+refused_at bytes a r len ea er = rw (ea, er, len) refl

@@ -1,0 +1,184 @@
+-- A body in its ranges: its numbers fit their widths, and are read again.
+use Rattle.std.proofs.Common.{◌≡◌, ℕ, ◌<◌, true, ◌&&◌, Some, List, [], ◌∷◌, length, refl, arith}
+use Rattle.std.specs.Prelude.{◌==◌, nat_le, nat_lt}
+use Rattle.std.specs.List.{list_all}
+use Rattle.std.specs.Int.{w32}
+use Rattle.std.proofs.lemmas.Bool.Decides.{nat_tests}
+use Rattle.std.proofs.lemmas.List.{drop_at}
+use Rattle.fc_base.specs.Ascending.{is_block}
+use Rattle.fc_base.specs.declared.report.ReportParts.{ReportParts}
+use Rattle.fc_base.specs.declared.report.ReportEnd.{ReportEnd}
+use Rattle.fc_base.specs.declared.report.ReportEnd.TheVariants as ends
+use Rattle.fc_base.specs.Report.{has_counts, has_list, has_end, is_report}
+use Rattle.messages.specs.declared.body.Body.{Body}
+use Rattle.messages.specs.declared.body.Body.TheVariants.{Jobs, JobsOk, Start, Started, Trigger, State, NoState, StateAck, Stop, Stopped, Verify, WantState, Saved, NoSaved, Report, Refused}
+use Rattle.messages.specs.declared.refusal.Asked.{Asked}
+use Rattle.messages.specs.declared.refusal.Asked.TheVariants as asks
+use Rattle.messages.specs.declared.refusal.Reason.{Reason}
+use Rattle.messages.specs.declared.refusal.Reason.TheVariants as reasons
+use Rattle.messages.specs.Layouts.{bytes_of, spelled_blocks, blocks_in}
+use Rattle.messages.specs.Ranges.{is_word, is_run, is_attempt, is_jobs, is_job, is_job_of, is_text, is_job_refused, is_attempt_refused, is_body, KeepsState}
+use Rattle.messages.specs.Bodies.{kind_of, layout, numbers_of, tail_of, spelled_body, length_of, body_of, whole, body_at, end_at}
+use Rattle.messages.proofs.StateLemmas.{ReadsBack, state_again}
+use Rattle.messages.proofs.LayoutLemmas.{length-bytes_of, wide32, Fit, numbers-spelled, drop-spelled}
+use Rattle.messages.proofs.ChoiceLemmas.{act_again, act_fits, asked_again, asked_fits, reason_again, reason_fits, end_again, end_fits}
+use Rattle.messages.proofs.TestLemmas.{both, lt_of}
+use Rattle.messages.proofs.BodyLemmas.{are_wide, length-numbers_of, length-spelled_body}
+
+run_fits : (n : ℕ) → is_run n ≡ true → n < 18446744073709551616
+run_fits n h = lt_of n 18446744073709551616 (both (nat_le 1 n) (is_word n) h).1
+
+attempt_fits : (n : ℕ) → is_attempt n ≡ true → n < 18446744073709551616
+attempt_fits n h = lt_of n 18446744073709551616 (both (nat_le 1 n) (is_word n) h).1
+
+jobs_fit : (n : ℕ) → is_jobs n ≡ true → n < 4294967296
+jobs_fit n h = grind (arith, nat_tests)
+
+job_fits : (n : ℕ) → is_job n ≡ true → n < 4294967296
+job_fits n h = grind (arith, nat_tests)
+
+job_of_fits : (job jobs : ℕ) → is_job_of job jobs ≡ true → (job < 4294967296) × (jobs < 4294967296)
+job_of_fits job jobs h =
+    let parts = both (is_jobs jobs) (nat_lt job jobs) h in
+    let many = jobs_fit jobs parts.0 in
+    let below = lt_of job jobs parts.1 in
+    (omega arith, many)
+
+zeros_fit : (job jobs : ℕ) → ((job == 0) && (jobs == 0)) ≡ true → (job < 4294967296) × (jobs < 4294967296)
+zeros_fit job jobs h =
+    let parts = both (job == 0) (jobs == 0) h in
+    let one = parts.0 in
+    let two = parts.1 in
+    (grind (arith, nat_tests), grind (arith, nat_tests))
+
+job_refused_fits : (reason : Reason) (job jobs : ℕ) → is_job_refused reason job jobs ≡ true → (job < 4294967296) × (jobs < 4294967296)
+job_refused_fits reasons.Old job jobs h = zeros_fit job jobs h
+job_refused_fits reasons.Busy job jobs h = zeros_fit job jobs h
+job_refused_fits reasons.NoJobs job jobs h = zeros_fit job jobs h
+job_refused_fits reasons.Gone job jobs h = zeros_fit job jobs h
+job_refused_fits reasons.Overwritten job jobs h = zeros_fit job jobs h
+job_refused_fits reasons.Unknown job jobs h = zeros_fit job jobs h
+job_refused_fits reasons.BadJobs job jobs h = zeros_fit job jobs h
+job_refused_fits reasons.Misfit job jobs h = job_of_fits job jobs h
+
+zero_fits : (n : ℕ) → (n == 0) ≡ true → n < 18446744073709551616
+zero_fits n h = grind (arith, nat_tests)
+
+attempt_refused_fits : (asked : Asked) (attempt : ℕ) → is_attempt_refused asked attempt ≡ true → attempt < 18446744073709551616
+attempt_refused_fits asks.Jobs attempt h = zero_fits attempt h
+attempt_refused_fits asks.Start attempt h = zero_fits attempt h
+attempt_refused_fits asks.Trigger attempt h = zero_fits attempt h
+attempt_refused_fits asks.Stop attempt h = zero_fits attempt h
+attempt_refused_fits asks.Verify attempt h = attempt_fits attempt h
+
+at_fits : (r : ReportParts) (end : ReportEnd) → has_end (record r { end = end }) ≡ true → end_at end < 4294967296
+at_fits r ends.Whole h = omega arith
+at_fits r ends.AtFault h = omega arith
+at_fits r (ends.ReadFault b) h = grind (arith, nat_tests)
+
+counts_fit : (r : ReportParts) → has_counts r ≡ true → (r.checked < 4294967296) × (r.faults < 4294967296)
+counts_fit r h =
+    let parts = both (nat_le r.faults r.checked) (nat_le r.checked 65536) h in
+    let one = parts.0 in
+    let two = parts.1 in
+    (grind (arith, nat_tests), grind (arith, nat_tests))
+
+list_fits : (r : ReportParts) → has_list r ≡ true → length r.first < 4294967296
+list_fits r h = grind (arith, nat_tests)
+
+-- The numbers of a body fit their widths.
+fit_of : (b : Body) → is_body b ≡ true → Fit (layout (kind_of b)) (numbers_of b)
+fit_of (Jobs run text) h = (run_fits run (both (is_run run) (is_text text) h).0, tt)
+fit_of (JobsOk run jobs) h =
+    let parts = both (is_run run) (is_jobs jobs) h in
+    (run_fits run parts.0, (jobs_fit jobs parts.1, tt))
+fit_of (Start run) h = (run_fits run h, tt)
+fit_of (Started run) h = (run_fits run h, tt)
+fit_of (Trigger run act) h = (run_fits run h, (act_fits act, tt))
+fit_of (State jobs state) h = (jobs_fit jobs (both (is_jobs jobs) (nat_lt state.key.job jobs) h).0, tt)
+fit_of (NoState run job jobs) h =
+    let parts = both (is_run run) (is_job_of job jobs) h in
+    let numbers = job_of_fits job jobs parts.1 in
+    (run_fits run parts.0, (numbers.0, (numbers.1, tt)))
+fit_of (StateAck run job) h =
+    let parts = both (is_run run) (is_job job) h in
+    (run_fits run parts.0, (job_fits job parts.1, tt))
+fit_of (Stop run) h = (run_fits run h, tt)
+fit_of (Stopped run) h = (run_fits run h, tt)
+fit_of (Verify run attempt text) h =
+    let parts = both (is_run run) (is_attempt attempt) (both (is_run run && is_attempt attempt) (is_text text) h).0 in
+    (run_fits run parts.0, (attempt_fits attempt parts.1, tt))
+fit_of (WantState run attempt job) h =
+    let last = both (is_run run && is_attempt attempt) (is_job job) h in
+    let parts = both (is_run run) (is_attempt attempt) last.0 in
+    (run_fits run parts.0, (attempt_fits attempt parts.1, (job_fits job last.1, tt)))
+fit_of (Saved attempt state) h = (attempt_fits attempt h, tt)
+fit_of (NoSaved run attempt job) h =
+    let last = both (is_run run && is_attempt attempt) (is_job job) h in
+    let parts = both (is_run run) (is_attempt attempt) last.0 in
+    (run_fits run parts.0, (attempt_fits attempt parts.1, (job_fits job last.1, tt)))
+fit_of (Report run attempt job jobs r) h =
+    let last = both (is_run run && is_attempt attempt && is_job_of job jobs) (is_report r) h in
+    let names = both (is_run run && is_attempt attempt) (is_job_of job jobs) last.0 in
+    let parts = both (is_run run) (is_attempt attempt) names.0 in
+    let numbers = job_of_fits job jobs names.1 in
+    let found = both (has_counts r && has_list r) (has_end r) last.1 in
+    let lists = both (has_counts r) (has_list r) found.0 in
+    let counts = counts_fit r lists.0 in
+    (run_fits run parts.0, (attempt_fits attempt parts.1, (numbers.0, (numbers.1, (end_fits r.end, (at_fits r r.end found.1, (counts.0, (counts.1, (list_fits r lists.1, tt)))))))))
+fit_of (Refused asked reason job jobs run attempt value) h =
+    let last = both (is_run run && is_word value && is_job_refused reason job jobs) (is_attempt_refused asked attempt) h in
+    let named = both (is_run run && is_word value) (is_job_refused reason job jobs) last.0 in
+    let parts = both (is_run run) (is_word value) named.0 in
+    let numbers = job_refused_fits reason job jobs named.1 in
+    (asked_fits asked, (reason_fits reason, (numbers.0, (numbers.1, (run_fits run parts.0, (attempt_refused_fits asked attempt last.1, (lt_of value 18446744073709551616 parts.1, tt)))))))
+
+blocks_again : (bs : List ℕ) → list_all is_block bs ≡ true → blocks_in (length bs) (spelled_blocks bs) ≡ bs
+blocks_again [] h = refl
+blocks_again (b ∷ bs) h =
+    let parts = both (is_block b) (list_all is_block bs) h in
+    let below = lt_of b 65536 parts.0 in
+    let one = wide32.again b (spelled_blocks bs) (omega arith) in
+    let behind = drop_at (bytes_of w32 b) (spelled_blocks bs) 4 (length-bytes_of w32 b) in
+    rw (one, behind, blocks_again bs parts.1) refl
+
+-- The numbers and the tail of a body say that body.
+body_of-again : ReadsBack → (b : Body) → is_body b ≡ true → KeepsState b → body_of (kind_of b) (numbers_of b) (tail_of b) ≡ Some b
+body_of-again law (Jobs run text) h keeps = refl
+body_of-again law (JobsOk run jobs) h keeps = refl
+body_of-again law (Start run) h keeps = refl
+body_of-again law (Started run) h keeps = refl
+body_of-again law (Trigger run act) h keeps = rw (act_again act) refl
+body_of-again law (State jobs state) h keeps = rw (state_again law state keeps) refl
+body_of-again law (NoState run job jobs) h keeps = refl
+body_of-again law (StateAck run job) h keeps = refl
+body_of-again law (Stop run) h keeps = refl
+body_of-again law (Stopped run) h keeps = refl
+body_of-again law (Verify run attempt text) h keeps = refl
+body_of-again law (WantState run attempt job) h keeps = refl
+body_of-again law (Saved attempt state) h keeps = rw (state_again law state keeps) refl
+body_of-again law (NoSaved run attempt job) h keeps = refl
+body_of-again law (Report run attempt job jobs r) h keeps =
+    let last = both (is_run run && is_attempt attempt && is_job_of job jobs) (is_report r) h in
+    let found = both (has_counts r && has_list r) (has_end r) last.1 in
+    let lists = both (has_counts r) (has_list r) found.0 in
+    rw (blocks_again r.first (blocks_of_list r lists.1), end_again r.end) refl
+  where
+    blocks_of_list : (x : ReportParts) → has_list x ≡ true → list_all is_block x.first ≡ true
+    blocks_of_list x e = grind (arith, nat_tests)
+body_of-again law (Refused asked reason job jobs run attempt value) h keeps = rw (asked_again asked, reason_again reason) refl
+
+same_length : (n : ℕ) → (n == n) ≡ true
+same_length n = grind (arith, nat_tests)
+
+-- A body in its ranges is read from its bytes.
+pub body_at-spelled : ReadsBack → (b : Body) → is_body b ≡ true → KeepsState b → body_at (kind_of b) (spelled_body b) ≡ Some b
+body_at-spelled law b h keeps =
+    let k = kind_of b in
+    let front = numbers-spelled (layout k) (numbers_of b) (tail_of b) (are_wide k) (fit_of b h) in
+    let behind = drop-spelled (layout k) (numbers_of b) (tail_of b) (length-numbers_of b) in
+    let len = length-spelled_body b in
+    rw (front, behind, body_of-again law b h keeps) (kept (spelled_body b) len)
+  where
+    kept : (bytes : List ℕ) → length bytes ≡ length_of b → whole bytes (Some b) ≡ Some b
+    kept bytes len = rw (len, same_length (length_of b), h) refl

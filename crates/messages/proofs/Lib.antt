@@ -1,0 +1,13 @@
+pub mod LayoutLemmas
+pub mod BlockLemmas
+pub mod TestLemmas
+pub mod StateLemmas
+pub mod BodyLemmas
+pub mod StateBodyLemmas
+pub mod FrameLemmas
+pub mod ReportLemmas
+pub mod DecodeLemmas
+pub mod ChoiceLemmas
+pub mod FitLemmas
+pub mod ToldLemmas
+pub mod LawLemmas

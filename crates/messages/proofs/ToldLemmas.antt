@@ -1,0 +1,117 @@
+-- A body that is read from bytes: its numbers and its tail are theirs.
+use Rattle.std.proofs.Common.{◌≡◌, ℕ, ◌+◌, true, Option, Some, None, List, [], length, drop, refl, sym, subst, ap, ◌∙◌, arith}
+use Rattle.std.specs.Prelude.{◌==◌, slice_index}
+use Rattle.std.specs.Option.{option_map, option_and_then}
+use Rattle.std.proofs.lemmas.Bool.{eqb-true}
+use Rattle.std.proofs.lemmas.List.{length-drop, nil_from_length}
+use Rattle.fc_base.specs.declared.report.ReportEnd.{ReportEnd}
+use Rattle.messages.specs.declared.body.Body.{Body}
+use Rattle.messages.specs.declared.body.Body.TheVariants.{Jobs, JobsOk, Start, Started, Trigger, State, NoState, StateAck, Stop, Stopped, Verify, WantState, Saved, NoSaved, Report, Refused}
+use Rattle.messages.specs.declared.kind.PacketKind.{PacketKind}
+use Rattle.messages.specs.declared.kind.PacketKind.TheVariants as kinds
+use Rattle.messages.specs.declared.refusal.Asked.{Asked}
+use Rattle.messages.specs.declared.refusal.Reason.{Reason}
+use Rattle.messages.specs.Choices.{act_numbered, asked_numbered, reason_numbered}
+use Rattle.messages.specs.Layouts.{size, numbers, blocks_in}
+use Rattle.messages.specs.Ranges.{is_body, KeepsState}
+use Rattle.messages.specs.Bodies.{kind_of, layout, numbers_of, tail_of, spelled_body, length_of, body_of, body_at, end_numbered, state_said}
+use Rattle.messages.proofs.StateLemmas.{IsSpelled, state_is}
+use Rattle.messages.proofs.LayoutLemmas.{IsBytes, IsBytes-drop, length-blocks_in, length-spelled_blocks, spelled_blocks-blocks_in, spelled-numbers}
+use Rattle.messages.proofs.ChoiceLemmas.{act_is, asked_is, reason_is, end_is}
+use Rattle.messages.proofs.TestLemmas.{both}
+use Rattle.messages.proofs.BodyLemmas.{are_wide, whole_some}
+
+pub some_of : {A B : Type 0} (f : A → B) (o : Option A) (y : B) → option_map f o ≡ Some y → (x : A) × (o ≡ Some x) × (f x ≡ y)
+some_of f None y e = absurd cc
+some_of f (Some x) y e = (x, refl, cc)
+
+pub some_then : {A B : Type 0} (f : A → Option B) (o : Option A) (y : B) → option_and_then f o ≡ Some y → (x : A) × (o ≡ Some x) × (f x ≡ Some y)
+some_then f None y e = absurd cc
+some_then f (Some x) y e = (x, refl, e)
+
+-- The body has the kind, the numbers and the tail of the bytes.
+record Told (k : PacketKind) (bytes : List ℕ) (b : Body) : Type 0 where
+  pub kind : kind_of b ≡ k
+  pub numbers : numbers_of b ≡ numbers (layout k) bytes
+  pub tail : length_of b ≡ length bytes → tail_of b ≡ drop (size (layout k)) bytes
+  pub keeps : KeepsState b
+
+some_body : (x y : Body) → Some x ≡ Some y → x ≡ y
+some_body x y e = cc
+
+no_tail : (n : ℕ) (bytes : List ℕ) → n + 0 ≡ length bytes → [] ≡ drop n bytes
+no_tail n bytes e = sym (nil_from_length (drop n bytes) (omega (arith, length-drop n bytes)))
+
+-- Bodies of numbers alone.
+plain : (k : PacketKind) (bytes : List ℕ) (x b : Body) → Some x ≡ Some b → kind_of x ≡ k → numbers_of x ≡ numbers (layout k) bytes → tail_of x ≡ [] → KeepsState x → Told k bytes b
+plain k bytes x b e kind same none keeps =
+    subst (λ (y : Body). Told k bytes y) (some_body x b e) (record {
+      kind = kind;
+      numbers = same;
+      tail = λ len. none ∙ no_tail (size (layout k)) bytes (ap (λ (j : PacketKind). size (layout j) + 0) (sym kind) ∙ ap (λ (t : List ℕ). size (layout (kind_of x)) + length t) (sym none) ∙ len);
+      keeps = keeps;
+    })
+
+-- A report, whose tail is as many blocks as it says.
+report_told : (bytes : List ℕ) (b : Body) → IsBytes bytes → body_of kinds.Report (numbers (layout kinds.Report) bytes) (drop 41 bytes) ≡ Some b → Told kinds.Report bytes b
+report_told bytes b fits e =
+    let ns = numbers (layout kinds.Report) bytes in
+    let count = slice_index ns 8 in
+    let tail = drop 41 bytes in
+    let bs = blocks_in count tail in
+    let report = λ (end : ReportEnd). Report (slice_index ns 0) (slice_index ns 1) (slice_index ns 2) (slice_index ns 3) (record { checked = slice_index ns 6; faults = slice_index ns 7; first = bs; end = end }) in
+    let end = some_of report (end_numbered (slice_index ns 4) (slice_index ns 5)) b e in
+    let is = end_is (slice_index ns 4) (slice_index ns 5) end.0 end.1 in
+    let many = length-blocks_in count tail in
+    subst (λ (y : Body). Told kinds.Report bytes y) end.2 (record {
+      kind = refl;
+      numbers = rw (is.0, is.1, many) refl;
+      tail = λ len. spelled_blocks-blocks_in count tail (IsBytes-drop 41 bytes fits) (omega (arith, length-drop 41 bytes, length-spelled_blocks bs, many, len));
+      keeps = tt;
+    })
+
+told : IsSpelled → (k : PacketKind) (bytes : List ℕ) (b : Body) → IsBytes bytes → body_of k (numbers (layout k) bytes) (drop (size (layout k)) bytes) ≡ Some b → Told k bytes b
+told law kinds.Jobs bytes b fits e = subst (λ (y : Body). Told kinds.Jobs bytes y) (some_body (Jobs _ (drop 8 bytes)) b e) (record { kind = refl; numbers = refl; tail = λ len. refl; keeps = tt })
+told law kinds.JobsOk bytes b fits e = plain kinds.JobsOk bytes (JobsOk _ _) b e refl refl refl tt
+told law kinds.Start bytes b fits e = plain kinds.Start bytes (Start _) b e refl refl refl tt
+told law kinds.Started bytes b fits e = plain kinds.Started bytes (Started _) b e refl refl refl tt
+told law kinds.Trigger bytes b fits e =
+    let n = slice_index (numbers (layout kinds.Trigger) bytes) 1 in
+    let run = slice_index (numbers (layout kinds.Trigger) bytes) 0 in
+    let act = some_of (Trigger run) (act_numbered n) b e in
+    plain kinds.Trigger bytes (Trigger run act.0) b (ap (λ (y : Body). Some y) act.2) refl (rw (act_is n act.0 act.1) refl) refl tt
+told law kinds.State bytes b fits e =
+    let jobs = slice_index (numbers (layout kinds.State) bytes) 0 in
+    let state = some_of (State jobs) (state_said (drop 4 bytes)) b e in
+    let is = state_is law (drop 4 bytes) state.0 (IsBytes-drop 4 bytes fits) state.1 in
+    subst (λ (y : Body). Told kinds.State bytes y) state.2 (record { kind = refl; numbers = refl; tail = λ len. is.1; keeps = is.0 })
+told law kinds.NoState bytes b fits e = plain kinds.NoState bytes (NoState _ _ _) b e refl refl refl tt
+told law kinds.StateAck bytes b fits e = plain kinds.StateAck bytes (StateAck _ _) b e refl refl refl tt
+told law kinds.Stop bytes b fits e = plain kinds.Stop bytes (Stop _) b e refl refl refl tt
+told law kinds.Stopped bytes b fits e = plain kinds.Stopped bytes (Stopped _) b e refl refl refl tt
+told law kinds.Verify bytes b fits e = subst (λ (y : Body). Told kinds.Verify bytes y) (some_body (Verify _ _ (drop 16 bytes)) b e) (record { kind = refl; numbers = refl; tail = λ len. refl; keeps = tt })
+told law kinds.WantState bytes b fits e = plain kinds.WantState bytes (WantState _ _ _) b e refl refl refl tt
+told law kinds.Saved bytes b fits e =
+    let attempt = slice_index (numbers (layout kinds.Saved) bytes) 0 in
+    let state = some_of (Saved attempt) (state_said (drop 8 bytes)) b e in
+    let is = state_is law (drop 8 bytes) state.0 (IsBytes-drop 8 bytes fits) state.1 in
+    subst (λ (y : Body). Told kinds.Saved bytes y) state.2 (record { kind = refl; numbers = refl; tail = λ len. is.1; keeps = is.0 })
+told law kinds.NoSaved bytes b fits e = plain kinds.NoSaved bytes (NoSaved _ _ _) b e refl refl refl tt
+told law kinds.Report bytes b fits e = report_told bytes b fits e
+told law kinds.Refused bytes b fits e =
+    let ns = numbers (layout kinds.Refused) bytes in
+    let refusal = λ (a : Asked) (r : Reason). Refused a r (slice_index ns 2) (slice_index ns 3) (slice_index ns 4) (slice_index ns 5) (slice_index ns 6) in
+    let asked = some_then (λ a. option_map (refusal a) (reason_numbered (slice_index ns 1))) (asked_numbered (slice_index ns 0)) b e in
+    let reason = some_of (refusal asked.0) (reason_numbered (slice_index ns 1)) b asked.2 in
+    plain kinds.Refused bytes (refusal asked.0 reason.0) b (ap (λ (y : Body). Some y) reason.2) refl (rw (asked_is (slice_index ns 0) asked.0 asked.1, reason_is (slice_index ns 1) reason.0 reason.1) refl) refl tt
+
+-- What is read as a body of a kind is of that kind, is in its ranges, and is spelled by the bytes.
+pub spelled_body-body_at : IsSpelled → (k : PacketKind) (bytes : List ℕ) (b : Body) → IsBytes bytes → body_at k bytes ≡ Some b → (kind_of b ≡ k) × (is_body b ≡ true) × (length_of b ≡ length bytes) × (spelled_body b ≡ bytes) × KeepsState b
+spelled_body-body_at law k bytes b fits e =
+    let found = whole_some bytes (body_of k (numbers (layout k) bytes) (drop (size (layout k)) bytes)) b e in
+    let tests = both (length_of b == length bytes) (is_body b) found.1 in
+    let len = eqb-true (length_of b) (length bytes) tests.0 in
+    let is = told law k bytes b fits found.0 in
+    let tail = is.tail len in
+    let sized : size (layout k) + length (tail_of b) ≡ length bytes = ap (λ (j : PacketKind). size (layout j) + length (tail_of b)) (sym is.kind) ∙ len in
+    (is.kind, tests.1, len, rw (is.kind, is.numbers, tail) (spelled-numbers (layout k) bytes (are_wide k) fits (omega arith)), is.keeps)

@@ -1,0 +1,50 @@
+-- The kinds of packets: the number that a frame has for each, and the name that is printed.
+use Rattle.std.specs.Prelude.{ℕ, ◌==◌, List, [], ◌∷◌, Option, find, codes}
+use Rattle.messages.specs.declared.kind.PacketKind.{PacketKind}
+use Rattle.messages.specs.declared.kind.PacketKind.TheVariants.{Jobs, JobsOk, Start, Started, Trigger, State, NoState, StateAck, Stop, Stopped, Verify, WantState, Saved, NoSaved, Report, Refused}
+
+-- The number of a kind.
+abbrev pub number_of : PacketKind → ℕ
+number_of Jobs = 1
+number_of JobsOk = 2
+number_of Start = 3
+number_of Started = 4
+number_of Trigger = 5
+number_of State = 6
+number_of NoState = 7
+number_of StateAck = 8
+number_of Stop = 9
+number_of Stopped = 10
+number_of Verify = 11
+number_of WantState = 12
+number_of Saved = 13
+number_of NoSaved = 14
+number_of Report = 15
+number_of Refused = 16
+
+-- The name of a kind.
+abbrev pub name_of : PacketKind → List ℕ
+name_of Jobs = codes "Jobs"
+name_of JobsOk = codes "JobsOk"
+name_of Start = codes "Start"
+name_of Started = codes "Started"
+name_of Trigger = codes "Trigger"
+name_of State = codes "State"
+name_of NoState = codes "NoState"
+name_of StateAck = codes "StateAck"
+name_of Stop = codes "Stop"
+name_of Stopped = codes "Stopped"
+name_of Verify = codes "Verify"
+name_of WantState = codes "WantState"
+name_of Saved = codes "Saved"
+name_of NoSaved = codes "NoSaved"
+name_of Report = codes "Report"
+name_of Refused = codes "Refused"
+
+-- Every kind.
+abbrev pub kinds : List PacketKind
+kinds = Jobs ∷ JobsOk ∷ Start ∷ Started ∷ Trigger ∷ State ∷ NoState ∷ StateAck ∷ Stop ∷ Stopped ∷ Verify ∷ WantState ∷ Saved ∷ NoSaved ∷ Report ∷ Refused ∷ []
+
+-- The kind with this number.
+unfoldable pub kind_numbered : ℕ → Option PacketKind
+kind_numbered n = find (λ kind. number_of kind == n) kinds

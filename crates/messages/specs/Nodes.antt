@@ -1,0 +1,18 @@
+-- The numbers of nodes in frames: servers are 0 to 7, the client is 8.
+use Rattle.std.specs.Prelude.{ℕ, Bool, true, nat_lt, ◌==◌, if◌then◌else◌, Option, Some, None}
+use Rattle.messages.specs.declared.node.Node.{Node}
+use Rattle.messages.specs.declared.node.Node.TheVariants.{Server, Client}
+
+-- The number of a node.
+abbrev pub node_number : Node → ℕ
+node_number (Server s) = s
+node_number Client = 8
+
+-- The node with this number.
+abbrev pub node_numbered : ℕ → Option Node
+node_numbered n = if nat_lt n 8 then Some (Server n) else if n == 8 then Some Client else None
+
+-- A server's number is below 8.
+abbrev pub is_node : Node → Bool
+is_node (Server s) = nat_lt s 8
+is_node Client = true

@@ -1,0 +1,74 @@
+-- The ranges of what a body says.
+use Rattle.std.specs.Prelude.{ℕ, ◌^◌, Bool, ◌&&◌, ◌==◌, nat_le, nat_lt, List, length}
+use Rattle.fc_base.specs.Report.{is_report}
+use Rattle.verify_state.specs.State.{IsState}
+use Rattle.messages.specs.declared.body.Body.{Body}
+use Rattle.messages.specs.declared.body.Body.TheVariants.{Jobs, JobsOk, Start, Started, Trigger, State, NoState, StateAck, Stop, Stopped, Verify, WantState, Saved, NoSaved, Report, Refused}
+use Rattle.messages.specs.declared.refusal.Asked.{Asked}
+use Rattle.messages.specs.declared.refusal.Asked.TheVariants as asks
+use Rattle.messages.specs.declared.refusal.Reason.{Reason}
+use Rattle.messages.specs.declared.refusal.Reason.TheVariants as reasons
+
+-- A number of eight bytes.
+abbrev pub is_word : ℕ → Bool
+is_word n = nat_lt n (2 ^ 64)
+
+-- Runs count from 1.
+abbrev pub is_run : ℕ → Bool
+is_run n = nat_le 1 n && is_word n
+
+-- Attempts count from 1.
+abbrev pub is_attempt : ℕ → Bool
+is_attempt n = nat_le 1 n && is_word n
+
+-- A job file has 1 to 16 jobs.
+abbrev pub is_jobs : ℕ → Bool
+is_jobs n = nat_le 1 n && nat_le n 16
+
+-- A job's number is below 16.
+abbrev pub is_job : ℕ → Bool
+is_job n = nat_lt n 16
+
+-- A job is one of so many.
+abbrev pub is_job_of : ℕ → ℕ → Bool
+is_job_of job jobs = is_jobs jobs && nat_lt job jobs
+
+-- A job file has at most 16,384 bytes.
+abbrev pub is_text : List ℕ → Bool
+is_text text = nat_le (length text) 16384
+
+-- A refusal names a job, and how many there are, where a state didn't fit; else both are 0.
+abbrev pub is_job_refused : Reason → ℕ → ℕ → Bool
+is_job_refused reasons.Misfit job jobs = is_job_of job jobs
+is_job_refused _ job jobs = (job == 0) && (jobs == 0)
+
+-- A refusal names the attempt of a Verify; else it is 0.
+abbrev pub is_attempt_refused : Asked → ℕ → Bool
+is_attempt_refused asks.Verify attempt = is_attempt attempt
+is_attempt_refused _ attempt = attempt == 0
+
+-- The ranges, by kind.
+abbrev pub is_body : Body → Bool
+is_body (Jobs run text) = is_run run && is_text text
+is_body (JobsOk run jobs) = is_run run && is_jobs jobs
+is_body (Start run) = is_run run
+is_body (Started run) = is_run run
+is_body (Trigger run act) = is_run run
+is_body (State jobs state) = is_job_of state.key.job jobs
+is_body (NoState run job jobs) = is_run run && is_job_of job jobs
+is_body (StateAck run job) = is_run run && is_job job
+is_body (Stop run) = is_run run
+is_body (Stopped run) = is_run run
+is_body (Verify run attempt text) = is_run run && is_attempt attempt && is_text text
+is_body (WantState run attempt job) = is_run run && is_attempt attempt && is_job job
+is_body (Saved attempt state) = is_attempt attempt
+is_body (NoSaved run attempt job) = is_run run && is_attempt attempt && is_job job
+is_body (Report run attempt job jobs report) = is_run run && is_attempt attempt && is_job_of job jobs && is_report report
+is_body (Refused asked reason job jobs run attempt value) =
+    is_run run && is_word value && is_job_refused reason job jobs && is_attempt_refused asked attempt
+
+-- What a verify state keeps, where a body has one.
+abbrev pub KeepsState : Body → Type 0
+KeepsState (State jobs state) = IsState state
+KeepsState (Saved attempt state) = IsState state
+KeepsState _ = Unit {0}

@@ -1,0 +1,27 @@
+//! What the client and the servers say to each other, and its bytes: packets and their frames.
+#![tactic(auto)]
+
+mod body;
+mod bytes;
+mod kind;
+mod law;
+mod node;
+mod packet;
+mod ranges;
+mod reading;
+mod refusal;
+mod text;
+mod writing;
+
+pub use body::Body;
+pub use kind::PacketKind;
+pub use law::{no_spelling_begins_another, one_spelling};
+pub use node::Node;
+pub use packet::{Packet, PacketParts};
+pub use reading::decode;
+pub use refusal::{Act, Asked, Reason};
+pub use text::{TEXT_LIMIT, Text};
+pub use writing::encode;
+
+#[cfg(test)]
+mod tests;

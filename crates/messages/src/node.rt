@@ -1,0 +1,51 @@
+//! Who sends a packet, and to whom.
+
+ghost use Rattle.std.specs.Prelude.{◌≡◌};
+ghost use Rattle.messages.specs.Nodes.{node_number, node_numbered, is_node};
+
+use fc_base::ServerNo;
+
+/// One end of a packet's way. Frames name a server by its number, 0 to 7, and the client by 8.
+#[derive(Clone, Copy, Debug, PartialEq, Eq)]
+pub enum Node {
+    Server(ServerNo),
+    Client,
+}
+
+/// The client's number.
+const CLIENT: u32 = 8;
+
+impl Node {
+    /// The node's number in a frame.
+    pub fn number(self) -> u32
+        ensures { result ≡ node_number self }
+    {
+        match self {
+            Node::Server(server) => server.0,
+            Node::Client => CLIENT,
+        }
+    }
+
+    /// The node with this number in a frame, `None` above 8.
+    pub fn numbered(number: u32) -> Option<Node>
+        ensures { result ≡ node_numbered number }
+    {
+        if number < CLIENT {
+            Some(Node::Server(ServerNo(number)))
+        } else if number == CLIENT {
+            Some(Node::Client)
+        } else {
+            None
+        }
+    }
+
+    /// Whether the server's number is below 8.
+    pub fn is_node(self) -> bool
+        ensures { result ≡ is_node self }
+    {
+        match self {
+            Node::Server(server) => server.0 < CLIENT,
+            Node::Client => true,
+        }
+    }
+}

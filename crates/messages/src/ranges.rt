@@ -1,0 +1,65 @@
+//! The ranges of the numbers in a body.
+
+ghost use Rattle.std.specs.Prelude.{◌≡◌};
+ghost use Rattle.messages.specs.Ranges.{is_word, is_run, is_attempt, is_jobs, is_job, is_job_of, is_job_refused, is_attempt_refused};
+
+use crate::refusal::{Asked, Reason};
+use fc_base::{Attempt, JobNo, RunNo};
+
+/// How many jobs a file may have.
+const JOBS_LIMIT: u32 = 16;
+
+/// Every number of eight bytes may go with a reason.
+pub(crate) fn is_value(value: u64) -> bool
+    ensures { result ≡ is_word value }
+{
+    value <= u64::MAX
+}
+
+pub(crate) fn is_run(run: RunNo) -> bool
+    ensures { result ≡ is_run run }
+{
+    1 <= run.0
+}
+
+pub(crate) fn is_attempt(attempt: Attempt) -> bool
+    ensures { result ≡ is_attempt attempt }
+{
+    1 <= attempt.0
+}
+
+pub(crate) fn is_jobs(jobs: u32) -> bool
+    ensures { result ≡ is_jobs jobs }
+{
+    1 <= jobs && jobs <= JOBS_LIMIT
+}
+
+pub(crate) fn is_job(job: JobNo) -> bool
+    ensures { result ≡ is_job job }
+{
+    job.0 < JOBS_LIMIT
+}
+
+pub(crate) fn is_job_of(job: JobNo, jobs: u32) -> bool
+    ensures { result ≡ is_job_of job jobs }
+{
+    is_jobs(jobs) && job.0 < jobs
+}
+
+pub(crate) fn is_job_refused(reason: Reason, job: JobNo, jobs: u32) -> bool
+    ensures { result ≡ is_job_refused reason job jobs }
+{
+    match reason {
+        Reason::Misfit => is_job_of(job, jobs),
+        _ => job.0 == 0 && jobs == 0,
+    }
+}
+
+pub(crate) fn is_attempt_refused(asked: Asked, attempt: Attempt) -> bool
+    ensures { result ≡ is_attempt_refused asked attempt }
+{
+    match asked {
+        Asked::Verify => is_attempt(attempt),
+        _ => attempt.0 == 0,
+    }
+}

@@ -1,0 +1,65 @@
+//! The text of a job file, as packets carry it.
+
+ghost use Rattle.std.specs.Prelude.{◌≡◌, ◌≤◌, Ok, Err, if◌then◌else◌, nat_le, length, IfOk};
+
+use std::alloc::{AllocError, Global};
+use std::marker::Model;
+
+/// How many bytes a text may have.
+pub const TEXT_LIMIT: usize = 16_384;
+
+/// A job file, of any bytes: at most 16,384 of them.
+#[derive(Debug, Drop)]
+pub struct Text {
+    bytes: Vec<u8>,
+}
+
+impl Model for Text {
+    ghost use Rattle.std.specs.Prelude.{List, ℕ, ◌≤◌, length};
+
+    ghost Value = { List ℕ };
+
+    ghost view = { λ t. t.bytes.items };
+
+    ghost invariant = { λ t. length t.bytes.items ≤ 16384 };
+}
+
+impl Text {
+    /// The text of these bytes; where they are too many, they come back.
+    pub fn make(bytes: Vec<u8>) -> Result<Text, Vec<u8>>
+        ensures { result ≡ (if nat_le (length bytes.items) 16384 then Ok bytes.items else Err bytes) }
+    {
+        if bytes.len() <= TEXT_LIMIT {
+            Ok(Text { bytes })
+        } else {
+            Err(bytes)
+        }
+    }
+
+    /// The text of a copy of these bytes.
+    pub fn copied(alloc: Global, bytes: &[u8]) -> Result<Text, AllocError>
+        requires { length bytes.now ≤ 16384 }
+        ensures { IfOk result (λ text. text ≡ bytes.now) }
+    {
+        Ok(Text {
+            bytes: Vec::from_slice(alloc, bytes)?,
+        })
+    }
+
+    /// The bytes.
+    pub fn as_slice(&self) -> &[u8]
+        ensures value { result.now ≡ self.now }
+        ensures range { length result.now ≤ 16384 }
+    {
+        &self.bytes
+    }
+
+    /// The bytes, with the memory that they lie in.
+    pub fn into_vec(self) -> Vec<u8>
+        ensures value { result.items ≡ self }
+        ensures range { length result.items ≤ 16384 }
+    {
+        let Text { bytes } = self;
+        bytes
+    }
+}
