@@ -1,5 +1,6 @@
-mod WordSteps
-mod PickSteps
+mod HoldSteps
 mod OrderSteps
 mod Permutations
+mod PickSteps
 mod StampSteps
+mod WordSteps

@@ -2,6 +2,7 @@
 //! stands after some writes, and the bytes that a write puts into its block.
 #![tactic(auto)]
 
+mod holding;
 mod laws;
 mod order;
 mod pass;
@@ -9,6 +10,7 @@ mod picks;
 mod stamp;
 mod words;
 
+pub use holding::holds_write;
 pub use laws::{passes_name_each_block_once, writes_stay_in_the_region};
 pub use order::{Order, place_of};
 pub use picks::pick_blocks;

@@ -9,7 +9,7 @@ ghost use Rattle.write_order.specs.Filling.{with_number};
 use fc_base::{JobRecord, Key, Seq, Verify};
 
 /// Bytes of a sector.
-const SECTOR: usize = 512;
+pub(crate) const SECTOR: usize = 512;
 
 /// Fills the block of write `seq` with what that write puts there (fio's manual, Verification): the
 /// job's pattern in every byte, or a stamp in each sector of 512 bytes. The stamp's layout is this
@@ -30,7 +30,7 @@ pub fn fill_block(key: Key, job: &JobRecord, seq: Seq, block: u32, bytes: &mut [
 }
 
 /// The stamp of a write in the first sector of its block.
-fn stamp(key: Key, seq: Seq, block: u32) -> [u8; SECTOR]
+pub(crate) fn stamp(key: Key, seq: Seq, block: u32) -> [u8; SECTOR]
     ensures { result ≡ sector_of key seq block 0 }
 {
     let mut sector = [0; SECTOR];
@@ -78,7 +78,7 @@ fn fill_stamps(stamp: &[u8; SECTOR], sectors: u32, bytes: &mut [u8])
 }
 
 /// Copies the stamp into one sector, and puts the sector's number behind the other fields.
-fn fill_sector(stamp: &[u8; SECTOR], number: u32, sector: &mut [u8])
+pub(crate) fn fill_sector(stamp: &[u8; SECTOR], number: u32, sector: &mut [u8])
     requires { length sector.old ≡ SECTOR }
     ensures { sector.new ≡ with_number stamp.now number }
 {

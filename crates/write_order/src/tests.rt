@@ -172,3 +172,40 @@ fn bytes_of_writes(rt: HostRuntime) -> Result<(), Fail> {
     }
     Ok(())
 }
+
+/// A job with blocks of two sectors.
+fn two_sectors(verify: Verify) -> Option<JobRecord> {
+    JobRecord::make(JobParts {
+        verify,
+        bs: 1024,
+        ..JOB
+    })
+}
+
+/// Whether a block that write 5 filled holds the bytes of this write, also where one byte of it was
+/// changed.
+fn holds(key: Key, job: &JobRecord, seq: u64, changed: Option<usize>) -> bool {
+    let mut room = [0; 65_536];
+    let bytes = &mut room[..job.bs() as usize];
+    fill_block(key, job, Seq(5), 1, bytes);
+    match changed {
+        Some(at) if at < bytes.len() => bytes[at] ^= 1,
+        _ => {}
+    }
+    holds_write(&key, job, Seq(seq), 1, bytes)
+}
+
+#[test]
+fn block_that_holds_a_write(rt: HostRuntime) -> Result<(), Fail> {
+    let key = Key {
+        run: RunNo(1),
+        server: ServerNo(0),
+        job: JobNo(0),
+    };
+    let job = two_sectors(Verify::Stamp).ok_or("within the limits")?;
+    assert!(rt; holds(key, &job, 5, None) && !holds(key, &job, 6, None));
+    assert!(rt; !holds(key, &job, 5, Some(1023)));
+    let job = two_sectors(Verify::Pattern).ok_or("within the limits")?;
+    assert!(rt; holds(key, &job, 6, None) && !holds(key, &job, 6, Some(1023)));
+    Ok(())
+}

@@ -1,0 +1,4 @@
+mod DiskLemmas
+mod ExpectedLemmas
+mod ReportLemmas
+mod TallyLemmas

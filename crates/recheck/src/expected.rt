@@ -1,0 +1,165 @@
+//! What the blocks of a job are checked against.
+
+ghost use Rattle.std.specs.Prelude.{◌≡◌, ◌≤◌, ◌<◌, ◌==◌, ◌&&◌, IfOk, length, None, slice_index_or};
+ghost use Rattle.std.specs.List.{list_any};
+ghost use Rattle.std.specs.Option.{option_copied};
+ghost use Rattle.recheck.specs.Expected.{counts, issued_in, expected_by};
+ghost use Rattle.recheck.specs.Faults.{is_checked, is_write, verdict, writes_to};
+
+use crate::last_write::LastWrite;
+use crate::verdict::Verdict;
+use fc_base::{JobRecord, Key, Seq};
+use std::alloc::{AllocError, Global};
+use std::marker::Model;
+use verify_state::VerifyState;
+use write_order::{Order, holds_write};
+
+/// How many writes a job may have in flight.
+const MOST_IN_FLIGHT: usize = 64;
+
+/// A write and its block.
+#[derive(Clone, Copy, Debug)]
+pub struct Placed {
+    pub seq: Seq,
+    pub block: u32,
+}
+
+/// For each block of a job its last completed write, and beside that the writes in flight.
+#[derive(Debug, Drop)]
+pub struct Expected {
+    key: Key,
+    job: JobRecord,
+    last: Vec<LastWrite>,
+    in_flight: Vec<Placed>,
+}
+
+impl Model for Expected {
+    ghost use Rattle.std.specs.Prelude.{◌≡◌, ◌≤◌, length};
+    ghost use Rattle.recheck.specs.Expected.{Expected};
+
+    ghost Value = { Expected };
+
+    ghost view = { λ e. record {
+      key = e.key;
+      job = e.job;
+      last = e.last.items;
+      in_flight = e.in_flight.items;
+    } };
+
+    ghost invariant = { λ e. (length e.last.items ≡ e.job.blocks) × (e.job.blocks ≤ 65536) };
+}
+
+impl Expected {
+    /// What the blocks are checked against by this state, or in a full pass. It goes once over the
+    /// writes of the job, and takes 4 bytes for each block and a list of the writes in flight.
+    pub fn new(
+        alloc: Global,
+        key: Key,
+        job: &JobRecord,
+        state: Option<&VerifyState>,
+    ) -> Result<Expected, AllocError>
+        requires { issued_in job.now (option_copied state) ≤ job.now.total }
+        ensures { IfOk result (λ e. e ≡ expected_by key job.now (option_copied state.entry)) }
+    {
+        let mut last = vec![in alloc; LastWrite::none(); job.blocks() as usize]?;
+        let mut in_flight = Vec::with_capacity(alloc, MOST_IN_FLIGHT)?;
+        let mut order = Order::new(alloc, job)?;
+        for k in 0..issued_in(job, state) {
+            let Some(block) = order.peek() else {
+                unreachable!()
+            };
+            let seq = Seq(k);
+            if counts(state, seq) {
+                last[block as usize] = LastWrite::of(seq);
+            } else {
+                in_flight.push(Placed { seq, block })?;
+            }
+            order.advance();
+        }
+        Ok(Expected {
+            key,
+            job: *job,
+            last,
+            in_flight,
+        })
+    }
+
+    /// The job that is checked.
+    pub fn job(&self) -> JobRecord
+        ensures { result ≡ self.now.job }
+    {
+        self.job
+    }
+
+    /// Whether some write to the block has completed.
+    pub fn is_checked(&self, block: u32) -> bool
+        requires { block < self.now.job.blocks }
+        ensures { result ≡ is_checked self.now block }
+    {
+        self.last_write(block).is_some()
+    }
+
+    /// What is found at a block that holds these bytes.
+    pub fn verdict(&self, block: u32, bytes: &[u8]) -> Verdict
+        requires block { block < self.now.job.blocks }
+        requires bytes { length bytes.now ≡ self.now.job.bs }
+        ensures value { result ≡ verdict self.now block bytes.now }
+        ensures range { block < 65536 }
+    {
+        match self.last_write(block) {
+            None => Verdict::Skipped,
+            Some(seq) if self.is_write(seq, block, bytes) || self.is_in_flight(block, bytes) =>
+                Verdict::Good,
+            Some(_) => Verdict::Fault,
+        }
+    }
+
+    fn last_write(&self, block: u32) -> Option<Seq>
+        requires { block < self.now.job.blocks }
+        ensures value { result ≡ slice_index_or self.now.last block None }
+        ensures range { block < 65536 }
+    {
+        self.last[block as usize].seq()
+    }
+
+    /// Whether the bytes are those of this write.
+    fn is_write(&self, seq: Seq, block: u32, bytes: &[u8]) -> bool
+        requires { length bytes.now ≡ self.now.job.bs }
+        ensures { result ≡ is_write self.now block bytes.now seq }
+    {
+        holds_write(&self.key, &self.job, seq, block, bytes)
+    }
+
+    /// Whether the bytes are those of a write in flight to the block.
+    fn is_in_flight(&self, block: u32, bytes: &[u8]) -> bool
+        requires { length bytes.now ≡ self.now.job.bs }
+        ensures { result ≡ list_any (is_write self.now block bytes.now) (writes_to block self.now.in_flight) }
+    {
+        for write in &self.in_flight {
+            if write.block == block && self.is_write(write.seq, block, bytes) {
+                return true;
+            }
+        }
+        false
+    }
+}
+
+/// How many writes were issued.
+fn issued_in(job: &JobRecord, state: Option<&VerifyState>) -> u64
+    ensures { result ≡ issued_in job.now (option_copied state.entry) }
+{
+    match state {
+        None => job.total(),
+        Some(state) => state.issued(),
+    }
+}
+
+/// Whether a write counts as completed.
+fn counts(state: Option<&VerifyState>, seq: Seq) -> bool
+    ensures { result ≡ counts (option_copied state.entry) seq }
+{
+    match state {
+        None => true,
+        Some(state) => state.counts(seq),
+    }
+}

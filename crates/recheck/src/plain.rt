@@ -1,0 +1,88 @@
+//! The plain check: the list of all issued writes with their blocks, looked through at each block.
+//! The tests run it beside the other.
+
+ghost use Rattle.std.specs.Prelude.{◌≡◌, IfOk, length};
+
+use crate::expected::Placed;
+use crate::verdict::Verdict;
+use fc_base::{JobRecord, Key, Seq};
+use std::alloc::{AllocError, Global};
+use verify_state::VerifyState;
+use write_order::{Order, holds_write};
+
+/// A write, its block, and whether it counts as completed.
+#[derive(Clone, Copy, Debug)]
+struct Issued {
+    write: Placed,
+    counts: bool,
+}
+
+/// A check of one job's blocks.
+#[derive(Drop)]
+pub struct PlainCheck {
+    key: Key,
+    job: JobRecord,
+    writes: Vec<Issued>,
+}
+
+impl PlainCheck {
+    pub fn new(
+        alloc: Global,
+        key: Key,
+        job: &JobRecord,
+        state: Option<&VerifyState>,
+    ) -> Result<PlainCheck, AllocError>
+        ensures { IfOk result (λ check. check.job ≡ job.now) }
+    {
+        let mut writes = Vec::new(alloc);
+        let mut order = Order::new(alloc, job)?;
+        let issued = match state {
+            None => job.total(),
+            Some(state) => state.issued().min(job.total()),
+        };
+        for k in 0..issued {
+            let Some(block) = order.peek() else {
+                break;
+            };
+            let seq = Seq(k);
+            let counts = match state {
+                None => true,
+                Some(state) => state.counts(seq),
+            };
+            writes.push(Issued {
+                write: Placed { seq, block },
+                counts,
+            })?;
+            order.advance();
+        }
+        Ok(PlainCheck {
+            key,
+            job: *job,
+            writes,
+        })
+    }
+
+    pub fn verdict(&self, block: u32, bytes: &[u8]) -> Verdict
+        requires { length bytes.now ≡ self.now.job.bs }
+    {
+        let mut last = None;
+        for issued in &self.writes {
+            if issued.counts && issued.write.block == block {
+                last = Some(issued.write.seq);
+            }
+        }
+        let Some(last) = last else {
+            return Verdict::Skipped;
+        };
+        for issued in &self.writes {
+            let is_expected = !issued.counts || issued.write.seq == last;
+            if is_expected
+                && issued.write.block == block
+                && holds_write(&self.key, &self.job, issued.write.seq, block, bytes)
+            {
+                return Verdict::Good;
+            }
+        }
+        Verdict::Fault
+    }
+}

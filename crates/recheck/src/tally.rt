@@ -1,0 +1,110 @@
+//! The tally of the blocks that came to a check.
+
+ghost use Rattle.std.specs.Prelude.{◌≡◌, ◌+◌, ◌≤◌, ◌<◌, IfOk, IsTrue, List, [], ◌∷◌, ◌++◌, length, take, vec_capacity};
+ghost use Rattle.recheck.specs.Check.{with_verdict, nothing};
+ghost use Rattle.recheck.specs.Report.{told, can_end};
+
+use crate::verdict::Verdict;
+use fc_base::{Blocks, CheckReport, ReportEnd, ReportParts};
+use std::alloc::{AllocError, Global};
+use std::marker::Model;
+
+/// How many faulty blocks are listed.
+const LISTED: usize = 32;
+
+/// How many blocks were checked, how many of them are faulty, and the first 32 that are, which are
+/// noted in ascending order.
+#[derive(Debug, Drop)]
+pub struct Tally {
+    next: u32,
+    checked: u32,
+    faults: u32,
+    first: Vec<u32>,
+}
+
+impl Model for Tally {
+    ghost use Rattle.recheck.specs.Tally.{Noted, IsTally};
+
+    ghost Value = { Noted };
+
+    ghost view = { λ t. record {
+      next = t.next;
+      found = record { checked = t.checked; faults = t.faults; first = t.first.items };
+    } };
+
+    ghost invariant = { IsTally };
+}
+
+impl Tally {
+    /// The tally of no blocks, with room for all that it may list.
+    pub fn new(alloc: Global) -> Result<Tally, AllocError>
+        ensures { IfOk result (λ t. t ≡ record { next = 0; found = nothing }) }
+    {
+        Ok(Tally {
+            next: 0,
+            checked: 0,
+            faults: 0,
+            first: Vec::with_capacity(alloc, LISTED)?,
+        })
+    }
+
+    /// Notes what was found at the next block.
+    pub fn note(&mut self, block: u32, verdict: Verdict)
+        requires next { self.old.next ≤ block }
+        requires range { block < 65536 }
+        ensures { self.new ≡ record { next = block + 1; found = with_verdict self.old.found block verdict } }
+    {
+        self.next = block + 1;
+        match verdict {
+            Verdict::Skipped => {}
+            Verdict::Good => self.checked += 1,
+            Verdict::Fault => {
+                self.checked += 1;
+                self.faults += 1;
+                list(&mut self.first, block);
+            }
+        }
+    }
+
+    /// How many faults were noted.
+    pub fn faults(&self) -> u32
+        ensures { result ≡ self.now.found.faults }
+    {
+        self.faults
+    }
+
+    /// The report of these blocks, for a check that ended so.
+    pub fn into_report(self, end: ReportEnd) -> CheckReport
+        requires { IsTrue (can_end self.found end) }
+        ensures { result ≡ told self.found end }
+    {
+        let Tally {
+            next: _,
+            checked,
+            faults,
+            first,
+        } = self;
+        let first = Blocks::from_vec(first);
+        match CheckReport::make(ReportParts {
+            checked,
+            faults,
+            first,
+            end,
+        }) {
+            Ok(report) => report,
+            Err(_) => unreachable!(),
+        }
+    }
+}
+
+/// Lists a faulty block, where it is one of the first.
+fn list(first: &mut Vec<u32>, block: u32)
+    requires few { length first.old.items ≤ 32 }
+    requires room { 32 ≤ vec_capacity first.old }
+    ensures items { first.new.items ≡ take 32 (first.old.items ++ block ∷ []) }
+    ensures room { vec_capacity first.new ≡ vec_capacity first.old }
+{
+    if first.len() < LISTED {
+        first.push_reserved(block);
+    }
+}
