@@ -3,7 +3,6 @@
 ghost use Rattle.std.specs.Prelude.{◌≡◌, ◌≤◌, [], IfOk, IfErr, IsTrue, Some, length, slice_get, string_bytes};
 ghost use Rattle.std.specs.Bool.{Decides};
 ghost use Rattle.fc_base.specs.Counted.{has};
-ghost use Rattle.fc_base.specs.Faults.{first_of};
 ghost use Rattle.verify_state.specs.State.{field_faults, state_of, IsState, IsSame, is_key};
 ghost use Rattle.verify_state.specs.Label.{label};
 ghost use Rattle.verify_state.specs.Spelling.{spelling};
