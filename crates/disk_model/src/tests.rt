@@ -3,80 +3,94 @@
 
 use super::*;
 use fc_base::Fault;
-use std::process::Abort;
+use std::alloc::{AllocError, Global};
 use std::test::Fail;
 
-/// Checks that a block of two sectors has these bytes in its sectors.
-fn assert_sectors(rt: &impl Abort, disk: &mut impl Disk, first: u8, second: u8) {
-    let mut bytes = [0xff; 1024];
-    assert_eq!(rt; disk.read(3, &mut bytes), Ok(()));
-    let (front, back) = bytes.split_at(512);
-    assert_eq!(rt; front, [first; 512].as_slice());
-    assert_eq!(rt; back, [second; 512].as_slice());
+/// Writes block 3, of two sectors, full of one byte.
+fn write(disk: &mut impl Disk, epoch: u64, byte: u8) -> Result<(), Fault> {
+    disk.write(epoch, 3, &[byte; 1024])
 }
 
-fn disk_that_is_on(rt: &HostRuntime) -> MemDisk {
-    let mut disk = MemDisk::new(rt.alloc());
+/// Lands sectors of block 3, full of one byte.
+fn land(disk: &mut MemDisk, byte: u8, mask: u128) -> Result<(), AllocError> {
+    disk.land(3, &[byte; 1024], mask)
+}
+
+/// Reads block 3, to see whether it may be read.
+fn read(disk: &mut impl Disk) -> Result<(), Fault> {
+    disk.read(3, &mut [0; 1024])
+}
+
+/// Whether the two sectors of block 3 are full of these bytes.
+fn holds(disk: &mut impl Disk, first: u8, second: u8) -> bool {
+    let mut bytes = [0xff; 1024];
+    let is_read = disk.read(3, &mut bytes).is_ok();
+    let (front, back) = bytes.split_at(512);
+    is_read && is_full_of(front, first) && is_full_of(back, second)
+}
+
+fn is_full_of(bytes: &[u8], byte: u8) -> bool {
+    for b in bytes {
+        if *b != byte {
+            return false;
+        }
+    }
+    true
+}
+
+fn disk_that_is_on(alloc: Global) -> MemDisk {
+    let mut disk = MemDisk::new(alloc);
     disk.power_on(7);
     disk
 }
 
 #[test]
-fn read_after_a_cut_is_off(rt: HostRuntime) -> Result<(), Fail> {
+fn read_after_a_cut_is_off(rt: HostRuntime) {
     let mut disk = MemDisk::new(rt.alloc());
-    let mut bytes = [0; 1024];
-    assert_eq!(rt; disk.read(3, &mut bytes), Err(Fault::Off));
+    assert!(rt; read(&mut disk) == Err(Fault::Off));
     disk.power_on(7);
-    disk.write(7, 3, &[5; 1024])?;
-    assert_eq!(rt; disk.write(6, 3, &[6; 1024]), Err(Fault::Off));
+    assert!(rt; write(&mut disk, 7, 5) == Ok(()) && write(&mut disk, 6, 6) == Err(Fault::Off));
     disk.cut();
-    assert_eq!(rt; disk.read(3, &mut bytes), Err(Fault::Off));
-    assert_eq!(rt; disk.write(7, 3, &[6; 1024]), Err(Fault::Off));
+    assert!(rt; read(&mut disk) == Err(Fault::Off) && write(&mut disk, 7, 6) == Err(Fault::Off));
     disk.power_on(8);
-    assert_eq!(rt; disk.write(7, 3, &[6; 1024]), Err(Fault::Off));
-    assert_sectors(&rt, &mut disk, 5, 5);
-    Ok(())
+    assert!(rt; write(&mut disk, 7, 6) == Err(Fault::Off) && holds(&mut disk, 5, 5));
 }
 
 #[test]
-fn torn_overwrite(rt: HostRuntime) -> Result<(), Fail> {
-    let mut disk = disk_that_is_on(&rt);
-    disk.write(7, 3, &[1; 1024])?;
+fn torn_overwrite(rt: HostRuntime) {
+    let mut disk = disk_that_is_on(rt.alloc());
+    assert!(rt; write(&mut disk, 7, 1) == Ok(()));
     disk.cut();
-    disk.land(3, &[2; 1024], 1)?;
+    assert!(rt; land(&mut disk, 2, 1) == Ok(()));
     disk.power_on(8);
-    assert_sectors(&rt, &mut disk, 2, 1);
-    disk.land(3, &[3; 1024], u128::MAX - 1)?;
-    assert_sectors(&rt, &mut disk, 2, 3);
-    Ok(())
+    assert!(rt; holds(&mut disk, 2, 1));
+    assert!(rt; land(&mut disk, 3, u128::MAX - 1) == Ok(()) && holds(&mut disk, 2, 3));
 }
 
 #[test]
-fn rot_of_one_sector(rt: HostRuntime) -> Result<(), Fail> {
-    let mut disk = disk_that_is_on(&rt);
-    disk.write(7, 3, &[1; 1024])?;
-    disk.rot(7, [9; 512])?;
-    assert_sectors(&rt, &mut disk, 1, 9);
-    disk.rot(1 << 63, [8; 512])?;
-    assert_sectors(&rt, &mut disk, 1, 9);
-    Ok(())
+fn rot_of_one_sector(rt: HostRuntime) {
+    let mut disk = disk_that_is_on(rt.alloc());
+    assert!(rt; write(&mut disk, 7, 1) == Ok(()));
+    assert!(rt; disk.rot(7, [9; 512]) == Ok(()) && holds(&mut disk, 1, 9));
+    assert!(rt; disk.rot(1 << 63, [8; 512]) == Ok(()) && holds(&mut disk, 1, 9));
 }
 
-#[test]
-fn sector_never_written_reads_as_zeros(rt: HostRuntime) -> Result<(), Fail> {
-    let mut disk = disk_that_is_on(&rt);
-    assert_sectors(&rt, &mut disk, 0, 0);
-    disk.rot(6, [9; 512])?;
-    assert_sectors(&rt, &mut disk, 9, 0);
+/// Whether the last block of the greatest size reads as zeros.
+fn last_is_clear(disk: &mut MemDisk) -> bool {
     let mut last = [0xff; 65_536];
-    disk.read(65_535, &mut last)?;
-    assert!(rt; last.iter().all(|b| *b == 0));
-    Ok(())
+    disk.read(65_535, &mut last).is_ok() && is_full_of(&last, 0)
+}
+
+#[test]
+fn sector_never_written_reads_as_zeros(rt: HostRuntime) {
+    let mut disk = disk_that_is_on(rt.alloc());
+    assert!(rt; holds(&mut disk, 0, 0) && last_is_clear(&mut disk));
+    assert!(rt; disk.rot(6, [9; 512]) == Ok(()) && holds(&mut disk, 9, 0));
 }
 
 #[test]
 fn block_across_runs(rt: HostRuntime) -> Result<(), Fail> {
-    let mut disk = disk_that_is_on(&rt);
+    let mut disk = disk_that_is_on(rt.alloc());
     let mut bytes = [0; 1536];
     for (i, b) in bytes.iter_mut().enumerate() {
         *b = (i % 251) as u8;
@@ -92,59 +106,66 @@ fn block_across_runs(rt: HostRuntime) -> Result<(), Fail> {
 }
 
 #[test]
-fn failing_write(rt: HostRuntime) -> Result<(), Fail> {
-    let mut disk = FaultDisk::new(disk_that_is_on(&rt), 2);
-    disk.write(7, 3, &[1; 1024])?;
-    assert_sectors(&rt, &mut disk, 1, 1);
-    assert_eq!(rt; disk.write(7, 3, &[2; 1024]), Err(Fault::WriteFault));
-    assert_sectors(&rt, &mut disk, 2, 1);
-    disk.write(7, 3, &[3; 1024])?;
-    assert_sectors(&rt, &mut disk, 3, 3);
-    Ok(())
+fn failing_write(rt: HostRuntime) {
+    let mut disk = FaultDisk::new(disk_that_is_on(rt.alloc()), 2);
+    assert!(rt; write(&mut disk, 7, 1) == Ok(()) && holds(&mut disk, 1, 1));
+    assert!(rt; write(&mut disk, 7, 2) == Err(Fault::WriteFault) && holds(&mut disk, 2, 1));
+    assert!(rt; write(&mut disk, 7, 3) == Ok(()) && holds(&mut disk, 3, 3));
 }
 
 #[test]
-fn failing_read(rt: HostRuntime) -> Result<(), Fail> {
-    let mut disk = FaultDisk::new(disk_that_is_on(&rt), 2);
-    let mut bytes = [0; 1024];
+fn failing_read(rt: HostRuntime) {
+    let mut disk = FaultDisk::new(disk_that_is_on(rt.alloc()), 2);
     disk.disk_mut().cut();
-    assert_eq!(rt; disk.read(3, &mut bytes), Err(Fault::Off));
+    assert!(rt; read(&mut disk) == Err(Fault::Off));
     disk.disk_mut().power_on(8);
-    disk.write(8, 3, &[1; 1024])?;
-    assert_eq!(rt; disk.read(3, &mut bytes), Err(Fault::ReadFault));
-    assert_sectors(&rt, &mut disk, 1, 1);
-    Ok(())
+    assert!(rt; write(&mut disk, 8, 1) == Ok(()) && read(&mut disk) == Err(Fault::ReadFault));
+    assert!(rt; holds(&mut disk, 1, 1));
 }
 
 #[test]
-fn off_comes_before_a_fault(rt: HostRuntime) -> Result<(), Fail> {
+fn off_comes_before_a_fault(rt: HostRuntime) {
     let mut disk = FaultDisk::new(MemDisk::new(rt.alloc()), 0);
-    assert_eq!(rt; disk.write(7, 3, &[1; 1024]), Err(Fault::Off));
+    assert!(rt; write(&mut disk, 7, 1) == Err(Fault::Off));
     disk.disk_mut().power_on(7);
-    disk.write(7, 3, &[1; 1024])?;
-    assert_sectors(&rt, &mut disk, 1, 1);
-    Ok(())
+    assert!(rt; write(&mut disk, 7, 1) == Ok(()) && holds(&mut disk, 1, 1));
 }
 
-/// Checks what is loaded.
-fn assert_loads(rt: &impl Abort, notes: &mut impl Notes, bytes: &[u8]) -> Result<(), Fail> {
-    assert_eq!(rt; notes.load()?.as_slice(), bytes);
-    Ok(())
+fn save(notes: &mut impl Notes, bytes: &[u8]) -> Result<(), Fault> {
+    notes.save(bytes)
+}
+
+/// Whether these bytes are loaded.
+fn loads(notes: &mut impl Notes, bytes: &[u8]) -> bool {
+    match notes.load() {
+        Ok(loaded) => loaded.as_slice() == bytes,
+        Err(_) => false,
+    }
+}
+
+/// Whether these bytes are loaded once the last save is taken back.
+fn reverts_to(notes: &mut MemNotes, bytes: &[u8]) -> bool {
+    notes.revert();
+    loads(notes, bytes)
 }
 
 #[test]
 fn revert_after_two_saves(rt: HostRuntime) -> Result<(), Fail> {
     let mut notes = MemNotes::new(b"opening".to_vec(rt.alloc())?);
-    notes.revert();
-    assert_loads(&rt, &mut notes, b"opening")?;
-    notes.save(b"one")?;
-    notes.save(b"second")?;
-    assert_loads(&rt, &mut notes, b"second")?;
-    notes.revert();
-    assert_loads(&rt, &mut notes, b"one")?;
-    notes.revert();
-    assert_loads(&rt, &mut notes, b"one")?;
+    assert!(rt; reverts_to(&mut notes, b"opening"));
+    assert!(rt; save(&mut notes, b"one") == Ok(()) && save(&mut notes, b"second") == Ok(()));
+    assert!(rt; loads(&mut notes, b"second"));
+    assert!(rt; reverts_to(&mut notes, b"one") && reverts_to(&mut notes, b"one"));
     Ok(())
+}
+
+/// Whether the second save fails and leaves these bytes, and the third succeeds.
+fn fails_once(notes: &mut FaultNotes, left: &[u8]) -> bool {
+    save(notes, b"one") == Ok(())
+        && save(notes, b"two") == Err(Fault::SaveFault)
+        && loads(notes, left)
+        && save(notes, b"three") == Ok(())
+        && loads(notes, b"three")
 }
 
 #[test]
@@ -152,12 +173,8 @@ fn failing_save(rt: HostRuntime) -> Result<(), Fail> {
     for landed in [false, true] {
         let memory = MemNotes::new(b"opening".to_vec(rt.alloc())?);
         let mut notes = FaultNotes::new(memory, 1, landed);
-        notes.save(b"one")?;
-        assert_eq!(rt; notes.save(b"two"), Err(Fault::SaveFault));
         let left = if landed { b"two" } else { b"one" };
-        assert_loads(&rt, &mut notes, left)?;
-        notes.save(b"three")?;
-        assert_loads(&rt, &mut notes, b"three")?;
+        assert!(rt; fails_once(&mut notes, left), "landed: {landed}");
     }
     Ok(())
 }

@@ -5,24 +5,24 @@ mod fakes;
 
 use crate::command::{Request, read_words};
 use crate::jobs::run_jobs;
-use crate::lines::lines_of_set;
-use fakes::{Source, page_with, source_of};
-use fc_base::{JobParts, JobRecord, Kind, Verify};
-use job_file::{Job, JobSet, Jobs, Note, Notes, Phase, Text};
+use fakes::{Source, failing, in_steps, interrupted, page_with, source_of};
 use std::alloc::{AllocError, Global};
 use std::process::Abort;
 use std::test::Fail;
 
-/// The program answers this status, and prints these lines.
+/// Whether the program answers this status, and prints these lines.
+fn answers(alloc: Global, source: &mut Source<'_>, status: u8, lines: &str) -> bool {
+    let mut page = page_with(alloc, usize::MAX);
+    let answer = run_jobs(alloc, source, &mut page);
+    answer == status && page.text.as_slice() == lines.as_bytes()
+}
+
+/// Checks the status and the lines of a run.
 fn expect<R: Abort + AllocGlobal>(rt: &R, source: &mut Source<'_>, status: u8, lines: &str) {
-    let mut page = page_with(rt.alloc(), usize::MAX);
-    let answer = run_jobs(rt.alloc(), source, &mut page);
     assert!(rt;
-        page.text.as_slice() == lines.as_bytes(),
-        "printed {:?}, not {lines:?}",
-        page.text
+        answers(rt.alloc(), source, status, lines),
+        "{status} and {lines:?} are wanted"
     );
-    assert_eq!(rt; answer, status, "after {lines:?}");
 }
 
 const LATER_GLOBAL: &[u8] =
@@ -41,36 +41,64 @@ fn later_global_section(rt: HostRuntime) {
 
 #[test]
 fn reading_job(rt: HostRuntime) {
-    let line =
-        "job 0 a sequential blocks=4 total=4 bs=4096 seed=1 depth=1 window=1 verify=stamp save=1 load=0 fatal=0 file=-\njobs 1 phase read\n";
-    expect(&rt, &mut source_of(b"[a]\nsize=16k"), 0, line);
+    let lines = "\
+job 0 a sequential blocks=4 total=4 bs=4096 seed=1 depth=1 window=1 verify=stamp save=1 load=0 fatal=0 file=-
+jobs 1 phase read
+";
+    expect(&rt, &mut source_of(b"[a]\nsize=16k"), 0, lines);
+}
+
+#[test]
+fn random_job(rt: HostRuntime) {
+    let text =
+        b"[a b]\nrw=randread\ndirect=1\nbs=512\nsize=32m\nio_size=512000000\niodepth=2\nx_window=256\nrandseed=18446744073709551615\nverify=pattern\nverify_pattern=0x0a\nverify_state_save=0\nverify_state_load=1\nverify_fatal=1\nfilename=data\n";
+    let lines = "\
+note 3 direct has no effect here
+job 0 a b random blocks=65536 total=1000000 bs=512 seed=18446744073709551615 depth=2 window=256 verify=0x0a save=0 load=1 fatal=1 file=data
+jobs 1 phase read
+";
+    expect(&rt, &mut source_of(text), 0, lines);
+}
+
+#[test]
+fn job_without_a_map(rt: HostRuntime) {
+    let lines = "\
+job 0 a norandommap blocks=1 total=1 bs=4096 seed=1 depth=1 window=1 verify=stamp save=1 load=0 fatal=0 file=-
+jobs 1 phase read
+";
+    let text = b"[a]\nrw=randread\nnorandommap\nsize=4k\n";
+    expect(&rt, &mut source_of(text), 0, lines);
+}
+
+/// Checks the one line that is printed for a text that has `|` for its line ends.
+fn expect_refused<R: Abort + AllocGlobal>(rt: &R, text: &str, line: &str) {
+    let text = text.replace(rt.alloc(), '|', "\n").expect(rt, "memory");
+    let line = format!(in rt.alloc(); "{line}\n").expect(rt, "memory");
+    expect(rt, &mut source_of(text.as_bytes()), 2, line.as_str());
 }
 
 #[test]
 fn refused_texts(rt: HostRuntime) {
-    let refused: [(&[u8], &str); 9] = [
-        (b"[a]\nsize=4k\n# \x80\n", "refused 2 NotAscii\n"),
-        (b"x=1\n", "refused 3 BadLine 1\n"),
-        (b"[a]\nfoo=1\n", "refused 4 UnknownOption 2\n"),
-        (b"[a]\nbs=4ki\nsize=1m\n", "refused 5 BadValue 2\n"),
-        (b"", "refused 6 NoJobs\n"),
-        (
-            b"[0]\n[1]\n[2]\n[3]\n[4]\n[5]\n[6]\n[7]\n[8]\n[9]\n[a]\n[b]\n[c]\n[d]\n[e]\n[f]\n[g]\n",
-            "refused 7 TooManyJobs\n",
-        ),
-        (b"[a]\nrw=write\n", "refused 8 NoSize 0\n"),
-        (
-            b"[a]\nsize=4k\n[b]\nsize=4k\nbs=1000\n",
-            "refused 9 OutOfLimits 1\n",
-        ),
-        (
-            b"[a]\nrw=write\nsize=4k\n[b]\nrw=read\nsize=4k\n",
-            "refused 11 MixedPhases\n",
-        ),
-    ];
-    for (text, line) in refused {
-        expect(&rt, &mut source_of(text), 2, line);
+    let refused = "\
+x=1| => refused 3 BadLine 1
+[a]|foo=1| => refused 4 UnknownOption 2
+[a]|bs=4ki|size=1m| => refused 5 BadValue 2
+ => refused 6 NoJobs
+[0]|[1]|[2]|[3]|[4]|[5]|[6]|[7]|[8]|[9]|[a]|[b]|[c]|[d]|[e]|[f]|[g]| => refused 7 TooManyJobs
+[a]|rw=write| => refused 8 NoSize 0
+[a]|size=4k|[b]|size=4k|bs=1000| => refused 9 OutOfLimits 1
+[a]|rw=write|size=4k|[b]|rw=read|size=4k| => refused 11 MixedPhases
+";
+    for row in refused.lines() {
+        let (text, line) = row.split_once(" => ").expect(&rt, "a text and its line");
+        expect_refused(&rt, text, line);
     }
+}
+
+#[test]
+fn text_that_is_not_ascii(rt: HostRuntime) {
+    let text = b"[a]\nsize=4k\n# \x80\n";
+    expect(&rt, &mut source_of(text), 2, "refused 2 NotAscii\n");
 }
 
 /// A job and then line feeds, of so many bytes in all.
@@ -80,154 +108,104 @@ fn text_of_length(alloc: Global, length: usize) -> Result<Vec<u8>, AllocError> {
     Ok(text)
 }
 
+const LONGEST_LINES: &str = "\
+job 0 a sequential blocks=1 total=1 bs=4096 seed=1 depth=1 window=1 verify=stamp save=1 load=0 fatal=0 file=-
+jobs 1 phase read
+";
+
 #[test]
 fn longest_text(rt: HostRuntime) -> Result<(), Fail> {
-    let line =
-        "job 0 a sequential blocks=1 total=1 bs=4096 seed=1 depth=1 window=1 verify=stamp save=1 load=0 fatal=0 file=-\njobs 1 phase read\n";
     let text = text_of_length(rt.alloc(), 16_384)?;
-    expect(&rt, &mut source_of(&text), 0, line);
-    let mut source = Source {
-        step: 1,
-        ..source_of(&text)
-    };
-    expect(&rt, &mut source, 0, line);
-    assert_eq!(rt; source.reads, 16_385);
+    expect(&rt, &mut source_of(&text), 0, LONGEST_LINES);
+    let mut source = in_steps(&text, 1);
+    expect(&rt, &mut source, 0, LONGEST_LINES);
+    assert!(rt; source.reads == 16_385);
     Ok(())
 }
 
 #[test]
 fn text_past_the_limit(rt: HostRuntime) -> Result<(), Fail> {
     let text = text_of_length(rt.alloc(), 16_385)?;
-    let mut source = Source {
-        fails: true,
-        ..source_of(&text)
-    };
+    let mut source = failing(&text, usize::MAX);
     expect(&rt, &mut source, 2, "refused 1 TooLong\n");
-    assert_eq!(rt; source.reads, 1);
+    assert!(rt; source.reads == 1);
+    Ok(())
+}
+
+#[test]
+fn text_far_past_the_limit(rt: HostRuntime) -> Result<(), Fail> {
     let text = text_of_length(rt.alloc(), 100_000)?;
     let mut source = source_of(&text);
     expect(&rt, &mut source, 2, "refused 1 TooLong\n");
-    assert_eq!(rt; source.text.len(), 100_000 - 16_385);
+    assert!(rt; source.text.len() == 100_000 - 16_385);
     Ok(())
 }
 
 #[test]
 fn one_byte_at_a_time(rt: HostRuntime) {
-    let mut source = Source {
-        step: 1,
-        ..source_of(LATER_GLOBAL)
-    };
-    expect(&rt, &mut source, 0, LATER_GLOBAL_LINES);
+    expect(&rt, &mut in_steps(LATER_GLOBAL, 1), 0, LATER_GLOBAL_LINES);
 }
 
 #[test]
 fn failed_read(rt: HostRuntime) {
     for step in [1, 7, usize::MAX] {
-        let mut source = Source {
-            step,
-            fails: true,
-            ..source_of(LATER_GLOBAL)
-        };
-        expect(&rt, &mut source, 2, "refused 91 ReadError\n");
+        expect(
+            &rt,
+            &mut failing(LATER_GLOBAL, step),
+            2,
+            "refused 91 ReadError\n",
+        );
     }
+}
+
+/// Checks a run whose first reads are interrupted.
+fn expect_interrupted<R: Abort + AllocGlobal>(rt: &R, count: u32, status: u8, lines: &str) {
+    let mut source = interrupted(LATER_GLOBAL, count);
+    expect(rt, &mut source, status, lines);
+    assert!(rt; source.reads <= 20_000, "too many reads after {count}");
 }
 
 #[test]
 fn interrupted_reads(rt: HostRuntime) {
-    for (interruptions, status, lines) in [
-        (1, 0, LATER_GLOBAL_LINES),
-        (19_998, 0, LATER_GLOBAL_LINES),
-        (19_999, 2, "refused 91 ReadError\n"),
-        (u32::MAX, 2, "refused 91 ReadError\n"),
-    ] {
-        let mut source = Source {
-            interruptions,
-            ..source_of(LATER_GLOBAL)
-        };
-        expect(&rt, &mut source, status, lines);
-        assert!(rt; source.reads <= 20_000, "{} reads", source.reads);
-    }
+    expect_interrupted(&rt, 1, 0, LATER_GLOBAL_LINES);
+    expect_interrupted(&rt, 19_998, 0, LATER_GLOBAL_LINES);
+    expect_interrupted(&rt, 19_999, 2, "refused 91 ReadError\n");
+    expect_interrupted(&rt, u32::MAX, 2, "refused 91 ReadError\n");
+}
+
+/// Whether a run stops at the first failed write: it printed what there was room for.
+fn stops_at_failed_write(alloc: Global, text: &[u8], lines: &str, room: usize) -> bool {
+    let mut page = page_with(alloc, room);
+    let status = run_jobs(alloc, &mut source_of(text), &mut page);
+    let printed = page.text.as_slice();
+    status == 2
+        && page.late_writes == 0
+        && printed.len() == room
+        && lines.as_bytes().starts_with(printed)
 }
 
 #[test]
 fn failed_write(rt: HostRuntime) {
-    let texts: [(&[u8], &str); 2] = [
-        (LATER_GLOBAL, LATER_GLOBAL_LINES),
-        (b"[a]\nfoo=1\n", "refused 4 UnknownOption 2\n"),
-    ];
-    for (text, lines) in texts {
-        for room in [0, 1, 9, 24] {
-            let mut page = page_with(rt.alloc(), room);
-            let status = run_jobs(rt.alloc(), &mut source_of(text), &mut page);
-            assert_eq!(rt; status, 2);
-            assert!(rt; page.text.as_slice() == &lines.as_bytes()[..room]);
-            assert_eq!(rt; page.late_writes, 0);
-        }
+    for room in [0, 1, 9, 24] {
+        assert!(rt; stops_at_failed_write(rt.alloc(), LATER_GLOBAL, LATER_GLOBAL_LINES, room));
+        let (text, line) = (b"[a]\nfoo=1\n", "refused 4 UnknownOption 2\n");
+        assert!(rt; stops_at_failed_write(rt.alloc(), text, line, room));
     }
 }
 
-fn set_of(alloc: Global, job: Job, note: Note) -> Result<JobSet, AllocError> {
-    let mut jobs = Vec::new(alloc);
-    jobs.push(job)?;
-    let mut notes = Vec::new(alloc);
-    notes.push(note)?;
-    Ok(JobSet {
-        phase: Phase::Read,
-        jobs: Jobs::from_vec(jobs),
-        notes: Notes::from_vec(notes),
-    })
-}
-
-fn text_from(alloc: Global, text: &str) -> Result<Text, AllocError> {
-    Ok(Text::from_string(String::from_str(alloc, text)?))
+/// Checks that no command is read from these words.
+fn expect_bad<R: Abort + AllocGlobal>(rt: &R, words: &[&str]) {
+    assert!(rt; read_words(rt.alloc(), words).is_none(), "{words:?}");
 }
 
 #[test]
-fn lines_of_other_settings(rt: HostRuntime) -> Result<(), Fail> {
-    let alloc = rt.alloc();
-    for (kind, order) in [
-        (Kind::RandomMap, "random"),
-        (Kind::RandomFree, "norandommap"),
-    ] {
-        let parts = JobParts {
-            kind,
-            verify: Verify::Pattern,
-            pattern: 0x0a,
-            bs: 512,
-            blocks: 65_536,
-            total: 1_000_000,
-            seed: u64::MAX,
-            depth: 2,
-            window: 256,
-        };
-        let job = Job {
-            name: text_from(alloc, "a b")?,
-            filename: Some(text_from(alloc, "data")?),
-            rec: JobRecord::make(parts).ok_or("settings within the limits")?,
-            save: false,
-            load: true,
-            fatal: true,
-        };
-        let note = Note {
-            line: 3,
-            option: text_from(alloc, "direct")?,
-        };
-        let set = set_of(alloc, job, note)?;
-        let lines = lines_of_set(alloc, &set)?;
-        let wanted = format!(in alloc;
-            "note 3 direct has no effect here\njob 0 a b {order} blocks=65536 total=1000000 bs=512 seed=18446744073709551615 depth=2 window=256 verify=0x0a save=0 load=1 fatal=1 file=data\njobs 1 phase read\n"
-        )?;
-        assert_eq!(rt; lines.as_str(), wanted.as_str());
-    }
-    Ok(())
+fn good_command(rt: HostRuntime) {
+    let words = ["fiocut", "jobs"];
+    assert!(rt; read_words(rt.alloc(), &words) == Some(Request::Jobs));
 }
 
 #[test]
-fn command_lines(rt: HostRuntime) {
-    assert_eq!(rt;
-        read_words(rt.alloc(), &["fiocut", "jobs"]),
-        Some(Request::Jobs)
-    );
+fn bad_commands(rt: HostRuntime) {
     let bad: [&[&str]; 20] = [
         &[],
         &["fiocut"],
@@ -251,6 +229,6 @@ fn command_lines(rt: HostRuntime) {
         &["fiocut", "live", "1", "1", "path"],
     ];
     for words in bad {
-        assert_eq!(rt; read_words(rt.alloc(), words), None, "{words:?}");
+        expect_bad(&rt, words);
     }
 }

@@ -9,60 +9,98 @@ use std::alloc::Global;
 use std::process::Abort;
 use std::test::Fail;
 
-/// Issues the writes from `first` up to `end`.
-fn issue_all(rt: &impl Abort, window: &mut Window, first: u64, end: u64) {
+/// Issues the next write, where there is room for it.
+fn issue(window: &mut Window) -> Option<Seq> {
+    if window.room() != Room::Open || window.issued() >= 1_000_000 {
+        return None;
+    }
+    Some(window.issue())
+}
+
+fn complete(window: &mut Window, number: u64) -> Result<(), Fault> {
+    window.complete(Seq(number))
+}
+
+fn fail(window: &mut Window, number: u64) -> Result<(), Fault> {
+    window.fail(Seq(number))
+}
+
+/// Whether the writes from `first` up to `end` are issued.
+fn issues(window: &mut Window, first: u64, end: u64) -> bool {
     for number in first..end {
-        assert!(rt; window.room() == Room::Open && window.issued() < 1_000_000);
-        assert_eq!(rt; window.issue(), Seq(number));
+        if issue(window) != Some(Seq(number)) {
+            return false;
+        }
+    }
+    true
+}
+
+/// Whether these writes complete, in this order.
+fn completes(window: &mut Window, numbers: &[u64]) -> bool {
+    for number in numbers {
+        if complete(window, *number) != Ok(()) {
+            return false;
+        }
+    }
+    true
+}
+
+/// Whether a write can neither complete nor fail, since it isn't open.
+fn refuses(window: &mut Window, number: u64) -> bool {
+    complete(window, number) == Err(Fault::NotInFlight)
+        && fail(window, number) == Err(Fault::NotInFlight)
+}
+
+/// Whether `count` writes complete in turn, each with the next `ahead` writes in flight.
+fn runs(window: &mut Window, ahead: u32, count: u32) -> bool {
+    for number in 0..u64::from(count) {
+        let issued = issue(window);
+        let answer = complete(window, number);
+        if issued != Some(Seq(number + u64::from(ahead))) || answer != Ok(()) {
+            return false;
+        }
+    }
+    true
+}
+
+/// Whether just these writes are the last that completed, in this order.
+fn recalls(window: &Window, seqs: &[Seq]) -> bool {
+    match window.recent() {
+        Ok(recent) => recent.as_slice() == seqs,
+        Err(_) => false,
     }
 }
 
 #[test]
 fn completions_out_of_order(rt: HostRuntime) -> Result<(), Fail> {
     let mut window = Window::new(rt.alloc(), 3, 3)?;
-    issue_all(&rt, &mut window, 0, 3);
-    for number in [2, 1, 0] {
-        window.complete(Seq(number))?;
-    }
-    issue_all(&rt, &mut window, 3, 5);
-    for number in [3, 4] {
-        window.complete(Seq(number))?;
-    }
-    assert_eq!(rt;
-        window.recent()?.as_slice(),
-        [Seq(2), Seq(1), Seq(0), Seq(3), Seq(4)].as_slice()
-    );
-    assert_eq!(rt; window.issued(), 5);
+    assert!(rt; issues(&mut window, 0, 3) && completes(&mut window, &[2, 1, 0]));
+    assert!(rt; issues(&mut window, 3, 5) && completes(&mut window, &[3, 4]));
+    assert!(rt; recalls(&window, &[Seq(2), Seq(1), Seq(0), Seq(3), Seq(4)]));
+    assert!(rt; window.issued() == 5);
     Ok(())
 }
 
 #[test]
 fn held_by_the_window(rt: HostRuntime) -> Result<(), Fail> {
     let mut window = Window::new(rt.alloc(), 2, 2)?;
-    issue_all(&rt, &mut window, 0, 2);
-    assert_eq!(rt; window.room(), Room::Depth);
-    window.complete(Seq(1))?;
-    assert_eq!(rt; window.room(), Room::Held);
-    window.complete(Seq(0))?;
-    issue_all(&rt, &mut window, 2, 3);
+    assert!(rt; issues(&mut window, 0, 2) && window.room() == Room::Depth);
+    assert!(rt; completes(&mut window, &[1]) && window.room() == Room::Held);
+    assert!(rt; completes(&mut window, &[0]) && issues(&mut window, 2, 3));
     Ok(())
 }
 
 #[test]
 fn failed_write_stays_in_flight(rt: HostRuntime) -> Result<(), Fail> {
     let mut window = Window::new(rt.alloc(), 2, 2)?;
-    issue_all(&rt, &mut window, 0, 2);
-    window.fail(Seq(0))?;
-    assert!(rt; window.is_in_flight(Seq(0)));
-    assert_eq!(rt; window.room(), Room::Depth);
-    window.complete(Seq(1))?;
-    assert!(rt; !window.is_in_flight(Seq(1)));
-    assert_eq!(rt; window.room(), Room::Held);
+    assert!(rt; issues(&mut window, 0, 2) && fail(&mut window, 0) == Ok(()));
+    assert!(rt; window.is_in_flight(Seq(0)) && window.room() == Room::Depth);
+    assert!(rt; completes(&mut window, &[1]) && !window.is_in_flight(Seq(1)));
+    assert!(rt; window.room() == Room::Held && recalls(&window, &[Seq(1)]));
     for number in [0, 1, 2, u64::MAX] {
-        assert_eq!(rt; window.complete(Seq(number)), Err(Fault::NotInFlight));
-        assert_eq!(rt; window.fail(Seq(number)), Err(Fault::NotInFlight));
+        assert!(rt; refuses(&mut window, number), "write {number}");
     }
-    assert_eq!(rt; window.recent()?.as_slice(), [Seq(1)].as_slice());
+    assert!(rt; window.room() == Room::Held && recalls(&window, &[Seq(1)]));
     Ok(())
 }
 
@@ -70,30 +108,53 @@ fn failed_write_stays_in_flight(rt: HostRuntime) -> Result<(), Fail> {
 #[test]
 fn no_memory_after_the_making(rt: HostRuntime) -> Result<(), Fail> {
     let mut window = Window::new(rt.alloc(), 64, 256)?;
-    issue_all(&rt, &mut window, 0, 64);
-    for number in 0..1_000 {
-        window.complete(Seq(number))?;
-        issue_all(&rt, &mut window, number + 64, number + 65);
-    }
-    window.fail(Seq(1_000))?;
-    assert_eq!(rt; window.issued(), 1_064);
-    assert!(rt; window.is_in_flight(Seq(1_063)));
+    assert!(rt; issues(&mut window, 0, 63) && runs(&mut window, 63, 1_000));
+    assert!(rt; fail(&mut window, 1_000) == Ok(()));
+    assert!(rt; window.issued() == 1_063 && window.is_in_flight(Seq(1_062)));
     Ok(())
+}
+
+/// Whether these numbers count up from `first`.
+fn count_up(seqs: &[Seq], first: u64) -> bool {
+    for (seq, number) in seqs.iter().zip(first..1_000_000) {
+        if *seq != Seq(number) {
+            return false;
+        }
+    }
+    true
 }
 
 #[test]
 fn million_writes(rt: HostRuntime) -> Result<(), Fail> {
     let mut window = Window::new(rt.alloc(), 64, 256)?;
-    for number in 0..1_000_000 {
-        issue_all(&rt, &mut window, number, number + 1);
-        window.complete(Seq(number))?;
-    }
+    assert!(rt; runs(&mut window, 0, 1_000_000));
     let recent = window.recent()?;
-    assert_eq!(rt; recent.len(), 512);
-    for (seq, number) in recent.iter().zip(999_488..1_000_000) {
-        assert_eq!(rt; *seq, Seq(number));
-    }
+    assert!(rt; recent.len() == 512 && count_up(&recent, 999_488));
     Ok(())
+}
+
+/// Issues the next write, where there is room for it.
+fn issue_plain(plain: &mut PlainWindow) -> Option<Seq> {
+    if plain.room() != Room::Open || plain.issued() >= 1_000_000 {
+        return None;
+    }
+    Some(plain.issue())
+}
+
+/// Whether both windows answer alike to a step at random, and after it.
+fn step_alike(window: &mut Window, plain: &mut PlainWindow, word: u64) -> bool {
+    let seq = Seq(window.issued().saturating_sub((word >> 40) % 9));
+    let is_alike = if (word >> 33) % 64 == 0 {
+        window.fail(seq) == plain.fail(seq)
+    } else if (word >> 33) % 2 == 0 {
+        window.complete(seq) == plain.complete(seq)
+    } else {
+        issue(window) == issue_plain(plain)
+    };
+    is_alike
+        && window.room() == plain.room()
+        && window.issued() == plain.issued()
+        && window.is_in_flight(seq) == plain.is_in_flight(seq)
 }
 
 /// A history of 200 steps at random, after each of which both windows answer alike.
@@ -106,20 +167,9 @@ fn run_beside(rt: &impl Abort, alloc: Global, depth: u64, length: u64) -> Result
     let mut word = depth;
     for _ in 0..200 {
         word = word.wrapping_mul(6_364_136_223_846_793_005).wrapping_add(1);
-        let seq = Seq(window.issued().saturating_sub((word >> 40) % 9));
-        if (word >> 33) % 64 == 0 {
-            assert_eq!(rt; window.fail(seq), plain.fail(seq));
-        } else if (word >> 33) % 2 == 0 {
-            assert_eq!(rt; window.complete(seq), plain.complete(seq));
-        } else if window.room() == Room::Open && window.issued() < 1_000 {
-            assert!(rt; plain.room() == Room::Open && plain.issued() < 1_000);
-            assert_eq!(rt; window.issue(), plain.issue());
-        }
-        assert_eq!(rt; window.room(), plain.room());
-        assert_eq!(rt; window.issued(), plain.issued());
-        assert_eq!(rt; window.is_in_flight(seq), plain.is_in_flight(seq));
+        assert!(rt; step_alike(&mut window, &mut plain, word));
     }
-    assert_eq!(rt; window.recent()?.as_slice(), plain.recent()?.as_slice());
+    assert!(rt; recalls(&window, &plain.recent()?));
     Ok(())
 }
 

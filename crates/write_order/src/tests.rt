@@ -5,8 +5,7 @@ mod vectors;
 
 use super::*;
 use fc_base::{JobNo, JobParts, JobRecord, Key, Kind, RunNo, Seq, ServerNo, Verify};
-use std::alloc::AllocGlobal;
-use std::process::Abort;
+use std::alloc::{AllocError, Global};
 use std::test::Fail;
 use vectors::{BLOCKS, FRONTS, PLACES, WORDS};
 
@@ -32,47 +31,75 @@ fn job(kind: Kind, seed: u64, blocks: u64, total: u64) -> Option<JobRecord> {
     })
 }
 
-#[test]
-fn words_of_the_generator(rt: HostRuntime) -> Result<(), Fail> {
-    for (seed, words) in WORDS {
-        let job = job(Kind::RandomFree, seed, 4, 6).ok_or("within the limits")?;
-        let [a, b, c, d] = place_of(&job, 0);
-        let [e, f, g, h] = place_of(&job, 4);
-        assert_eq!(rt; [a, b, c, d, e, f, g, h], words, "seed {seed}");
-    }
-    Ok(())
+/// Whether these are the first words of a seed's generator.
+fn has_words(seed: u64, words: [u64; 8]) -> bool {
+    let Some(job) = job(Kind::RandomFree, seed, 4, 6) else {
+        return false;
+    };
+    let [a, b, c, d] = place_of(&job, 0);
+    let [e, f, g, h] = place_of(&job, 4);
+    [a, b, c, d, e, f, g, h] == words
 }
 
 #[test]
-fn places_after_writes(rt: HostRuntime) -> Result<(), Fail> {
+fn words_of_the_generator(rt: HostRuntime) {
+    for (seed, words) in WORDS {
+        assert!(rt; has_words(seed, words), "seed {seed}");
+    }
+}
+
+/// Whether this is the place after `n` writes.
+fn has_place(kind: Kind, seed: u64, n: u64, place: [u64; 4]) -> bool {
+    match job(kind, seed, 7, 1_000_000) {
+        Some(job) => place_of(&job, n) == place,
+        None => false,
+    }
+}
+
+#[test]
+fn places_after_writes(rt: HostRuntime) {
     for (seed, n, place) in PLACES {
-        for kind in [Kind::RandomMap, Kind::RandomFree] {
-            let job = job(kind, seed, 7, 1_000_000).ok_or("within the limits")?;
-            assert_eq!(rt; place_of(&job, n), place, "seed {seed} after {n}");
+        assert!(rt;
+            has_place(Kind::RandomMap, seed, n, place),
+            "seed {seed} after {n}"
+        );
+        assert!(rt;
+            has_place(Kind::RandomFree, seed, n, place),
+            "seed {seed} after {n}"
+        );
+    }
+    assert!(rt; has_place(Kind::Sequential, 1, 5, PLACES[0].2));
+}
+
+/// Whether the next write goes to this block, and the generator stands where it has to.
+fn goes_to(order: &mut Order, job: &JobRecord, block: u32) -> bool {
+    if order.peek() != Some(block) || order.place() != place_of(job, order.issued()) {
+        return false;
+    }
+    order.advance();
+    true
+}
+
+/// Whether a job writes to just these blocks, in this order.
+fn follows<T: Copy + Into<u32>>(
+    alloc: Global,
+    job: &JobRecord,
+    written: &[T],
+) -> Result<bool, AllocError> {
+    let mut order = Order::new(alloc, job)?;
+    for block in written {
+        if !goes_to(&mut order, job, (*block).into()) {
+            return Ok(false);
         }
     }
-    let job = job(Kind::Sequential, 1, 7, 10).ok_or("within the limits")?;
-    assert_eq!(rt; place_of(&job, 5), PLACES[0].2);
-    Ok(())
-}
-
-/// A job writes to just these blocks, in this order.
-fn follow(rt: &(impl Abort + AllocGlobal), job: &JobRecord, written: &[u8]) -> Result<(), Fail> {
-    let mut order = Order::new(rt.alloc(), job)?;
-    for block in written {
-        let place = place_of(job, order.issued());
-        assert!(rt; order.place() == place && order.peek() == Some(u32::from(*block)));
-        order.advance();
-    }
-    assert!(rt; order.peek().is_none() && order.issued() == job.total());
-    Ok(())
+    Ok(order.peek().is_none() && order.issued() == job.total())
 }
 
 #[test]
 fn blocks_of_the_three_orders(rt: HostRuntime) -> Result<(), Fail> {
     for (kind, seed, blocks, written) in BLOCKS {
         let job = job(kind, seed, blocks, written.len() as u64).ok_or("within the limits")?;
-        follow(&rt, &job, written)?;
+        assert!(rt; follows(rt.alloc(), &job, written)?, "{kind:?} of {blocks}");
     }
     Ok(())
 }
@@ -80,77 +107,105 @@ fn blocks_of_the_three_orders(rt: HostRuntime) -> Result<(), Fail> {
 #[test]
 fn two_passes_by_io_size(rt: HostRuntime) -> Result<(), Fail> {
     let job = job(Kind::Sequential, 1, 4, 6).ok_or("within the limits")?;
-    follow(&rt, &job, b"\x00\x01\x02\x03\x00\x01")
+    assert!(rt; follows(rt.alloc(), &job, b"\x00\x01\x02\x03\x00\x01")?);
+    Ok(())
+}
+
+/// Whether these words pick these blocks of four.
+fn picks(alloc: Global, words: &[u64], map: bool, blocks: &[u32]) -> bool {
+    match pick_blocks(alloc, words, 4, map) {
+        Ok(picked) => picked.as_slice() == blocks,
+        Err(_) => false,
+    }
 }
 
 #[test]
-fn picked_blocks(rt: HostRuntime) -> Result<(), Fail> {
+fn picked_blocks(rt: HostRuntime) {
     let words = [7, 5, 3, 9, 2, 6];
-    let with_map = pick_blocks(rt.alloc(), &words, 4, true)?;
-    assert_eq!(rt; with_map.as_slice(), [3, 2, 1, 0, 2, 0].as_slice());
-    let without_map = pick_blocks(rt.alloc(), &words, 4, false)?;
-    assert_eq!(rt; without_map.as_slice(), [3, 1, 3, 1, 2, 2].as_slice());
-    Ok(())
+    assert!(rt; picks(rt.alloc(), &words, true, &[3, 2, 1, 0, 2, 0]));
+    assert!(rt; picks(rt.alloc(), &words, false, &[3, 1, 3, 1, 2, 2]));
+}
+
+/// The words that the writes of a random job use up.
+fn words_of(alloc: Global, job: &JobRecord) -> Result<Vec<u64>, AllocError> {
+    let mut words = Vec::new(alloc);
+    for n in 0..job.total() {
+        words.push(place_of(job, n)[0])?;
+    }
+    Ok(words)
+}
+
+/// Whether a random job writes to the blocks that `pick_blocks` picks.
+fn follows_picks(alloc: Global, kind: Kind) -> Result<bool, Fail> {
+    let job = job(kind, 42, 100, 300).ok_or("within the limits")?;
+    let words = words_of(alloc, &job)?;
+    let picked = pick_blocks(alloc, &words, 100, kind == Kind::RandomMap)?;
+    Ok(follows(alloc, &job, &picked)?)
 }
 
 #[test]
 fn order_beside_pick_blocks(rt: HostRuntime) -> Result<(), Fail> {
-    for kind in [Kind::RandomMap, Kind::RandomFree] {
-        let job = job(kind, 42, 100, 300).ok_or("within the limits")?;
-        let mut order = Order::new(rt.alloc(), &job)?;
-        let mut words = Vec::new(rt.alloc());
-        let mut blocks = Vec::new(rt.alloc());
-        for _ in 0..job.total() {
-            blocks.push(order.peek().ok_or("a write is left")?)?;
-            words.push(order.place()[0])?;
-            order.advance();
-        }
-        assert_eq!(rt; order.peek(), None);
-        let picked = pick_blocks(rt.alloc(), &words, 100, kind == Kind::RandomMap)?;
-        assert_eq!(rt; blocks.as_slice(), picked.as_slice());
-    }
+    assert!(rt; follows_picks(rt.alloc(), Kind::RandomMap)?);
+    assert!(rt; follows_picks(rt.alloc(), Kind::RandomFree)?);
     Ok(())
+}
+
+const KEY: Key = Key {
+    run: RunNo(1),
+    server: ServerNo(0),
+    job: JobNo(0),
+};
+
+/// Whether the block of a write begins and ends with these bytes, where the block has one sector.
+fn is_framed(job: &JobRecord, seq: u64, block: u32, front: &[u8], back: &[u8]) -> bool {
+    let mut bytes = [0xff; 512];
+    if job.bs() != 512 {
+        return false;
+    }
+    fill_block(KEY, job, Seq(seq), block, &mut bytes);
+    bytes.starts_with(front) && bytes.ends_with(back)
 }
 
 #[test]
 fn bytes_of_a_stamp(rt: HostRuntime) -> Result<(), Fail> {
-    let key = Key {
-        run: RunNo(1),
-        server: ServerNo(0),
-        job: JobNo(0),
-    };
     let job = JobRecord::make(JOB).ok_or("within the limits")?;
-    let mut bytes = [0xff; 512];
-    fill_block(key, &job, Seq(5), 1, &mut bytes);
-    let fields = [
-        [0, 0, 0, 0],
-        [0, 0, 0, 1],
-        [0, 0, 0, 0],
-        [0, 0, 0, 0],
-        [0, 0, 0, 0],
-        [0, 0, 0, 5],
-        [0, 0, 0, 0],
-        [0, 0, 0, 1],
-        [0, 0, 0, 0],
-        [5, 6, 7, 8],
-    ];
-    for (i, field) in fields.iter().enumerate() {
-        assert_eq!(rt; &bytes[4 * i..4 * i + 4], field.as_slice());
-    }
-    assert_eq!(rt; &bytes[508..], [0xdd, 0xde, 0xdf, 0xe0].as_slice());
+    let front = b"\x00\x00\x00\x00\x00\x00\x00\x01\x00\x00\x00\x00\x00\x00\x00\x00\x00\x00\x00\x00\
+          \x00\x00\x00\x05\x00\x00\x00\x00\x00\x00\x00\x01\x00\x00\x00\x00\x05\x06\x07\x08";
+    assert!(rt; is_framed(&job, 5, 1, front, b"\xdd\xde\xdf\xe0"));
     Ok(())
 }
 
-/// Byte `i` of a block whose first bytes are these.
-fn wanted(job: &JobRecord, seq: u64, front: &[u8], i: usize) -> u8 {
-    let (sector, at) = (i / 512, i % 512);
-    match (job.verify(), at) {
-        _ if i < front.len() => front[i],
-        (Verify::Pattern, _) => job.pattern(),
-        (Verify::Stamp, 0..32) if at < front.len() => front[at],
-        (Verify::Stamp, 32..36) => (sector as u64).to_be_bytes()[at - 28],
-        (Verify::Stamp, _) => ((seq % 256 + at as u64 + 220) % 256) as u8,
+/// Whether bytes count up from this one, modulo 256.
+fn count_up(bytes: &[u8], first: u8) -> bool {
+    for (i, byte) in bytes.iter().enumerate() {
+        if usize::from(*byte) != (usize::from(first) + i % 256) % 256 {
+            return false;
+        }
     }
+    true
+}
+
+/// Whether a sector is stamped, where the first of its block begins with `front`.
+fn is_stamped(sector: &[u8], number: u32, front: &[u8]) -> bool {
+    if sector.len() != 512 || front.len() != 40 {
+        return false;
+    }
+    let (fields, _) = front.split_at(32);
+    sector.starts_with(fields)
+        && sector[32..].starts_with(&number.to_be_bytes())
+        && count_up(&sector[36..], front[36])
+}
+
+/// Whether each sector of a block is stamped, where the block begins with `front`.
+fn is_full_of_stamps(bytes: &[u8], front: &[u8]) -> bool {
+    let mut number = 0;
+    for sector in bytes.chunks(512) {
+        if !is_stamped(sector, number, front) {
+            return false;
+        }
+        number = number.wrapping_add(1);
+    }
+    true
 }
 
 #[test]
@@ -166,46 +221,40 @@ fn bytes_of_writes(rt: HostRuntime) -> Result<(), Fail> {
         .ok_or("within the limits")?;
         let bytes = &mut room[..job.bs() as usize];
         fill_block(key, &job, Seq(seq), block, bytes);
-        for (i, byte) in bytes.iter().enumerate() {
-            assert!(rt; *byte == wanted(&job, seq, front, i), "byte {i}");
-        }
+        let is_filled = match verify {
+            Verify::Pattern => bytes.iter().all(|byte| *byte == pattern),
+            Verify::Stamp => is_full_of_stamps(bytes, front),
+        };
+        assert!(rt;
+            is_filled && bytes.starts_with(front),
+            "write {seq} to block {block}"
+        );
     }
     Ok(())
 }
 
-/// A job with blocks of two sectors.
-fn two_sectors(verify: Verify) -> Option<JobRecord> {
-    JobRecord::make(JobParts {
-        verify,
-        bs: 1024,
-        ..JOB
-    })
-}
-
-/// Whether a block that write 5 filled holds the bytes of this write, also where one byte of it was
-/// changed.
-fn holds(key: Key, job: &JobRecord, seq: u64, changed: Option<usize>) -> bool {
-    let mut room = [0; 65_536];
-    let bytes = &mut room[..job.bs() as usize];
-    fill_block(key, job, Seq(5), 1, bytes);
+/// Whether a block of two sectors that write 5 filled holds the bytes of this write, also where one
+/// byte of it was changed.
+fn holds(verify: Verify, seq: u64, changed: Option<usize>) -> bool {
+    let mut bytes = [0; 1024];
+    let bs = 1024;
+    let Some(job) = JobRecord::make(JobParts { verify, bs, ..JOB }) else {
+        return false;
+    };
+    if job.bs() != 1024 {
+        return false;
+    }
+    fill_block(KEY, &job, Seq(5), 1, &mut bytes);
     match changed {
         Some(at) if at < bytes.len() => bytes[at] ^= 1,
         _ => {}
     }
-    holds_write(&key, job, Seq(seq), 1, bytes)
+    holds_write(&KEY, &job, Seq(seq), 1, &bytes)
 }
 
 #[test]
-fn block_that_holds_a_write(rt: HostRuntime) -> Result<(), Fail> {
-    let key = Key {
-        run: RunNo(1),
-        server: ServerNo(0),
-        job: JobNo(0),
-    };
-    let job = two_sectors(Verify::Stamp).ok_or("within the limits")?;
-    assert!(rt; holds(key, &job, 5, None) && !holds(key, &job, 6, None));
-    assert!(rt; !holds(key, &job, 5, Some(1023)));
-    let job = two_sectors(Verify::Pattern).ok_or("within the limits")?;
-    assert!(rt; holds(key, &job, 6, None) && !holds(key, &job, 6, Some(1023)));
-    Ok(())
+fn block_that_holds_a_write(rt: HostRuntime) {
+    assert!(rt; holds(Verify::Stamp, 5, None) && !holds(Verify::Stamp, 6, None));
+    assert!(rt; !holds(Verify::Stamp, 5, Some(1023)));
+    assert!(rt; holds(Verify::Pattern, 6, None) && !holds(Verify::Pattern, 6, Some(1023)));
 }

@@ -32,13 +32,35 @@ impl Read for Source<'_> {
     }
 }
 
+/// A text in one step, and its end.
 pub fn source_of(text: &[u8]) -> Source<'_> {
+    in_steps(text, usize::MAX)
+}
+
+/// A text in steps, and its end.
+pub fn in_steps(text: &[u8], step: usize) -> Source<'_> {
     Source {
         interruptions: 0,
         text,
-        step: usize::MAX,
+        step,
         fails: false,
         reads: 0,
+    }
+}
+
+/// A text in steps, and then a failed read.
+pub fn failing(text: &[u8], step: usize) -> Source<'_> {
+    Source {
+        fails: true,
+        ..in_steps(text, step)
+    }
+}
+
+/// So many interrupted reads, then a text and its end.
+pub fn interrupted(text: &[u8], interruptions: u32) -> Source<'_> {
+    Source {
+        interruptions,
+        ..source_of(text)
     }
 }
 
