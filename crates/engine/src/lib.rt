@@ -9,6 +9,3 @@ mod writes;
 pub use engine::Engine;
 pub use issue::{Issue, Ticket};
 pub use law::progress_law;
-
-#[cfg(test)]
-mod tests;

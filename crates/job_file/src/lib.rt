@@ -19,6 +19,3 @@ pub use fault::JobFault;
 pub use job::{Job, JobSet, Jobs, Note, Notes, Phase};
 pub use parser::parse;
 pub use text::Text;
-
-#[cfg(test)]
-mod tests;

@@ -22,6 +22,3 @@ pub use reading::decode;
 pub use refusal::{Act, Asked, Reason};
 pub use text::{TEXT_LIMIT, Text};
 pub use writing::encode;
-
-#[cfg(test)]
-mod tests;

@@ -4,8 +4,6 @@
 
 mod expected;
 mod last_write;
-#[cfg(test)]
-mod plain;
 mod recheck;
 mod tally;
 mod verdict;
@@ -14,6 +12,3 @@ mod whole_disk;
 pub use recheck::Recheck;
 pub use verdict::Verdict;
 pub use whole_disk::check_disk;
-
-#[cfg(test)]
-mod tests;

@@ -11,6 +11,3 @@ mod writing;
 
 pub use laws::{no_spelling_begins_another, one_spelling};
 pub use state::VerifyState;
-
-#[cfg(test)]
-mod tests;

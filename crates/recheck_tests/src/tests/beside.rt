@@ -1,9 +1,9 @@
 //! The check beside the plain one.
 
+use super::plain::PlainCheck;
 use super::{Given, JOB};
-use crate::Verdict;
-use crate::plain::PlainCheck;
 use fc_base::{JobParts, Kind, Seq};
+use recheck::Verdict;
 use std::alloc::Global;
 use std::process::Abort;
 use std::test::Fail;

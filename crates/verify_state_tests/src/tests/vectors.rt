@@ -3,7 +3,7 @@
 use fc_base::{JobNo, JobParts, Key, Kind, RunNo, ServerNo, Verify};
 
 /// A state, how many writes it counts, and its bytes.
-#[derive(Clone, Copy, Debug)]
+#[derive(Clone, Copy)]
 pub struct Row {
     pub name: &'static str,
     pub key: Key,
@@ -15,107 +15,114 @@ pub struct Row {
     pub bytes: &'static [u8],
 }
 
+pub const BEFORE_ANY_ISSUE: Row = Row {
+    name: "trigger before any issue",
+    key: Key {
+        run: RunNo(1),
+        server: ServerNo(0),
+        job: JobNo(0),
+    },
+    job: JobParts {
+        kind: Kind::Sequential,
+        verify: Verify::Stamp,
+        pattern: 0x00,
+        bs: 512,
+        blocks: 1,
+        total: 1,
+        seed: 1,
+        depth: 1,
+        window: 1,
+    },
+    issued: 0,
+    place: [
+        0xcfc5_d07f_6f03_c29b,
+        0xbf42_4132_963f_e08d,
+        0x19a3_7d57_57aa_f520,
+        0xbf08_119f_05cd_56d6,
+    ],
+    completions: &[],
+    completed: 0,
+    bytes: b"\x46\x43\x56\x31\x00\x00\x00\x00\x00\x00\x00\x01\x00\x00\x00\x00\x00\x00\x00\x00\x00\x00\x00\x00\
+        \x00\x00\x02\x00\x00\x00\x00\x01\x00\x00\x00\x00\x00\x00\x00\x01\x00\x00\x00\x00\x00\x00\x00\x01\
+        \x00\x00\x00\x01\x00\x00\x00\x01\x00\x00\x00\x00\x00\x00\x00\x00\xcf\xc5\xd0\x7f\x6f\x03\xc2\x9b\
+        \xbf\x42\x41\x32\x96\x3f\xe0\x8d\x19\xa3\x7d\x57\x57\xaa\xf5\x20\xbf\x08\x11\x9f\x05\xcd\x56\xd6\
+        \x00\x00\x00\x00",
+};
+
+pub const OUT_OF_ORDER: Row = Row {
+    name: "completions out of order",
+    key: Key {
+        run: RunNo(1),
+        server: ServerNo(0),
+        job: JobNo(0),
+    },
+    job: JobParts {
+        kind: Kind::Sequential,
+        verify: Verify::Stamp,
+        pattern: 0x00,
+        bs: 512,
+        blocks: 8,
+        total: 8,
+        seed: 1,
+        depth: 3,
+        window: 3,
+    },
+    issued: 5,
+    place: [
+        0xcfc5_d07f_6f03_c29b,
+        0xbf42_4132_963f_e08d,
+        0x19a3_7d57_57aa_f520,
+        0xbf08_119f_05cd_56d6,
+    ],
+    completions: &[2, 1, 0, 3, 4],
+    completed: 5,
+    bytes: b"\x46\x43\x56\x31\x00\x00\x00\x00\x00\x00\x00\x01\x00\x00\x00\x00\x00\x00\x00\x00\x00\x00\x00\x00\
+        \x00\x00\x02\x00\x00\x00\x00\x08\x00\x00\x00\x00\x00\x00\x00\x08\x00\x00\x00\x00\x00\x00\x00\x01\
+        \x00\x00\x00\x03\x00\x00\x00\x03\x00\x00\x00\x00\x00\x00\x00\x05\xcf\xc5\xd0\x7f\x6f\x03\xc2\x9b\
+        \xbf\x42\x41\x32\x96\x3f\xe0\x8d\x19\xa3\x7d\x57\x57\xaa\xf5\x20\xbf\x08\x11\x9f\x05\xcd\x56\xd6\
+        \x00\x00\x00\x05\x00\x00\x00\x00\x00\x00\x00\x02\x00\x00\x00\x00\x00\x00\x00\x01\x00\x00\x00\x00\
+        \x00\x00\x00\x00\x00\x00\x00\x00\x00\x00\x00\x03\x00\x00\x00\x00\x00\x00\x00\x04",
+};
+
+/// Write 0 had completed, and write 1 was open.
+pub const OPEN_WRITE: Row = Row {
+    name: "open write at the trigger",
+    key: Key {
+        run: RunNo(1),
+        server: ServerNo(0),
+        job: JobNo(0),
+    },
+    job: JobParts {
+        kind: Kind::Sequential,
+        verify: Verify::Stamp,
+        pattern: 0x00,
+        bs: 512,
+        blocks: 2,
+        total: 2,
+        seed: 1,
+        depth: 2,
+        window: 2,
+    },
+    issued: 2,
+    place: [
+        0xcfc5_d07f_6f03_c29b,
+        0xbf42_4132_963f_e08d,
+        0x19a3_7d57_57aa_f520,
+        0xbf08_119f_05cd_56d6,
+    ],
+    completions: &[0],
+    completed: 1,
+    bytes: b"\x46\x43\x56\x31\x00\x00\x00\x00\x00\x00\x00\x01\x00\x00\x00\x00\x00\x00\x00\x00\x00\x00\x00\x00\
+        \x00\x00\x02\x00\x00\x00\x00\x02\x00\x00\x00\x00\x00\x00\x00\x02\x00\x00\x00\x00\x00\x00\x00\x01\
+        \x00\x00\x00\x02\x00\x00\x00\x02\x00\x00\x00\x00\x00\x00\x00\x02\xcf\xc5\xd0\x7f\x6f\x03\xc2\x9b\
+        \xbf\x42\x41\x32\x96\x3f\xe0\x8d\x19\xa3\x7d\x57\x57\xaa\xf5\x20\xbf\x08\x11\x9f\x05\xcd\x56\xd6\
+        \x00\x00\x00\x01\x00\x00\x00\x00\x00\x00\x00\x00",
+};
+
 pub const ROWS: [Row; 6] = [
-    Row {
-        name: "trigger before any issue",
-        key: Key {
-            run: RunNo(1),
-            server: ServerNo(0),
-            job: JobNo(0),
-        },
-        job: JobParts {
-            kind: Kind::Sequential,
-            verify: Verify::Stamp,
-            pattern: 0x00,
-            bs: 512,
-            blocks: 1,
-            total: 1,
-            seed: 1,
-            depth: 1,
-            window: 1,
-        },
-        issued: 0,
-        place: [
-            0xcfc5_d07f_6f03_c29b,
-            0xbf42_4132_963f_e08d,
-            0x19a3_7d57_57aa_f520,
-            0xbf08_119f_05cd_56d6,
-        ],
-        completions: &[],
-        completed: 0,
-        bytes: b"\x46\x43\x56\x31\x00\x00\x00\x00\x00\x00\x00\x01\x00\x00\x00\x00\x00\x00\x00\x00\x00\x00\x00\x00\
-            \x00\x00\x02\x00\x00\x00\x00\x01\x00\x00\x00\x00\x00\x00\x00\x01\x00\x00\x00\x00\x00\x00\x00\x01\
-            \x00\x00\x00\x01\x00\x00\x00\x01\x00\x00\x00\x00\x00\x00\x00\x00\xcf\xc5\xd0\x7f\x6f\x03\xc2\x9b\
-            \xbf\x42\x41\x32\x96\x3f\xe0\x8d\x19\xa3\x7d\x57\x57\xaa\xf5\x20\xbf\x08\x11\x9f\x05\xcd\x56\xd6\
-            \x00\x00\x00\x00",
-    },
-    Row {
-        name: "completions out of order",
-        key: Key {
-            run: RunNo(1),
-            server: ServerNo(0),
-            job: JobNo(0),
-        },
-        job: JobParts {
-            kind: Kind::Sequential,
-            verify: Verify::Stamp,
-            pattern: 0x00,
-            bs: 512,
-            blocks: 8,
-            total: 8,
-            seed: 1,
-            depth: 3,
-            window: 3,
-        },
-        issued: 5,
-        place: [
-            0xcfc5_d07f_6f03_c29b,
-            0xbf42_4132_963f_e08d,
-            0x19a3_7d57_57aa_f520,
-            0xbf08_119f_05cd_56d6,
-        ],
-        completions: &[2, 1, 0, 3, 4],
-        completed: 5,
-        bytes: b"\x46\x43\x56\x31\x00\x00\x00\x00\x00\x00\x00\x01\x00\x00\x00\x00\x00\x00\x00\x00\x00\x00\x00\x00\
-            \x00\x00\x02\x00\x00\x00\x00\x08\x00\x00\x00\x00\x00\x00\x00\x08\x00\x00\x00\x00\x00\x00\x00\x01\
-            \x00\x00\x00\x03\x00\x00\x00\x03\x00\x00\x00\x00\x00\x00\x00\x05\xcf\xc5\xd0\x7f\x6f\x03\xc2\x9b\
-            \xbf\x42\x41\x32\x96\x3f\xe0\x8d\x19\xa3\x7d\x57\x57\xaa\xf5\x20\xbf\x08\x11\x9f\x05\xcd\x56\xd6\
-            \x00\x00\x00\x05\x00\x00\x00\x00\x00\x00\x00\x02\x00\x00\x00\x00\x00\x00\x00\x01\x00\x00\x00\x00\
-            \x00\x00\x00\x00\x00\x00\x00\x00\x00\x00\x00\x03\x00\x00\x00\x00\x00\x00\x00\x04",
-    },
-    Row {
-        name: "open write at the trigger",
-        key: Key {
-            run: RunNo(1),
-            server: ServerNo(0),
-            job: JobNo(0),
-        },
-        job: JobParts {
-            kind: Kind::Sequential,
-            verify: Verify::Stamp,
-            pattern: 0x00,
-            bs: 512,
-            blocks: 2,
-            total: 2,
-            seed: 1,
-            depth: 2,
-            window: 2,
-        },
-        issued: 2,
-        place: [
-            0xcfc5_d07f_6f03_c29b,
-            0xbf42_4132_963f_e08d,
-            0x19a3_7d57_57aa_f520,
-            0xbf08_119f_05cd_56d6,
-        ],
-        completions: &[0],
-        completed: 1,
-        bytes: b"\x46\x43\x56\x31\x00\x00\x00\x00\x00\x00\x00\x01\x00\x00\x00\x00\x00\x00\x00\x00\x00\x00\x00\x00\
-            \x00\x00\x02\x00\x00\x00\x00\x02\x00\x00\x00\x00\x00\x00\x00\x02\x00\x00\x00\x00\x00\x00\x00\x01\
-            \x00\x00\x00\x02\x00\x00\x00\x02\x00\x00\x00\x00\x00\x00\x00\x02\xcf\xc5\xd0\x7f\x6f\x03\xc2\x9b\
-            \xbf\x42\x41\x32\x96\x3f\xe0\x8d\x19\xa3\x7d\x57\x57\xaa\xf5\x20\xbf\x08\x11\x9f\x05\xcd\x56\xd6\
-            \x00\x00\x00\x01\x00\x00\x00\x00\x00\x00\x00\x00",
-    },
+    BEFORE_ANY_ISSUE,
+    OUT_OF_ORDER,
+    OPEN_WRITE,
     Row {
         name: "one in flight, out of order",
         key: Key {

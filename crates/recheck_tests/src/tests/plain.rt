@@ -3,9 +3,8 @@
 
 ghost use Rattle.std.specs.Prelude.{◌≡◌, IfOk, length};
 
-use crate::expected::Placed;
-use crate::verdict::Verdict;
 use fc_base::{JobRecord, Key, Seq};
+use recheck::Verdict;
 use std::alloc::{AllocError, Global};
 use verify_state::VerifyState;
 use write_order::{Order, holds_write};
@@ -13,7 +12,8 @@ use write_order::{Order, holds_write};
 /// A write, its block, and whether it counts as completed.
 #[derive(Clone, Copy, Debug)]
 struct Issued {
-    write: Placed,
+    seq: Seq,
+    block: u32,
     counts: bool,
 }
 
@@ -49,10 +49,7 @@ impl PlainCheck {
                 None => true,
                 Some(state) => state.counts(seq),
             };
-            writes.push(Issued {
-                write: Placed { seq, block },
-                counts,
-            })?;
+            writes.push(Issued { seq, block, counts })?;
             order.advance();
         }
         Ok(PlainCheck {
@@ -67,18 +64,18 @@ impl PlainCheck {
     {
         let mut last = None;
         for issued in &self.writes {
-            if issued.counts && issued.write.block == block {
-                last = Some(issued.write.seq);
+            if issued.counts && issued.block == block {
+                last = Some(issued.seq);
             }
         }
         let Some(last) = last else {
             return Verdict::Skipped;
         };
         for issued in &self.writes {
-            let is_expected = !issued.counts || issued.write.seq == last;
+            let is_expected = !issued.counts || issued.seq == last;
             if is_expected
-                && issued.write.block == block
-                && holds_write(&self.key, &self.job, issued.write.seq, block, bytes)
+                && issued.block == block
+                && holds_write(&self.key, &self.job, issued.seq, block, bytes)
             {
                 return Verdict::Good;
             }

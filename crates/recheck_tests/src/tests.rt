@@ -5,13 +5,16 @@ ghost use Rattle.std.specs.Prelude.{IsTrue, length};
 ghost use Rattle.disk_model.specs.File.{IsBlock};
 
 mod beside;
+mod disks;
+mod history;
+mod plain;
 
-use super::*;
 use disk_model::{Disk, FaultDisk, MemDisk};
 use fc_base::{
     CheckReport, Fault, JobNo, JobParts, JobRecord, Key, Kind, ReportEnd, RunNo, Seq, ServerNo,
     Verify,
 };
+use recheck::{Recheck, Verdict, check_disk};
 use std::alloc::Global;
 use std::process::Abort;
 use std::test::Fail;
@@ -50,6 +53,15 @@ impl Given {
         Ok(Given { key: KEY, job })
     }
 
+    /// A job that writes each of four blocks once.
+    fn four_blocks() -> Result<Given, Fail> {
+        Given::new(JobParts {
+            blocks: 4,
+            total: 4,
+            ..JOB
+        })
+    }
+
     /// The state of two issued writes of which only write 0 has completed, with the generator at
     /// this place.
     fn state_at(&self, alloc: Global, place: [u64; 4]) -> Result<VerifyState, Fail> {
@@ -78,13 +90,25 @@ impl Given {
         let mut disk = MemDisk::new(alloc);
         disk.power_on(2);
         for block in 0..blocks {
-            land(
-                &mut disk,
-                block,
-                &self.bytes_of(alloc, u64::from(block), block)?,
-            )?;
+            self.land(alloc, &mut disk, u64::from(block), block, u128::MAX)?;
         }
         Ok(disk)
+    }
+
+    /// Lands these sectors of a write.
+    fn land(
+        &self,
+        alloc: Global,
+        disk: &mut MemDisk,
+        seq: u64,
+        block: u32,
+        sectors: u128,
+    ) -> Result<(), Fail> {
+        let bytes = self.bytes_of(alloc, seq, block)?;
+        if is_block(block, &bytes) {
+            disk.land(block, &bytes, sectors)?;
+        }
+        Ok(())
     }
 
     /// Why no check of the job by this state starts.
@@ -113,14 +137,21 @@ impl Given {
         Ok(check.feed(block, bytes))
     }
 
-    /// The full pass of a disk.
-    fn full_pass<D: Disk>(
+    /// What a check of the disk by this state tells, or a full pass of it.
+    fn check<D: Disk>(
         &self,
         alloc: Global,
+        state: Option<&VerifyState>,
         fatal: bool,
         disk: &mut D,
     ) -> Result<CheckReport, Fault> {
-        check_disk(alloc, &self.job, self.key, None, fatal, disk)
+        check_disk(alloc, &self.job, self.key, state, fatal, disk)
+    }
+
+    /// What a full pass of a disk tells to which nothing was written.
+    fn check_of_zeros(&self, alloc: Global) -> Result<CheckReport, Fail> {
+        let mut disk = self.disk(alloc, 0)?;
+        Ok(self.check(alloc, None, false, &mut disk)?)
     }
 }
 
@@ -132,27 +163,6 @@ fn is_block(block: u32, bytes: &[u8]) -> bool
     block < 65_536 && 512 <= len && len <= 65_536 && len % 512 == 0
 }
 
-/// Lands a write whole.
-fn land(disk: &mut MemDisk, block: u32, bytes: &[u8]) -> Result<(), Fail> {
-    if is_block(block, bytes) {
-        disk.land(block, bytes, u128::MAX)?;
-    }
-    Ok(())
-}
-
-/// Puts the sectors after the first of another block into this one.
-fn tear(bytes: &mut [u8], other: &[u8]) {
-    if 512 <= bytes.len() && bytes.len() == other.len() {
-        bytes[512..].copy_from_slice(&other[512..]);
-    }
-}
-
-/// Rots a sector.
-fn rot(disk: &mut MemDisk, sector: u64) -> Result<(), Fail> {
-    disk.rot(sector, [7; 512])?;
-    Ok(())
-}
-
 /// Whether a report tells just this.
 fn tells(report: &CheckReport, checked: u32, first: &[u32], end: ReportEnd) -> bool {
     report.checked() == checked
@@ -162,72 +172,19 @@ fn tells(report: &CheckReport, checked: u32, first: &[u32], end: ReportEnd) -> b
 }
 
 #[test]
-fn torn_overwrite(rt: HostRuntime) -> Result<(), Fail> {
-    let given = Given::new(JobParts {
-        bs: 1024,
-        blocks: 1,
-        depth: 1,
-        window: 1,
-        ..JOB
-    })?;
-    let state = given.state(rt.alloc())?;
-    let old = given.bytes_of(rt.alloc(), 0, 0)?;
-    assert!(rt; given.verdict(rt.alloc(), &state, 0, &old)? == Verdict::Good);
-    let mut bytes = given.bytes_of(rt.alloc(), 1, 0)?;
-    assert!(rt; given.verdict(rt.alloc(), &state, 0, &bytes)? == Verdict::Good);
-    tear(&mut bytes, &old);
-    assert!(rt; given.verdict(rt.alloc(), &state, 0, &bytes)? == Verdict::Fault);
-    Ok(())
-}
-
-#[test]
-fn full_pass_of_a_write_that_never_landed(rt: HostRuntime) -> Result<(), Fail> {
-    let given = Given::new(JOB)?;
-    let mut disk = given.disk(rt.alloc(), 1)?;
-    let report = given.full_pass(rt.alloc(), false, &mut disk)?;
-    assert!(rt; tells(&report, 2, &[1], ReportEnd::Whole));
-    disk.cut();
-    assert!(rt; given.full_pass(rt.alloc(), false, &mut disk).err() == Some(Fault::Off));
-    Ok(())
-}
-
-#[test]
-fn rotted_blocks(rt: HostRuntime) -> Result<(), Fail> {
-    let given = Given::new(JobParts {
-        blocks: 4,
-        total: 4,
-        ..JOB
-    })?;
-    let mut disk = given.disk(rt.alloc(), 4)?;
-    rot(&mut disk, 1)?;
-    rot(&mut disk, 2)?;
-    let report = given.full_pass(rt.alloc(), false, &mut disk)?;
-    assert!(rt; tells(&report, 4, &[1, 2], ReportEnd::Whole));
-    let report = given.full_pass(rt.alloc(), true, &mut disk)?;
-    assert!(rt; tells(&report, 2, &[1], ReportEnd::AtFault));
-    Ok(())
-}
-
-#[test]
-fn block_that_can_not_be_read(rt: HostRuntime) -> Result<(), Fail> {
-    let given = Given::new(JobParts {
-        blocks: 4,
-        total: 4,
-        ..JOB
-    })?;
-    let mut disk = FaultDisk::new(given.disk(rt.alloc(), 4)?, 2);
-    let report = given.full_pass(rt.alloc(), false, &mut disk)?;
-    assert!(rt; tells(&report, 2, &[], ReportEnd::ReadFault(2)));
-    Ok(())
-}
-
-#[test]
 fn open_write_at_the_trigger(rt: HostRuntime) -> Result<(), Fail> {
     let given = Given::new(JOB)?;
     let state = given.state(rt.alloc())?;
     assert!(rt; given.is_wanted(rt.alloc(), &state, 0)?);
     assert!(rt; !given.is_wanted(rt.alloc(), &state, 1)?);
+    let bytes = given.bytes_of(rt.alloc(), 7, 1)?;
+    assert!(rt; given.verdict(rt.alloc(), &state, 1, &bytes)? == Verdict::Skipped);
     Ok(())
+}
+
+/// Why no check of this job by the state starts.
+fn misfit_of(alloc: Global, job: JobParts, state: &VerifyState) -> Result<Option<Fault>, Fail> {
+    Ok(Given::new(job)?.misfit(alloc, state))
 }
 
 #[test]
@@ -242,9 +199,19 @@ fn states_that_do_not_fit(rt: HostRuntime) -> Result<(), Fail> {
         job: given.job,
     };
     assert!(rt; other_key.misfit(rt.alloc(), &state) == Some(Fault::OtherKey));
-    let other_job = Given::new(JobParts { seed: 2, ..JOB })?;
-    assert!(rt; other_job.misfit(rt.alloc(), &state) == Some(Fault::OtherJob));
+    let other_seed = JobParts { seed: 2, ..JOB };
+    assert!(rt; misfit_of(rt.alloc(), other_seed, &state)? == Some(Fault::OtherJob));
+    let other_size = JobParts { bs: 1024, ..JOB };
+    assert!(rt; misfit_of(rt.alloc(), other_size, &state)? == Some(Fault::OtherJob));
     let moved = given.state_at(rt.alloc(), [1, 2, 3, 4])?;
     assert!(rt; given.misfit(rt.alloc(), &moved) == Some(Fault::OtherPlace));
+    Ok(())
+}
+
+#[test]
+fn state_of_a_deeper_job_fits(rt: HostRuntime) -> Result<(), Fail> {
+    let state = Given::new(JOB)?.state(rt.alloc())?;
+    let shallower = JobParts { depth: 1, ..JOB };
+    assert!(rt; misfit_of(rt.alloc(), shallower, &state)? == None);
     Ok(())
 }

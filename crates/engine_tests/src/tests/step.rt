@@ -1,0 +1,66 @@
+//! Histories of an engine, as data.
+
+use super::KEY;
+use engine::{Engine, Issue, Ticket};
+use fc_base::{Fault, JobParts, JobRecord};
+use std::alloc::Global;
+use std::test::Fail;
+use verify_state::VerifyState;
+
+/// A call of an engine of boot 3, and what it has to answer.
+#[derive(Clone, Copy)]
+pub enum Step {
+    Issue(Issue),
+    Done(Ticket, Result<(), Fault>),
+    Failed(Ticket, Result<(), Fault>),
+    Stop,
+    OpenWrites(u32),
+    Ended(bool),
+}
+
+impl Step {
+    /// Makes the call, and tells whether the engine answers so.
+    fn holds(self, engine: &mut Engine) -> bool {
+        match self {
+            Step::Issue(answer) => engine.issue() == answer,
+            Step::Done(ticket, answer) => engine.done(ticket) == answer,
+            Step::Failed(ticket, answer) => engine.failed(ticket) == answer,
+            Step::Stop => {
+                engine.stop();
+                true
+            }
+            Step::OpenWrites(count) => engine.open_writes() == count,
+            Step::Ended(answer) => engine.ended() == answer,
+        }
+    }
+}
+
+fn engine_of(alloc: Global, job: JobParts) -> Result<Engine, Fail> {
+    let rec = JobRecord::make(job).ok_or("within the limits")?;
+    Ok(Engine::new(alloc, 3, KEY, &rec)?)
+}
+
+/// Takes the engine through the steps, up to the first that it answers otherwise: which one that is.
+fn step_through(engine: &mut Engine, steps: &[Step]) -> Option<usize> {
+    for (i, step) in steps.iter().enumerate() {
+        if !step.holds(engine) {
+            return Some(i);
+        }
+    }
+    None
+}
+
+/// Which is the first of these steps that a new engine of the job answers otherwise.
+pub fn first_unlike(alloc: Global, job: JobParts, steps: &[Step]) -> Result<Option<usize>, Fail> {
+    let mut engine = engine_of(alloc, job)?;
+    Ok(step_through(&mut engine, steps))
+}
+
+/// The state of the job after these steps.
+pub fn state_after(alloc: Global, job: JobParts, steps: &[Step]) -> Result<VerifyState, Fail> {
+    let mut engine = engine_of(alloc, job)?;
+    match step_through(&mut engine, steps) {
+        None => Ok(engine.take()?),
+        Some(_) => Err("the engine answers otherwise".into()),
+    }
+}
