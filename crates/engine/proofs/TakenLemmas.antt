@@ -1,12 +1,11 @@
 -- Why the state of a legal history is one that can be, and what it counts.
-use Rattle.std.proofs.Common.{◌≡◌, ℕ, zero, suc, ◌+◌, ◌*◌, ◌≤◌, min, Bool, true, false, ◌&&◌, ◌||◌, eqb, ltb, leb, List, [], ◌∷◌, ◌++◌, length, refl, ap, sym, ◌∙◌, arith, inl, inr}
-use Rattle.std.specs.List.{list_all, filter}
-use Rattle.std.proofs.lemmas.Bool.{cases_Bool, and_parts, and_right, and_from, or_cases, eqb-true, ltb-true, lt-ltb, le-leb}
-use Rattle.std.proofs.lemmas.Bool.Decides.{nat_tests}
-use Rattle.std.proofs.lemmas.List.Folds.{list_any-append}
+use Rattle.std.proofs.Common.{◌≡◌, ℕ, ◌+◌, ◌*◌, ◌≤◌, min, Bool, true, false, ◌&&◌, eqb, ltb, leb, List, [], ◌∷◌, length, refl, ap, sym, ◌∙◌, arith, inl, inr}
+use Rattle.std.specs.List.{list_all}
+use Rattle.std.proofs.lemmas.Bool.{and_parts, and_from, or_cases, eqb-true, ltb-true, lt-ltb, le-leb}
 use Rattle.fc_base.specs.declared.numbers.Key.{Key}
 use Rattle.fc_base.specs.declared.record.JobParts.{JobParts}
-use Rattle.fc_base.specs.Counted.{has, numbers_below, is_counted, counted, uncounted, is_distinct, is_possible}
+use Rattle.fc_base.specs.Counted.{has, is_counted, counted, uncounted, is_distinct, is_possible}
+use Rattle.fc_base.proofs.NumberLemmas.{has_counted}
 use Rattle.window.specs.History.{Event, issued, is_done, recent}
 use Rattle.window.specs.Legal as rules
 use Rattle.window.specs.Counting.{CountsTheCompleted, ComesToPossible}
@@ -14,35 +13,6 @@ use Rattle.engine.specs.Running.{Running, StandsFor}
 use Rattle.engine.specs.Taken.{state_now, CountsTheDone}
 use Rattle.engine.proofs.RunningLemmas.{kept_is}
 use Rattle.verify_state.specs.State.{is_key, has_counts, has_come, field_faults}
-
--- ---- the numbers below n that pass a test
-
-or_false : (b : Bool) → (b || false) ≡ b
-or_false true = refl
-or_false false = refl
-
-has_push : (ks : List ℕ) (j k : ℕ) → has (ks ++ j ∷ []) k ≡ (has ks k || eqb j k)
-has_push ks j k = list_any-append (λ i. eqb i k) ks (j ∷ []) ∙ ap (λ b. has ks k || b) (or_false (eqb j k))
-
-has_numbers_below : (n k : ℕ) → has (numbers_below n) k ≡ ltb k n
-has_numbers_below zero k = grind (arith, nat_tests)
-has_numbers_below (suc n) k = has_push (numbers_below n) n k ∙ (rw (has_numbers_below n k) (grind (arith, nat_tests)))
-
-has_filter_head : (p : ℕ → Bool) (x : ℕ) (xs : List ℕ) (k : ℕ) (b : Bool) → p x ≡ b → has (filter p xs) k ≡ (has xs k && p k) → has (filter p (x ∷ xs)) k ≡ ((eqb x k || has xs k) && p k)
-has_filter_head p x xs k true e ih = elim (cases_Bool (eqb x k)) [
-  | inl t ↦ let here : p k ≡ true = ap p (sym (eqb-true x k t)) ∙ e in rw (e, t, here) refl
-  | inr f ↦ rw (e, ih, f) refl
-]
-has_filter_head p x xs k false e ih = elim (cases_Bool (eqb x k)) [
-  | inl t ↦
-      let not_here : p k ≡ false = ap p (sym (eqb-true x k t)) ∙ e in
-      rw e (ih ∙ and_right (has xs k) (p k) not_here ∙ sym (and_right (eqb x k || has xs k) (p k) not_here))
-  | inr f ↦ rw (e, ih, f) refl
-]
-
-has_filter : (p : ℕ → Bool) (xs : List ℕ) (k : ℕ) → has (filter p xs) k ≡ (has xs k && p k)
-has_filter p [] k = refl
-has_filter p (x ∷ xs) k = has_filter_head p x xs k (p x) refl (has_filter p xs k)
 
 -- ---- what counts was issued
 
@@ -66,10 +36,9 @@ counted_below window n k ks all c = elim (or_cases (has ks k) (ltb (k + window) 
   | inr old ↦ lt-ltb k n (omega (arith, ltb-true (k + window) n old))
 ]
 
-has_counted : (window n k : ℕ) (ks : List ℕ) → list_all (λ j. ltb j n) ks ≡ true → has (counted window n ks) k ≡ is_counted window n ks k
-has_counted window n k ks all =
-    has_filter (is_counted window n ks) (numbers_below n) k ∙ ap (λ b. b && is_counted window n ks k) (has_numbers_below n k)
-    ∙ both_or_none (ltb k n) (is_counted window n ks k) (counted_below window n k ks all)
+counted_where : (window n k : ℕ) (ks : List ℕ) → list_all (λ j. ltb j n) ks ≡ true → has (counted window n ks) k ≡ is_counted window n ks k
+counted_where window n k ks all =
+    has_counted window n ks k ∙ both_or_none (ltb k n) (is_counted window n ks k) (counted_below window n k ks all)
 
 -- ---- the state of a legal history
 
@@ -85,7 +54,7 @@ pub counts_the_done : CountsTheCompleted → ComesToPossible → (depth window :
 counts_the_done counts comes depth window h legal k =
     let once = and_parts (listed_once (issued h) (recent window h)) (left_none_out depth window (issued h) (recent window h)) (comes depth window h legal) in
     let all = and_parts (is_distinct (recent window h)) _ once.0 in
-    has_counted window (issued h) k (recent window h) all.1 ∙ counts depth window h legal k
+    counted_where window (issued h) k (recent window h) all.1 ∙ counts depth window h legal k
 
 -- a list that some job can have come to is no longer than two windows
 short_enough : (depth window n : ℕ) (ks : List ℕ) → is_possible depth window n ks ≡ true → length ks ≤ 2 * window

@@ -1,1 +1,2 @@
 pub mod AscendingLemmas
+pub mod NumberLemmas

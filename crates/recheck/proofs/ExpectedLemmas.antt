@@ -1,10 +1,9 @@
 -- What the blocks are checked against, write by write.
-use Rattle.std.proofs.Common.{◌≡◌, ℕ, zero, suc, ◌+◌, ◌<◌, ◌≤◌, Bool, true, false, ◌&&◌, ◌||◌, eqb, List, [], ◌∷◌, ◌++◌, length, get_or, take, not, map, filter, set, replicate, refl, sym, ap, subst, inl, inr, ◌∙◌, arith, add-one, append-nil, get_or-set_same, get_or-set_other}
+use Rattle.std.proofs.Common.{◌≡◌, ℕ, zero, suc, ◌+◌, ◌<◌, ◌≤◌, Bool, true, false, ◌&&◌, ◌||◌, eqb, List, [], ◌∷◌, ◌++◌, length, get_or, take, not, map, filter, set, replicate, refl, sym, ap, subst, inl, inr, ◌∙◌, arith, add-one, get_or-set_same, get_or-set_other}
 use Rattle.std.specs.Prelude.{Option, Some, None}
 use Rattle.std.specs.List.{range_with_len}
 use Rattle.std.proofs.Math.ListN.{length-set}
 use Rattle.std.proofs.lemmas.List.{length-replicate, get_or-replicate, map-append}
-use Rattle.std.proofs.lemmas.List.Elements.{filter-append}
 use Rattle.std.proofs.lemmas.List.FromFn.{fill_by_all}
 use Rattle.std.proofs.lemmas.Bool.{eq-eqb, ne_eqb, lt-ltb, cases_eq, or_right}
 use Rattle.std.proofs.lemmas.List.{take_all}
@@ -12,6 +11,7 @@ use Rattle.std.specs.List.{list_any}
 use Rattle.fc_base.specs.declared.numbers.Key.{Key}
 use Rattle.fc_base.specs.declared.record.JobParts.{JobParts}
 use Rattle.fc_base.specs.Counted.{numbers_below}
+use Rattle.fc_base.proofs.NumberLemmas.{filter_next, filter_not_next}
 use Rattle.write_order.specs.Blocks.{block_of}
 use Rattle.write_order.specs.Progress.{Progress, next_block}
 use Rattle.verify_state.specs.State.{State}
@@ -47,12 +47,6 @@ none_found test block writes n all none =
     any_to test block writes ∙ ap (list_any (λ v. eqb v.block block && test v.seq)) (sym (take_all n writes all)) ∙ none
 
 -- ---- the pass over the writes
-
-filter_next : (p : ℕ → Bool) (n : ℕ) → p n ≡ true → filter p (numbers_below (suc n)) ≡ filter p (numbers_below n) ++ n ∷ []
-filter_next p n e = rw (filter-append p (numbers_below n) (n ∷ []), e) refl
-
-filter_not_next : (p : ℕ → Bool) (n : ℕ) → p n ≡ false → filter p (numbers_below (suc n)) ≡ filter p (numbers_below n)
-filter_not_next p n e = rw (filter-append p (numbers_below n) (n ∷ []), e) (append-nil (filter p (numbers_below n)))
 
 -- What is kept once the first n writes are gone through.
 pub record Gone (job : JobParts) (state : Option State) (n : ℕ) (last : List (Option ℕ)) (open_writes : List Placed) : Type 0 where

@@ -3,14 +3,14 @@ use Rattle.std.proofs.Common.{◌≡◌, ℕ, ◌+◌, ◌-◌, ◌*◌, ◌<◌
 use Rattle.std.specs.List.{list_all}
 use Rattle.std.proofs.lemmas.Bool.{cases_Bool, cases_lt, or_right, lt-ltb, and_parts, ltb-true, le-leb, leb-true, eqb-true, eq-eqb, ne_eqb, cases_eq}
 use Rattle.std.proofs.lemmas.Bool.Decides.{nat_tests}
-use Rattle.std.proofs.lemmas.List.{length_push, length-append}
+use Rattle.std.proofs.lemmas.List.{length-append}
 use Rattle.std.proofs.lemmas.List.Elements.{filter-append, filter_agree}
 use Rattle.std.proofs.lemmas.List.Filters.{length-filter_both}
-use Rattle.std.proofs.lemmas.List.Folds.{list_any-append}
 use Rattle.fc_base.specs.declared.record.JobParts.{JobParts}
 use Rattle.std.specs.Prelude.{nat_le}
 use Rattle.fc_base.specs.JobParts.{is_within_limits, has_block_size, has_region, has_queue, has_pattern}
 use Rattle.fc_base.specs.Counted.{has, numbers_below, is_counted, counted, uncounted, is_distinct, is_possible}
+use Rattle.fc_base.proofs.NumberLemmas.{length_numbers_below, filter_agree_below, has_counted}
 use Rattle.verify_state.specs.State.{has_come}
 
 -- one where the test holds
@@ -64,10 +64,6 @@ passing_old window issued (suc n) le =
       | inr f ↦ rw (passing_next (λ k. ltb (k + window) issued) n, passing_old window issued n (omega arith), f) (grind (arith, nat_tests))
     ]
 
-pub length_numbers_below : (n : ℕ) → length (numbers_below n) ≡ n
-length_numbers_below zero = refl
-length_numbers_below (suc n) = omega (arith, length_push (numbers_below n) n, length_numbers_below n)
-
 -- ---- how many a list counts
 
 or_same : (a b c : Bool) → (a || b || c) ≡ (a || (b || c))
@@ -119,38 +115,6 @@ counted_and_uncounted window issued xs =
     let both = length-filter_both (is_counted window issued xs) (λ k. not (is_counted window issued xs k)) (λ k. refl) (numbers_below issued) in
     omega (arith, both, length_numbers_below issued)
 
--- ---- which writes a list counts
-
-has_last : (p : ℕ → Bool) (n k : ℕ) (b : Bool) → p n ≡ b → has (filter p (n ∷ [])) k ≡ (eqb n k && p k)
-has_last p n k b e = elim (cases_eq n k) [
-  | inl here ↦ let at : p k ≡ b = ap p (sym here) ∙ e in last b e at (eq-eqb n k here)
-  | inr other ↦ away b e (ne_eqb n k other)
-]
-  where
-    last : (b : Bool) → p n ≡ b → p k ≡ b → eqb n k ≡ true → has (filter p (n ∷ [])) k ≡ (eqb n k && p k)
-    last true e at q = rw (e, at, q) refl
-    last false e at q = rw (e, at, q) refl
-
-    away : (b : Bool) → p n ≡ b → eqb n k ≡ false → has (filter p (n ∷ [])) k ≡ (eqb n k && p k)
-    away true e q = rw (e, q) refl
-    away false e q = rw (e, q) refl
-
-join : (a b c : Bool) → (a && c || b && c) ≡ ((a || b) && c)
-join true true true = refl
-join true true false = refl
-join true false true = refl
-join true false false = refl
-join false b c = refl
-
-pub has_passing : (p : ℕ → Bool) (n k : ℕ) → has (filter p (numbers_below n)) k ≡ (ltb k n && p k)
-has_passing p zero k = let none : ltb k 0 ≡ false = grind (arith, nat_tests) in rw none refl
-has_passing p (suc n) k =
-    let below : (ltb k n || eqb n k) ≡ ltb k (suc n) = grind (arith, nat_tests) in
-    ap (λ xs. has xs k) (filter-append p (numbers_below n) (n ∷ []))
-    ∙ list_any-append (λ j. eqb j k) (filter p (numbers_below n)) (filter p (n ∷ []))
-    ∙ (rw (has_passing p n k, has_last p n k (p n) refl) (join (ltb k n) (eqb n k) (p k)))
-    ∙ ap (λ b. b && p k) below
-
 -- ---- whether a job can have come to a list
 
 pub comes : (job : JobParts) (issued : ℕ) (xs : List ℕ) → issued ≤ job.total → is_distinct xs ≡ true → list_all (λ k. ltb k issued) xs ≡ true →
@@ -180,10 +144,6 @@ come job issued xs e =
       short = omega (arith, eqb-true (length xs) (min (2 * job.window) (length (counted job.window issued xs))) back.1);
     }
 
--- a write is among those counted where it is issued and counts
-pub has_counted : (window issued : ℕ) (xs : List ℕ) (k : ℕ) → has (counted window issued xs) k ≡ (ltb k issued && is_counted window issued xs k)
-has_counted window issued xs k = has_passing (is_counted window issued xs) issued k
-
 -- a list has at most 512 completions
 pub few_listed : (job : JobParts) (issued : ℕ) (xs : List ℕ) → is_within_limits job ≡ true → has_come job issued xs ≡ true → length xs ≤ 512
 few_listed job issued xs limits e =
@@ -191,11 +151,6 @@ few_listed job issued xs limits e =
     omega (arith, (come job issued xs e).short, leb-true job.window 256 (and_parts (nat_le job.depth job.window) (nat_le job.window 256) window).1)
 
 -- ---- two lists that count alike
-
-filter_agree_below : (p q : ℕ → Bool) (n : ℕ) → ((k : ℕ) → k < n → p k ≡ q k) → filter p (numbers_below n) ≡ filter q (numbers_below n)
-filter_agree_below p q zero agree = refl
-filter_agree_below p q (suc n) agree =
-    rw (filter-append p (numbers_below n) (n ∷ []), filter-append q (numbers_below n) (n ∷ []), filter_agree_below p q n (λ k lt. agree k (omega arith)), agree n (omega arith)) refl
 
 old_counts : (window issued : ℕ) (xs : List ℕ) (k : ℕ) → k + window < issued → is_counted window issued xs k ≡ true
 old_counts window issued xs k lt = or_right (has xs k) (ltb (k + window) issued) (lt-ltb (k + window) issued lt)

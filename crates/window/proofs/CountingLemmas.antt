@@ -1,20 +1,20 @@
 -- The counting law.
-use Rattle.std.proofs.Common.{◌≡◌, ℕ, ◌+◌, ◌-◌, ◌*◌, ◌<◌, ◌≤◌, suc, Bool, true, false, not, eqb, ltb, List, [], ◌∷◌, ◌++◌, length, filter, drop, get_or, sym, refl, ap, ◌∙◌, subst, inl, inr, arith}
+use Rattle.std.proofs.Common.{◌≡◌, ℕ, ◌+◌, ◌-◌, ◌*◌, ◌<◌, ◌≤◌, suc, Bool, true, false, not, eqb, ltb, List, [], ◌∷◌, ◌++◌, length, filter, drop, sym, refl, ap, ◌∙◌, subst, inl, inr, arith}
 use Rattle.std.specs.Cmp.{nat_eq_equiv}
 use Rattle.std.specs.Prelude.{nat_eq, min}
 use Rattle.std.specs.List.{list_all, AllByRecursion, IsDistinct}
 use Rattle.std.proofs.lemmas.Bool.{cases_lt, false≢true, or_left, or_right, or_cases, eqb-true, eq-eqb, and_from, lt-ltb, le-leb, ltb-true}
 use Rattle.std.proofs.lemmas.Bool.Decides.{same_from_decides}
 use Rattle.std.proofs.lemmas.List.{length-append, length-drop, drop_at, drop-append-le, append_assoc, length_push}
-use Rattle.std.proofs.lemmas.List.Elements.{filter_agree, All-drop}
+use Rattle.std.proofs.lemmas.List.Elements.{filter_agree}
 use Rattle.std.proofs.lemmas.List.Filters.{length-filter_both}
-use Rattle.std.proofs.lemmas.List.Folds.{list_any_at}
 use Rattle.std.proofs.lemmas.Map.Keys.{IsDistinct-push}
 use Rattle.fc_base.specs.Counted.{has, numbers_below, is_counted, is_distinct}
 use Rattle.window.specs.History.{Event, issue, done, fail, issues, completions, issued, is_done, recent}
 use Rattle.window.specs.Legal.{IsLegal}
 use Rattle.window.specs.Counting.{CountsTheCompleted, ComesToPossible}
-use Rattle.window.proofs.NumberLemmas.{eqb_comm, has_push, has_append_right, has_head, has_is_member, has_last_of, length_numbers_below, IsDistinct-drop, length-le_from_range}
+use Rattle.fc_base.proofs.NumberLemmas.{has_push, length_numbers_below}
+use Rattle.window.proofs.NumberLemmas.{eqb_comm, has_append_right, has_head, has_is_member, has_last_of, IsDistinct-drop, length-le_from_range}
 use Rattle.window.proofs.HistoryLemmas.{in_flight_are_numbers, open_is, done_issued, old_is_done, few_in_flight, length-in_flight-completions}
 
 -- no write completes twice

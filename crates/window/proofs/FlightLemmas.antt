@@ -10,7 +10,8 @@ use Rattle.fc_base.specs.Counted.{has, numbers_below}
 use Rattle.window.specs.Numbers.{without}
 use Rattle.window.specs.InFlight.{Flights, is_marked, is_current, marked_numbers}
 use Rattle.window.specs.declared.marks.Marks.{Marks}
-use Rattle.window.proofs.NumberLemmas.{has_head, has_filter, has_numbers_below, filter_agree_below, filter_next, filter_twice, length_filter_without, length_numbers_below, and_not}
+use Rattle.fc_base.proofs.NumberLemmas.{has_filter, has_numbers_below, filter_agree_below, filter_next, length_numbers_below}
+use Rattle.window.proofs.NumberLemmas.{has_head, filter_twice, length_filter_without, and_not}
 use Rattle.window.proofs.StepLemmas.{any_from_has, has_from_any}
 
 -- two numbers less than a window apart have two slots

@@ -8,7 +8,8 @@ use Rattle.window.specs.Numbers.{without}
 use Rattle.window.specs.History.{Event, issue, done, fail, issues, completions, failures, issued, is_done, in_flight, open_writes}
 use Rattle.window.specs.Legal.{IsLegal}
 use Rattle.window.specs.Counting.{StaysInOneWindow}
-use Rattle.window.proofs.NumberLemmas.{has_push, filter_not_push, filter-without, has_filter, has_numbers_below, filter_twice, length_filter_without}
+use Rattle.fc_base.proofs.NumberLemmas.{has_push, has_filter, has_numbers_below}
+use Rattle.window.proofs.NumberLemmas.{filter_not_push, filter-without, filter_twice, length_filter_without}
 
 -- the writes issued are the numbers below their number
 pub issues_are_numbers : (depth window : ℕ) (h : List Event) → IsLegal depth window h → issues h ≡ numbers_below (issued h)

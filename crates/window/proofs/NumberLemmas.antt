@@ -1,27 +1,21 @@
 -- Lists of numbers: what is in them, filters of the numbers below a bound, and the last of a list.
-use Rattle.std.proofs.Common.{◌≡◌, ℕ, ◌+◌, ◌-◌, ◌<◌, ◌≤◌, zero, suc, Bool, true, false, ◌&&◌, ◌||◌, not, eqb, ltb, List, [], ◌∷◌, ◌++◌, length, filter, drop, append-nil, sym, refl, ap, ◌∙◌, inl, inr, arith}
+use Rattle.std.proofs.Common.{◌≡◌, ℕ, ◌+◌, ◌-◌, ◌<◌, ◌≤◌, zero, suc, Bool, true, false, ◌&&◌, ◌||◌, not, eqb, List, [], ◌∷◌, ◌++◌, length, filter, drop, sym, refl, ap, ◌∙◌, inl, inr, arith}
 use Rattle.std.specs.List.{list_any, IsDistinct}
 use Rattle.std.specs.Cmp.{nat_eq_equiv}
 use Rattle.std.specs.Prelude.{nat_eq}
-use Rattle.std.proofs.lemmas.Bool.{cases_Bool, eqb-true, eq-eqb, ne_eqb, cases_eq, or_left, or_right, and_right, not_from_true}
+use Rattle.std.proofs.lemmas.Bool.{cases_Bool, eq-eqb, ne_eqb, cases_eq, or_left, or_right, and_right, not_from_true}
 use Rattle.std.proofs.lemmas.Bool.Decides.{nat_tests}
 use Rattle.std.proofs.lemmas.List.{length_push, length-drop, drop-append-le, drop-drop}
-use Rattle.std.proofs.lemmas.List.Elements.{filter-append, filter_agree}
+use Rattle.std.proofs.lemmas.List.Elements.{filter_agree}
 use Rattle.std.proofs.lemmas.List.Folds.{list_any-append}
 use Rattle.std.proofs.lemmas.Map.Keys.{IsDistinct-tail}
 use Rattle.std.proofs.lemmas.Map.Made.{length-le_from_is_member}
 use Rattle.fc_base.specs.Counted.{has, numbers_below}
+use Rattle.fc_base.proofs.NumberLemmas.{has_push, filter_agree_below, filter_next, filter_not_next}
 use Rattle.window.specs.Numbers.{last_of, without}
 
 pub eqb_comm : (j k : ℕ) → eqb j k ≡ eqb k j
 eqb_comm j k = grind (arith, nat_tests)
-
-or_false : (b : Bool) → (b || false) ≡ b
-or_false true = refl
-or_false false = refl
-
-pub has_push : (xs : List ℕ) (m k : ℕ) → has (xs ++ m ∷ []) k ≡ (has xs k || eqb m k)
-has_push xs m k = list_any-append (λ j. eqb j k) xs (m ∷ []) ∙ ap (λ b. has xs k || b) (or_false (eqb m k))
 
 pub has_append_right : (xs ys : List ℕ) (k : ℕ) → has ys k ≡ true → has (xs ++ ys) k ≡ true
 has_append_right xs ys k e = list_any-append (λ j. eqb j k) xs ys ∙ or_right (has xs k) (has ys k) e
@@ -40,22 +34,6 @@ has_is_member [] k = refl
 has_is_member (x ∷ xs) k = rw (eqb_comm k x, has_is_member xs k) refl
 
 -- ---- filters
-
-has_filter_head : (p : ℕ → Bool) (x : ℕ) (xs : List ℕ) (k : ℕ) (b : Bool) → p x ≡ b → has (filter p xs) k ≡ (has xs k && p k) → has (filter p (x ∷ xs)) k ≡ ((eqb x k || has xs k) && p k)
-has_filter_head p x xs k true e ih = elim (cases_Bool (eqb x k)) [
-  | inl t ↦ let here : p k ≡ true = ap p (sym (eqb-true x k t)) ∙ e in rw (e, t, here) refl
-  | inr f ↦ rw (e, ih, f) refl
-]
-has_filter_head p x xs k false e ih = elim (cases_Bool (eqb x k)) [
-  | inl t ↦
-      let not_here : p k ≡ false = ap p (sym (eqb-true x k t)) ∙ e in
-      rw (e) (ih ∙ and_right (has xs k) (p k) not_here ∙ sym (and_right (eqb x k || has xs k) (p k) not_here))
-  | inr f ↦ rw (e, ih, f) refl
-]
-
-pub has_filter : (p : ℕ → Bool) (xs : List ℕ) (k : ℕ) → has (filter p xs) k ≡ (has xs k && p k)
-has_filter p [] k = refl
-has_filter p (x ∷ xs) k = has_filter_head p x xs k (p x) refl (has_filter p xs k)
 
 filter_twice_head : (p q : ℕ → Bool) (x : ℕ) (xs : List ℕ) (b : Bool) → p x ≡ b → filter q (filter p xs) ≡ filter (λ y. p y && q y) xs → filter q (filter p (x ∷ xs)) ≡ filter (λ y. p y && q y) (x ∷ xs)
 filter_twice_head p q x xs true e ih = rw (e, ih) refl
@@ -90,29 +68,6 @@ filter-without p m xs =
     ∙ sym (filter_twice p q xs)
 
 -- ---- the numbers below a bound
-
-pub length_numbers_below : (n : ℕ) → length (numbers_below n) ≡ n
-length_numbers_below zero = refl
-length_numbers_below (suc n) = omega (arith, length_push (numbers_below n) n, length_numbers_below n)
-
-pub has_numbers_below : (n k : ℕ) → has (numbers_below n) k ≡ ltb k n
-has_numbers_below zero k = grind (arith, nat_tests)
-has_numbers_below (suc n) k = has_push (numbers_below n) n k ∙ (rw (has_numbers_below n k) (grind (arith, nat_tests)))
-
--- two tests that agree below n keep the same numbers below n
-pub filter_agree_below : (p q : ℕ → Bool) (n : ℕ) → ((k : ℕ) → k < n → p k ≡ q k) → filter p (numbers_below n) ≡ filter q (numbers_below n)
-filter_agree_below p q zero agree = refl
-filter_agree_below p q (suc n) agree =
-    let here = agree n (omega arith) in
-    let below = filter_agree_below p q n (λ k lt. agree k (omega arith)) in
-    rw (filter-append p (numbers_below n) (n ∷ []), filter-append q (numbers_below n) (n ∷ []), below, here) refl
-
--- the number n passes, as the last
-pub filter_next : (p : ℕ → Bool) (n : ℕ) → p n ≡ true → filter p (numbers_below (suc n)) ≡ filter p (numbers_below n) ++ n ∷ []
-filter_next p n e = rw (filter-append p (numbers_below n) (n ∷ []), e) refl
-
-pub filter_not_next : (p : ℕ → Bool) (n : ℕ) → p n ≡ false → filter p (numbers_below (suc n)) ≡ filter p (numbers_below n)
-filter_not_next p n e = rw (filter-append p (numbers_below n) (n ∷ []), e) (append-nil (filter p (numbers_below n)))
 
 pub and_not : (a b : Bool) → b ≡ false → (a && not b) ≡ a
 and_not true b e = ap not e

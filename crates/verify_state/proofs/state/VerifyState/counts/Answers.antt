@@ -1,6 +1,6 @@
 use Rattle.std.proofs.Common.{◌≡◌, ◌<◌, ◌≤◌, ◌∙◌, true, false, ltb, sym, refl, subst}
 use Rattle.std.proofs.lemmas.Bool.{lt-ltb, le-ltb}
-use Rattle.verify_state.proofs.CountLemmas.{has_counted}
+use Rattle.fc_base.proofs.NumberLemmas.{has_counted}
 use Rattle.verify_state.proofs.state.VerifyState.counts.Goals as goal
 
 pub returns-then-seq-self : goal.returns-then-seq-self
