@@ -1,2 +1,3 @@
 pub mod AscendingLemmas
+pub mod MarkLemmas
 pub mod NumberLemmas

@@ -1,5 +1,7 @@
 //! The numbers that name runs, attempts, servers, jobs and writes.
 
+ghost use Rattle.std.specs.Prelude.{◌≡◌};
+
 use std::marker::Model;
 
 /// The number of a run: the client counts runs from 1, and gives no number twice.
@@ -78,4 +80,15 @@ pub struct Key {
     pub run: RunNo,
     pub server: ServerNo,
     pub job: JobNo,
+}
+
+impl Key {
+    ghost use Rattle.fc_base.specs.Keys.{is_key};
+
+    /// Whether a job can have this key: the run is at least 1, the server below 8, the job below 16.
+    pub fn is_key(&self) -> bool
+        ensures { result ≡ is_key self.now }
+    {
+        1 <= self.run.0 && self.server.0 < 8 && self.job.0 < 16
+    }
 }
