@@ -1,3 +1,4 @@
 pub mod AscendingLemmas
+pub mod CountedByLemmas
 pub mod MarkLemmas
 pub mod NumberLemmas

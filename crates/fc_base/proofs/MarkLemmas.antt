@@ -1,13 +1,16 @@
 -- Marks: bit for bit what they were made of, and made of their bits.
-use Rattle.std.proofs.Common.{◌≡◌, ℕ, ◌+◌, ◌-◌, ◌*◌, ◌/◌, ◌%◌, ◌^◌, ◌<◌, ◌≤◌, zero, suc, Bool, true, false, not, cond, eqb, ltb, ◌&&◌, ◌||◌, List, [], ◌∷◌, length, get_or, map, refl, ap, sym, ◌∙◌, subst, inl, inr, arith}
+use Rattle.std.proofs.Common.{◌≡◌, ℕ, ◌+◌, ◌-◌, ◌*◌, ◌/◌, ◌%◌, ◌^◌, ◌<◌, ◌≤◌, zero, suc, Bool, true, false, not, cond, eqb, ltb, ◌&&◌, ◌||◌, List, [], ◌∷◌, length, get_or, map, refl, ap, sym, ◌∙◌, subst, inl, inr, arith, set, bit_and, bit_or, w64, get_or-set_same, get_or-set_other}
 use Rattle.std.specs.List.{AllByRecursion, range_with_len, list_all}
-use Rattle.std.specs.Int.{bit_at}
-use Rattle.std.proofs.lemmas.Bool.{cases_Bool, eqb-true, eq-eqb, ne_eqb, ltb-true, ltb-false}
+use Rattle.std.specs.Int.{bit_at, bit_not}
+use Rattle.std.proofs.lemmas.Bool.{cases_Bool, eqb-true, eq-eqb, ne_eqb, ltb-true, ltb-false, and_parts, and_from, cases_eq, cases_lt, not-true}
 use Rattle.std.proofs.lemmas.List.FromFn.{get_or-map-range_with_len, length-map-range_with_len}
-use Rattle.std.proofs.lemmas.Nat.Bits.{same_from_bits_below, bit_at-lt}
+use Rattle.std.proofs.lemmas.Nat.Bits.{same_from_bits_below, bit_at-lt, bit_at-zero, bit_at_above, same_from_bits, bit_at_set_same, bit_at_set_other, bit_at_clear_same, bit_at_clear_other}
 use Rattle.std.proofs.lemmas.Simd.{mask_l-lt, bit_mask_l}
+use Rattle.std.proofs.lemmas.Nat.{pow-add}
+use Rattle.std.proofs.Math.Nat.{div-div-eq-div-mul}
+use Rattle.std.specs.Bool.{Decides}
 use lib.Lanes.{mask_l}
-use Rattle.fc_base.specs.Marks.{word_of, marks_of, is_marked}
+use Rattle.fc_base.specs.Marks.{word_of, marks_of, is_marked, ends_by}
 
 -- ---- one word
 
@@ -119,3 +122,119 @@ marks_are_words p floor = (word_limit p floor, (word_limit p (floor + 64), (word
 pub marks_agree : (p q : ℕ → Bool) (floor : ℕ) → ((i : ℕ) → i < 256 → p (floor + i) ≡ q (floor + i)) → marks_of p floor ≡ marks_of q floor
 marks_agree p q floor same =
     marks_from_bits (marks_of p floor) q floor refl (marks_are_words p floor) (λ i h. marked_passes p floor i h ∙ same i h)
+
+-- ---- one bit written
+
+abbrev marked_in : List ℕ → ℕ → Bool
+marked_in words slot = eqb (bit_at (get_or words (slot / 64) 0) (slot % 64)) 1
+
+-- a word is written, whose other bits stay: the slot's bit is b, and the other slots are as before
+written : (words : List ℕ) (slot word bit : ℕ) (b : Bool) (i : ℕ) → length words ≡ 4 → slot < 256 → bit_at word (slot % 64) ≡ bit → eqb bit 1 ≡ b → ((k : ℕ) → k < 64 → (k ≡ slot % 64 → ⊥) → bit_at word k ≡ bit_at (get_or words (slot / 64) 0) k) → i < 256 → marked_in (set words (slot / 64) word) i ≡ cond (eqb i slot) b (marked_in words i)
+written words slot word bit b i four within same said others below =
+    let inside : slot / 64 < length words = omega arith in
+    elim (cases_eq (i / 64) (slot / 64)) [
+      | inl here ↦ elim (cases_eq (i % 64) (slot % 64)) [
+        | inl at ↦
+            let e : i ≡ slot = omega arith in
+            rw (e, eq-eqb slot slot refl, get_or-set_same words (slot / 64) word 0 inside, same) said
+        | inr apart ↦
+            let ne : i ≡ slot → ⊥ = λ e. apart (ap (λ n. n % 64) e) in
+            let kept = others (i % 64) (omega arith) apart in
+            rw (ne_eqb i slot ne, here, get_or-set_same words (slot / 64) word 0 inside, kept) refl
+      ]
+      | inr apart ↦
+          let ne : i ≡ slot → ⊥ = λ e. apart (ap (λ n. n / 64) e) in
+          rw (ne_eqb i slot ne, get_or-set_other words (slot / 64) (i / 64) word 0 apart) refl
+    ]
+
+pub marked-set : (words : List ℕ) (slot i : ℕ) → length words ≡ 4 → slot < 256 → i < 256 → marked_in (set words (slot / 64) (bit_or (get_or words (slot / 64) 0) (1 * 2 ^ (slot % 64) % 2 ^ 64))) i ≡ cond (eqb i slot) true (marked_in words i)
+marked-set words slot i four within below =
+    let n = get_or words (slot / 64) 0 in
+    written words slot _ 1 true i four within (bit_at_set_same w64 n (slot % 64) (omega arith)) refl (λ k small ne. bit_at_set_other w64 n (slot % 64) (omega arith) k ne) below
+
+pub marked-clear : (words : List ℕ) (slot i : ℕ) → length words ≡ 4 → slot < 256 → i < 256 → marked_in (set words (slot / 64) (bit_and (get_or words (slot / 64) 0) (bit_not w64 (1 * 2 ^ (slot % 64) % 2 ^ 64)))) i ≡ cond (eqb i slot) false (marked_in words i)
+marked-clear words slot i four within below =
+    let n = get_or words (slot / 64) 0 in
+    written words slot _ 0 false i four within (bit_at_clear_same w64 n (slot % 64) (omega arith)) refl (λ k small ne. bit_at_clear_other w64 n (slot % 64) (omega arith) k small ne) below
+
+-- ---- where the bits end
+
+range_all : (p : ℕ → Bool) (a n : ℕ) → list_all p (range_with_len a n) ≡ true → (i : ℕ) → a ≤ i → i < a + n → p i ≡ true
+range_all p a zero all i low high = absurd (omega arith)
+range_all p a (suc n) all i low high =
+    let parts = and_parts (p a) (list_all p (range_with_len (a + 1) n)) all in
+    elim (cases_eq i a) [
+      | inl here ↦ ap p here ∙ parts.0
+      | inr apart ↦ range_all p (a + 1) n parts.1 i (omega arith) (omega arith)
+    ]
+
+all_range : (p : ℕ → Bool) (a n : ℕ) → ((i : ℕ) → a ≤ i → i < a + n → p i ≡ true) → list_all p (range_with_len a n) ≡ true
+all_range p a zero each = refl
+all_range p a (suc n) each =
+    and_from (p a) (list_all p (range_with_len (a + 1) n)) (each a (omega arith) (omega arith)) (all_range p (a + 1) n (λ i low high. each i (omega arith) (omega arith)))
+
+pub bits_end : (n : ℕ) (marks : List ℕ) → ends_by n marks ≡ true → (i : ℕ) → n ≤ i → i < 256 → is_marked marks i ≡ false
+unfolding ends_by
+bits_end n marks ends i low high = not-true (is_marked marks i) (range_all (λ j. not (is_marked marks j)) n (256 - n) ends i low (omega arith))
+
+pub ends_where : (n : ℕ) (marks : List ℕ) → ((i : ℕ) → n ≤ i → i < 256 → is_marked marks i ≡ false) → ends_by n marks ≡ true
+unfolding ends_by
+ends_where n marks each = all_range (λ j. not (is_marked marks j)) n (256 - n) (λ i low high. ap not (each i low (omega arith)))
+
+-- the bits above a place are those of the word shifted down
+bit_shifted : (w k i : ℕ) → bit_at (w / 2 ^ k) i ≡ bit_at w (k + i)
+bit_shifted w k i = ap (λ n. n % 2) (div-div-eq-div-mul w (2 ^ k) (2 ^ i) ∙ ap (λ n. w / n) (sym (pow-add 2 k i)))
+
+bits_gone : (w k : ℕ) → w < 2 ^ 64 → ((i : ℕ) → k ≤ i → i < 64 → bit_at w i ≡ 0) → w / 2 ^ k ≡ 0
+bits_gone w k small each = same_from_bits (w / 2 ^ k) 0 (λ i. bit_shifted w k i ∙ elim (cases_lt (k + i) 64) [
+  | inl inside ↦ each (k + i) (omega arith) inside ∙ sym (bit_at-zero i)
+  | inr past ↦ bit_at_above w 64 (k + i) small past ∙ sym (bit_at-zero i)
+])
+
+bit_gone : (w k i : ℕ) → w / 2 ^ k ≡ 0 → k ≤ i → bit_at w i ≡ 0
+bit_gone w k i none low = ap (bit_at w) (omega arith) ∙ sym (bit_shifted w k (i - k)) ∙ ap (λ n. bit_at n (i - k)) none ∙ bit_at-zero (i - k)
+
+pub word_ends : (w k : ℕ) → w < 2 ^ 64 → (eqb (w / 2 ^ k) 0 ≡ true → (i : ℕ) → k ≤ i → i < 64 → bit_at w i ≡ 0) × (((i : ℕ) → k ≤ i → i < 64 → bit_at w i ≡ 0) → eqb (w / 2 ^ k) 0 ≡ true)
+word_ends w k small = (λ e i low high. bit_gone w k i (eqb-true (w / 2 ^ k) 0 e) low, λ each. eq-eqb (w / 2 ^ k) 0 (bits_gone w k small each))
+
+abbrev pub WordEnds : ℕ → ℕ → Type 0
+WordEnds w k = (i : ℕ) → k ≤ i → i < 64 → bit_at w i ≡ 0
+
+-- a bit is not set
+bit_clear : (n : ℕ) → n ≡ 0 → eqb n 1 ≡ false
+bit_clear n e = ap (λ m. eqb m 1) e
+
+clear_bit : (n : ℕ) → n < 2 → eqb n 1 ≡ false → n ≡ 0
+clear_bit n small e = bit_of_test n false small e
+
+-- the four words end where the marks do
+pub ends_each : (n : ℕ) (marks : List ℕ) → WordEnds (get_or marks 0 0) n → WordEnds (get_or marks 1 0) (n - 64) → WordEnds (get_or marks 2 0) (n - 128) → WordEnds (get_or marks 3 0) (n - 192) → ends_by n marks ≡ true
+ends_each n marks a b c d = ends_where n marks (λ i low high. elim (cases_lt i 64) [
+  | inl x ↦ marked_at marks 0 i i x (omega arith) ∙ bit_clear _ (a i low x)
+  | inr x ↦ elim (cases_lt i 128) [
+    | inl y ↦ marked_at marks 1 (i - 64) i (omega arith) (omega arith) ∙ bit_clear _ (b (i - 64) (omega arith) (omega arith))
+    | inr y ↦ elim (cases_lt i 192) [
+      | inl z ↦ marked_at marks 2 (i - 128) i (omega arith) (omega arith) ∙ bit_clear _ (c (i - 128) (omega arith) (omega arith))
+      | inr z ↦ marked_at marks 3 (i - 192) i (omega arith) (omega arith) ∙ bit_clear _ (d (i - 192) (omega arith) (omega arith))
+    ]
+  ]
+])
+
+each_ends : (n : ℕ) (marks : List ℕ) (j : ℕ) → j < 4 → ends_by n marks ≡ true → WordEnds (get_or marks j 0) (n - 64 * j)
+each_ends n marks j few ends i low high =
+    clear_bit _ (bit_at-lt _ i) (sym (marked_at marks j i (64 * j + i) high refl) ∙ bits_end n marks ends (64 * j + i) (omega arith) (omega arith))
+
+same_test : (x y : Bool) → (x ≡ true → y ≡ true) → (y ≡ true → x ≡ true) → x ≡ y
+same_test true y f g = sym (f refl)
+same_test false true f g = g refl
+same_test false false f g = refl
+
+pub ends_as_tested : (n : ℕ) (marks : List ℕ) (a b c d : Bool) → Decides a (WordEnds (get_or marks 0 0) n) → Decides b (WordEnds (get_or marks 1 0) (n - 64)) → Decides c (WordEnds (get_or marks 2 0) (n - 128)) → Decides d (WordEnds (get_or marks 3 0) (n - 192)) → (a && b && c && d) ≡ ends_by n marks
+ends_as_tested n marks a b c d da db dc dd = same_test _ _
+    (λ all.
+      let three = and_parts (a && b && c) d all in
+      let two = and_parts (a && b) c three.0 in
+      let one = and_parts a b two.0 in
+      ends_each n marks (da.0 one.0) (db.0 one.1) (dc.0 two.1) (dd.0 three.1))
+    (λ ends.
+      and_from _ _ (and_from _ _ (and_from _ _ (da.1 (λ i low high. each_ends n marks 0 (omega arith) ends i (omega arith) high)) (db.1 (each_ends n marks 1 (omega arith) ends))) (dc.1 (each_ends n marks 2 (omega arith) ends))) (dd.1 (each_ends n marks 3 (omega arith) ends)))

@@ -1,5 +1,5 @@
 -- The marks of a job's last writes: 256 bits in four words, one for each number from the floor on.
-use Rattle.std.specs.Prelude.{ℕ, ◌+◌, ◌-◌, ◌/◌, ◌%◌, Bool, not, ◌||◌, ◌==◌, nat_lt, List, [], ◌∷◌, slice_index, filter, map}
+use Rattle.std.specs.Prelude.{ℕ, ◌+◌, ◌-◌, ◌/◌, ◌%◌, Bool, not, ◌&&◌, ◌||◌, ◌==◌, nat_lt, nat_le, List, [], ◌∷◌, length, slice_index, filter, map, count_ones}
 use Rattle.std.specs.List.{list_all, range_with_len}
 use Rattle.std.specs.Int.{bit_at}
 use lib.Lanes.{mask_l}
@@ -27,8 +27,25 @@ is_marked marks i = bit_at (slice_index marks (i / 64)) (i % 64) == 1
 unfoldable pub ends_by : ℕ → List ℕ → Bool
 ends_by n marks = list_all (λ i. not (is_marked marks i)) (range_with_len n (256 - n))
 
--- The issued writes that the marks count, ascending: those below the floor, and those with a bit.
-abbrev pub counted_by : ℕ → ℕ → List ℕ → List ℕ
-counted_by window issued marks =
+-- How many bits are set.
+abbrev pub marked_count : List ℕ → ℕ
+marked_count marks =
+    count_ones (slice_index marks 0) + count_ones (slice_index marks 1) + count_ones (slice_index marks 2)
+    + count_ones (slice_index marks 3)
+
+-- A write counts by the marks where it lies below the floor, or its bit is set.
+abbrev pub is_counted_by : ℕ → ℕ → List ℕ → ℕ → Bool
+is_counted_by window issued marks k =
     let floor = floor_of window issued in
-    filter (λ k. nat_lt k floor || is_marked marks (k - floor)) (numbers_below issued)
+    nat_lt k floor || is_marked marks (k - floor)
+
+-- The issued writes that count by the marks, ascending.
+abbrev pub counted_by : ℕ → ℕ → List ℕ → List ℕ
+counted_by window issued marks = filter (is_counted_by window issued marks) (numbers_below issued)
+
+-- Marks and a number issued that some job can have come to: no bit is set for a number that was not
+-- issued, and at most depth of the issued writes don't count.
+abbrev pub is_possible_by : ℕ → ℕ → ℕ → List ℕ → Bool
+is_possible_by depth window issued marks =
+    ends_by (issued - floor_of window issued) marks
+    && nat_le (issued - length (counted_by window issued marks)) depth

@@ -4,12 +4,14 @@
 
 mod counted;
 mod fault;
+mod marks;
 mod numbers;
 mod record;
 mod report;
 
 pub use counted::is_counted;
 pub use fault::{Fault, FaultSort};
+pub use marks::Marks;
 pub use numbers::{Attempt, JobNo, Key, RunNo, Seq, ServerNo};
 pub use record::{JobParts, JobRecord, Kind, Verify};
 pub use report::{Blocks, CheckReport, ReportEnd, ReportParts};
