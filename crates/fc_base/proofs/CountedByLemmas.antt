@@ -1,8 +1,8 @@
 -- What marks count, and the marks of what is counted.
-use Rattle.std.proofs.Common.{◌≡◌, ℕ, ◌+◌, ◌-◌, ◌*◌, ◌^◌, ◌<◌, ◌≤◌, min, zero, suc, Bool, true, false, not, cond, eqb, ltb, leb, ◌&&◌, ◌||◌, List, [], ◌∷◌, ◌++◌, length, get_or, filter, map, refl, ap, sym, ◌∙◌, subst, inl, inr, arith}
+use Rattle.std.proofs.Common.{◌≡◌, ℕ, ◌+◌, ◌-◌, ◌^◌, ◌<◌, ◌≤◌, zero, suc, Bool, true, false, not, cond, ltb, leb, ◌&&◌, ◌||◌, List, [], ◌∷◌, length, filter, map, refl, ap, sym, ◌∙◌, inl, inr, arith}
 use Rattle.std.specs.Prelude.{count_ones}
 use Rattle.std.specs.List.{AllByRecursion, range_with_len, list_all, count_by}
-use Rattle.std.proofs.lemmas.Bool.{cases_Bool, cases_lt, and_parts, and_from, ltb-true, ltb-false, lt-ltb, le-ltb, or_right, leb-true, le-leb}
+use Rattle.std.proofs.lemmas.Bool.{cases_lt, and_parts, and_from, lt-ltb, le-ltb, or_right, leb-true, le-leb}
 use Rattle.std.proofs.lemmas.List.{length-append}
 use Rattle.std.proofs.lemmas.List.Elements.{filter-append}
 use Rattle.std.proofs.lemmas.List.Filters.{length-filter_both}
@@ -40,15 +40,21 @@ pub marks_again : (window issued : ℕ) (marks : List ℕ) → length marks ≡ 
 marks_again window issued marks four words ends =
     let floor = floor_of window issued in
     sym (marks_from_bits marks (has (counted_by window issued marks)) floor four words (λ i small.
-      elim (cases_lt (floor + i) issued) [
-        | inl here ↦
-            sym (has_counted_by window issued marks (floor + i)
-            ∙ true_and _ _ (lt-ltb (floor + i) issued here)
-            ∙ from_floor window issued marks i)
-        | inr past ↦
-            bits_end (issued - floor) marks ends i (omega arith) small
-            ∙ sym (has_counted_by window issued marks (floor + i) ∙ false_and _ _ (le-ltb (floor + i) issued past))
-      ]))
+    elim (cases_lt (floor + i) issued) [
+      | inl here ↦
+          sym (has_counted_by window issued marks (floor + i)
+          ∙ true_and _ _ (lt-ltb (floor + i) issued here)
+          ∙ from_floor window issued marks i)
+      | inr past ↦
+          bits_end (issued - floor) marks ends i (omega arith) small
+          ∙ sym (has_counted_by window issued marks (floor + i) ∙ false_and _ _ (le-ltb (floor + i) issued past))
+    ]))
+
+-- no more writes count than were issued
+pub few_counted : (window issued : ℕ) (marks : List ℕ) → length (counted_by window issued marks) ≤ issued
+few_counted window issued marks =
+    let both = length-filter_both (is_counted_by window issued marks) (λ k. not (is_counted_by window issued marks k)) (λ k. refl) (numbers_below issued) in
+    omega (arith, both, length_numbers_below issued)
 
 -- ---- marks made of the writes that a test counts
 
@@ -75,14 +81,32 @@ ends_again window issued p =
     let floor = floor_of window issued in
     let kept = filter p (numbers_below issued) in
     ends_where (issued - floor) (marks_of (has kept) floor) (λ i low small.
-      marked_passes (has kept) floor i small
-      ∙ kept_below p issued (floor + i)
-      ∙ false_and _ _ (le-ltb (floor + i) issued (omega arith)))
+    marked_passes (has kept) floor i small
+    ∙ kept_below p issued (floor + i)
+    ∙ false_and _ _ (le-ltb (floor + i) issued (omega arith)))
 
 -- ---- the marks of a list of completions
 
 old_counts : (window issued : ℕ) (xs : List ℕ) (k : ℕ) → k + window < issued → is_counted window issued xs k ≡ true
 old_counts window issued xs k lt = or_right (has xs k) (ltb (k + window) issued) (lt-ltb (k + window) issued lt)
+
+both_ways : (a b : Bool) → (a && b) ≡ (b && a)
+both_ways true true = refl
+both_ways true false = refl
+both_ways false true = refl
+both_ways false false = refl
+
+no_other : (a b : Bool) → b ≡ false → (a || b) ≡ a
+no_other true b e = refl
+no_other false b e = e
+
+-- from the floor on, the list counts what stands in it and was issued
+pub listed_from_floor : (window issued : ℕ) (xs : List ℕ) (i : ℕ) → has (counted window issued xs) (floor_of window issued + i) ≡ (has xs (floor_of window issued + i) && ltb (floor_of window issued + i) issued)
+listed_from_floor window issued xs i =
+    let k = floor_of window issued + i in
+    kept_below (is_counted window issued xs) issued k
+    ∙ ap (λ b. ltb k issued && b) (no_other (has xs k) (ltb (k + window) issued) (le-ltb (k + window) issued (omega arith)))
+    ∙ both_ways (ltb k issued) (has xs k)
 
 -- they count what the list counts
 pub counted_as_listed : (window issued : ℕ) (xs : List ℕ) → window ≤ 256 → counted_by window issued (marks_of (has (counted window issued xs)) (floor_of window issued)) ≡ counted window issued xs
@@ -162,9 +186,9 @@ length_counted_by window issued marks narrow four words ends =
     let q = has kept in
     let same = marks_again window issued marks four words ends in
     let all : passing q floor ≡ floor = all_pass q floor (λ k lt.
-      has_counted_by window issued marks k
-      ∙ true_and _ _ (lt-ltb k issued (omega arith))
-      ∙ ap (λ b. b || is_marked marks (k - floor)) (lt-ltb k floor lt)) in
+    has_counted_by window issued marks k
+    ∙ true_and _ _ (lt-ltb k issued (omega arith))
+    ∙ ap (λ b. b || is_marked marks (k - floor)) (lt-ltb k floor lt)) in
     let none = none_more q issued (floor + 256 - issued) (λ k past. has_counted_by window issued marks k ∙ false_and _ _ (le-ltb k issued past)) in
     let reach : issued + (floor + 256 - issued) ≡ floor + 256 = omega arith in
     let whole : passing q issued ≡ length kept = ap length (filter_agree_below q (is_counted_by window issued marks) issued (λ k lt. has_counted_by window issued marks k ∙ true_and _ _ (lt-ltb k issued lt))) in

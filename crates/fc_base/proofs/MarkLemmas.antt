@@ -1,5 +1,5 @@
 -- Marks: bit for bit what they were made of, and made of their bits.
-use Rattle.std.proofs.Common.{◌≡◌, ℕ, ◌+◌, ◌-◌, ◌*◌, ◌/◌, ◌%◌, ◌^◌, ◌<◌, ◌≤◌, zero, suc, Bool, true, false, not, cond, eqb, ltb, ◌&&◌, ◌||◌, List, [], ◌∷◌, length, get_or, map, refl, ap, sym, ◌∙◌, subst, inl, inr, arith, set, bit_and, bit_or, w64, get_or-set_same, get_or-set_other}
+use Rattle.std.proofs.Common.{◌≡◌, ℕ, ◌+◌, ◌-◌, ◌*◌, ◌/◌, ◌%◌, ◌^◌, ◌<◌, ◌≤◌, zero, suc, Bool, true, false, not, cond, eqb, ltb, ◌&&◌, List, [], ◌∷◌, length, get_or, map, refl, ap, sym, ◌∙◌, subst, inl, inr, arith, set, bit_and, bit_or, w64, get_or-set_same, get_or-set_other}
 use Rattle.std.specs.List.{AllByRecursion, range_with_len, list_all}
 use Rattle.std.specs.Int.{bit_at, bit_not}
 use Rattle.std.proofs.lemmas.Bool.{cases_Bool, eqb-true, eq-eqb, ne_eqb, ltb-true, ltb-false, and_parts, and_from, cases_eq, cases_lt, not-true}
@@ -123,6 +123,22 @@ pub marks_agree : (p q : ℕ → Bool) (floor : ℕ) → ((i : ℕ) → i < 256 
 marks_agree p q floor same =
     marks_from_bits (marks_of p floor) q floor refl (marks_are_words p floor) (λ i h. marked_passes p floor i h ∙ same i h)
 
+-- where no bit is set
+abbrev zeros : List ℕ
+zeros = 0 ∷ 0 ∷ 0 ∷ 0 ∷ []
+
+zero_in : (j : ℕ) → get_or zeros j 0 ≡ 0
+zero_in zero = refl
+zero_in (suc zero) = refl
+zero_in (suc (suc zero)) = refl
+zero_in (suc (suc (suc zero))) = refl
+zero_in (suc (suc (suc (suc j)))) = refl
+
+pub none_marked : (i : ℕ) → i < 256 → is_marked (0 ∷ 0 ∷ 0 ∷ 0 ∷ []) i ≡ false
+none_marked i small =
+    let word : bit_at (get_or zeros (i / 64) 0) (i % 64) ≡ 0 = ap (λ n. bit_at n (i % 64)) (zero_in (i / 64)) ∙ bit_at-zero (i % 64) in
+    marked_at zeros (i / 64) (i % 64) i (omega arith) (omega arith) ∙ ap (λ n. eqb n 1) word
+
 -- ---- one bit written
 
 abbrev marked_in : List ℕ → ℕ → Bool
@@ -232,9 +248,9 @@ same_test false false f g = refl
 pub ends_as_tested : (n : ℕ) (marks : List ℕ) (a b c d : Bool) → Decides a (WordEnds (get_or marks 0 0) n) → Decides b (WordEnds (get_or marks 1 0) (n - 64)) → Decides c (WordEnds (get_or marks 2 0) (n - 128)) → Decides d (WordEnds (get_or marks 3 0) (n - 192)) → (a && b && c && d) ≡ ends_by n marks
 ends_as_tested n marks a b c d da db dc dd = same_test _ _
     (λ all.
-      let three = and_parts (a && b && c) d all in
-      let two = and_parts (a && b) c three.0 in
-      let one = and_parts a b two.0 in
-      ends_each n marks (da.0 one.0) (db.0 one.1) (dc.0 two.1) (dd.0 three.1))
+    let three = and_parts (a && b && c) d all in
+    let two = and_parts (a && b) c three.0 in
+    let one = and_parts a b two.0 in
+    ends_each n marks (da.0 one.0) (db.0 one.1) (dc.0 two.1) (dd.0 three.1))
     (λ ends.
-      and_from _ _ (and_from _ _ (and_from _ _ (da.1 (λ i low high. each_ends n marks 0 (omega arith) ends i (omega arith) high)) (db.1 (each_ends n marks 1 (omega arith) ends))) (dc.1 (each_ends n marks 2 (omega arith) ends))) (dd.1 (each_ends n marks 3 (omega arith) ends)))
+    and_from _ _ (and_from _ _ (and_from _ _ (da.1 (λ i low high. each_ends n marks 0 (omega arith) ends i (omega arith) high)) (db.1 (each_ends n marks 1 (omega arith) ends))) (dc.1 (each_ends n marks 2 (omega arith) ends))) (dd.1 (each_ends n marks 3 (omega arith) ends)))

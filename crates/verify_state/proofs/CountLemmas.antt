@@ -1,16 +1,12 @@
 -- How many writes a list counts, and which.
 use Rattle.std.proofs.Common.{◌≡◌, ℕ, ◌+◌, ◌-◌, ◌*◌, ◌<◌, ◌≤◌, min, zero, suc, Bool, true, false, cond, ◌&&◌, ◌||◌, not, eqb, ltb, leb, List, [], ◌∷◌, length, filter, sym, refl, ap, ◌∙◌, inl, inr, arith}
 use Rattle.std.specs.List.{list_all}
-use Rattle.std.proofs.lemmas.Bool.{cases_Bool, cases_lt, or_right, lt-ltb, and_parts, ltb-true, le-leb, leb-true, eqb-true, eq-eqb, ne_eqb, cases_eq}
+use Rattle.std.proofs.lemmas.Bool.{cases_Bool, and_parts, ltb-true, le-leb, leb-true, eqb-true, eq-eqb, ne_eqb, cases_eq}
 use Rattle.std.proofs.lemmas.Bool.Decides.{nat_tests}
 use Rattle.std.proofs.lemmas.List.{length-append}
 use Rattle.std.proofs.lemmas.List.Elements.{filter-append, filter_agree}
-use Rattle.std.proofs.lemmas.List.Filters.{length-filter_both}
 use Rattle.fc_base.specs.declared.record.JobParts.{JobParts}
-use Rattle.std.specs.Prelude.{nat_le}
-use Rattle.fc_base.specs.JobParts.{is_within_limits, has_block_size, has_region, has_queue, has_pattern}
 use Rattle.fc_base.specs.Counted.{has, numbers_below, is_counted, counted, uncounted, is_distinct, is_possible}
-use Rattle.fc_base.proofs.NumberLemmas.{length_numbers_below, filter_agree_below, has_counted}
 use Rattle.verify_state.specs.State.{has_come}
 
 -- one where the test holds
@@ -109,12 +105,6 @@ length_counted window issued (x ∷ xs) d b =
     let front = from_floor (issued - window) x xs (not (ltb (x + window) issued)) floor in
     omega (arith, before, new, front)
 
--- counted and uncounted writes are all
-pub counted_and_uncounted : (window issued : ℕ) (xs : List ℕ) → length (counted window issued xs) + length (uncounted window issued xs) ≡ issued
-counted_and_uncounted window issued xs =
-    let both = length-filter_both (is_counted window issued xs) (λ k. not (is_counted window issued xs k)) (λ k. refl) (numbers_below issued) in
-    omega (arith, both, length_numbers_below issued)
-
 -- ---- whether a job can have come to a list
 
 pub comes : (job : JobParts) (issued : ℕ) (xs : List ℕ) → issued ≤ job.total → is_distinct xs ≡ true → list_all (λ k. ltb k issued) xs ≡ true →
@@ -143,26 +133,3 @@ come job issued xs e =
       below = front.1;
       short = omega (arith, eqb-true (length xs) (min (2 * job.window) (length (counted job.window issued xs))) back.1);
     }
-
--- a list has at most 512 completions
-pub few_listed : (job : JobParts) (issued : ℕ) (xs : List ℕ) → is_within_limits job ≡ true → has_come job issued xs ≡ true → length xs ≤ 512
-few_listed job issued xs limits e =
-    let window = (and_parts (nat_le 1 job.depth && nat_le job.depth 64) _ (and_parts (has_block_size job && has_region job) (has_queue job) (and_parts (has_block_size job && has_region job && has_queue job) (has_pattern job) limits).0).1).1 in
-    omega (arith, (come job issued xs e).short, leb-true job.window 256 (and_parts (nat_le job.depth job.window) (nat_le job.window 256) window).1)
-
--- ---- two lists that count alike
-
-old_counts : (window issued : ℕ) (xs : List ℕ) (k : ℕ) → k + window < issued → is_counted window issued xs k ≡ true
-old_counts window issued xs k lt = or_right (has xs k) (ltb (k + window) issued) (lt-ltb (k + window) issued lt)
-
-pub alike : (window issued : ℕ) (xs ys : List ℕ) → ((j : ℕ) → issued - window ≤ j → j < issued → is_counted window issued xs j ≡ is_counted window issued ys j) → counted window issued xs ≡ counted window issued ys
-alike window issued xs ys each = filter_agree_below (is_counted window issued xs) (is_counted window issued ys) issued (λ k lt. elim (cases_lt (k + window) issued) [
-  | inl old ↦ old_counts window issued xs k old ∙ sym (old_counts window issued ys k old)
-  | inr near ↦ each k (omega arith) lt
-])
-
--- lists that count the same writes count each write alike
-pub counted_alike : (window issued : ℕ) (xs ys : List ℕ) (k : ℕ) → k < issued → counted window issued xs ≡ counted window issued ys → is_counted window issued xs k ≡ is_counted window issued ys k
-counted_alike window issued xs ys k lt e =
-    let below = lt-ltb k issued lt in
-    sym (has_counted window issued xs k ∙ rw below refl) ∙ ap (λ l. has l k) e ∙ (has_counted window issued ys k ∙ rw below refl)

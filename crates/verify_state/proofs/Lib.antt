@@ -1,6 +1,9 @@
 pub mod CountLemmas
 pub mod FaultLemmas
+pub mod LayoutLemmas
+pub mod LimitLemmas
 pub mod PieceLemmas
 pub mod RangeLemmas
+pub mod SameLemmas
 pub mod SpellingLemmas
 pub mod WritingLemmas

@@ -1,12 +1,12 @@
 -- Reading the front of a state.
-use Rattle.std.proofs.Common.{◌≡◌, ℕ, ◌≤◌, Bool, true, false, ◌&&◌, List, Some, None, refl, sym, ap, ◌∙◌, arith}
+use Rattle.std.proofs.Common.{◌≡◌, ℕ, ◌≤◌, Bool, true, false, ◌&&◌, List, Some, None, refl, sym, ap, ◌∙◌}
 use Rattle.std.specs.Prelude.{if◌then◌else◌}
 use Rattle.std.proofs.lemmas.Bool.{and_parts}
-use Rattle.std.proofs.lemmas.Bool.Decides.{nat_tests}
 use Rattle.fc_base.specs.declared.record.JobParts.{JobParts}
 use Rattle.fc_base.specs.JobParts.{is_within_limits}
-use Rattle.verify_state.specs.State.{is_key}
-use Rattle.verify_state.specs.Reading.{key_in, job_in, count_in, has_codes, has_fields, has_ranges}
+use Rattle.fc_base.specs.Keys.{is_key}
+use Rattle.verify_state.proofs.LimitLemmas.{window_limit}
+use Rattle.verify_state.specs.Reading.{key_in, job_in, has_codes, has_fields, has_ranges}
 
 -- no record, so the ranges don't hold
 none_by : (b r : Bool) (job : JobParts) → (if b then Some job else None) ≡ None → (b && r) ≡ false
@@ -26,16 +26,14 @@ pub ranges_by : (bytes : List ℕ) (job : JobParts) (r : Bool) → job ≡ job_i
 unfolding has_ranges
 ranges_by bytes job r is t e = ap (λ j. is_within_limits j && has_fields bytes) (sym is) ∙ rw (t, ← e) refl
 
--- what stands in its ranges has at most 512 completions
-pub few_completions : (bytes : List ℕ) → has_ranges bytes ≡ true → count_in bytes ≤ 512
-unfolding has_ranges
-few_completions bytes e =
-    let parts = and_parts (is_within_limits (job_in bytes)) (has_fields bytes) e in
-    grind (arith, nat_tests, parts.0, parts.1)
-
--- and a key in its ranges
+-- what stands in its ranges has a key in its ranges
 pub has_key : (bytes : List ℕ) → has_ranges bytes ≡ true → is_key (key_in bytes) ≡ true
 unfolding has_ranges
 has_key bytes e =
     let fields = and_parts (is_within_limits (job_in bytes)) (has_fields bytes) e in
     (and_parts (has_codes bytes) (is_key (key_in bytes)) (and_parts (has_codes bytes && is_key (key_in bytes)) _ fields.1).0).1
+
+-- and a window of at most 256 numbers
+pub narrow : (bytes : List ℕ) → has_ranges bytes ≡ true → (job_in bytes).window ≤ 256
+unfolding has_ranges
+narrow bytes e = window_limit (job_in bytes) (and_parts (is_within_limits (job_in bytes)) (has_fields bytes) e).0

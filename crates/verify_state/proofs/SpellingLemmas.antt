@@ -1,11 +1,11 @@
 -- What is read of a spelling.
-use Rattle.std.proofs.Common.{◌≡◌, ℕ, ◌+◌, ◌*◌, ◌^◌, ◌<◌, ◌≤◌, zero, suc, true, ltb, List, [], ◌∷◌, ◌++◌, length, take, drop, get_or, sym, refl, ap, ◌∙◌, arith}
-use Rattle.std.specs.List.{AllByRecursion, list_all}
-use Rattle.std.specs.Int.{w8, w32, w64, to_be_bytes, from_be_bytes}
-use Rattle.std.specs.Prelude.{nat_le, nat_lt, ◌&&◌}
+use Rattle.std.proofs.Common.{◌≡◌, ℕ, ◌+◌, ◌*◌, ◌^◌, ◌<◌, ◌≤◌, zero, suc, true, List, [], ◌∷◌, ◌++◌, length, take, drop, get_or, sym, refl, ap, ◌∙◌, arith, false}
+use Rattle.std.specs.List.{AllByRecursion}
+use Rattle.std.specs.Int.{w8, w64, to_be_bytes, from_be_bytes}
+use Rattle.std.specs.Prelude.{nat_le, nat_lt, ◌&&◌, if◌then◌else◌}
 use Rattle.std.proofs.lemmas.Bool.{and_parts, leb-true, ltb-true}
 use Rattle.std.proofs.lemmas.Nat.{from_be_bytes-to_be_bytes_4, from_be_bytes-to_be_bytes_8}
-use Rattle.std.proofs.lemmas.List.{drop-drop, drop_at, append_assoc, append-nil, drop-append-le, take-append-le, length-append, length-drop}
+use Rattle.std.proofs.lemmas.List.{drop-drop, drop_at, append-nil, length-append}
 use Rattle.std.proofs.lemmas.List.FromFn.{fill_by_all}
 use Rattle.fc_base.specs.declared.numbers.Key.{Key}
 use Rattle.fc_base.specs.declared.record.JobParts.{JobParts}
@@ -13,12 +13,14 @@ use Rattle.fc_base.specs.declared.record.Kind.{Kind}
 use Rattle.fc_base.specs.declared.record.Kind.TheVariants.{Sequential, RandomMap, RandomFree}
 use Rattle.fc_base.specs.declared.record.Verify.{Verify}
 use Rattle.fc_base.specs.declared.record.Verify.TheVariants.{Stamp, Pattern}
-use Rattle.fc_base.specs.JobParts.{is_within_limits, has_block_size, has_region, has_queue, has_pattern}
-use Rattle.fc_base.specs.Counted.{counted}
-use Rattle.verify_state.specs.State.{State, IsState, state_of}
-use Rattle.verify_state.specs.Spelling.{kind_code, verify_code, key_bytes, job_bytes, words, spelling}
-use Rattle.verify_state.specs.Reading.{field, words_at, kind_of, verify_of, key_in, job_in, issued_in, place_in, count_in, completions_in, state_in}
-use Rattle.verify_state.proofs.CountLemmas.{come, few_listed}
+use Rattle.fc_base.specs.Marks.{counted_by, is_possible_by}
+use Rattle.fc_base.specs.Counted.{has}
+use Rattle.fc_base.proofs.MarkLemmas.{marks_are_words}
+use Rattle.verify_state.specs.Codes.{kind_code, verify_code, kind_of, verify_of}
+use Rattle.verify_state.specs.State.{State, IsState, state_by, floor_in, marks_in, has_come_by}
+use Rattle.verify_state.specs.Spelling.{key_bytes, job_bytes, words, spelling}
+use Rattle.verify_state.specs.Reading.{field, words_at, key_in, job_in, issued_in, place_in, floor_at, marks_at, is_layout_1, is_layout_2, state_in, state_listed, state_marked}
+use Rattle.verify_state.proofs.LimitLemmas.{limits}
 
 -- ---- words
 
@@ -45,29 +47,6 @@ words_back xs rest bytes at stands all = sym (fill_by_all (λ k. field w64 (at +
 
 -- ---- the fields of a spelling
 
-pub record Limits (job : JobParts) : Type 0 where
-  pub bs : job.bs ≤ 65536
-  pub blocks : job.blocks ≤ 65536
-  pub total : job.total ≤ 1000000
-  pub depth : job.depth ≤ 64
-  pub window : job.window ≤ 256
-
-pub limits : (job : JobParts) → is_within_limits job ≡ true → Limits job
-limits job e =
-    let three = and_parts (has_block_size job && has_region job && has_queue job) (has_pattern job) e in
-    let two = and_parts (has_block_size job && has_region job) (has_queue job) three.0 in
-    let one = and_parts (has_block_size job) (has_region job) two.0 in
-    let size = and_parts (nat_le 512 job.bs && nat_le job.bs 65536) _ one.0 in
-    let region = and_parts (nat_le 1 job.blocks && nat_le job.blocks 65536) (nat_le 1 job.total && nat_le job.total 1000000) one.1 in
-    let queue = and_parts (nat_le 1 job.depth && nat_le job.depth 64) (nat_le job.depth job.window && nat_le job.window 256) two.1 in
-    record {
-      bs = leb-true job.bs 65536 (and_parts (nat_le 512 job.bs) (nat_le job.bs 65536) size.0).1;
-      blocks = leb-true job.blocks 65536 (and_parts (nat_le 1 job.blocks) (nat_le job.blocks 65536) region.0).1;
-      total = leb-true job.total 1000000 (and_parts (nat_le 1 job.total) (nat_le job.total 1000000) region.1).1;
-      depth = leb-true job.depth 64 (and_parts (nat_le 1 job.depth) (nat_le job.depth 64) queue.0).1;
-      window = leb-true job.window 256 (and_parts (nat_le job.depth job.window) (nat_le job.window 256) queue.1).1;
-    }
-
 abbrev key_from : ℕ → ℕ → ℕ → Key
 key_from run server job = record { run = run; server = server; job = job }
 
@@ -75,7 +54,7 @@ pub key_of : (key : Key) (run server job : ℕ) → run ≡ key.run → server �
 key_of key run server job a b c = rw (a, b, c) refl
 
 pub key_back : (s : State) → IsState s → key_in (spelling s) ≡ s.key
-unfolding field key_bytes job_bytes
+unfolding field spelling key_bytes job_bytes
 key_back s is =
     let front = and_parts (nat_le 1 s.key.run && nat_lt s.key.server 8) (nat_lt s.key.job 16) is.key in
     let server = ltb-true s.key.server 8 (and_parts (nat_le 1 s.key.run) (nat_lt s.key.server 8) front.0).1 in
@@ -104,7 +83,7 @@ job_of : (job : JobParts) (kind : Kind) (verify : Verify) (pattern bs blocks tot
 job_of job kind verify pattern bs blocks total seed depth window a b c d e f g h i = rw (a, b, c, d, e, f, g, h, i) refl
 
 pub job_back : (s : State) → IsState s → job_in (spelling s) ≡ s.job
-unfolding field key_bytes job_bytes
+unfolding field spelling key_bytes job_bytes
 job_back s is =
     let l = limits s.job is.limits in
     job_of s.job _ _ _ _ _ _ _ _ _
@@ -119,86 +98,77 @@ job_back s is =
     (from_be_bytes-to_be_bytes_4 s.job.window (omega (arith, l.window)))
 
 pub issued_back : (s : State) → s.issued < 2 ^ 64 → issued_in (spelling s) ≡ s.issued
-unfolding field key_bytes job_bytes
+unfolding field spelling key_bytes job_bytes
 issued_back s lt = from_be_bytes-to_be_bytes_8 s.issued lt
 
+-- no more writes were issued than the job has
+pub issued_few : (s : State) → IsState s → s.issued ≤ s.job.total
+unfolding has_come_by
+issued_few s is = leb-true s.issued s.job.total (and_parts (nat_le s.issued s.job.total) (is_possible_by s.job.depth s.job.window s.issued (marks_in s)) is.come).0
+
+pub issued_limit : (s : State) → IsState s → s.issued ≤ 1000000
+issued_limit s is = omega (arith, issued_few s is, (limits s.job is.limits).total)
+
 -- what stands behind the number issued
-behind_issued : (s : State) → drop 64 (spelling s) ≡ (words s.place ++ to_be_bytes w32 (length s.completions)) ++ words s.completions
-unfolding key_bytes job_bytes
+behind_issued : (s : State) → drop 64 (spelling s) ≡ words s.place ++ (to_be_bytes w64 (floor_in s) ++ words (marks_in s))
+unfolding spelling key_bytes job_bytes
 behind_issued s = refl
 
-length_front : (s : State) → length (spelling s) ≡ 64 + length ((words s.place ++ to_be_bytes w32 (length s.completions)) ++ words s.completions)
-unfolding key_bytes job_bytes
+length_front : (s : State) → length (spelling s) ≡ 64 + length (words s.place ++ (to_be_bytes w64 (floor_in s) ++ words (marks_in s)))
+unfolding spelling key_bytes job_bytes
 length_front s = omega arith
 
 pub place_back : (s : State) → IsState s → place_in (spelling s) ≡ s.place
 place_back s is =
     ap (λ n. words_at n 64 (spelling s)) (sym is.words)
-    ∙ words_back s.place (to_be_bytes w32 (length s.completions) ++ words s.completions) (spelling s) 64
-    (behind_issued s ∙ append_assoc (words s.place) (to_be_bytes w32 (length s.completions)) (words s.completions)) is.word
+    ∙ words_back s.place (to_be_bytes w64 (floor_in s) ++ words (marks_in s)) (spelling s) 64 (behind_issued s) is.word
 
-behind_place : (s : State) → IsState s → drop 96 (spelling s) ≡ to_be_bytes w32 (length s.completions) ++ words s.completions
+behind_place : (s : State) → IsState s → drop 96 (spelling s) ≡ to_be_bytes w64 (floor_in s) ++ words (marks_in s)
 behind_place s is =
     sym (drop-drop 32 64 (spelling s))
-    ∙ ap (drop 32) (behind_issued s ∙ append_assoc (words s.place) (to_be_bytes w32 (length s.completions)) (words s.completions))
-    ∙ drop_at (words s.place) (to_be_bytes w32 (length s.completions) ++ words s.completions) 32 (omega (arith, length_words s.place, is.words))
+    ∙ ap (drop 32) (behind_issued s)
+    ∙ drop_at (words s.place) (to_be_bytes w64 (floor_in s) ++ words (marks_in s)) 32 (omega (arith, length_words s.place, is.words))
 
-pub count_back : (s : State) → IsState s → count_in (spelling s) ≡ length s.completions
+pub floor_back : (s : State) → IsState s → floor_at (spelling s) ≡ floor_in s
 unfolding field
-count_back s is =
-    ap (λ l. from_be_bytes w32 (take 4 l)) (behind_place s is)
-    ∙ from_be_bytes-to_be_bytes_4 (length s.completions) (omega (arith, few_listed s.job s.issued s.completions is.limits is.come))
+floor_back s is =
+    ap (λ l. from_be_bytes w64 (take 8 l)) (behind_place s is)
+    ∙ from_be_bytes-to_be_bytes_8 (floor_in s) (omega (arith, issued_limit s is))
 
-pub completions_back : (s : State) → IsState s → completions_in (spelling s) ≡ s.completions
-completions_back s is =
-    ap (λ n. words_at n 100 (spelling s)) (count_back s is)
-    ∙ words_back s.completions [] (spelling s) 100 (sym (drop-drop 4 96 (spelling s)) ∙ ap (drop 4) (behind_place s is) ∙ sym (append-nil (words s.completions))) (all_words s.completions s.issued issued_few (come s.job s.issued s.completions is.come).below)
-  where
-    issued_few : s.issued ≤ 1000000
-    issued_few = omega (arith, (limits s.job is.limits).total, (come s.job s.issued s.completions is.come).issued_few)
+pub marks_back : (s : State) → IsState s → marks_at (spelling s) ≡ marks_in s
+marks_back s is =
+    words_back (marks_in s) [] (spelling s) 104
+    (sym (drop-drop 8 96 (spelling s)) ∙ ap (drop 8) (behind_place s is) ∙ sym (append-nil (words (marks_in s)))) (marks_are_words (has s.counted) (floor_in s))
 
-    all_words : (xs : List ℕ) (issued : ℕ) → issued ≤ 1000000 → list_all (λ k. ltb k issued) xs ≡ true → AllByRecursion (λ x. x < 2 ^ 64) xs
-    all_words [] issued few e = tt
-    all_words (x ∷ xs) issued few e =
-        let parts = and_parts (ltb x issued) (list_all (λ k. ltb k issued) xs) e in
-        let below = ltb-true x issued parts.0 in
-        (omega arith, all_words xs issued few parts.1)
+pub layout_back : (s : State) → is_layout_2 (spelling s) ≡ true
+unfolding is_layout_2 spelling
+layout_back s = refl
 
-state_by : (s : State) (key : Key) (job : JobParts) (issued : ℕ) (place completions : List ℕ) →
-    key ≡ s.key → job ≡ s.job → issued ≡ s.issued → place ≡ s.place → completions ≡ s.completions → s.counted ≡ counted s.job.window s.issued s.completions →
-    state_of key job issued place completions ≡ s
-state_by s key job issued place completions a b c d e f = rw (a, b, c, d, e, ← f) refl
+pub other_layout : (s : State) → is_layout_1 (spelling s) ≡ false
+unfolding is_layout_1 spelling
+other_layout s = refl
+
+state_from : (s : State) (key : Key) (job : JobParts) (issued : ℕ) (place marks : List ℕ) →
+    key ≡ s.key → job ≡ s.job → issued ≡ s.issued → place ≡ s.place → marks ≡ marks_in s → s.counted ≡ counted_by s.job.window s.issued (marks_in s) →
+    state_by key job issued place marks ≡ s
+state_from s key job issued place marks a b c d e f = rw (a, b, c, d, e, ← f) refl
+
+pub issued_again : (s : State) → IsState s → issued_in (spelling s) ≡ s.issued
+issued_again s is = issued_back s (omega (arith, issued_limit s is))
 
 pub state_back : (s : State) → IsState s → state_in (spelling s) ≡ s
 state_back s is =
-    let issued = issued_back s (omega (arith, (limits s.job is.limits).total, (come s.job s.issued s.completions is.come).issued_few)) in
-    state_by s _ _ _ _ _ (key_back s is) (job_back s is) issued (place_back s is) (completions_back s is) is.counted
+    ap (λ b. if b then state_listed (spelling s) else state_marked (spelling s)) (other_layout s)
+    ∙ state_from s _ _ _ _ _ (key_back s is) (job_back s is) (issued_again s is) (place_back s is) (marks_back s is) is.counted
 
-pub length_back : (s : State) → IsState s → length (spelling s) ≡ 100 + 8 * length s.completions
+pub length_back : (s : State) → IsState s → length (spelling s) ≡ 136
 length_back s is =
     omega (
       arith,
       length_front s,
-      length-append (words s.place ++ to_be_bytes w32 (length s.completions)) (words s.completions),
-      length-append (words s.place) (to_be_bytes w32 (length s.completions)),
+      length-append (words s.place) (to_be_bytes w64 (floor_in s) ++ words (marks_in s)),
+      length-append (to_be_bytes w64 (floor_in s)) (words (marks_in s)),
       length_words s.place,
-      length_words s.completions,
+      length_words (marks_in s),
       is.words,
     )
-
--- what follows a spelling doesn't change its number of completions
-count_before : (bytes rest : List ℕ) → 100 ≤ length bytes → count_in (bytes ++ rest) ≡ count_in bytes
-unfolding field
-count_before bytes rest long =
-    ap (λ l. from_be_bytes w32 (take 4 l)) (drop-append-le 96 bytes rest (omega (arith, long)))
-    ∙ ap (from_be_bytes w32) (take-append-le 4 (drop 96 bytes) rest (omega (arith, length-drop 96 bytes, long)))
-
-nothing : (xs : List ℕ) → length xs ≡ 0 → xs ≡ []
-nothing [] e = refl
-nothing (x ∷ xs) e = absurd (omega (arith, e))
-
-pub no_prefix : (s t : State) (rest : List ℕ) → IsState s → IsState t → spelling s ++ rest ≡ spelling t → rest ≡ []
-no_prefix s t rest is_s is_t e =
-    let same : length s.completions ≡ length t.completions =
-    sym (count_back s is_s) ∙ sym (count_before (spelling s) rest (omega (arith, length_back s is_s))) ∙ ap count_in e ∙ count_back t is_t in
-    nothing rest (omega (arith, same, length_back s is_s, length_back t is_t, length-append (spelling s) rest, ap length e))

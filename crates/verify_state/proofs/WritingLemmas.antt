@@ -3,7 +3,10 @@ use Rattle.std.proofs.Common.{◌≡◌, ℕ, List, [], ◌∷◌, ◌++◌, ref
 use Rattle.std.specs.Int.{w32, w64, to_be_bytes}
 use Rattle.fc_base.specs.declared.numbers.Key.{Key}
 use Rattle.fc_base.specs.declared.record.JobParts.{JobParts}
-use Rattle.verify_state.specs.Spelling.{kind_code, verify_code, key_bytes, job_bytes}
+use Rattle.std.specs.Prelude.{codes}
+use Rattle.verify_state.specs.State.{State, floor_in, marks_in}
+use Rattle.verify_state.specs.Codes.{kind_code, verify_code}
+use Rattle.verify_state.specs.Spelling.{words, key_bytes, job_bytes, spelling}
 
 -- one piece more
 pub joined : (b x y p q : List ℕ) → p ≡ b ++ x → q ≡ p ++ y → q ≡ b ++ (x ++ y)
@@ -18,3 +21,17 @@ pub job_bytes_are : (job : JobParts) → job_bytes job ≡ (kind_code job.kind �
     ++ to_be_bytes w32 job.blocks ++ to_be_bytes w64 job.total ++ to_be_bytes w64 job.seed ++ to_be_bytes w32 job.depth ++ to_be_bytes w32 job.window
 unfolding job_bytes
 job_bytes_are job = refl
+
+-- a state, piece by piece: the number issued, the floor and the marks by what stands for them
+pub spelled_on : (s : State) (b p q r t u v x issued floor marks : List ℕ) →
+    p ≡ b ++ codes "FCV2" → q ≡ p ++ key_bytes s.key → r ≡ q ++ job_bytes s.job → t ≡ r ++ issued → u ≡ t ++ words s.place → v ≡ u ++ floor → x ≡ v ++ marks →
+    issued ≡ to_be_bytes w64 s.issued → floor ≡ to_be_bytes w64 (floor_in s) → marks ≡ words (marks_in s) → x ≡ b ++ spelling s
+unfolding spelling
+spelled_on s b p q r t u v x issued floor marks e f g h i j k l m n =
+    let one = joined u floor marks v x j k in
+    let two = joined t (words s.place) _ u x i one in
+    let three = joined r issued _ t x h two in
+    let four = joined q (job_bytes s.job) _ r x g three in
+    let five = joined p (key_bytes s.key) _ q x f four in
+    let six = joined b (codes "FCV2") _ p x e five in
+    six ∙ rw (l, m, n) refl

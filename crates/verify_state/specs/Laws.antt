@@ -1,20 +1,38 @@
 -- What holds of the spelling alone.
-use Rattle.std.specs.Prelude.{◌≡◌, ℕ, ◌<◌, List, [], ◌++◌}
+use Rattle.std.specs.Prelude.{◌≡◌, ℕ, ◌<◌, List, [], ◌++◌, length, IsTrue}
 use Rattle.std.specs.List.{AllByRecursion}
 use Rattle.verify_state.specs.State.{State, IsState}
 use Rattle.verify_state.specs.Spelling.{spelling}
-use Rattle.verify_state.specs.Reading.{faults_of, state_in}
+use Rattle.verify_state.specs.Reading.{is_layout_1, is_layout_2, faults_of, state_in, state_listed}
 
--- The spelling of a state has no fault, and says that state.
+-- The spelling of a state is of layout 2, has 136 bytes and no fault, and says that state.
+pub record IsReadBack (s : State) : Type 0 where
+  pub layout : IsTrue (is_layout_2 (spelling s))
+  pub long : length (spelling s) ≡ 136
+  pub sound : faults_of (spelling s) ≡ []
+  pub said : state_in (spelling s) ≡ s
+
+-- Each state is read back from its spelling.
 abbrev pub ReadsBack : Type 0
-ReadsBack = (s : State) → IsState s → (faults_of (spelling s) ≡ []) × (state_in (spelling s) ≡ s)
+ReadsBack = (s : State) → IsState s → IsReadBack s
 
--- Bytes that have no fault are the spelling of the state that they say, which keeps its ranges.
+-- Bytes of layout 2 that have no fault are the spelling of the state that they say.
 abbrev pub IsSpelled : Type 0
 IsSpelled =
     (bytes : List ℕ) → AllByRecursion (λ byte. byte < 256) bytes → faults_of bytes ≡ [] →
-    IsState (state_in bytes) × (spelling (state_in bytes) ≡ bytes)
+    IsTrue (is_layout_2 bytes) → spelling (state_in bytes) ≡ bytes
 
--- No spelling is a proper prefix of another.
+-- Bytes of layout 1 that have no fault say the state of their list.
+abbrev pub SaysItsList : Type 0
+SaysItsList =
+    (bytes : List ℕ) → faults_of bytes ≡ [] → IsTrue (is_layout_1 bytes) → state_in bytes ≡ state_listed bytes
+
+-- Whatever bytes have no fault say a state in its ranges.
+abbrev pub SaysAState : Type 0
+SaysAState =
+    (bytes : List ℕ) → AllByRecursion (λ byte. byte < 256) bytes → faults_of bytes ≡ [] → IsState (state_in bytes)
+
+-- Bytes without a fault, of either layout, are no proper prefix of others.
 abbrev pub IsNoPrefix : Type 0
-IsNoPrefix = (s t : State) (rest : List ℕ) → IsState s → IsState t → spelling s ++ rest ≡ spelling t → rest ≡ []
+IsNoPrefix =
+    (bytes rest : List ℕ) → faults_of bytes ≡ [] → faults_of (bytes ++ rest) ≡ [] → rest ≡ []

@@ -1,7 +1,11 @@
+pub mod Codes
 pub mod Front
+pub mod Inside
 pub mod Label
 pub mod Laws
+pub mod Layouts
 pub mod Misfit
 pub mod Reading
+pub mod Same
 pub mod Spelling
 pub mod State

@@ -1,29 +1,32 @@
 -- Whether a state is one of a job that is to be checked.
-use Rattle.std.specs.Prelude.{◌≡◌, ◌≢◌, ◌≤◌, Result, Ok, Err}
+use Rattle.std.specs.Prelude.{◌≡◌, Bool, not, ◌&&◌, nat_le, bytes_eq, Option, Some, None, if◌then◌else◌, Result, Ok, Err}
 use Rattle.fc_base.specs.declared.numbers.Key.{Key}
 use Rattle.fc_base.specs.declared.record.JobParts.{JobParts}
 use Rattle.fc_base.specs.declared.fault.Fault.{Fault}
-use Rattle.fc_base.specs.declared.fault.Fault.TheVariants as faults
+use Rattle.fc_base.specs.declared.fault.Fault.TheVariants.{OtherKey, OtherJob, OtherPlace}
+use Rattle.fc_base.specs.Keys.{is_same_key}
 use Rattle.write_order.specs.Places.{place}
 use Rattle.verify_state.specs.State.{State}
+use Rattle.verify_state.specs.Same.{is_of_kind, is_of_region}
 
 -- The job writes the same bytes to the same blocks as the state's, and at least as often. Depth and
 -- window may differ.
-pub record IsOfJob (s : State) (job : JobParts) : Type 0 where
-  pub kind : s.job.kind ≡ job.kind
-  pub verify : s.job.verify ≡ job.verify
-  pub pattern : s.job.pattern ≡ job.pattern
-  pub bs : s.job.bs ≡ job.bs
-  pub blocks : s.job.blocks ≡ job.blocks
-  pub total : s.job.total ≡ job.total
-  pub seed : s.job.seed ≡ job.seed
-  pub issued : s.issued ≤ job.total
+abbrev pub is_of_job : State → JobParts → Bool
+is_of_job s job = is_of_kind s.job job && is_of_region s.job job && nat_le s.issued job.total
 
--- A state fits where it has the key, is of the job, and its place is that of the job after as many
--- writes. The first of these that fails is told.
+-- Why a state doesn't fit: the first of key, job and place that differs. The place has to be that of
+-- the job after as many writes.
+unfoldable pub misfit : State → Key → JobParts → Option Fault
+misfit s key job =
+    if not (is_same_key s.key key) then Some OtherKey
+    else (if not (is_of_job s job) then Some OtherJob
+    else (if not (bytes_eq s.place (place job s.issued)) then Some OtherPlace else None))
+
+-- No fault is good, and a fault is told.
+abbrev pub fit_answer : Option Fault → Result (Unit {0}) Fault
+fit_answer None = Ok tt
+fit_answer (Some fault) = Err fault
+
+-- A state fits a key and a job, or the misfit is told.
 abbrev pub Fits : State → Key → JobParts → Result (Unit {0}) Fault → Type 0
-Fits s key job (Ok _) = (s.key ≡ key) × IsOfJob s job × (s.place ≡ place job s.issued)
-Fits s key job (Err faults.OtherKey) = s.key ≢ key
-Fits s key job (Err faults.OtherJob) = (s.key ≡ key) × (IsOfJob s job → ⊥)
-Fits s key job (Err faults.OtherPlace) = (s.key ≡ key) × IsOfJob s job × (s.place ≢ place job s.issued)
-Fits s key job (Err _) = ⊥
+Fits s key job answer = answer ≡ fit_answer (misfit s key job)

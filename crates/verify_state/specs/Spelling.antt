@@ -1,25 +1,11 @@
--- The bytes of a verify state, layout 1.
-use Rattle.std.specs.Prelude.{ℕ, List, [], ◌∷◌, ◌++◌, length, codes}
+-- The bytes of a verify state, layout 2.
+use Rattle.std.specs.Prelude.{ℕ, List, [], ◌∷◌, ◌++◌, codes}
 use Rattle.std.specs.List.{flat_map}
 use Rattle.std.specs.Int.{w32, w64, to_be_bytes}
 use Rattle.fc_base.specs.declared.numbers.Key.{Key}
 use Rattle.fc_base.specs.declared.record.JobParts.{JobParts}
-use Rattle.fc_base.specs.declared.record.Kind.{Kind}
-use Rattle.fc_base.specs.declared.record.Kind.TheVariants.{Sequential, RandomMap, RandomFree}
-use Rattle.fc_base.specs.declared.record.Verify.{Verify}
-use Rattle.fc_base.specs.declared.record.Verify.TheVariants.{Stamp, Pattern}
-use Rattle.verify_state.specs.State.{State}
-
--- The code of an order.
-abbrev pub kind_code : Kind → ℕ
-kind_code Sequential = 0
-kind_code RandomMap = 1
-kind_code RandomFree = 2
-
--- The code of what is written.
-abbrev pub verify_code : Verify → ℕ
-verify_code Stamp = 0
-verify_code Pattern = 1
+use Rattle.verify_state.specs.Codes.{kind_code, verify_code}
+use Rattle.verify_state.specs.State.{State, floor_in, marks_in}
 
 -- Numbers of eight bytes, one behind the other.
 abbrev pub words : List ℕ → List ℕ
@@ -36,9 +22,8 @@ job_bytes job =
     ++ to_be_bytes w32 job.blocks ++ to_be_bytes w64 job.total ++ to_be_bytes w64 job.seed
     ++ to_be_bytes w32 job.depth ++ to_be_bytes w32 job.window
 
--- The mark, the key, the settings, the number issued, the place, the number of completions, and the
--- completions, oldest first.
-abbrev pub spelling : State → List ℕ
+-- The magic, the key, the settings, the number issued, the place, the floor, and the marks.
+unfoldable pub spelling : State → List ℕ
 spelling s =
-    codes "FCV1" ++ key_bytes s.key ++ job_bytes s.job ++ to_be_bytes w64 s.issued
-    ++ words s.place ++ to_be_bytes w32 (length s.completions) ++ words s.completions
+    codes "FCV2" ++ (key_bytes s.key ++ (job_bytes s.job ++ (to_be_bytes w64 s.issued
+    ++ (words s.place ++ (to_be_bytes w64 (floor_in s) ++ words (marks_in s))))))

@@ -1,12 +1,75 @@
-//! Whether a job can have come to a list of completions, and how many writes the list counts.
+//! Which writes count, by marks or by a list of completions, and whether a job can have come to them.
 
-ghost use Rattle.std.specs.Prelude.{◌≡◌, ◌*◌, ◌-◌, ◌≤◌, length, filter, nat_le, nat_lt, IsTrue};
-ghost use Rattle.std.specs.Bool.{Decides};
-ghost use Rattle.std.specs.List.{list_all};
-ghost use Rattle.fc_base.specs.Counted.{counted, uncounted, is_distinct, is_possible};
-ghost use Rattle.verify_state.specs.State.{has_come};
+ghost use Rattle.std.specs.Prelude.{◌≡◌, ◌-◌, ◌*◌, ◌^◌, ◌<◌, ◌≤◌, length, filter, nat_le, nat_lt, bytes_eq, IsTrue};
+ghost use Rattle.std.specs.List.{list_all, AllByRecursion};
+ghost use Rattle.fc_base.specs.Counted.{has, counted, uncounted, is_distinct, is_possible};
+ghost use Rattle.fc_base.specs.Marks.{floor_of, marks_of, ends_by, counted_by, is_possible_by};
+ghost use Rattle.verify_state.specs.State.{has_come, has_come_by};
 
-use fc_base::{JobRecord, Seq, is_counted};
+use fc_base::{JobRecord, Marks, Seq};
+
+/// The first number of the last window of those issued.
+pub(crate) fn floor_of(window: u32, issued: u64) -> u64
+    ensures value { result ≡ floor_of window issued }
+    ensures below { result ≤ issued }
+{
+    issued.saturating_sub(u64::from(window))
+}
+
+// ---- by marks
+
+/// How many of the issued writes count: all below the floor, and one for each bit.
+pub(crate) fn completed(window: u32, issued: u64, marks: &Marks) -> u64
+    requires narrow { window ≤ 256 }
+    requires ends { IsTrue (ends_by (issued - floor_of window issued) marks.now) }
+    ensures { result ≡ length (counted_by window issued marks.now) }
+{
+    let _words = marks.words();
+    floor_of(window, issued) + u64::from(marks.count())
+}
+
+/// Whether a write counts: it was issued, and lies below the floor or has a bit.
+pub(crate) fn counts(window: u32, issued: u64, marks: &Marks, seq: Seq) -> bool
+    requires { window ≤ 256 }
+    ensures { result ≡ has (counted_by window issued marks.now) seq }
+{
+    let number = seq.0;
+    let floor = floor_of(window, issued);
+    if number >= issued {
+        return false;
+    }
+    if number < floor {
+        return true;
+    }
+    marks.has((number - floor) as usize)
+}
+
+/// Whether two marks count the same writes.
+pub(crate) fn counts_alike(window: u32, issued: u64, one: &Marks, other: &Marks) -> bool
+    requires one { IsTrue (ends_by (issued - floor_of window issued) one.now) }
+    requires other { IsTrue (ends_by (issued - floor_of window issued) other.now) }
+    ensures { result ≡ bytes_eq (counted_by window issued one.now) (counted_by window issued other.now) }
+{
+    one.words() == other.words()
+}
+
+/// Whether a job can have issued so many writes and have these marks.
+#[tactic(auto, unfolding(crate::specs::State::has_come_by))]
+pub(crate) fn has_come_by(job: &JobRecord, issued: u64, marks: &Marks) -> bool
+    ensures { result ≡ has_come_by job.now issued marks.now }
+{
+    let window = job.window();
+    let floor = floor_of(window, issued);
+    if issued > job.total() {
+        return false;
+    }
+    if !marks.ends_by(issued - floor) {
+        return false;
+    }
+    issued - completed(window, issued, marks) <= u64::from(job.depth())
+}
+
+// ---- by a list of completions
 
 /// Whether no write stands in the list twice.
 fn is_distinct(list: &[Seq]) -> bool
@@ -30,14 +93,14 @@ fn count_from(list: &[Seq], first: u64) -> u64
     list.iter().filter(|seq| first <= seq.0).count() as u64
 }
 
-/// How many of the issued writes count: all that lie a window or more below the next one, and those of
-/// the list that don't.
-pub(crate) fn completed(window: u32, issued: u64, list: &[Seq]) -> u64
+/// How many of the issued writes the list counts: all below the floor, and those of the list that are
+/// not.
+fn listed(window: u32, issued: u64, list: &[Seq]) -> u64
     requires distinct { IsTrue (is_distinct list.now) }
     requires below { IsTrue (list_all (λ k. nat_lt k issued) list.now) }
     ensures { result ≡ length (counted window issued list.now) }
 {
-    let floor = issued.saturating_sub(u64::from(window));
+    let floor = floor_of(window, issued);
     floor + count_from(list, floor)
 }
 
@@ -50,21 +113,23 @@ pub(crate) fn has_come(job: &JobRecord, issued: u64, list: &[Seq]) -> bool
         return false;
     }
     let window = job.window();
-    let completed = completed(window, issued, list);
+    let completed = listed(window, issued, list);
     issued - completed <= u64::from(job.depth())
         && list.len() as u64 == (2 * u64::from(window)).min(completed)
 }
 
-/// Whether two lists count the same writes. Only those within a window below the next one can differ.
-pub(crate) fn counts_alike(window: u32, issued: u64, one: &[Seq], other: &[Seq]) -> bool
-    ensures { Decides result (counted window issued one.now ≡ counted window issued other.now) }
+/// The marks of what a list counts.
+pub(crate) fn marks_of(window: u32, issued: u64, list: &[Seq]) -> Marks
+    requires { window ≤ 256 }
+    ensures { result ≡ marks_of (has (counted window issued list.now)) (floor_of window issued) }
 {
-    let floor = issued.saturating_sub(u64::from(window));
-    for k in floor..issued {
-        let seq = Seq(k);
-        if is_counted(one, window, issued, seq) != is_counted(other, window, issued, seq) {
-            return false;
+    let floor = floor_of(window, issued);
+    let mut marks = Marks::NONE;
+    for seq in list {
+        if floor <= seq.0 && seq.0 < issued {
+            marks.set((seq.0 - floor) as usize);
         }
     }
-    true
+    let _words = marks.words();
+    marks
 }

@@ -1,15 +1,22 @@
 //! What holds of the bytes of states. The functions have nothing to run.
 
-ghost use Rattle.verify_state.specs.Laws.{ReadsBack, IsSpelled, IsNoPrefix};
+ghost use Rattle.verify_state.specs.Laws.{ReadsBack, IsSpelled, SaysItsList, SaysAState, IsNoPrefix};
 
-/// Each state has one spelling: it is read back from it, and bytes that are read without a fault are
-/// the spelling of the state that they say.
+/// Each state has one spelling, which is of layout 2: it is read back from it, and bytes of that layout
+/// that are read without a fault are the spelling of the state that they say.
 pub fn one_spelling()
     ensures reads_back { ReadsBack }
     ensures is_spelled { IsSpelled }
 {}
 
-/// No spelling of a state is a proper prefix of another: where a state's bytes end is seen in them.
+/// What bytes without a fault say is a state, and those of layout 1 say the state of their list.
+pub fn bytes_say_states()
+    ensures says_a_state { SaysAState }
+    ensures says_its_list { SaysItsList }
+{}
+
+/// No spelling of a state, of either layout, is a proper prefix of another: where a state's bytes end
+/// is seen in them.
 pub fn no_spelling_begins_another()
     ensures { IsNoPrefix }
 {}

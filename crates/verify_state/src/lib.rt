@@ -4,10 +4,13 @@
 mod counting;
 mod label;
 mod laws;
+mod layouts;
+mod misfit;
 mod ranges;
 mod reading;
+mod same;
 mod state;
 mod writing;
 
-pub use laws::{no_spelling_begins_another, one_spelling};
+pub use laws::{bytes_say_states, no_spelling_begins_another, one_spelling};
 pub use state::VerifyState;

@@ -2,20 +2,17 @@
 
 ghost use Rattle.std.specs.Prelude.{◌≡◌, ◌<◌, ◌^◌, length};
 ghost use Rattle.std.specs.List.{AllByRecursion};
-ghost use Rattle.verify_state.specs.State.{is_key, has_counts};
+ghost use Rattle.verify_state.specs.State.{has_counts};
 
 use fc_base::Key;
 
-pub(crate) fn is_key(key: &Key) -> bool
-    ensures { result ≡ is_key key.now }
-{
-    1 <= key.run.0 && key.server.0 < 8 && key.job.0 < 16
-}
+/// The most writes that a job issues.
+pub(crate) const MAX_WRITES: u64 = 1_000_000;
 
 pub(crate) fn has_counts(window: u32, issued: u64, count: u64) -> bool
     ensures { result ≡ has_counts window issued count }
 {
-    issued <= 1_000_000 && count <= 2 * u64::from(window)
+    issued <= MAX_WRITES && count <= 2 * u64::from(window)
 }
 
 /// A number is below 2^64, which a clause doesn't know of a field.

@@ -2,24 +2,24 @@
 
 ghost use Rattle.std.specs.Prelude.{◌≡◌, ◌+◌, ◌*◌, ◌≤◌, length, IfSome, IfOk, IsTrue, Some, None, if◌then◌else◌};
 ghost use Rattle.std.specs.Int.{w8, w32, w64};
-ghost use Rattle.verify_state.specs.Reading.{field, words_at, key_in, job_in, place_in, has_codes, has_fields, has_ranges, kind_of, verify_of};
-ghost use Rattle.verify_state.specs.State.{is_key};
+ghost use Rattle.fc_base.specs.Keys.{is_key};
+ghost use Rattle.verify_state.specs.Codes.{kind_of, verify_of};
+ghost use Rattle.verify_state.specs.Reading.{field, words_at, key_in, job_in, place_in, is_layout_1, is_layout_2, has_codes, has_fields, has_ranges};
 ghost use Rattle.verify_state.specs.Front.{front_in, Fronts};
 
-use crate::ranges::{has_counts, is_key};
-use fc_base::{Fault, JobNo, JobParts, JobRecord, Key, Kind, RunNo, Seq, ServerNo, Verify};
+use crate::ranges::MAX_WRITES;
+use fc_base::{Fault, JobNo, JobParts, JobRecord, Key, Kind, RunNo, ServerNo, Verify};
 
-/// Bytes before the completions.
-pub(crate) const FRONT: usize = 100;
+/// The fewest bytes that a state has, in either layout.
+const SHORTEST: usize = 100;
 
-/// What stands before the completions.
+/// What both layouts have before the completions or the marks.
 #[derive(Drop)]
 pub(crate) struct Front {
     pub key: Key,
     pub rec: JobRecord,
     pub issued: u64,
     pub place: [u64; 4],
-    pub count: usize,
 }
 
 #[tactic(auto, unfolding(crate::specs::Reading::field))]
@@ -31,7 +31,7 @@ fn u8_at(bytes: &[u8], at: usize) -> u8
 }
 
 #[tactic(auto, unfolding(crate::specs::Reading::field))]
-fn u32_at(bytes: &[u8], at: usize) -> u32
+pub(crate) fn u32_at(bytes: &[u8], at: usize) -> u32
     requires { at + 4 ≤ length bytes.now }
     ensures { result ≡ field w32 at bytes.now }
 {
@@ -40,7 +40,7 @@ fn u32_at(bytes: &[u8], at: usize) -> u32
 }
 
 #[tactic(auto, unfolding(crate::specs::Reading::field))]
-fn u64_at(bytes: &[u8], at: usize) -> u64
+pub(crate) fn u64_at(bytes: &[u8], at: usize) -> u64
     requires { at + 8 ≤ length bytes.now }
     ensures { result ≡ field w64 at bytes.now }
 {
@@ -48,6 +48,19 @@ fn u64_at(bytes: &[u8], at: usize) -> u64
     u64::from_be_bytes([
         field[0], field[1], field[2], field[3], field[4], field[5], field[6], field[7],
     ])
+}
+
+/// Four numbers of eight bytes.
+pub(crate) fn words_at(bytes: &[u8], at: usize) -> [u64; 4]
+    requires { at + 32 ≤ length bytes.now }
+    ensures { result ≡ words_at 4 at bytes.now }
+{
+    [
+        u64_at(bytes, at),
+        u64_at(bytes, at + 8),
+        u64_at(bytes, at + 16),
+        u64_at(bytes, at + 24),
+    ]
 }
 
 fn kind_of(code: u8) -> Kind
@@ -101,12 +114,7 @@ fn place_in(bytes: &[u8]) -> [u64; 4]
     requires { 100 ≤ length bytes.now }
     ensures { result ≡ place_in bytes.now }
 {
-    [
-        u64_at(bytes, 64),
-        u64_at(bytes, 72),
-        u64_at(bytes, 80),
-        u64_at(bytes, 88),
-    ]
+    words_at(bytes, 64)
 }
 
 fn has_codes(bytes: &[u8]) -> bool
@@ -120,19 +128,28 @@ fn has_fields(bytes: &[u8]) -> bool
     requires { 100 ≤ length bytes.now }
     ensures { result ≡ has_fields bytes.now }
 {
-    has_codes(bytes)
-        && is_key(&key_in(bytes))
-        && has_counts(
-            u32_at(bytes, 52),
-            u64_at(bytes, 56),
-            u64::from(u32_at(bytes, 96)),
-        )
+    has_codes(bytes) && key_in(bytes).is_key() && u64_at(bytes, 56) <= MAX_WRITES
 }
 
-/// What stands before the completions, or `None` where a field is out of its range.
+/// Whether the bytes are of layout 1, which has a list of completions.
+#[tactic(auto, unfolding(crate::specs::Reading::is_layout_1))]
+pub(crate) fn is_layout_1(bytes: &[u8]) -> bool
+    ensures { result ≡ is_layout_1 bytes.now }
+{
+    bytes.starts_with(b"FCV1")
+}
+
+/// Whether the bytes are of layout 2, which has marks.
+#[tactic(auto, unfolding(crate::specs::Reading::is_layout_2))]
+fn is_layout_2(bytes: &[u8]) -> bool
+    ensures { result ≡ is_layout_2 bytes.now }
+{
+    bytes.starts_with(b"FCV2")
+}
+
+/// What stands up to the place, or `None` where a field is out of its range.
 fn ranged(bytes: &[u8]) -> Option<Front>
     requires { 100 ≤ length bytes.now }
-    ensures few { IfSome result (λ front. front.count ≤ 512) }
     ensures key { IfSome result (λ front. IsTrue (is_key front.key)) }
     ensures value { result ≡ (if has_ranges bytes.now then Some (front_in bytes.now) else None) }
 {
@@ -145,39 +162,20 @@ fn ranged(bytes: &[u8]) -> Option<Front>
         rec,
         issued: u64_at(bytes, 56),
         place: place_in(bytes),
-        count: u32_at(bytes, 96) as usize,
     })
 }
 
-/// What stands before the completions, which are there, and nothing else behind them.
+/// What stands up to the place, or the first fault there.
 pub(crate) fn front_of(bytes: &[u8]) -> Result<Front, Fault>
     ensures value { Fronts result bytes.now }
-    ensures few { IfOk result (λ front. front.count ≤ 512) }
+    ensures long { IfOk result (λ _. SHORTEST ≤ length bytes.now) }
     ensures key { IfOk result (λ front. IsTrue (is_key front.key)) }
 {
-    if bytes.len() < FRONT {
+    if bytes.len() < SHORTEST {
         return Err(Fault::StateShort);
     }
-    if !bytes.starts_with(b"FCV1") {
+    if !is_layout_1(bytes) && !is_layout_2(bytes) {
         return Err(Fault::StateBadMagic);
     }
-    let front = ranged(bytes).ok_or(Fault::StateBadField)?;
-    let length = FRONT + 8 * front.count;
-    if bytes.len() < length {
-        return Err(Fault::StateShort);
-    }
-    if bytes.len() > length {
-        return Err(Fault::StateTrailing);
-    }
-    Ok(front)
-}
-
-/// Reads as many completions as there is room for, from the first on.
-pub(crate) fn read_completions(bytes: &[u8], completions: &mut [Seq])
-    requires { FRONT + 8 * length completions.old ≤ length bytes.now }
-    ensures { completions.new ≡ words_at (length completions.old) 100 bytes.now }
-{
-    for (i, seq) in completions.iter_mut().enumerate() {
-        *seq = Seq(u64_at(bytes, FRONT + 8 * i));
-    }
+    ranged(bytes).ok_or(Fault::StateBadField)
 }

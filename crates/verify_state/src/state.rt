@@ -1,59 +1,68 @@
 //! The verify state of a job.
 
-ghost use Rattle.std.specs.Prelude.{◌≡◌, ◌≤◌, [], IfOk, IfErr, IsTrue, Some, length, slice_get, string_bytes};
+ghost use Rattle.std.specs.Prelude.{◌≡◌, ◌≤◌, ◌++◌, [], IfOk, IfErr, OnOk, IsTrue, Some, length, slice_get, bytes_eq, string_bytes};
 ghost use Rattle.std.specs.Bool.{Decides};
 ghost use Rattle.fc_base.specs.Counted.{has};
-ghost use Rattle.verify_state.specs.State.{field_faults, state_of, IsState, IsSame, is_key};
+ghost use Rattle.fc_base.specs.Keys.{is_key};
+ghost use Rattle.verify_state.specs.State.{has_come_by, field_faults, field_faults_by, state_of, state_by, floor_in, marks_in as marks_of, IsState, IsSame};
+ghost use Rattle.verify_state.specs.Same.{is_same};
 ghost use Rattle.verify_state.specs.Label.{label};
 ghost use Rattle.verify_state.specs.Spelling.{spelling};
-ghost use Rattle.verify_state.specs.Misfit.{Fits, IsOfJob};
+ghost use Rattle.verify_state.specs.Misfit.{Fits};
 ghost use Rattle.verify_state.specs.Reading.{Answers};
 
 use crate::counting;
 use crate::label::label as label_of;
-use crate::ranges::{are_in_range, has_counts, in_range, is_key, run_in_range};
-use crate::reading::{FRONT, front_of, read_completions};
-use crate::writing::{push_completions, push_job, push_key, push_place};
-use fc_base::{Fault, JobRecord, Key, Seq, is_counted};
+use crate::layouts::{LENGTH, marks_in};
+use crate::misfit::check_fit;
+use crate::ranges::{MAX_WRITES, are_in_range, has_counts, in_range, run_in_range};
+use crate::reading::{Front, front_of};
+use crate::same::{are_equal, is_same_job, is_same_key};
+use crate::writing::{push_job, push_key, push_words};
+use fc_base::{Fault, JobRecord, Key, Marks, Seq};
 use std::alloc::{AllocError, Global};
 use std::marker::Model;
-use write_order::place_of;
 
 /// What a state's bytes begin with.
-const MARK: &[u8] = b"FCV1";
-
-/// The most completions that a state has: two of the widest windows.
-const LONGEST: usize = 512;
+const MAGIC: &[u8] = b"FCV2";
 
 /// What a trigger takes of a job (fio's manual, "Verification and triggers": the write state): whose
-/// it is, what it writes, how many writes were issued, where the generator stands, and the last
-/// completions. From these it counts every write that had completed by then, and no other.
-#[derive(Debug, Drop)]
+/// it is, what it writes, how many writes were issued, where the generator stands, and which writes
+/// had completed by then. All below its [`floor`](VerifyState::floor) had, since the window holds a
+/// write back until they have; of the numbers from the floor on, which are at most 256, the
+/// [`marks`](VerifyState::marks) tell.
+///
+/// A state is a plain value: it is taken, copied and compared without memory.
+#[derive(Clone, Copy, Debug)]
 pub struct VerifyState {
     key: Key,
     rec: JobRecord,
     issued: u64,
     place: [u64; 4],
-    completions: Vec<Seq>,
+    marks: Marks,
 }
 
 impl Model for VerifyState {
-    ghost use Rattle.std.specs.Prelude.{◌≤◌, IsTrue, length};
-    ghost use Rattle.verify_state.specs.State.{State, state_of, is_key, has_come};
+    ghost use Rattle.verify_state.specs.State.{State};
 
     ghost Value = { State };
 
-    ghost view = { λ s. state_of s.key s.rec s.issued s.place s.completions.items };
+    ghost use Rattle.verify_state.specs.Inside.{state_of_fields, fields_of, fields_again, IsKept};
 
-    ghost invariant = { λ s. IsTrue (is_key s.key)
-        × IsTrue (has_come s.rec s.issued s.completions.items)
-        × (length s.completions.items ≤ 512) };
+    ghost view = { state_of_fields };
+
+    ghost invariant = { IsKept };
+
+    ghost inverse = { fields_of };
+
+    ghost inverse_ok = { fields_again };
 }
 
 impl VerifyState {
-    /// The state of these fields. A run, server or job that can't be, more than a million writes
-    /// issued, or a list longer than two windows is [`Fault::StateBadField`]; a list and a number issued to which
-    /// no job can have come is [`Fault::Impossible`]. The list is handed back beside the fault.
+    /// The state of these fields, with a list of completions in place of marks. A run, server or job
+    /// that can't be, more than a million writes issued, or a list longer than two windows is
+    /// [`Fault::StateBadField`]; a list and a number issued to which no job can have come is
+    /// [`Fault::Impossible`]. The list is handed back beside the fault.
     pub fn make(
         key: Key,
         rec: &JobRecord,
@@ -61,24 +70,68 @@ impl VerifyState {
         place: [u64; 4],
         completions: Vec<Seq>,
     ) -> Result<VerifyState, (Fault, Vec<Seq>)>
-        ensures made { IfOk result (λ s. (field_faults key rec.now issued completions.items ≡ [])
-            × (s ≡ state_of key rec.now issued place completions.items)) }
+        ensures made { IfOk result (λ s. s ≡ state_of key rec.now issued place completions.items) }
+        ensures sound { IfOk result (λ _. field_faults key rec.now issued completions.items ≡ []) }
         ensures refused { IfErr result (λ e. (slice_get (field_faults key rec.now issued completions.items) 0 ≡ Some e.0)
             × (e.1.items ≡ completions.items)) }
     {
-        if !is_key(&key) || !has_counts(rec.window(), issued, completions.len() as u64) {
+        let window = rec.window();
+        if !key.is_key() || !has_counts(window, issued, completions.len() as u64) {
             return Err((Fault::StateBadField, completions));
         }
         if !counting::has_come(rec, issued, &completions) {
             return Err((Fault::Impossible, completions));
         }
-        Ok(VerifyState {
+        let marks = counting::marks_of(window, issued, &completions);
+        Ok(VerifyState::with_marks(key, rec, issued, place, marks))
+    }
+
+    /// The state of these fields. Bit `i % 64` of word `i / 64`, the lowest bit first, says that write
+    /// `floor + i` had completed, where the floor is `issued - window`, or 0. A run, server or job that
+    /// can't be, or more than a million writes issued, is [`Fault::StateBadField`]; marks and a number
+    /// issued to which no job can have come is [`Fault::Impossible`].
+    pub fn make_marked(
+        key: Key,
+        rec: &JobRecord,
+        issued: u64,
+        place: [u64; 4],
+        marks: [u64; 4],
+    ) -> Result<VerifyState, Fault>
+        ensures made { IfOk result (λ s. s ≡ state_by key rec.now issued place marks) }
+        ensures sound { IfOk result (λ _. field_faults_by key rec.now issued marks ≡ []) }
+        ensures refused { IfErr result (λ fault.
+            slice_get (field_faults_by key rec.now issued marks) 0 ≡ Some fault) }
+    {
+        if !key.is_key() || issued > MAX_WRITES {
+            return Err(Fault::StateBadField);
+        }
+        let marks = Marks::from_words(marks);
+        if !counting::has_come_by(rec, issued, &marks) {
+            return Err(Fault::Impossible);
+        }
+        Ok(VerifyState::with_marks(key, rec, issued, place, marks))
+    }
+
+    /// The state of fields that are known to be in their ranges.
+    fn with_marks(
+        key: Key,
+        rec: &JobRecord,
+        issued: u64,
+        place: [u64; 4],
+        marks: Marks,
+    ) -> VerifyState
+        requires key { IsTrue (is_key key) }
+        requires come { IsTrue (has_come_by rec.now issued marks) }
+        ensures { result ≡ state_by key rec.now issued place marks }
+    {
+        let _words = marks.words();
+        VerifyState {
             key,
             rec: *rec,
             issued,
             place,
-            completions,
-        })
+            marks,
+        }
     }
 
     /// The job that it was taken of.
@@ -97,7 +150,7 @@ impl VerifyState {
     }
 
     /// How many writes were issued.
-    #[tactic(auto, unfolding(crate::specs::State::has_come))]
+    #[tactic(auto, unfolding(crate::specs::State::has_come_by))]
     pub fn issued(&self) -> u64
         ensures value { result ≡ self.now.issued }
         ensures range { result ≤ self.now.job.total }
@@ -112,35 +165,56 @@ impl VerifyState {
         self.place
     }
 
+    /// The first number of the last window of those issued: all writes below it had completed.
+    pub fn floor(&self) -> u64
+        ensures { result ≡ floor_in self.now }
+    {
+        counting::floor_of(self.rec.window(), self.issued)
+    }
+
+    /// Which writes from the floor on had completed: bit `i % 64` of word `i / 64`, the lowest bit
+    /// first, says it of write `floor + i`.
+    pub fn marks(&self) -> [u64; 4]
+        ensures { result ≡ marks_of self.now }
+    {
+        self.marks.words()
+    }
+
     /// How many of the issued writes had completed.
     pub fn completed(&self) -> u64
         ensures { result ≡ length self.now.counted }
     {
-        counting::completed(self.rec.window(), self.issued, &self.completions)
+        counting::completed(self.rec.window(), self.issued, &self.marks)
     }
 
     /// Whether this write had completed.
     pub fn counts(&self, seq: Seq) -> bool
-        ensures value { result ≡ has self.now.counted seq }
+        ensures { result ≡ has self.now.counted seq }
     {
-        seq.0 < self.issued && is_counted(&self.completions, self.rec.window(), self.issued, seq)
+        counting::counts(self.rec.window(), self.issued, &self.marks, seq)
     }
 
     /// Whether the two states are the same: key, record, number issued, place, and which writes had
-    /// completed. The order of completions is not compared.
+    /// completed.
+    #[tactic(auto, unfolding(crate::specs::Same::is_same))]
     pub fn same(&self, other: &VerifyState) -> bool
-        ensures { Decides result (IsSame self.now other.now) }
+        ensures value { result ≡ is_same self.now other.now }
+        ensures same { Decides result (IsSame self.now other.now) }
     {
-        self.key == other.key
-            && self.rec == other.rec
-            && self.issued == other.issued
-            && self.place == other.place
-            && counting::counts_alike(
-                self.rec.window(),
-                self.issued,
-                &self.completions,
-                &other.completions,
-            )
+        is_same_key(&self.key, &other.key)
+            && is_same_job(&self.rec, &other.rec)
+            && (self.issued == other.issued
+                && are_equal(&self.place, &other.place)
+                && self.counts_alike(other))
+    }
+
+    /// Whether two states, of one window and as many writes issued, count the same writes.
+    fn counts_alike(&self, other: &VerifyState) -> bool
+        requires window { self.now.job.window ≡ other.now.job.window }
+        requires issued { self.now.issued ≡ other.now.issued }
+        ensures { result ≡ bytes_eq self.now.counted other.now.counted }
+    {
+        counting::counts_alike(self.rec.window(), self.issued, &self.marks, &other.marks)
     }
 
     /// Whether the state is one of this job: [`Fault::OtherKey`] for another run, server or job;
@@ -150,94 +224,65 @@ impl VerifyState {
     pub fn fits(&self, key: Key, rec: &JobRecord) -> Result<(), Fault>
         ensures { Fits self.now key rec.now result }
     {
-        if self.key != key {
-            return Err(Fault::OtherKey);
-        }
-        if !self.is_of_job(rec) {
-            return Err(Fault::OtherJob);
-        }
-        if self.place != place_of(rec, self.issued) {
-            return Err(Fault::OtherPlace);
-        }
-        Ok(())
-    }
-
-    fn is_of_job(&self, rec: &JobRecord) -> bool
-        ensures { Decides result (IsOfJob self.now rec.now) }
-    {
-        self.rec.kind() == rec.kind()
-            && self.rec.verify() == rec.verify()
-            && self.rec.pattern() == rec.pattern()
-            && self.rec.bs() == rec.bs()
-            && self.rec.blocks() == rec.blocks()
-            && self.rec.total() == rec.total()
-            && self.rec.seed() == rec.seed()
-            && self.issued <= rec.total()
+        check_fit(self, &key, rec)
     }
 
     /// The name under which the state is stored: `s0-a-0-verify.state` for job 0, named `a`, of server 0.
-    pub fn label(&self, name: &str) -> Result<String, AllocError>
+    pub fn label(&self, alloc: Global, name: &str) -> Result<String, AllocError>
         ensures { IfOk result (λ text. string_bytes text ≡ label self.now.key name.now) }
     {
-        label_of(*self.completions.allocator(), &self.key, name)
+        label_of(alloc, &self.key, name)
     }
 
-    /// A state equal to this one.
-    pub fn copy(&self) -> Result<VerifyState, AllocError>
-        ensures { IfOk result (λ copy. copy ≡ self.now) }
+    /// A state equal to this one. It takes no memory.
+    pub fn copy(&self) -> VerifyState
+        ensures { result ≡ self.now }
     {
-        let completions = Vec::from_slice(*self.completions.allocator(), &self.completions)?;
-        Ok(VerifyState {
-            key: self.key,
-            rec: self.rec,
-            issued: self.issued,
-            place: self.place,
-            completions,
-        })
+        *self
     }
 
-    /// The bytes of the state, layout 1 of this profile: 100 to 4,196 of them.
-    pub fn encode(&self) -> Result<Vec<u8>, AllocError>
-        ensures { IfOk result (λ bytes. bytes.items ≡ spelling self.now) }
+    /// The bytes of the state, layout 2 of this profile: 136 of them.
+    pub fn encode(&self, alloc: Global) -> Result<Vec<u8>, AllocError>
+        ensures spelling { IfOk result (λ bytes. bytes.items ≡ spelling self.now) }
+        ensures len { IfOk result (λ bytes. length bytes.items ≡ LENGTH) }
     {
-        let mut bytes = Vec::with_capacity(
-            *self.completions.allocator(),
-            FRONT + 8 * self.completions.len(),
-        )?;
-        bytes.extend_from_slice(MARK)?;
-        push_key(&mut bytes, &self.key)?;
-        push_job(&mut bytes, &self.rec)?;
-        bytes.extend_from_slice(&self.issued.to_be_bytes())?;
-        push_place(&mut bytes, &self.place)?;
-        bytes.extend_from_slice(&(self.completions.len() as u32).to_be_bytes())?;
-        push_completions(&mut bytes, &self.completions)?;
+        self.keeps_its_ranges();
+        let mut bytes = Vec::with_capacity(alloc, LENGTH)?;
+        self.push_to(&mut bytes)?;
         Ok(bytes)
     }
 
-    /// The state that these bytes are. The first fault is told, in this order: fewer bytes than a state
-    /// without completions has ([`Fault::StateShort`]), another mark ([`Fault::StateBadMagic`]), a field out of its
-    /// range ([`Fault::StateBadField`]), fewer bytes than its completions have, more
-    /// ([`Fault::StateTrailing`]), completions to which no job can have come ([`Fault::Impossible`]), want of memory.
-    pub fn decode(alloc: Global, bytes: &[u8]) -> Result<VerifyState, Fault>
+    /// Adds the bytes of the state, layout 2, to others. Where memory runs out, some of them may be there.
+    #[tactic(auto, unfolding(crate::specs::Spelling::spelling))]
+    pub fn push_to(&self, bytes: &mut Vec<u8>) -> Result<(), AllocError>
+        ensures { OnOk result (bytes.new.items ≡ bytes.old.items ++ spelling self.now) }
+    {
+        bytes.extend_from_slice(MAGIC)?;
+        push_key(bytes, &self.key)?;
+        push_job(bytes, &self.rec)?;
+        bytes.extend_from_slice(&self.issued.to_be_bytes())?;
+        push_words(bytes, &self.place)?;
+        bytes.extend_from_slice(&self.floor().to_be_bytes())?;
+        push_words(bytes, &self.marks.words())?;
+        Ok(())
+    }
+
+    /// The state that these bytes are, in layout 1 or 2. It takes no memory. The first fault is told, in this order: fewer than
+    /// 100 bytes ([`Fault::StateShort`]), another magic than the two layouts' ([`Fault::StateBadMagic`]), a field out of its
+    /// range ([`Fault::StateBadField`]), fewer bytes than the layout asks for, more
+    /// ([`Fault::StateTrailing`]), completions or marks to which no job can have come ([`Fault::Impossible`]).
+    pub fn decode(bytes: &[u8]) -> Result<VerifyState, Fault>
         ensures { Answers result bytes.now }
     {
         let front = front_of(bytes)?;
-        let mut room = [Seq(0); LONGEST];
-        let completions = &mut room[..front.count];
-        read_completions(bytes, completions);
-        if !counting::has_come(&front.rec, front.issued, completions) {
-            return Err(Fault::Impossible);
-        }
-        let Ok(completions) = Vec::from_slice(alloc, completions) else {
-            return Err(Fault::NoMemory);
-        };
-        Ok(VerifyState {
-            key: front.key,
-            rec: front.rec,
-            issued: front.issued,
-            place: front.place,
-            completions,
-        })
+        let marks = marks_in(&front, bytes)?;
+        let Front {
+            key,
+            rec,
+            issued,
+            place,
+        } = front;
+        Ok(VerifyState::with_marks(key, &rec, issued, place, marks))
     }
 
     /// What every state keeps: the ranges of its fields, and that some job can have come to it. There is

@@ -1,12 +1,13 @@
 //! Writing a verify state.
 
 ghost use Rattle.std.specs.Prelude.{◌≡◌, ◌++◌, OnOk};
-ghost use Rattle.verify_state.specs.Spelling.{kind_code, verify_code, words, key_bytes, job_bytes};
+ghost use Rattle.verify_state.specs.Codes.{kind_code, verify_code};
+ghost use Rattle.verify_state.specs.Spelling.{words as spelled, key_bytes, job_bytes};
 
-use fc_base::{JobRecord, Key, Kind, Seq, Verify};
+use fc_base::{JobRecord, Key, Kind, Verify};
 use std::alloc::AllocError;
 
-fn kind_code(kind: Kind) -> u8
+pub(crate) fn kind_code(kind: Kind) -> u8
     ensures { result ≡ kind_code kind }
 {
     match kind {
@@ -16,7 +17,7 @@ fn kind_code(kind: Kind) -> u8
     }
 }
 
-fn verify_code(verify: Verify) -> u8
+pub(crate) fn verify_code(verify: Verify) -> u8
     ensures { result ≡ verify_code verify }
 {
     match verify {
@@ -52,20 +53,11 @@ pub(crate) fn push_job(bytes: &mut Vec<u8>, job: &JobRecord) -> Result<(), Alloc
     Ok(())
 }
 
-pub(crate) fn push_place(bytes: &mut Vec<u8>, place: &[u64; 4]) -> Result<(), AllocError>
-    ensures { OnOk result (bytes.new.items ≡ bytes.old.items ++ words place.now) }
+pub(crate) fn push_words(bytes: &mut Vec<u8>, words: &[u64; 4]) -> Result<(), AllocError>
+    ensures { OnOk result (bytes.new.items ≡ bytes.old.items ++ spelled words.now) }
 {
-    for word in place {
+    for word in words {
         bytes.extend_from_slice(&word.to_be_bytes())?;
-    }
-    Ok(())
-}
-
-pub(crate) fn push_completions(bytes: &mut Vec<u8>, completions: &[Seq]) -> Result<(), AllocError>
-    ensures { OnOk result (bytes.new.items ≡ bytes.old.items ++ words completions.now) }
-{
-    for seq in completions {
-        bytes.extend_from_slice(&seq.0.to_be_bytes())?;
     }
     Ok(())
 }

@@ -1,18 +1,19 @@
 use Rattle.std.proofs.Common.{◌≡◌, ◌∙◌, arith, sym, false, true, length, refl, eqb}
 use Rattle.std.proofs.lemmas.Bool.{le-leb, lt-leb}
 use Rattle.fc_base.specs.Counted.{counted, uncounted}
-use Rattle.verify_state.proofs.CountLemmas.{counted_and_uncounted, comes}
+use Rattle.fc_base.proofs.CountedByLemmas.{counted_and_uncounted}
+use Rattle.verify_state.proofs.CountLemmas.{comes}
 use Rattle.verify_state.proofs.counting.has_come.Goals as goal
 
 pub overflow_sub-issued : goal.overflow_sub-issued
-overflow_sub-issued c = omega (arith, counted_and_uncounted c.window-window.result c.args.issued c.args.list.now, c.completed-completed.ensures)
+overflow_sub-issued c = omega (arith, counted_and_uncounted c.window-window.result c.args.issued c.args.list.now, c.listed-completed.ensures)
 
 pub returns-then-issued-completed : goal.returns-then-issued-completed
 returns-then-issued-completed c =
     let job = c.args.job.now in
     let list = c.args.list.now in
     let issued = c.args.issued in
-    let counts : c.completed-completed.result ≡ length (counted job.window issued list) = rw (← c.window-window.ensures.value) c.completed-completed.ensures in
+    let counts : c.listed-completed.result ≡ length (counted job.window issued list) = rw (← c.window-window.ensures.value) c.listed-completed.ensures in
     let few = le-leb (length (uncounted job.window issued list)) job.depth
     (omega (arith, counted_and_uncounted job.window issued list, counts, c.if-issued-completed.true, c.from.ensures, c.depth.ensures.value)) in
     sym (comes job issued list (omega (arith, c.if-issued-total.false, c.total.ensures.value))
@@ -25,7 +26,7 @@ returns-else-issued-completed c =
     let job = c.args.job.now in
     let list = c.args.list.now in
     let issued = c.args.issued in
-    let counts : c.completed-completed.result ≡ length (counted job.window issued list) = rw (← c.window-window.ensures.value) c.completed-completed.ensures in
+    let counts : c.listed-completed.result ≡ length (counted job.window issued list) = rw (← c.window-window.ensures.value) c.listed-completed.ensures in
     let many = lt-leb (length (uncounted job.window issued list)) job.depth
     (omega (arith, counted_and_uncounted job.window issued list, counts, c.if-issued-completed.false, c.from.ensures, c.depth.ensures.value)) in
     lt-leb _ _ c.if-issued-completed.false

@@ -1,4 +1,4 @@
-use Rattle.verify_state.proofs.SpellingLemmas.{no_prefix}
+use Rattle.verify_state.proofs.PieceLemmas.{no_prefix}
 use Rattle.verify_state.proofs.laws.no_spelling_begins_another.Goals as goal
 
 pub returns : goal.returns

@@ -1,4 +1,4 @@
-use Rattle.std.proofs.Common.{◌≡◌, ◌∙◌, ◌-◌, sym, subst, get_or}
+use Rattle.std.proofs.Common.{◌∙◌, subst, get_or}
 use Rattle.std.specs.Bool.{Decides}
 use Rattle.fc_base.proofs.MarkLemmas.{WordEnds, ends_as_tested}
 use Rattle.fc_base.proofs.marks.Marks.ends_by.Goals as goal

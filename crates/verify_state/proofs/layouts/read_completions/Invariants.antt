@@ -1,7 +1,7 @@
 use Rattle.std.proofs.Common.{◌≡◌, ℕ, ◌+◌, ◌*◌, ◌<◌, get_or}
 use Rattle.std.specs.Int.{w64}
 use Rattle.verify_state.specs.Reading.{field}
-use Rattle.verify_state.proofs.reading.read_completions.Given as goal
+use Rattle.verify_state.proofs.layouts.read_completions.Given as goal
 
 abbrev pub invariant-loop-i : goal.invariant-loop-i
 invariant-loop-i l = record {

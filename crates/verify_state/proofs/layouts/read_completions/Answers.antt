@@ -2,7 +2,7 @@ use Rattle.std.proofs.Common.{ℕ, ◌<◌, ◌+◌, ◌*◌, length, arith}
 use Rattle.std.specs.Int.{w64}
 use Rattle.std.proofs.lemmas.List.FromFn.{fill_by_all}
 use Rattle.verify_state.specs.Reading.{field}
-use Rattle.verify_state.proofs.reading.read_completions.Goals as goal
+use Rattle.verify_state.proofs.layouts.read_completions.Goals as goal
 
 pub returns : goal.returns
 returns c =

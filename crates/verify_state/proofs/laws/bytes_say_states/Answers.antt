@@ -1,0 +1,8 @@
+use Rattle.verify_state.proofs.PieceLemmas.{are_bytes, keeps, said_by_list}
+use Rattle.verify_state.proofs.laws.bytes_say_states.Goals as goal
+
+pub returns-clause-says_a_state : goal.returns-clause-says_a_state
+returns-clause-says_a_state c = λ bytes fits e. keeps bytes (are_bytes bytes fits) e
+
+pub returns-clause-says_its_list : goal.returns-clause-says_its_list
+returns-clause-says_its_list c = λ bytes e one. said_by_list bytes one

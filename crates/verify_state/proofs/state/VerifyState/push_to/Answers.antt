@@ -1,0 +1,29 @@
+use Rattle.std.proofs.Common.{◌≡◌, ◌∙◌, ap, sym}
+use Rattle.std.specs.Int.{w64, to_be_bytes}
+use Rattle.fc_base.proofs.CountedByLemmas.{marks_again}
+use Rattle.verify_state.specs.Inside.{state_of_fields, ends}
+use Rattle.verify_state.specs.Spelling.{words}
+use Rattle.verify_state.specs.State.{State, floor_in, marks_in}
+use Rattle.verify_state.proofs.WritingLemmas.{spelled_on}
+use Rattle.verify_state.proofs.state.VerifyState.push_to.Goals as goal
+
+pub returns : goal.returns
+returns c =
+    let s = c.self.inside in
+    let kept = c.self.invariant in
+    let state : State = state_of_fields s in
+    let bytes = c.args.bytes.now.items in
+    let marks : words s.marks ≡ words (marks_in state) = ap words (sym (marks_again s.rec.window s.issued s.marks kept.four kept.words (ends s.rec s.issued s.marks kept.come))) in
+    let floor : c.floor.result ≡ floor_in state = c.floor.ensures ∙ ap floor_in (sym c.self.view_is) in
+    rw (← c.self.view_is)
+    (spelled_on state bytes _ _ _ _ _ _ _ _ _ _
+    c.in_ok-extend_from_slice.ensures.items
+    c.in_ok-push_key.ensures
+    c.in_ok-push_job.ensures
+    c.in_ok-extend_from_slice-2.ensures.items
+    c.in_ok-push_words.ensures
+    c.in_ok-extend_from_slice-3.ensures.items
+    c.in_ok-push_words-2.ensures
+    c.to_be_bytes.ensures
+    (c.to_be_bytes-2.ensures ∙ ap (to_be_bytes w64) floor)
+    (ap words c.words.ensures.value ∙ marks))
