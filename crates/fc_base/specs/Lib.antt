@@ -1,4 +1,5 @@
 pub mod Ascending
+pub mod Blocks
 pub mod Counted
 pub mod Fault
 pub mod Faults

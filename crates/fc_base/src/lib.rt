@@ -14,7 +14,7 @@ pub use fault::{Fault, FaultSort};
 pub use marks::Marks;
 pub use numbers::{Attempt, JobNo, Key, RunNo, Seq, ServerNo};
 pub use record::{JobParts, JobRecord, Kind, Verify};
-pub use report::{Blocks, CheckReport, ReportEnd, ReportParts};
+pub use report::{Blocks, CheckReport, MAX_LISTED, ReportEnd, ReportParts};
 
 #[cfg(test)]
 mod tests;

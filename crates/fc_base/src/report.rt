@@ -1,15 +1,19 @@
 //! What a check of a disk found.
 
-ghost use Rattle.std.specs.Prelude.{◌≡◌, ◌≤◌, IsTrue, Ok, Err, if◌then◌else◌, length};
+ghost use Rattle.std.specs.Prelude.{◌≡◌, ◌<◌, ◌≤◌, IsTrue, Ok, Err, if◌then◌else◌, [], ◌∷◌, ◌++◌, length};
 ghost use Rattle.std.specs.List.{list_all};
 ghost use Rattle.fc_base.specs.Ascending.{ascends, is_block};
 
 use std::marker::Model;
 
-/// A list of blocks.
-#[derive(Debug, Drop)]
+/// How many faulty blocks a report lists at the most.
+pub const MAX_LISTED: usize = 32;
+
+/// A list of at most 32 blocks. It is a plain value, and takes no memory.
+#[derive(Clone, Copy, Debug)]
 pub struct Blocks {
-    blocks: Vec<u32>,
+    len: usize,
+    blocks: [u32; MAX_LISTED],
 }
 
 impl Model for Blocks {
@@ -17,30 +21,51 @@ impl Model for Blocks {
 
     ghost Value = { List ℕ };
 
-    ghost view = { λ b. b.blocks.items };
+    ghost use Rattle.fc_base.specs.Blocks.{listed, kept, kept_again, HasZerosBehind};
+
+    ghost view = { listed };
+
+    ghost invariant = { HasZerosBehind };
+
+    ghost inverse = { kept };
+
+    ghost inverse_ok = { kept_again };
 }
 
 impl Blocks {
-    /// The list of these blocks.
-    pub fn from_vec(blocks: Vec<u32>) -> Blocks
-        ensures { result ≡ blocks.items }
+    /// No block.
+    pub fn new() -> Blocks
+        ensures { result ≡ [] }
     {
-        Blocks { blocks }
+        Blocks {
+            len: 0,
+            blocks: [0; MAX_LISTED],
+        }
     }
 
-    /// The blocks, with the memory that they lie in.
-    pub fn into_vec(self) -> Vec<u32>
-        ensures { result.items ≡ self }
+    /// Adds a block behind the others, of which there have to be fewer than 32.
+    pub fn push(&mut self, block: u32)
+        requires { length self.old < 32 }
+        ensures { self.new ≡ self.old ++ block ∷ [] }
     {
-        let Blocks { blocks } = self;
-        blocks
+        self.blocks[self.len] = block;
+        self.len += 1;
+    }
+
+    /// How many there are.
+    pub fn len(&self) -> usize
+        ensures value { result ≡ length self.now }
+        ensures range { result ≤ 32 }
+    {
+        self.len
     }
 
     /// The blocks, in their order.
     pub fn as_slice(&self) -> &[u32]
-        ensures { result.now ≡ self.now }
+        ensures value { result.now ≡ self.now }
+        ensures range { length result.now ≤ 32 }
     {
-        &self.blocks
+        &self.blocks[..self.len]
     }
 }
 
@@ -56,7 +81,7 @@ pub enum ReportEnd {
 }
 
 /// What a report says, with no ranges: what it is made of.
-#[derive(Debug, Drop)]
+#[derive(Clone, Copy, Debug)]
 pub struct ReportParts {
     /// How many blocks were checked: at most 65,536.
     pub checked: u32,
@@ -67,8 +92,8 @@ pub struct ReportParts {
     pub end: ReportEnd,
 }
 
-/// A report whose numbers fit together.
-#[derive(Debug, Drop)]
+/// A report whose numbers fit together. It is a plain value: it is kept, sent and told without memory.
+#[derive(Clone, Copy, Debug)]
 pub struct CheckReport {
     parts: ReportParts,
 }
@@ -83,10 +108,9 @@ impl Model for CheckReport {
     ghost view = { λ r. r.parts };
 
     ghost invariant = { λ r. IsTrue (is_report r.parts) };
-}
 
-/// How many faulty blocks a report lists.
-const LISTED: u32 = 32;
+    ghost inverse = { λ p. record { parts = p } };
+}
 
 /// One past the greatest number of a block.
 const BLOCKS_END: u32 = 65_536;
@@ -120,7 +144,9 @@ impl ReportParts {
         ensures { result ≡ has_list self.now }
     {
         let first = self.first.as_slice();
-        first.len() == self.faults.min(LISTED) as usize && are_blocks(first) && is_ascending(first)
+        first.len() == self.faults.min(MAX_LISTED as u32) as usize
+            && are_blocks(first)
+            && is_ascending(first)
     }
 
     fn has_end(&self) -> bool
@@ -187,19 +213,10 @@ impl CheckReport {
     }
 
     /// The numbers that the report is made of.
-    pub fn parts(&self) -> &ReportParts
-        ensures value { result.now ≡ self.now }
-        ensures ranges { IsTrue (is_report result.now) }
-    {
-        &self.parts
-    }
-
-    /// The numbers that the report is made of, with the memory of its list.
-    pub fn into_parts(self) -> ReportParts
-        ensures value { result ≡ self }
+    pub fn parts(&self) -> ReportParts
+        ensures value { result ≡ self.now }
         ensures ranges { IsTrue (is_report result) }
     {
-        let CheckReport { parts } = self;
-        parts
+        self.parts
     }
 }

@@ -81,6 +81,13 @@ fn names_and_numbers_of_faults(rt: HostRuntime) -> Result<(), Fail> {
     Ok(())
 }
 
+fn two(blocks: [u32; 2]) -> Blocks {
+    let mut list = Blocks::new();
+    list.push(blocks[0]);
+    list.push(blocks[1]);
+    list
+}
+
 #[test]
 fn reports_that_are_none(rt: HostRuntime) -> Result<(), Fail> {
     let numbers = [
@@ -97,7 +104,7 @@ fn reports_that_are_none(rt: HostRuntime) -> Result<(), Fail> {
         let parts = ReportParts {
             checked,
             faults,
-            first: Blocks::from_vec(Vec::from_slice(rt.alloc(), &blocks)?),
+            first: two(blocks),
             end,
         };
         let refused = CheckReport::make(parts)
@@ -118,4 +125,18 @@ fn completions_out_of_order(rt: HostRuntime) {
         let seq = Seq(number);
         assert!(rt; is_counted(&all, 3, 5, seq) && is_counted(&last, 3, 5, seq) == (number != 2));
     }
+}
+
+/// Three numbers at the edges of words, and their bits.
+#[test]
+fn bits_of_marks(rt: HostRuntime) {
+    let mut marks = Marks::NONE;
+    for bit in [0, 63, 64, 255] {
+        marks.set(bit);
+    }
+    assert!(rt; marks.words() == [0x8000_0000_0000_0001, 1, 0, 0x8000_0000_0000_0000]);
+    assert!(rt; marks.count() == 4 && marks.ends_by(256) && !marks.ends_by(255));
+    marks.clear(255);
+    assert!(rt; marks.count() == 3 && marks.ends_by(65) && !marks.ends_by(64));
+    assert!(rt; marks.has(64) && !marks.has(65));
 }

@@ -1,0 +1,30 @@
+-- How a list of at most 32 blocks is kept: in an array, with zeros behind. No public contract cites
+-- this.
+use Rattle.std.specs.Prelude.{◌≡◌, ℕ, ◌-◌, ◌≤◌, List, ◌++◌, length, take, drop}
+use Rattle.std.specs.Prelude.{replicate}
+use Rattle.std.proofs.Common.{ap, ◌∙◌, sym, arith}
+use Rattle.std.proofs.lemmas.List.{length-take, take-append-drop}
+use Rattle.fc_base.specs.declared.report.Blocks.TheInside.{Inside}
+
+-- The blocks that are listed.
+abbrev pub listed : Inside → List ℕ
+listed b = take b.len b.blocks
+
+-- The array has 32 numbers, and behind those listed they are zeros.
+pub record HasZerosBehind (b : Inside) : Type 0 where
+  pub few : b.len ≤ 32
+  pub long : length b.blocks ≡ 32
+  pub zeros : drop b.len b.blocks ≡ replicate (32 - b.len) 0
+
+-- The fields that a list was shown by.
+abbrev pub kept : List ℕ → Inside
+kept blocks = record { len = length blocks; blocks = blocks ++ replicate (32 - length blocks) 0 }
+
+-- They are given back.
+pub kept_again : (b : Inside) → HasZerosBehind b → kept (listed b) ≡ b
+kept_again b h =
+    let len : length (take b.len b.blocks) ≡ b.len = omega (arith, length-take b.len b.blocks, h.few, h.long) in
+    let whole : take b.len b.blocks ++ replicate (32 - b.len) 0 ≡ b.blocks =
+    ap (λ l. take b.len b.blocks ++ l) (sym h.zeros) ∙ take-append-drop b.len b.blocks in
+    ap (λ (n : ℕ). let k : Inside = record { len = n; blocks = take b.len b.blocks ++ replicate (32 - n) 0 } in k) len
+    ∙ ap (λ (l : List ℕ). let k : Inside = record { len = b.len; blocks = l } in k) whole
