@@ -1,5 +1,6 @@
 mod HoldSteps
 mod OrderSteps
+mod PassSteps
 mod Permutations
 mod PickSteps
 mod StampSteps
