@@ -1,4 +1,5 @@
 mod HoldSteps
+mod LawLemmas
 mod OrderSteps
 mod PassSteps
 mod Permutations
