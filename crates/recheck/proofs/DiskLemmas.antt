@@ -9,7 +9,8 @@ use Rattle.recheck.specs.Expected.{Expected}
 use Rattle.recheck.specs.Faults.{is_checked, is_fault}
 use Rattle.recheck.specs.Report.{tally, looked_at, report, report_of}
 use Rattle.recheck.specs.Check.{Check, has_ended, HasSeen}
-use Rattle.recheck.specs.Disk.{IsSeen, IsWhole, held_by}
+use Rattle.recheck.specs.Disk.{IsWhole, held_by}
+use Rattle.recheck.specs.DiskSteps.{IsSeen}
 use Rattle.recheck.proofs.ReportLemmas.{seen_more, through_some}
 
 -- A block that isn't checked may hold anything.

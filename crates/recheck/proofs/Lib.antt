@@ -1,4 +1,5 @@
 mod DiskLemmas
 mod ExpectedLemmas
+mod LossLemmas
 mod ReportLemmas
 mod TallyLemmas

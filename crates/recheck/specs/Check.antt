@@ -1,9 +1,9 @@
 -- A check under way.
-use Rattle.std.specs.Prelude.{◌≡◌, ◌⊎◌, ℕ, ◌+◌, Bool, ◌&&◌, nat_lt, List, [], ◌∷◌, ◌++◌, take, Option, Some, None, Result, Ok, Err}
+use Rattle.std.specs.Prelude.{◌≡◌, ℕ, ◌+◌, Bool, ◌&&◌, nat_lt, List, [], ◌∷◌, ◌++◌, take, Option, Some, None, Result, Ok, Err}
 use Rattle.fc_base.specs.declared.numbers.Key.{Key}
 use Rattle.fc_base.specs.declared.record.JobParts.{JobParts}
 use Rattle.fc_base.specs.declared.fault.Fault.{Fault}
-use Rattle.fc_base.specs.declared.fault.Fault.TheVariants.{NoMemory}
+use Rattle.fc_base.specs.declared.fault.Fault.TheVariants as faults
 use Rattle.verify_state.specs.State.{State}
 use Rattle.verify_state.specs.Misfit.{Fits}
 use Rattle.recheck.specs.declared.verdict.Verdict.{Verdict}
@@ -61,4 +61,8 @@ FitsIfAny (Some state) key job answer = Fits state key job answer
 abbrev pub Starts : Result Check Fault → Key → JobParts → Option State → Bool → Type 0
 Starts (Ok check) key job state fatal =
     FitsIfAny state key job (Ok tt) × (check ≡ start (expected_by key job state) fatal)
-Starts (Err fault) key job state fatal = (fault ≡ NoMemory) ⊎ FitsIfAny state key job (Err fault)
+Starts (Err faults.OtherKey) key job state fatal = FitsIfAny state key job (Err faults.OtherKey)
+Starts (Err faults.OtherJob) key job state fatal = FitsIfAny state key job (Err faults.OtherJob)
+Starts (Err faults.OtherPlace) key job state fatal = FitsIfAny state key job (Err faults.OtherPlace)
+Starts (Err faults.NoMemory) key job state fatal = Unit {0}
+Starts (Err _) key job state fatal = ⊥

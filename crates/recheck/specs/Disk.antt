@@ -1,5 +1,5 @@
 -- The check of a disk.
-use Rattle.std.specs.Prelude.{◌≡◌, ◌⊎◌, ◌<◌, ◌≤◌, ℕ, ◌+◌, Bool, List, [], ◌∷◌, ◌++◌, Option, IsSome, IsNone, IsTrue, Result, Ok, Err}
+use Rattle.std.specs.Prelude.{◌≡◌, ◌⊎◌, ◌<◌, ℕ, Bool, List, Option, IsSome, IsNone, IsTrue, Result, Ok, Err}
 use Rattle.std.specs.List.{range_with_len}
 use Rattle.fc_base.specs.declared.numbers.Key.{Key}
 use Rattle.fc_base.specs.declared.record.JobParts.{JobParts}
@@ -12,7 +12,7 @@ use Rattle.verify_state.specs.State.{State}
 use Rattle.recheck.specs.Expected.{Expected, expected_by}
 use Rattle.recheck.specs.Faults.{is_checked}
 use Rattle.recheck.specs.Report.{report}
-use Rattle.recheck.specs.Check.{Check, FitsIfAny, HasSeen}
+use Rattle.recheck.specs.Check.{FitsIfAny}
 
 -- The bytes of each block that a file holds.
 abbrev pub held_by : File → JobParts → ℕ → List ℕ
@@ -35,29 +35,23 @@ pub record IsCut (e : Expected) (fatal : Bool) (old new : File) (r : ReportParts
   pub unended : (report fatal e (held_by old e.job) (range_with_len 0 block)).end ≡ Whole
   pub report : r ≡ record (report fatal e (held_by old e.job) (range_with_len 0 block)) { end = ReadFault block }
 
--- What the check of a disk answers, and what it leaves.
+-- Some block is checked.
+abbrev pub ChecksSome : Expected → Type 0
+ChecksSome e = (block : ℕ) × ((block < e.job.blocks) × IsTrue (is_checked e block))
+
+-- What the check of a disk answers, and what it leaves. It is refused by a state that doesn't fit, for
+-- want of memory, and where the disk is off and some block would have to be read.
 abbrev pub ChecksDisk : Result ReportParts Fault → Key → JobParts → Option State → Bool → File → File → Type 0
 ChecksDisk (Ok r) key job state fatal old new =
     FitsIfAny state key job (Ok tt)
     × (IsWhole (expected_by key job state) fatal old new r ⊎ ((block : ℕ) × IsCut (expected_by key job state) fatal old new r block))
-ChecksDisk (Err faults.Off) key job state fatal old new = IsNone old.power × (new ≡ old)
+ChecksDisk (Err faults.OtherKey) key job state fatal old new =
+    FitsIfAny state key job (Err faults.OtherKey) × (new ≡ old)
+ChecksDisk (Err faults.OtherJob) key job state fatal old new =
+    FitsIfAny state key job (Err faults.OtherJob) × (new ≡ old)
+ChecksDisk (Err faults.OtherPlace) key job state fatal old new =
+    FitsIfAny state key job (Err faults.OtherPlace) × (new ≡ old)
 ChecksDisk (Err faults.NoMemory) key job state fatal old new = new ≡ old
-ChecksDisk (Err fault) key job state fatal old new = FitsIfAny state key job (Err fault) × (new ≡ old)
-
--- What one block of a disk leaves of a check: the block is seen, and the rest is the same. The disk is
--- read where the block is checked, and only there.
-pub record IsSeen (check new_check : Check) (block : ℕ) (old new : File) : Type 0 where
-  pub expected : new_check.expected ≡ check.expected
-  pub fatal : new_check.fatal ≡ check.fatal
-  pub next : new_check.next ≤ block + 1
-  pub seen : (blocks : List ℕ) → HasSeen check (held_by old check.expected.job) blocks → HasSeen new_check (held_by old check.expected.job) (blocks ++ block ∷ [])
-  pub power : check.found.checked < new_check.found.checked → IsSome old.power
-  pub file : new ≡ old
-
-abbrev pub StepsDisk : Result (Unit {0}) Fault → Check → Check → ℕ → File → File → Type 0
-StepsDisk (Ok _) check new_check block old new = IsSeen check new_check block old new
-StepsDisk (Err faults.Off) check new_check block old new = (new_check ≡ check) × IsNone old.power × (new ≡ old)
-StepsDisk (Err faults.ReadFault) check new_check block old new =
-    (new_check ≡ check) × IsTrue (is_checked check.expected block) × IsSome old.power
-    × (old.failures < new.failures) × (new ≡ record old { failures = new.failures })
-StepsDisk (Err _) check new_check block old new = ⊥
+ChecksDisk (Err faults.Off) key job state fatal old new =
+    FitsIfAny state key job (Ok tt) × ChecksSome (expected_by key job state) × IsNone old.power × (new ≡ old)
+ChecksDisk (Err _) key job state fatal old new = ⊥

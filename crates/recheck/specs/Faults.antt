@@ -3,7 +3,7 @@
 use Rattle.std.specs.Prelude.{ℕ, Bool, not, ◌&&◌, ◌==◌, List, [], ◌∷◌, filter, map, Option, Some, None, is_some, slice_index_or, if◌then◌else◌}
 use Rattle.std.specs.List.{list_any}
 use Rattle.std.specs.Str.{bytes_eq}
-use Rattle.write_order.specs.Stamps.{block_bytes}
+use Rattle.write_order.specs.Stamps.{written_bytes}
 use Rattle.recheck.specs.declared.expected.Placed.{Placed}
 use Rattle.recheck.specs.declared.verdict.Verdict.{Verdict}
 use Rattle.recheck.specs.declared.verdict.Verdict.TheVariants as verdicts
@@ -31,7 +31,7 @@ expected_writes e block = by (last_write e block)
 
 -- The bytes are those that a write puts into the block.
 abbrev pub is_write : Expected → ℕ → List ℕ → ℕ → Bool
-is_write e block bytes k = bytes_eq bytes (block_bytes e.key e.job k block)
+is_write e block bytes k = bytes_eq bytes (written_bytes e.key e.job k block)
 
 -- The bytes are those of an expected write.
 abbrev pub is_expected : Expected → ℕ → List ℕ → Bool

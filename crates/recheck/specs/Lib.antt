@@ -1,7 +1,9 @@
 pub mod Check
 pub mod Disk
+pub mod DiskSteps
 pub mod Expected
 pub mod Faults
 pub mod LastWrite
+pub mod Laws
 pub mod Report
 pub mod Tally

@@ -1,6 +1,6 @@
 //! What the blocks of a job are checked against.
 
-ghost use Rattle.std.specs.Prelude.{◌≡◌, ◌≤◌, ◌<◌, ◌==◌, ◌&&◌, IfOk, length, None, slice_index_or};
+ghost use Rattle.std.specs.Prelude.{◌≡◌, ◌≤◌, ◌<◌, ◌==◌, ◌&&◌, IfOk, length, None, slice_index_or, false};
 ghost use Rattle.std.specs.List.{list_any};
 ghost use Rattle.std.specs.Option.{option_copied};
 ghost use Rattle.recheck.specs.Expected.{counts, issued_in, expected_by};
@@ -91,10 +91,10 @@ impl Expected {
         self.job
     }
 
-    /// Whether some write to the block has completed.
+    /// Whether some write to the block has completed. The job writes no block past its last one.
     pub fn is_checked(&self, block: u32) -> bool
-        requires { block < self.now.job.blocks }
-        ensures { result ≡ is_checked self.now block }
+        ensures value { result ≡ is_checked self.now block }
+        ensures past { self.now.job.blocks ≤ block → result ≡ false }
     {
         self.last_write(block).is_some()
     }
@@ -115,11 +115,14 @@ impl Expected {
     }
 
     fn last_write(&self, block: u32) -> Option<Seq>
-        requires { block < self.now.job.blocks }
         ensures value { result ≡ slice_index_or self.now.last block None }
-        ensures range { block < 65536 }
+        ensures past { self.now.job.blocks ≤ block → result ≡ None }
+        ensures blocks { self.now.job.blocks ≤ 65536 }
     {
-        self.last[block as usize].seq()
+        match self.last.get(block as usize) {
+            None => None,
+            Some(write) => write.seq(),
+        }
     }
 
     /// Whether the bytes are those of this write.

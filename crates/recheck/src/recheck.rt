@@ -72,10 +72,11 @@ impl Recheck {
         })
     }
 
-    /// Whether the block is checked: some write to it has completed. Another need not be read.
+    /// Whether the block is checked: some write to it has completed. Another need not be read. A block
+    /// past the job's last one is not wanted.
     pub fn wants(&self, block: u32) -> bool
-        requires { block < self.now.expected.job.blocks }
-        ensures { result ≡ is_checked self.now.expected block }
+        ensures value { result ≡ is_checked self.now.expected block }
+        ensures past { self.now.expected.job.blocks ≤ block → result ≡ false }
     {
         self.expected.is_checked(block)
     }

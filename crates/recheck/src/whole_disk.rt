@@ -4,7 +4,8 @@ ghost use Rattle.std.specs.Prelude.{◌≡◌, ◌<◌, ◌≤◌, length, false
 ghost use Rattle.std.specs.Option.{option_copied};
 ghost use Rattle.disk_model.specs.File.{IsBlock};
 ghost use Rattle.recheck.specs.Check.{has_ended};
-ghost use Rattle.recheck.specs.Disk.{ChecksDisk, StepsDisk};
+ghost use Rattle.recheck.specs.Disk.{ChecksDisk};
+ghost use Rattle.recheck.specs.DiskSteps.{StepsDisk};
 
 use crate::recheck::Recheck;
 use disk_model::Disk;
@@ -16,8 +17,10 @@ use verify_state::VerifyState;
 /// ascending order, and no other. It ends at the first fault where a fault is fatal, and at a block
 /// that can't be read, which the report tells.
 ///
-/// Refused are a state that doesn't fit (see [`Recheck::new`]), want of memory, and
-/// [`Fault::Off`] where the disk is off.
+/// Refused are a state that doesn't fit ([`Fault::OtherKey`], [`Fault::OtherJob`] and
+/// [`Fault::OtherPlace`], as by [`Recheck::new`]), want of memory ([`Fault::NoMemory`]), and
+/// [`Fault::Off`] where the state fits, some block has to be read, and the disk is off. The file is then
+/// the same.
 pub fn check_disk<D: Disk>(
     alloc: Global,
     job: &JobRecord,

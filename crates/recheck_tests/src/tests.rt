@@ -119,7 +119,7 @@ impl Given {
     /// Whether a check by this state reads the block.
     fn is_wanted(&self, alloc: Global, state: &VerifyState, block: u32) -> Result<bool, Fail> {
         let check = Recheck::new(alloc, &self.job, self.key, Some(state), false)?;
-        Ok(block < self.job.blocks() && check.wants(block))
+        Ok(check.wants(block))
     }
 
     /// What a check by this state finds at a block that holds these bytes.
@@ -177,6 +177,7 @@ fn open_write_at_the_trigger(rt: HostRuntime) -> Result<(), Fail> {
     let state = given.state(rt.alloc())?;
     assert!(rt; given.is_wanted(rt.alloc(), &state, 0)?);
     assert!(rt; !given.is_wanted(rt.alloc(), &state, 1)?);
+    assert!(rt; !given.is_wanted(rt.alloc(), &state, 2)?);
     let bytes = given.bytes_of(rt.alloc(), 7, 1)?;
     assert!(rt; given.verdict(rt.alloc(), &state, 1, &bytes)? == Verdict::Skipped);
     Ok(())

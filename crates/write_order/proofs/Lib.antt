@@ -1,5 +1,7 @@
 mod HoldSteps
+mod LawLemmas
 mod OrderSteps
+mod PassSteps
 mod Permutations
 mod PickSteps
 mod StampSteps

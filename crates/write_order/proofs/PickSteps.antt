@@ -1,7 +1,7 @@
 -- How what is left of a pass goes on from write to write.
 use Rattle.std.proofs.Common.{◌≡◌, ℕ, zero, suc, ◌+◌, ◌-◌, ◌*◌, ◌/◌, ◌%◌, ◌<◌, false, List, slice_index, [], ◌∷◌, ◌++◌, length, get_or, take, set, map, refl, sym, ap, ◌∙◌, arith, length-set, length-take}
 use Rattle.std.specs.List.{range_with_len, swap_remove}
-use Rattle.std.proofs.lemmas.List.{get_or_default, get_or_read, get_or-map, length-map, map-id}
+use Rattle.std.proofs.lemmas.List.{get_or_default, get_or-map, length-map, map-id}
 use Rattle.std.proofs.lemmas.Nat.{div-mul-add, mod-mul-add}
 use Rattle.std.proofs.lemmas.List.FromFn.{length-range_with_len, length-map-range_with_len, take-map-range_with_len, map-range_with_len_more, get_or-map-range_with_len, fill_by_all}
 use Rattle.write_order.specs.Picks.{picked, block_with_map, block_without_map, blocks_picked}
@@ -81,32 +81,6 @@ next_pass b k last =
 pub left_before-new : (words : ℕ → ℕ) (b k : ℕ) → k % b ≡ 0 → left_before words b k ≡ range_with_len 0 b
 unfolding left_before
 left_before-new words b k new = rw new refl
-
--- What a word reads of the list that is left is its block.
-pub read_is_block : (words : ℕ → ℕ) (b k word at r : ℕ) (left : List ℕ) → left ≡ left_before words b k → word ≡ words k → 0 < length left → at ≡ word % length left → r ≡ get_or left at r → r ≡ block_with_map words b k
-read_is_block words b k word at r left is next some place read =
-    let in_range : at < length left = omega arith in
-    let by_read = get_or_read left at r in_range read 0 in
-    let rest : length left ≡ b - k % b = ap length is ∙ length-left_before words b k in
-    let value : get_or left at 0 ≡ get_or (left_before words b k) (words k % length (left_before words b k)) 0 =
-    ap (λ i. get_or left i 0) (place ∙ ap (λ w. w % length left) next) ∙ ap (λ xs. get_or xs (words k % length xs) 0) is in
-    by_read ∙ value ∙ block_from_left words b k (omega arith)
-
--- What is left before the next write, where the pass goes on.
-pub rest_goes_on : (words : ℕ → ℕ) (b k word at r : ℕ) (left rest : List ℕ) → left ≡ left_before words b k → word ≡ words k → at ≡ word % length left → rest ≡ swap_remove left at r → 0 < length rest → rest ≡ left_before words b (k + 1)
-rest_goes_on words b k word at r left rest is next place after some =
-    let len : length rest ≡ length left - 1 = ap length after ∙ length-swap_remove left at r in
-    let before : length left ≡ b - k % b = ap length is ∙ length-left_before words b k in
-    after ∙ ap (λ i. swap_remove left i r) (place ∙ ap (λ w. w % length left) next)
-    ∙ ap (λ xs. swap_remove xs (words k % length xs) r) is
-    ∙ left_before-more words b k r (omega arith)
-
--- And where it is over: the next pass starts with all blocks.
-pub rest_starts_anew : (words : ℕ → ℕ) (b k at r : ℕ) (left rest : List ℕ) → left ≡ left_before words b k → 0 < length left → rest ≡ swap_remove left at r → length rest ≡ 0 → range_with_len 0 b ≡ left_before words b (k + 1)
-rest_starts_anew words b k at r left rest is some after none =
-    let len : length rest ≡ length left - 1 = ap length after ∙ length-swap_remove left at r in
-    let before : length left ≡ b - k % b = ap length is ∙ length-left_before words b k in
-    sym (left_before-new words b (k + 1) (next_pass b k (omega arith)))
 
 -- A pass is known by its parts.
 pub same_pass : (b c : ℕ) (left rest : List ℕ) → b ≡ c → left ≡ rest → (let p : PassLeft = record { blocks = b; left = left } in let q : PassLeft = record { blocks = c; left = rest } in p ≡ q)

@@ -9,7 +9,7 @@ use Rattle.std.proofs.lemmas.Slice.{take-put_mid}
 use Rattle.fc_base.specs.declared.record.JobParts.{JobParts}
 use Rattle.fc_base.specs.declared.record.Verify.TheVariants.{Stamp}
 use Rattle.fc_base.specs.declared.numbers.Key.{Key}
-use Rattle.write_order.specs.Stamps.{counting_bytes, sector_of, block_bytes}
+use Rattle.write_order.specs.Stamps.{counting_bytes, stamped_sector, written_bytes}
 use Rattle.write_order.specs.Filling.{with_number}
 use Rattle.write_order.proofs.PickSteps.{range_with_len-more}
 
@@ -36,9 +36,9 @@ pub front-more : (at next : ℕ) (old new front field : List ℕ) → take at ol
 front-more at next old new front field before put = put ∙ ap (λ xs. xs ++ field) before
 
 -- The fields of a stamp, one after another.
-pub sector_of-fields : (key : Key) (k block : ℕ) (a b c d e f t : List ℕ) → a ≡ to_be_bytes w64 key.run → b ≡ to_be_bytes w32 key.server → c ≡ to_be_bytes w32 key.job → d ≡ to_be_bytes w64 k → e ≡ to_be_bytes w64 block → f ≡ to_be_bytes w32 0 → t ≡ counting_bytes k 476 → a ++ b ++ c ++ d ++ e ++ f ++ t ≡ sector_of key k block 0
-unfolding sector_of
-sector_of-fields key k block a b c d e f t p q r s u v w = rw (p, q, r, s, u, v, w) refl
+pub stamped_sector-fields : (key : Key) (k block : ℕ) (a b c d e f t : List ℕ) → a ≡ to_be_bytes w64 key.run → b ≡ to_be_bytes w32 key.server → c ≡ to_be_bytes w32 key.job → d ≡ to_be_bytes w64 k → e ≡ to_be_bytes w64 block → f ≡ to_be_bytes w32 0 → t ≡ counting_bytes k 476 → a ++ b ++ c ++ d ++ e ++ f ++ t ≡ stamped_sector key k block 0
+unfolding stamped_sector
+stamped_sector-fields key k block a b c d e f t p q r s u v w = rw (p, q, r, s, u, v, w) refl
 
 -- The rest behind the fields.
 pub rest-put : (at k : ℕ) (xs ys front : List ℕ) → take at xs ≡ front → length xs ≤ at + k → put_mid at k xs ys ≡ front ++ ys
@@ -47,8 +47,8 @@ rest-put at k xs ys front before end =
     rw (none, append-nil) (ap (λ zs. zs ++ ys) before)
 
 -- The stamp of a sector is that of the first with the sector's number.
-pub with_number-sector : (key : Key) (k block : ℕ) → with_number (sector_of key k block 0) ≡ sector_of key k block
-unfolding sector_of
+pub with_number-sector : (key : Key) (k block : ℕ) → with_number (stamped_sector key k block 0) ≡ stamped_sector key k block
+unfolding stamped_sector
 with_number-sector key k block = refl
 
 pub length-with_number : (stamp : List ℕ) (number : ℕ) → length stamp ≡ 512 → length (with_number stamp number) ≡ 512
@@ -56,7 +56,7 @@ length-with_number stamp number len =
     omega (arith, length-append {A = ℕ}, length-take {A = ℕ}, length-drop {A = ℕ})
 
 -- The stamps of all sectors are the bytes of the write.
-pub stamps_are-bytes : (key : Key) (job : JobParts) (k block sectors : ℕ) (stamp bytes : List ℕ) → job.verify ≡ Stamp → stamp ≡ sector_of key k block 0 → sectors ≡ job.bs / 512 → bytes ≡ flat_map (with_number stamp) (range_with_len 0 sectors) → bytes ≡ block_bytes key job k block
+pub stamps_are-bytes : (key : Key) (job : JobParts) (k block sectors : ℕ) (stamp bytes : List ℕ) → job.verify ≡ Stamp → stamp ≡ stamped_sector key k block 0 → sectors ≡ job.bs / 512 → bytes ≡ flat_map (with_number stamp) (range_with_len 0 sectors) → bytes ≡ written_bytes key job k block
 stamps_are-bytes key job k block sectors stamp bytes verify is count filled =
     rw verify (filled ∙ ap (λ n. flat_map (with_number stamp) (range_with_len 0 n)) count
     ∙ ap (λ (f : ℕ → List ℕ). flat_map f (range_with_len 0 (job.bs / 512))) (ap with_number is ∙ with_number-sector key k block))

@@ -1,7 +1,5 @@
 -- The block of each write of a job.
-use Rattle.std.specs.Prelude.{◌≡◌, ℕ, ◌*◌, ◌%◌, ◌<◌, map}
-use Rattle.std.specs.List.{range_with_len}
-use Rattle.std.specs.List.Sorted.{IsPermutation}
+use Rattle.std.specs.Prelude.{ℕ, ◌%◌}
 use Rattle.fc_base.specs.declared.record.JobParts.{JobParts}
 use Rattle.fc_base.specs.declared.record.Kind.{Kind}
 use Rattle.fc_base.specs.declared.record.Kind.TheVariants.{Sequential, RandomMap, RandomFree}
@@ -16,12 +14,3 @@ block_of job k = by job.kind
     by Sequential = k % job.blocks
     by RandomMap = block_with_map (word job.seed) job.blocks k
     by RandomFree = block_without_map (word job.seed) job.blocks k
-
--- With a map, each pass of as many writes as there are blocks names each block once.
-abbrev pub PassesNameEachBlockOnce : JobParts → Type 0
-PassesNameEachBlockOnce job =
-    job.kind ≡ RandomMap → (p : ℕ) → IsPermutation (range_with_len 0 job.blocks) (map (block_of job) (range_with_len (p * job.blocks) job.blocks))
-
--- Each write goes to one of the job's blocks.
-abbrev pub WritesStayInTheRegion : JobParts → Type 0
-WritesStayInTheRegion job = (k : ℕ) → block_of job k < job.blocks

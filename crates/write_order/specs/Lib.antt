@@ -1,6 +1,7 @@
 pub mod Ahead
 pub mod Blocks
 pub mod Filling
+pub mod Laws
 pub mod Passes
 pub mod Picks
 pub mod Places

@@ -1,5 +1,5 @@
 -- A pass under way: what it has yet to write before write k.
-use Rattle.std.specs.Prelude.{◌≤◌, ◌<◌, ℕ, ◌*◌, ◌/◌, ◌%◌, List, [], ◌∷◌, length, map, swap_remove, vec_capacity}
+use Rattle.std.specs.Prelude.{◌≡◌, ◌≤◌, ◌<◌, ℕ, ◌-◌, ◌*◌, ◌/◌, ◌%◌, List, [], ◌∷◌, length, map, drop, swap_remove}
 use Rattle.std.specs.List.{range_with_len}
 use Rattle.write_order.specs.declared.pass.Pass.TheInside.{Inside}
 
@@ -22,8 +22,10 @@ pub record PassLeft : Type 0 where
 abbrev pub pass_before : (ℕ → ℕ) → ℕ → ℕ → PassLeft
 pass_before words blocks k = record { blocks = blocks; left = left_before words blocks k }
 
--- A pass has a block left, of at least one in all, and room for all of them.
-pub record HasRoom (pass : Inside) : Type 0 where
-  pub blocks : 0 < pass.blocks
-  pub some : 0 < length pass.left.items
-  pub room : pass.blocks ≤ vec_capacity pass.left
+-- A pass has a block left, and the list names all blocks: from where those that are left end, each
+-- place holds its own number, as a new pass has it.
+pub record IsReadyAnew (pass : Inside) : Type 0 where
+  pub some : 0 < pass.left
+  pub within : pass.left ≤ pass.blocks
+  pub whole : length pass.list.items ≡ pass.blocks
+  pub behind : drop pass.left pass.list.items ≡ range_with_len pass.left (pass.blocks - pass.left)

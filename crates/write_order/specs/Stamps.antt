@@ -14,19 +14,19 @@ counting_bytes from n = map (λ i. (from + i) % 256) (range_with_len 0 n)
 
 -- A sector of a stamp: run, server, job, the write's number, its block and the sector within the
 -- block, each high byte first, and then bytes that count up from the write's number.
-unfoldable pub sector_of : Key → ℕ → ℕ → ℕ → List ℕ
-sector_of key k block sector =
+unfoldable pub stamped_sector : Key → ℕ → ℕ → ℕ → List ℕ
+stamped_sector key k block sector =
     to_be_bytes w64 key.run ++ to_be_bytes w32 key.server ++ to_be_bytes w32 key.job ++ to_be_bytes w64 k
     ++ to_be_bytes w64 block ++ to_be_bytes w32 sector ++ counting_bytes k 476
 
 -- What a write into this block puts there: the stamp of each of its sectors, or the pattern in every byte.
-abbrev pub block_bytes : Key → JobParts → ℕ → ℕ → List ℕ
-block_bytes key job k block = by job.verify
+abbrev pub written_bytes : Key → JobParts → ℕ → ℕ → List ℕ
+written_bytes key job k block = by job.verify
   where
     by : Verify → List ℕ
-    by Stamp = flat_map (sector_of key k block) (range_with_len 0 (job.bs / 512))
+    by Stamp = flat_map (stamped_sector key k block) (range_with_len 0 (job.bs / 512))
     by Pattern = replicate job.bs job.pattern
 
 -- The bytes of write k: those of its own block.
 abbrev pub bytes_of : Key → JobParts → ℕ → List ℕ
-bytes_of key job k = block_bytes key job k (block_of job k)
+bytes_of key job k = written_bytes key job k (block_of job k)

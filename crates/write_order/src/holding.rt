@@ -1,9 +1,9 @@
 //! Whether a block holds the bytes of a write.
 
-ghost use Rattle.std.specs.Prelude.{◌≡◌, ◌*◌, ◌==◌, length};
-ghost use Rattle.std.specs.List.{list_all, range_with_len, flat_map};
+ghost use Rattle.std.specs.Prelude.{◌≡◌, ◌+◌, ◌*◌, ◌≤◌, length, take, drop, replicate};
+ghost use Rattle.std.specs.List.{range_with_len, flat_map};
 ghost use Rattle.std.specs.Str.{bytes_eq};
-ghost use Rattle.write_order.specs.Stamps.{block_bytes};
+ghost use Rattle.write_order.specs.Stamps.{written_bytes};
 ghost use Rattle.write_order.specs.Filling.{with_number};
 
 use crate::stamp::{SECTOR, fill_sector, stamp};
@@ -16,19 +16,27 @@ use fc_base::{JobRecord, Key, Seq, Verify};
 /// `bytes` is the whole block.
 pub fn holds_write(key: &Key, job: &JobRecord, seq: Seq, block: u32, bytes: &[u8]) -> bool
     requires { length bytes.now ≡ job.now.bs }
-    ensures { result ≡ bytes_eq bytes.now (block_bytes key.now job.now seq block) }
+    ensures { result ≡ bytes_eq bytes.now (written_bytes key.now job.now seq block) }
 {
+    let sectors = job.bs() / 512;
     match job.verify() {
-        Verify::Pattern => holds_pattern(job.pattern(), bytes),
-        Verify::Stamp => holds_stamps(&stamp(*key, seq, block), job.bs() / 512, bytes),
+        Verify::Pattern => holds_pattern(job.pattern(), sectors, bytes),
+        Verify::Stamp => holds_stamps(&stamp(*key, seq, block), sectors, bytes),
     }
 }
 
 /// Whether each byte is the pattern.
-fn holds_pattern(pattern: u8, bytes: &[u8]) -> bool
-    ensures { result ≡ list_all (λ byte. byte == pattern) bytes.now }
+fn holds_pattern(pattern: u8, sectors: u32, bytes: &[u8]) -> bool
+    requires { length bytes.now ≡ sectors * SECTOR }
+    ensures { result ≡ bytes_eq bytes.now (replicate (length bytes.now) pattern) }
 {
-    bytes.iter().all(|byte| *byte == pattern)
+    let sector = [pattern; SECTOR];
+    for number in 0..sectors {
+        if !has_sector(bytes, number, &sector) {
+            return false;
+        }
+    }
+    true
 }
 
 /// Whether each sector is the stamp with the sector's number.
@@ -39,10 +47,18 @@ fn holds_stamps(stamp: &[u8; SECTOR], sectors: u32, bytes: &[u8]) -> bool
     let mut sector = [0; SECTOR];
     for number in 0..sectors {
         fill_sector(stamp, number, &mut sector);
-        let at = number as usize * SECTOR;
-        if &bytes[at..at + SECTOR] != sector.as_slice() {
+        if !has_sector(bytes, number, &sector) {
             return false;
         }
     }
     true
+}
+
+/// Whether the sector of this number is that one.
+fn has_sector(bytes: &[u8], number: u32, sector: &[u8; SECTOR]) -> bool
+    requires { (number + 1) * SECTOR ≤ length bytes.now }
+    ensures { result ≡ bytes_eq (take SECTOR (drop (number * SECTOR) bytes.now)) sector.now }
+{
+    let at = number as usize * SECTOR;
+    &bytes[at..at + SECTOR] == sector.as_slice()
 }

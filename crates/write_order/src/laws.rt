@@ -1,20 +1,26 @@
-//! Laws of the write order: functions that do nothing, and whose contracts are the laws.
+//! Laws of the write order, over all jobs and all their writes. The functions have nothing to run.
 
-ghost use Rattle.write_order.specs.Blocks.{PassesNameEachBlockOnce, WritesStayInTheRegion};
-
-use fc_base::JobRecord;
+ghost use Rattle.write_order.specs.Laws.{PassesNameEachBlockOnce, WritesStayInTheRegion, WritesFillTheirBlocks, StampsTellSectorsApart, StampsTellWritesApart};
 
 /// A job with a map names each of its blocks once in every pass: a pass begins with each write whose
 /// number is a multiple of `blocks`, and has as many writes as there are blocks.
-pub fn passes_name_each_block_once(job: &JobRecord)
-    ensures { PassesNameEachBlockOnce job.now }
-{
-    let _ = job;
-}
+pub fn passes_name_each_block_once()
+    ensures { PassesNameEachBlockOnce }
+{}
 
 /// No write goes past the last block of its job, in any order.
-pub fn writes_stay_in_the_region(job: &JobRecord)
-    ensures { WritesStayInTheRegion job.now }
-{
-    let _ = job.blocks();
-}
+pub fn writes_stay_in_the_region()
+    ensures { WritesStayInTheRegion }
+{}
+
+/// A write puts just as many bytes as a block of its job has, stamps or a pattern.
+pub fn writes_fill_their_blocks()
+    ensures { WritesFillTheirBlocks }
+{}
+
+/// The bytes of a stamp say whose write it is, which one, into which block, and for which sector of
+/// it: no two sectors that differ in any of these have the same bytes, and so no two stamped blocks.
+pub fn stamps_tell_writes_apart()
+    ensures sectors { StampsTellSectorsApart }
+    ensures blocks { StampsTellWritesApart }
+{}

@@ -11,7 +11,10 @@ mod stamp;
 mod words;
 
 pub use holding::holds_write;
-pub use laws::{passes_name_each_block_once, writes_stay_in_the_region};
+pub use laws::{
+    passes_name_each_block_once, stamps_tell_writes_apart, writes_fill_their_blocks,
+    writes_stay_in_the_region,
+};
 pub use order::{Order, place_of};
 pub use picks::pick_blocks;
 pub use stamp::fill_block;

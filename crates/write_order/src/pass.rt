@@ -1,40 +1,48 @@
 //! One pass over all blocks at random, each block once.
 
-ghost use Rattle.std.specs.Prelude.{◌≡◌, ℕ, ◌+◌, ◌<◌, ◌≤◌, ◌%◌, IfOk, length, swap_remove, vec_capacity, vec_len};
+ghost use Rattle.std.specs.Prelude.{◌≡◌, ℕ, ◌+◌, ◌<◌, ◌≤◌, ◌%◌, IfOk, length, take, set, slice_index};
 ghost use Rattle.std.specs.List.{range_with_len};
 
 use std::alloc::{AllocError, Global};
 use std::marker::Model;
 
 /// The blocks that a pass has yet to write. When none is left, the next pass begins.
+///
+/// The list names all blocks: first those that are left, and behind them what a new pass has in
+/// those places. So a new pass begins with no list to fill.
 #[derive(Debug, Drop)]
 pub struct Pass {
     blocks: u32,
-    left: Vec<u32>,
+    left: u32,
+    list: Vec<u32>,
 }
 
 impl Model for Pass {
-    ghost use Rattle.write_order.specs.Passes.{PassLeft, HasRoom};
+    ghost use Rattle.std.specs.Prelude.{take};
+    ghost use Rattle.write_order.specs.Passes.{PassLeft, IsReadyAnew};
 
     ghost Value = { PassLeft };
 
-    ghost view = { λ p. record { blocks = p.blocks; left = p.left.items } };
+    ghost view = { λ p. record { blocks = p.blocks; left = take p.left p.list.items } };
 
-    ghost invariant = { HasRoom };
+    ghost invariant = { IsReadyAnew };
 }
 
 impl Pass {
     ghost use Rattle.write_order.specs.Picks.{block_with_map};
     ghost use Rattle.write_order.specs.Passes.{pass_before};
 
-    /// The first pass over so many blocks, with room for all of them.
+    /// The first pass over so many blocks. It takes 4 bytes for each of them.
     pub fn new(alloc: Global, blocks: u32) -> Result<Pass, AllocError>
         requires { 0 < blocks }
         ensures { IfOk result (λ pass. (words : ℕ → ℕ) → pass ≡ pass_before words blocks 0) }
     {
-        let mut left = Vec::with_capacity(alloc, blocks as usize)?;
-        refill(&mut left, blocks);
-        Ok(Pass { blocks, left })
+        let list = all_blocks(alloc, blocks)?;
+        Ok(Pass {
+            blocks,
+            left: blocks,
+            list,
+        })
     }
 
     /// The block that the next word picks.
@@ -42,49 +50,51 @@ impl Pass {
         ensures { (words : ℕ → ℕ) (k : ℕ) → self.now ≡ pass_before words self.now.blocks k → word ≡ words k
             → result ≡ block_with_map words self.now.blocks k }
     {
-        self.left[index_of(&self.left, word)]
+        self.list[index_of(self.left, word) as usize]
     }
 
-    /// Goes on by the block that the next word picks.
+    /// Goes on by the block that the next word picks, in the same few steps wherever the pass is.
     pub fn advance(&mut self, word: u64)
         ensures { (words : ℕ → ℕ) (k : ℕ) → self.old ≡ pass_before words self.old.blocks k → word ≡ words k
             → self.new ≡ pass_before words self.old.blocks (k + 1) }
     {
-        let index = index_of(&self.left, word);
-        take_out(&mut self.left, index);
-        if self.left.is_empty() {
-            refill(&mut self.left, self.blocks);
+        let index = index_of(self.left, word);
+        let last = self.left - 1;
+        take_out(&mut self.list, index, last);
+        self.left = last;
+        if self.left == 0 {
+            self.left = self.blocks;
         }
     }
 }
 
-/// Which of the blocks that are left a word picks.
-fn index_of(left: &[u32], word: u64) -> usize
-    requires { 0 < length left.now }
-    ensures value { result ≡ word % length left.now }
-    ensures range { result < length left.now }
+/// The numbers of so many blocks, in their order.
+fn all_blocks(alloc: Global, blocks: u32) -> Result<Vec<u32>, AllocError>
+    ensures { IfOk result (λ list. list.items ≡ range_with_len 0 blocks) }
 {
-    (word % left.len() as u64) as usize
-}
-
-/// Takes one block out: the last of the list moves into its place.
-fn take_out(left: &mut Vec<u32>, index: usize) -> u32
-    requires { index < vec_len left.old }
-    ensures items { left.new.items ≡ swap_remove left.old.items index result }
-    ensures len { vec_len left.new + 1 ≡ vec_len left.old }
-    ensures capacity { vec_capacity left.new ≡ vec_capacity left.old }
-{
-    left.swap_remove(index)
-}
-
-/// Fills the list with all blocks.
-fn refill(left: &mut Vec<u32>, blocks: u32)
-    requires { blocks ≤ vec_capacity left.old }
-    ensures items { left.new.items ≡ range_with_len 0 blocks }
-    ensures capacity { vec_capacity left.new ≡ vec_capacity left.old }
-{
-    left.clear();
+    let mut list = Vec::with_capacity(alloc, blocks as usize)?;
     for block in 0..blocks {
-        left.push_reserved(block);
+        list.push_reserved(block);
     }
+    Ok(list)
+}
+
+/// Which of the blocks that are left a word picks.
+fn index_of(left: u32, word: u64) -> u32
+    requires { 0 < left }
+    ensures value { result ≡ word % left }
+    ensures range { result < left }
+{
+    (word % u64::from(left)) as u32
+}
+
+/// Takes one block out: the last that is left moves into its place, and the place of the last gets
+/// what a new pass has there.
+fn take_out(list: &mut [u32], index: u32, last: u32)
+    requires one_left { index ≤ last }
+    requires within { last < length list.old }
+    ensures { list.new ≡ set (set list.old index (slice_index list.old last)) last last }
+{
+    list[index as usize] = list[last as usize];
+    list[last as usize] = last;
 }

@@ -3,7 +3,7 @@
 ghost use Rattle.std.specs.Prelude.{◌≡◌, ◌+◌, ◌*◌, ◌≤◌, ◌++◌, length, take, flat_map};
 ghost use Rattle.std.specs.List.{range_with_len};
 ghost use Rattle.write_order.specs.Blocks.{block_of};
-ghost use Rattle.write_order.specs.Stamps.{sector_of, counting_bytes, block_bytes, bytes_of};
+ghost use Rattle.write_order.specs.Stamps.{stamped_sector, counting_bytes, written_bytes, bytes_of};
 ghost use Rattle.write_order.specs.Filling.{with_number};
 
 use fc_base::{JobRecord, Key, Seq, Verify};
@@ -20,7 +20,7 @@ pub(crate) const SECTOR: usize = 512;
 /// `bytes` is the whole block. No memory is taken.
 pub fn fill_block(key: Key, job: &JobRecord, seq: Seq, block: u32, bytes: &mut [u8])
     requires { length bytes.old ≡ job.now.bs }
-    ensures bytes { bytes.new ≡ block_bytes key job.now seq block }
+    ensures bytes { bytes.new ≡ written_bytes key job.now seq block }
     ensures of_write { block ≡ block_of job.now seq → bytes.new ≡ bytes_of key job.now seq }
 {
     match job.verify() {
@@ -31,7 +31,7 @@ pub fn fill_block(key: Key, job: &JobRecord, seq: Seq, block: u32, bytes: &mut [
 
 /// The stamp of a write in the first sector of its block.
 pub(crate) fn stamp(key: Key, seq: Seq, block: u32) -> [u8; SECTOR]
-    ensures { result ≡ sector_of key seq block 0 }
+    ensures { result ≡ stamped_sector key seq block 0 }
 {
     let mut sector = [0; SECTOR];
     let at = put(&mut sector, 0, &key.run.0.to_be_bytes());

@@ -145,6 +145,7 @@ fn rot_beside_an_open_write(rt: HostRuntime) -> Result<(), Fail> {
         Step::Finds(1, &[]),
         Step::Rot(0),
         Step::Finds(1, &[0]),
+        Step::FindsFirst(1, &[0]),
     ];
     assert_eq!(rt; by_state(rt.alloc(), Given::new(JOB)?, &steps)?, None);
     Ok(())

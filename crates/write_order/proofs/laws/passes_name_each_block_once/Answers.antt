@@ -3,6 +3,4 @@ use Rattle.write_order.proofs.Permutations.{IsPermutation-pass}
 use Rattle.write_order.proofs.laws.passes_name_each_block_once.Goals as goal
 
 pub returns : goal.returns
-returns c kind p =
-    let job = c.args.job.now in
-    rw kind (IsPermutation-pass (word job.seed) job.blocks p)
+returns c job kind p = rw kind (IsPermutation-pass (word job.seed) job.blocks p)

@@ -1,5 +1,5 @@
 use Rattle.std.proofs.Common.{◌/◌, sym, ap, ◌∙◌}
-use Rattle.write_order.specs.Stamps.{block_bytes}
+use Rattle.write_order.specs.Stamps.{written_bytes}
 use Rattle.write_order.proofs.StampSteps.{stamps_are-bytes}
 use Rattle.write_order.proofs.stamp.fill_block.Goals as goal
 
@@ -9,4 +9,4 @@ returns-in-Stamp-clause-bytes c =
 
 pub returns-in-Stamp-clause-of_write : goal.returns-in-Stamp-clause-of_write
 returns-in-Stamp-clause-of_write c own =
-    returns-in-Stamp-clause-bytes c ∙ ap (block_bytes c.args.key c.args.job.now c.args.seq) own
+    returns-in-Stamp-clause-bytes c ∙ ap (written_bytes c.args.key c.args.job.now c.args.seq) own

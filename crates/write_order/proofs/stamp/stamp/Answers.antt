@@ -2,7 +2,7 @@ use Rattle.std.proofs.Common.{◌≡◌, ◌≤◌, ◌+◌, ◌-◌, ℕ, [], l
 use Rattle.std.specs.Int.{w32, w64, to_be_bytes}
 use Rattle.fc_base.specs.declared.numbers.Key.{Key}
 use Rattle.write_order.specs.Stamps.{counting_bytes}
-use Rattle.write_order.proofs.StampSteps.{front-more, rest-put, sector_of-fields}
+use Rattle.write_order.proofs.StampSteps.{front-more, rest-put, stamped_sector-fields}
 use Rattle.write_order.proofs.stamp.stamp.Goals as goal
 
 pub returns : goal.returns
@@ -30,7 +30,7 @@ returns c =
     let tail : c.count_up.new.bytes ≡ counting_bytes c.args.seq 476 =
     c.count_up.ensures ∙ ap (counting_bytes c.seq.inside.0) rest ∙ ap (λ n. counting_bytes n 476) seq in
     rest-put c.put-at-6.result _ _ _ _ f6 end
-    ∙ sector_of-fields c.args.key c.args.seq c.args.block _ _ _ _ _ _ _ (c.to_be_bytes.ensures ∙ ap (to_be_bytes w64) run)
+    ∙ stamped_sector-fields c.args.key c.args.seq c.args.block _ _ _ _ _ _ _ (c.to_be_bytes.ensures ∙ ap (to_be_bytes w64) run)
     (c.to_be_bytes-2.ensures ∙ ap (to_be_bytes w32) server)
     (c.to_be_bytes-3.ensures ∙ ap (to_be_bytes w32) job)
     (c.to_be_bytes-4.ensures ∙ ap (to_be_bytes w64) seq)

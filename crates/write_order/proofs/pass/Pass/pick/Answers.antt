@@ -1,10 +1,9 @@
-use Rattle.std.proofs.Common.{◌%◌, length, ap, ◌∙◌}
+use Rattle.std.proofs.Common.{ap, ◌∙◌, arith}
 use Rattle.write_order.specs.Passes.{PassLeft}
-use Rattle.write_order.proofs.PickSteps.{read_is_block}
+use Rattle.write_order.proofs.PassSteps.{read_is_block}
 use Rattle.write_order.proofs.pass.Pass.pick.Goals as goal
 
 pub returns : goal.returns
 returns c words k at next =
     let left = ap (λ (p : PassLeft). p.left) (c.self.view_is ∙ at) in
-    read_is_block words _ k c.args.word _ _ c.self.inside.left.items left next c.self.invariant.some
-    (c.index_of.ensures.value ∙ ap (λ xs. c.args.word % length xs) c.deref.ensures.value) c.index.ensures
+    read_is_block words _ k c.args.word _ _ _ c.self.inside.list.items left next c.self.invariant.some (omega arith) c.index_of.ensures.value c.index.ensures
