@@ -1,7 +1,7 @@
 -- How many bytes a body has, and that its numbers fit their widths.
 use Rattle.std.proofs.Common.{◌≡◌, ℕ, ◌≤◌, Bool, true, false, ◌&&◌, Option, Some, None, if◌then◌else◌, List, length, drop, subst, refl, arith}
 use Rattle.std.proofs.lemmas.Bool.Decides.{nat_tests}
-use Rattle.std.specs.Prelude.{IsTrue, ◌==◌}
+use Rattle.std.specs.Prelude.{IsTrue}
 use Rattle.std.specs.Int.{w8, w32, w64}
 use Rattle.std.proofs.lemmas.List.{length-append}
 use Rattle.fc_base.specs.declared.report.ReportParts.{ReportParts}
@@ -12,11 +12,12 @@ use Rattle.messages.specs.declared.kind.PacketKind.{PacketKind}
 use Rattle.messages.specs.declared.kind.PacketKind.TheVariants as kinds
 use Rattle.messages.specs.Layouts.{number_in, size, spelled, numbers}
 use Rattle.messages.specs.Ranges.{is_run, is_attempt, is_job_of, is_text, is_body, KeepsState}
-use Rattle.messages.specs.Bodies.{kind_of, layout, numbers_of, tail_of, spelled_body, length_of, body_of, is_whole, whole, body_at}
+use Rattle.messages.specs.Bodies.{kind_of, layout, numbers_of, tail_of, spelled_body, length_of, length_limit, takes_all, body_of, is_whole, whole, body_at}
 use Rattle.messages.specs.Choices.{asked_numbered, reason_numbered}
 use Rattle.messages.specs.declared.refusal.Asked.{Asked}
 use Rattle.messages.specs.declared.refusal.Reason.{Reason}
 use Rattle.messages.proofs.TestLemmas.{both, le_of}
+use Rattle.verify_state.specs.Laws.{ReadsBack}
 use Rattle.messages.proofs.StateLemmas.{length-spelled_state}
 use Rattle.messages.proofs.LayoutLemmas.{length-spelled, length-spelled_blocks, AreWide, wide8, wide32, wide64}
 
@@ -54,34 +55,53 @@ length-numbers_of (WantState run attempt job) = refl
 length-numbers_of (Saved attempt state) = refl
 length-numbers_of (NoSaved run attempt job) = refl
 length-numbers_of (Report run attempt job jobs report) = refl
-length-numbers_of (Refused asked reason job jobs run attempt value) = refl
+length-numbers_of (Refused r) = refl
 
 pub length-spelled_body : (b : Body) → length (spelled_body b) ≡ length_of b
 length-spelled_body b =
     omega (arith, length-append (spelled (layout (kind_of b)) (numbers_of b)) (tail_of b), length-spelled (layout (kind_of b)) (numbers_of b) (length-numbers_of b))
 
+-- Nor than any body may have.
+pub within_limit : (k : PacketKind) → length_limit k ≤ 16400
+within_limit kinds.Jobs = omega arith
+within_limit kinds.JobsOk = omega arith
+within_limit kinds.Start = omega arith
+within_limit kinds.Started = omega arith
+within_limit kinds.Trigger = omega arith
+within_limit kinds.State = omega arith
+within_limit kinds.NoState = omega arith
+within_limit kinds.StateAck = omega arith
+within_limit kinds.Stop = omega arith
+within_limit kinds.Stopped = omega arith
+within_limit kinds.Verify = omega arith
+within_limit kinds.WantState = omega arith
+within_limit kinds.Saved = omega arith
+within_limit kinds.NoSaved = omega arith
+within_limit kinds.Report = omega arith
+within_limit kinds.Refused = omega arith
+
 report_length : (r : ReportParts) → IsTrue (is_report r) → length r.first ≤ 32
 report_length r h = grind (arith, nat_tests)
 
--- No body has more bytes than a frame may have.
-pub length_of-limit : (b : Body) → is_body b ≡ true → KeepsState b → length_of b ≤ 16400
-length_of-limit (Jobs run text) h keeps = omega (arith, le_of (length text) 16384 (both (is_run run) (is_text text) h).1)
-length_of-limit (JobsOk run jobs) h keeps = omega arith
-length_of-limit (Start run) h keeps = omega arith
-length_of-limit (Started run) h keeps = omega arith
-length_of-limit (Trigger run act) h keeps = omega arith
-length_of-limit (State jobs state) h keeps = omega (arith, length-spelled_state state keeps)
-length_of-limit (NoState run job jobs) h keeps = omega arith
-length_of-limit (StateAck run job) h keeps = omega arith
-length_of-limit (Stop run) h keeps = omega arith
-length_of-limit (Stopped run) h keeps = omega arith
-length_of-limit (Verify run attempt text) h keeps = omega (arith, le_of (length text) 16384 (both (is_run run && is_attempt attempt) (is_text text) h).1)
-length_of-limit (WantState run attempt job) h keeps = omega arith
-length_of-limit (Saved attempt state) h keeps = omega (arith, length-spelled_state state keeps)
-length_of-limit (NoSaved run attempt job) h keeps = omega arith
-length_of-limit (Report run attempt job jobs r) h keeps =
+-- No body has more bytes than its kind allows.
+pub length_of-limit : ReadsBack → (b : Body) → is_body b ≡ true → KeepsState b → length_of b ≤ length_limit (kind_of b)
+length_of-limit law (Jobs run text) h keeps = omega (arith, le_of (length text) 16384 (both (is_run run) (is_text text) h).1)
+length_of-limit law (JobsOk run jobs) h keeps = omega arith
+length_of-limit law (Start run) h keeps = omega arith
+length_of-limit law (Started run) h keeps = omega arith
+length_of-limit law (Trigger run act) h keeps = omega arith
+length_of-limit law (State jobs state) h keeps = omega (arith, length-spelled_state law state keeps)
+length_of-limit law (NoState run job jobs) h keeps = omega arith
+length_of-limit law (StateAck run job) h keeps = omega arith
+length_of-limit law (Stop run) h keeps = omega arith
+length_of-limit law (Stopped run) h keeps = omega arith
+length_of-limit law (Verify run attempt text) h keeps = omega (arith, le_of (length text) 16384 (both (is_run run && is_attempt attempt) (is_text text) h).1)
+length_of-limit law (WantState run attempt job) h keeps = omega arith
+length_of-limit law (Saved attempt state) h keeps = omega (arith, length-spelled_state law state keeps)
+length_of-limit law (NoSaved run attempt job) h keeps = omega arith
+length_of-limit law (Report run attempt job jobs r) h keeps =
     omega (arith, length-spelled_blocks r.first, report_length r (both (is_run run && is_attempt attempt && is_job_of job jobs) (is_report r) h).1)
-length_of-limit (Refused asked reason job jobs run attempt value) h keeps = omega arith
+length_of-limit law (Refused r) h keeps = omega arith
 
 some_is : (x y : Body) → Some x ≡ Some y → x ≡ y
 some_is x y same = cc
@@ -97,14 +117,22 @@ whole_some bytes (Some x) b e = pick (is_whole bytes x) refl e
 
 pub body_at-in_range : (k : PacketKind) (bytes : List ℕ) (b : Body) → body_at k bytes ≡ Some b → is_body b ≡ true
 body_at-in_range k bytes b e =
-    (both (length_of b == length bytes) (is_body b) (whole_some bytes (body_of k (numbers (layout k) bytes) (drop (size (layout k)) bytes)) b e).1).1
+    (both (takes_all b (length bytes)) (is_body b) (whole_some bytes (body_of k (numbers (layout k) bytes) (drop (size (layout k)) bytes)) b e).1).1
 
 -- The refusal that the numbers say, once its request and its reason are known.
 abbrev pub refusal_in : List ℕ → Asked → Reason → Body
 refusal_in bytes a r =
     let job = drop 1 (drop 1 bytes) in
     let run = drop 4 (drop 4 job) in
-    Refused a r (number_in w32 job) (number_in w32 (drop 4 job)) (number_in w64 run) (number_in w64 (drop 8 run)) (number_in w64 (drop 8 (drop 8 run)))
+    Refused (record {
+      asked = a;
+      reason = r;
+      job = number_in w32 job;
+      jobs = number_in w32 (drop 4 job);
+      run = number_in w64 run;
+      attempt = number_in w64 (drop 8 run);
+      value = number_in w64 (drop 8 (drop 8 run));
+    })
 
 pub refused_at : (bytes : List ℕ) (a : Asked) (r : Reason) → length bytes ≡ 34 → asked_numbered (number_in w8 bytes) ≡ Some a → reason_numbered (number_in w8 (drop 1 bytes)) ≡ Some r
     → body_at kinds.Refused bytes ≡ (if is_body (refusal_in bytes a r) then Some (refusal_in bytes a r) else None)

@@ -1,5 +1,5 @@
 -- What a header and a body together say of a frame.
-use Rattle.std.proofs.Common.{◌≡◌, inl, inr, ℕ, Bool, true, false, Some, None, Ok, Err, if◌then◌else◌, List, [], ◌∷◌, ◌++◌, drop, refl, sym, subst, ap, ◌∙◌}
+use Rattle.std.proofs.Common.{◌≡◌, inl, inr, ℕ, Bool, true, false, Option, Some, None, Ok, Err, if◌then◌else◌, List, [], ◌∷◌, ◌++◌, drop, refl, sym, subst, ap, ◌∙◌}
 use Rattle.std.specs.Prelude.{is_none, slice_get, ◌==◌, nat_lt}
 use Rattle.std.specs.Option.{option_map}
 use Rattle.fc_base.specs.declared.fault.Fault.{Fault}
@@ -12,9 +12,9 @@ use Rattle.messages.specs.declared.packet.PacketParts.{PacketParts}
 use Rattle.messages.specs.declared.reading.Header.{Header}
 use Rattle.messages.specs.Nodes.{node_numbered, is_node}
 use Rattle.messages.specs.Bodies.{body_at, Reads}
-use Rattle.messages.specs.Packets.{header_at, header_faults, packet_at, is_packet, Answers}
+use Rattle.messages.specs.Packets.{header_at, header_faults, is_packet_kind, body_limit, packet_at, is_packet, Answers}
 use Rattle.messages.specs.Headers.{HeaderIs}
-use Rattle.messages.specs.Laws.{IsBytes, Spells, OnlySpellingsAreRead}
+use Rattle.messages.specs.Laws.{IsBytes, Says, OnlyPacketsAreRead}
 use Rattle.messages.proofs.BodyLemmas.{body_at-in_range}
 
 abbrev pub packet_of : Header → Body → PacketParts
@@ -48,19 +48,23 @@ first_of [] ys f e = absurd cc
 first_of (x ∷ xs) ys f e = e
 
 pub answers_header : (f : Fault) (bytes : List ℕ) → HeaderIs (Err f) bytes → Answers (Err f) bytes
-answers_header f bytes first = inr (first_of (header_faults bytes) (when (is_none (packet_at bytes)) FrameBadField) f first)
+answers_header f bytes first = inr (first_of (header_faults is_packet_kind body_limit bytes) (when (is_none (packet_at bytes)) FrameBadField) f first)
+
+no_body : (h : Header) (f : Fault) (bytes : List ℕ) → HeaderIs (Ok h) bytes → (o : Option Body) → body_at h.kind (drop 16 bytes) ≡ o → Reads (Err f) o → Answers (Err f) bytes
+no_body h f bytes told None none field =
+    let is : packet_at bytes ≡ None = packet_at-told h bytes told ∙ ap (option_map (packet_of h)) none in
+    inr (rw (told.0, is, field) refl)
+no_body h f bytes told (Some b) some memory =
+    inl (memory, (answers_ok h bytes b told some).0)
 
 pub answers_body : (h : Header) (f : Fault) (bytes : List ℕ) → HeaderIs (Ok h) bytes → Reads (Err f) (body_at h.kind (drop 16 bytes)) → Answers (Err f) bytes
-answers_body h f bytes told (inl memory) = inl (memory, told.0)
-answers_body h f bytes told (inr field) =
-    let is : packet_at bytes ≡ None = packet_at-told h bytes told ∙ ap (option_map (packet_of h)) field.1 in
-    inr (rw (told.0, is, field.0) refl)
+answers_body h f bytes told reads = no_body h f bytes told (body_at h.kind (drop 16 bytes)) refl reads
 
 same_packet : (p q : PacketParts) → Some p ≡ Some q → p ≡ q
 same_packet p q e = cc
 
--- What is read is spelled so.
-pub spells : OnlySpellingsAreRead → (bytes : List ℕ) (p : PacketParts) → IsBytes bytes → Answers (Ok p) bytes → Spells bytes p
-spells law bytes p fits answer =
+-- What is read is said so.
+pub says : OnlyPacketsAreRead → (bytes : List ℕ) (p : PacketParts) → IsBytes bytes → Answers (Ok p) bytes → Says bytes p
+says law bytes p fits answer =
     let found = law bytes fits answer.0 in
-    subst (Spells bytes) (same_packet found.0 p (sym found.1 ∙ answer.1)) found.2
+    subst (Says bytes) (same_packet found.0 p (sym found.1 ∙ answer.1)) found.2

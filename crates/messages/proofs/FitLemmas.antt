@@ -1,5 +1,5 @@
 -- A body in its ranges: its numbers fit their widths, and are read again.
-use Rattle.std.proofs.Common.{◌≡◌, ℕ, ◌<◌, true, ◌&&◌, Some, List, [], ◌∷◌, length, refl, arith}
+use Rattle.std.proofs.Common.{◌≡◌, ℕ, ◌+◌, ◌<◌, true, ◌&&◌, Some, List, [], ◌∷◌, length, refl, arith}
 use Rattle.std.specs.Prelude.{◌==◌, nat_le, nat_lt}
 use Rattle.std.specs.List.{list_all}
 use Rattle.std.specs.Int.{w32}
@@ -18,8 +18,9 @@ use Rattle.messages.specs.declared.refusal.Reason.{Reason}
 use Rattle.messages.specs.declared.refusal.Reason.TheVariants as reasons
 use Rattle.messages.specs.Layouts.{bytes_of, spelled_blocks, blocks_in}
 use Rattle.messages.specs.Ranges.{is_word, is_run, is_attempt, is_jobs, is_job, is_job_of, is_text, is_job_refused, is_attempt_refused, is_body, KeepsState}
-use Rattle.messages.specs.Bodies.{kind_of, layout, numbers_of, tail_of, spelled_body, length_of, body_of, whole, body_at, end_at}
-use Rattle.messages.proofs.StateLemmas.{ReadsBack, state_again}
+use Rattle.messages.specs.Bodies.{kind_of, layout, numbers_of, tail_of, spelled_body, length_of, takes_all, body_of, whole, body_at, end_at}
+use Rattle.verify_state.specs.Laws.{ReadsBack}
+use Rattle.messages.proofs.StateLemmas.{state_again}
 use Rattle.messages.proofs.LayoutLemmas.{length-bytes_of, wide32, Fit, numbers-spelled, drop-spelled}
 use Rattle.messages.proofs.ChoiceLemmas.{act_again, act_fits, asked_again, asked_fits, reason_again, reason_fits, end_again, end_fits}
 use Rattle.messages.proofs.TestLemmas.{both, lt_of}
@@ -126,12 +127,12 @@ fit_of (Report run attempt job jobs r) h =
     let lists = both (has_counts r) (has_list r) found.0 in
     let counts = counts_fit r lists.0 in
     (run_fits run parts.0, (attempt_fits attempt parts.1, (numbers.0, (numbers.1, (end_fits r.end, (at_fits r r.end found.1, (counts.0, (counts.1, (list_fits r lists.1, tt)))))))))
-fit_of (Refused asked reason job jobs run attempt value) h =
-    let last = both (is_run run && is_word value && is_job_refused reason job jobs) (is_attempt_refused asked attempt) h in
-    let named = both (is_run run && is_word value) (is_job_refused reason job jobs) last.0 in
-    let parts = both (is_run run) (is_word value) named.0 in
-    let numbers = job_refused_fits reason job jobs named.1 in
-    (asked_fits asked, (reason_fits reason, (numbers.0, (numbers.1, (run_fits run parts.0, (attempt_refused_fits asked attempt last.1, (lt_of value 18446744073709551616 parts.1, tt)))))))
+fit_of (Refused r) h =
+    let last = both (is_run r.run && is_word r.value && is_job_refused r.reason r.job r.jobs) (is_attempt_refused r.asked r.attempt) h in
+    let named = both (is_run r.run && is_word r.value) (is_job_refused r.reason r.job r.jobs) last.0 in
+    let parts = both (is_run r.run) (is_word r.value) named.0 in
+    let numbers = job_refused_fits r.reason r.job r.jobs named.1 in
+    (asked_fits r.asked, (reason_fits r.reason, (numbers.0, (numbers.1, (run_fits r.run parts.0, (attempt_refused_fits r.asked r.attempt last.1, (lt_of r.value 18446744073709551616 parts.1, tt)))))))
 
 blocks_again : (bs : List ℕ) → list_all is_block bs ≡ true → blocks_in (length bs) (spelled_blocks bs) ≡ bs
 blocks_again [] h = refl
@@ -166,10 +167,32 @@ body_of-again law (Report run attempt job jobs r) h keeps =
   where
     blocks_of_list : (x : ReportParts) → has_list x ≡ true → list_all is_block x.first ≡ true
     blocks_of_list x e = grind (arith, nat_tests)
-body_of-again law (Refused asked reason job jobs run attempt value) h keeps = rw (asked_again asked, reason_again reason) refl
+body_of-again law (Refused r) h keeps = rw (asked_again r.asked, reason_again r.reason) refl
 
 same_length : (n : ℕ) → (n == n) ≡ true
 same_length n = grind (arith, nat_tests)
+
+at_least : (n m : ℕ) → nat_le n (n + m) ≡ true
+at_least n m = grind (arith, nat_tests)
+
+-- A body takes as many bytes as it has.
+takes_its_own : (b : Body) → takes_all b (length_of b) ≡ true
+takes_its_own (Jobs run text) = same_length (length_of (Jobs run text))
+takes_its_own (JobsOk run jobs) = refl
+takes_its_own (Start run) = refl
+takes_its_own (Started run) = refl
+takes_its_own (Trigger run act) = refl
+takes_its_own (State jobs state) = at_least 4 (length (tail_of (State jobs state)))
+takes_its_own (NoState run job jobs) = refl
+takes_its_own (StateAck run job) = refl
+takes_its_own (Stop run) = refl
+takes_its_own (Stopped run) = refl
+takes_its_own (Verify run attempt text) = same_length (length_of (Verify run attempt text))
+takes_its_own (WantState run attempt job) = refl
+takes_its_own (Saved attempt state) = at_least 8 (length (tail_of (Saved attempt state)))
+takes_its_own (NoSaved run attempt job) = refl
+takes_its_own (Report run attempt job jobs r) = same_length (length_of (Report run attempt job jobs r))
+takes_its_own (Refused r) = refl
 
 -- A body in its ranges is read from its bytes.
 pub body_at-spelled : ReadsBack → (b : Body) → is_body b ≡ true → KeepsState b → body_at (kind_of b) (spelled_body b) ≡ Some b
@@ -181,4 +204,4 @@ body_at-spelled law b h keeps =
     rw (front, behind, body_of-again law b h keeps) (kept (spelled_body b) len)
   where
     kept : (bytes : List ℕ) → length bytes ≡ length_of b → whole bytes (Some b) ≡ Some b
-    kept bytes len = rw (len, same_length (length_of b), h) refl
+    kept bytes len = rw (len, takes_its_own b, h) refl

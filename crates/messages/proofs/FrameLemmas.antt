@@ -1,5 +1,5 @@
 -- Frames: the length in its place.
-use Rattle.std.proofs.Common.{◌≡◌, ℕ, ◌≤◌, ◌&&◌, List, ◌++◌, length, take, drop, refl, ap}
+use Rattle.std.proofs.Common.{◌≡◌, ℕ, ◌≤◌, ◌&&◌, List, ◌++◌, length, take, drop, refl, ap, arith}
 use borrow.Rule.Slice.PartMut.{put_mid}
 use Rattle.std.specs.Int.{w32, to_be_bytes}
 use Rattle.std.proofs.lemmas.List.{drop-drop}
@@ -10,10 +10,11 @@ use Rattle.messages.specs.Nodes.{is_node}
 use Rattle.messages.specs.Layouts.{bytes_of}
 use Rattle.messages.specs.Ranges.{is_body}
 use Rattle.messages.specs.Packets.{header_of}
-use Rattle.messages.specs.Bodies.{length_of}
+use Rattle.messages.specs.Bodies.{kind_of, length_of}
 use Rattle.messages.specs.Laws.{IsPacket}
 use Rattle.messages.proofs.TestLemmas.{both}
-use Rattle.messages.proofs.BodyLemmas.{length_of-limit}
+use Rattle.verify_state.specs.Laws.{ReadsBack}
+use Rattle.messages.proofs.BodyLemmas.{length_of-limit, within_limit}
 
 pub put_len-mid : (xs ys : List ℕ) (n : ℕ) → ys ≡ to_be_bytes w32 n → put_mid 12 4 xs ys ≡ take 12 xs ++ (bytes_of w32 n ++ drop 16 xs)
 unfolding bytes_of
@@ -24,8 +25,9 @@ pub header_of-len : (from to : Node) (body : Body) (len : ℕ) (rest : List ℕ)
 unfolding bytes_of
 header_of-len from to body len rest = refl
 
-pub body_limit : (p : PacketParts) → IsPacket p → length_of p.body ≤ 16400
-body_limit p h = length_of-limit p.body (both (is_node p.from && is_node p.to) (is_body p.body) h.in_range).1 h.state
+pub length_fits : ReadsBack → (p : PacketParts) → IsPacket p → length_of p.body ≤ 16400
+length_fits law p h =
+    omega (arith, length_of-limit law p.body (both (is_node p.from && is_node p.to) (is_body p.body) h.in_range).1 h.state, within_limit (kind_of p.body))
 
 pub length-header_of : (from to : Node) (body : Body) (len : ℕ) → length (header_of from to body len) ≡ 16
 unfolding bytes_of

@@ -3,7 +3,6 @@ pub mod BlockLemmas
 pub mod TestLemmas
 pub mod StateLemmas
 pub mod BodyLemmas
-pub mod StateBodyLemmas
 pub mod FrameLemmas
 pub mod ReportLemmas
 pub mod DecodeLemmas

@@ -1,11 +1,9 @@
 -- The bytes of a body: numbers, and behind them whatever else it holds.
-use Rattle.std.specs.Prelude.{◌≡◌, ◌⊎◌, ℕ, zero, suc, ◌+◌, Bool, ◌&&◌, ◌==◌, if◌then◌else◌, List, [], ◌∷◌, ◌++◌, length, drop, slice_index, Option, Some, None, Result, Ok, Err}
+use Rattle.std.specs.Prelude.{◌≡◌, ℕ, zero, suc, ◌+◌, Bool, ◌&&◌, ◌==◌, nat_le, if◌then◌else◌, List, [], ◌∷◌, ◌++◌, length, drop, slice_index, Option, Some, None, Result, Ok, Err}
 use Rattle.std.specs.Option.{option_map, option_and_then}
 use Rattle.std.specs.Int.{Width, w8, w32, w64}
 use Rattle.fc_base.specs.declared.fault.Fault.{Fault}
 use Rattle.fc_base.specs.declared.fault.Fault.TheVariants.{FrameBadField, FrameNoMemory}
-use Rattle.fc_base.specs.declared.fault.FaultSort.{FaultSort}
-use Rattle.fc_base.specs.declared.fault.FaultSort.TheVariants as sorts
 use Rattle.fc_base.specs.declared.report.ReportEnd.{ReportEnd}
 use Rattle.fc_base.specs.declared.report.ReportEnd.TheVariants as ends
 use Rattle.verify_state.specs.State.{State as SavedState}
@@ -36,7 +34,7 @@ kind_of (WantState run attempt job) = kinds.WantState
 kind_of (Saved attempt state) = kinds.Saved
 kind_of (NoSaved run attempt job) = kinds.NoSaved
 kind_of (Report run attempt job jobs report) = kinds.Report
-kind_of (Refused asked reason job jobs run attempt value) = kinds.Refused
+kind_of (Refused refusal) = kinds.Refused
 
 -- How wide the numbers of each kind are.
 abbrev pub layout : PacketKind → List Width
@@ -94,8 +92,8 @@ numbers_of (Saved attempt state) = attempt ∷ []
 numbers_of (NoSaved run attempt job) = run ∷ attempt ∷ job ∷ []
 numbers_of (Report run attempt job jobs r) =
     run ∷ attempt ∷ job ∷ jobs ∷ end_number r.end ∷ end_at r.end ∷ r.checked ∷ r.faults ∷ length r.first ∷ []
-numbers_of (Refused asked reason job jobs run attempt value) =
-    asked_number asked ∷ reason_number reason ∷ job ∷ jobs ∷ run ∷ attempt ∷ value ∷ []
+numbers_of (Refused r) =
+    asked_number r.asked ∷ reason_number r.reason ∷ r.job ∷ r.jobs ∷ r.run ∷ r.attempt ∷ r.value ∷ []
 
 -- The bytes of a verify state.
 unfoldable pub spelled_state : SavedState → List ℕ
@@ -148,12 +146,26 @@ body_of kinds.Report ns tail =
     (end_numbered (slice_index ns 4) (slice_index ns 5))
 body_of kinds.Refused ns tail =
     option_and_then (λ asked. option_map (λ reason.
-    Refused asked reason (slice_index ns 2) (slice_index ns 3) (slice_index ns 4) (slice_index ns 5) (slice_index ns 6))
+    Refused (record {
+      asked = asked;
+      reason = reason;
+      job = slice_index ns 2;
+      jobs = slice_index ns 3;
+      run = slice_index ns 4;
+      attempt = slice_index ns 5;
+      value = slice_index ns 6;
+    }))
     (reason_numbered (slice_index ns 1))) (asked_numbered (slice_index ns 0))
+
+-- A body takes all of so many bytes. A verify state, of either layout, tells itself where it ends.
+abbrev pub takes_all : Body → ℕ → Bool
+takes_all (State jobs state) len = nat_le 4 len
+takes_all (Saved attempt state) len = nat_le 8 len
+takes_all b len = length_of b == len
 
 -- A body that takes all of the bytes, and keeps its ranges.
 abbrev pub is_whole : List ℕ → Body → Bool
-is_whole bytes b = (length_of b == length bytes) && is_body b
+is_whole bytes b = takes_all b (length bytes) && is_body b
 
 abbrev pub whole : List ℕ → Option Body → Option Body
 whole bytes None = None
@@ -163,13 +175,27 @@ whole bytes (Some b) = if is_whole bytes b then Some b else None
 abbrev pub body_at : PacketKind → List ℕ → Option Body
 body_at kind bytes = whole bytes (body_of kind (numbers (layout kind) bytes) (drop (size (layout kind)) bytes))
 
--- A reader gives what the bytes say, or a bad field where they say nothing, unless memory ran out.
+-- A reader gives what the bytes say, unless memory ran out, or a bad field where they say nothing.
 abbrev pub Reads : {X : Type 0} → Result X Fault → Option X → Type 0
 Reads (Ok x) said = said ≡ Some x
-Reads (Err f) said = (f ≡ FrameNoMemory) ⊎ ((f ≡ FrameBadField) × (said ≡ None))
+Reads (Err f) None = f ≡ FrameBadField
+Reads (Err f) (Some x) = f ≡ FrameNoMemory
 
--- What a state's bytes are refused for is a bad field of the frame.
-abbrev pub fault_in_frame : FaultSort → Fault
-fault_in_frame sorts.Memory = FrameNoMemory
-fault_in_frame sorts.Save = FrameBadField
-fault_in_frame sorts.Refusal = FrameBadField
+-- The most bytes that a body of each kind has.
+abbrev pub length_limit : PacketKind → ℕ
+length_limit kinds.Jobs = 16392
+length_limit kinds.JobsOk = 12
+length_limit kinds.Start = 8
+length_limit kinds.Started = 8
+length_limit kinds.Trigger = 9
+length_limit kinds.State = 140
+length_limit kinds.NoState = 16
+length_limit kinds.StateAck = 12
+length_limit kinds.Stop = 8
+length_limit kinds.Stopped = 8
+length_limit kinds.Verify = 16400
+length_limit kinds.WantState = 20
+length_limit kinds.Saved = 144
+length_limit kinds.NoSaved = 20
+length_limit kinds.Report = 169
+length_limit kinds.Refused = 34

@@ -1,8 +1,11 @@
 -- What every packet keeps, and what its spelling promises.
-use Rattle.std.specs.Prelude.{◌≡◌, ◌<◌, ℕ, List, [], ◌++◌, Some, IsTrue, slice_index}
+use Rattle.std.specs.Prelude.{◌≡◌, ◌<◌, ◌≤◌, ℕ, Bool, false, ◌==◌, ◌&&◌, ◌||◌, List, [], ◌++◌, drop, Some, IsTrue, slice_index}
 use Rattle.messages.specs.declared.packet.PacketParts.{PacketParts}
-use Rattle.messages.specs.Ranges.{KeepsState}
-use Rattle.messages.specs.Packets.{is_packet, spelling, packet_at, faults_of}
+use Rattle.verify_state.specs.Reading.{is_layout_1}
+use Rattle.messages.specs.declared.body.Body.{Body}
+use Rattle.messages.specs.Ranges.{is_body, KeepsState}
+use Rattle.messages.specs.Bodies.{kind_of, length_of, length_limit}
+use Rattle.messages.specs.Packets.{is_packet, header_at, spelling, packet_at, faults_of}
 
 -- Every packet is in its ranges, and so is the verify state that it has.
 pub record IsPacket (p : PacketParts) : Type 0 where
@@ -13,21 +16,32 @@ pub record IsPacket (p : PacketParts) : Type 0 where
 abbrev pub IsBytes : List ℕ → Type 0
 IsBytes bytes = (i : ℕ) → slice_index bytes i < 256
 
--- The bytes spell this packet.
-pub record Spells (bytes : List ℕ) (p : PacketParts) : Type 0 where
+-- The bytes hold a verify state in layout 1, which stands behind four numbers in a State and eight in
+-- a Saved.
+abbrev pub holds_layout_1 : List ℕ → Bool
+holds_layout_1 bytes =
+    ((header_at 3 bytes == 6) && is_layout_1 (drop 20 bytes))
+    || ((header_at 3 bytes == 13) && is_layout_1 (drop 24 bytes))
+
+-- The bytes say this packet, and are its spelling but where they hold a state in layout 1.
+pub record Says (bytes : List ℕ) (p : PacketParts) : Type 0 where
   pub packet : IsPacket p
-  pub spelled : spelling p ≡ bytes
+  pub spelled : holds_layout_1 bytes ≡ false → spelling p ≡ bytes
 
 -- A packet's spelling has no fault and says that packet.
 abbrev pub SpellingsAreRead : Type 0
 SpellingsAreRead = (p : PacketParts) → IsPacket p → (faults_of (spelling p) ≡ []) × (packet_at (spelling p) ≡ Some p)
 
--- Bytes without a fault are the spelling of the packet that they say.
-abbrev pub OnlySpellingsAreRead : Type 0
-OnlySpellingsAreRead =
-    (bytes : List ℕ) → IsBytes bytes → faults_of bytes ≡ [] → (p : PacketParts) × (packet_at bytes ≡ Some p) × Spells bytes p
+-- Bytes without a fault say a packet, and are its spelling but where they hold a state in layout 1.
+abbrev pub OnlyPacketsAreRead : Type 0
+OnlyPacketsAreRead =
+    (bytes : List ℕ) → IsBytes bytes → faults_of bytes ≡ [] → (p : PacketParts) × (packet_at bytes ≡ Some p) × Says bytes p
 
 -- No spelling begins another.
 abbrev pub NoneBeginsAnother : Type 0
 NoneBeginsAnother =
     (p q : PacketParts) (more : List ℕ) → IsPacket p → IsPacket q → spelling p ++ more ≡ spelling q → (more ≡ []) × (p ≡ q)
+
+-- No body has more bytes than its kind allows.
+abbrev pub LengthsAreBounded : Type 0
+LengthsAreBounded = (b : Body) → IsTrue (is_body b) → KeepsState b → length_of b ≤ length_limit (kind_of b)

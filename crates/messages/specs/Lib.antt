@@ -4,8 +4,6 @@ pub mod Choices
 pub mod Ranges
 pub mod Layouts
 pub mod Bodies
-pub mod Blocks
-pub mod ReportFields
 pub mod Packets
 pub mod Headers
 pub mod Laws

@@ -1,5 +1,5 @@
 -- The one spelling of a packet, and what bytes say.
-use Rattle.std.specs.Prelude.{◌≡◌, ◌⊎◌, ℕ, ◌+◌, Bool, ◌&&◌, ◌==◌, not, nat_lt, is_none, List, [], ◌∷◌, ◌++◌, length, drop, slice_index, slice_get, Option, Some, Result, Ok, Err}
+use Rattle.std.specs.Prelude.{◌≡◌, ◌⊎◌, ℕ, ◌+◌, Bool, ◌&&◌, ◌==◌, not, nat_lt, is_none, is_some, List, [], ◌∷◌, ◌++◌, length, drop, slice_index, slice_get, Option, Some, Result, Ok, Err}
 use Rattle.std.specs.Option.{option_map, option_and_then}
 use Rattle.std.specs.Int.{Width, w8, w32}
 use Rattle.fc_base.specs.declared.fault.Fault.{Fault}
@@ -39,17 +39,26 @@ header_at i bytes = slice_index (numbers header bytes) i
 abbrev pub has_magic : List ℕ → Bool
 has_magic bytes = (header_at 0 bytes == 70) && (header_at 1 bytes == 67) && (header_at 2 bytes == 1)
 
--- The faults of a frame before its body is looked at, in the order in which they are refused.
-abbrev pub header_faults : List ℕ → List Fault
-header_faults bytes =
+-- The faults of a frame before its body is looked at, in the order in which they are refused: which
+-- kinds are known, and how long a body may be, is for the reader to say.
+abbrev pub header_faults : (ℕ → Bool) → ℕ → List ℕ → List Fault
+header_faults is_known limit bytes =
     when (nat_lt (length bytes) 16) FrameShort
     ++ (when (not (has_magic bytes)) FrameBadMagic
-    ++ (when (is_none (kind_numbered (header_at 3 bytes))) BadKind
+    ++ (when (not (is_known (header_at 3 bytes))) BadKind
     ++ (when (is_none (node_numbered (header_at 4 bytes))) FrameBadField
     ++ (when (is_none (node_numbered (header_at 5 bytes))) FrameBadField
-    ++ (when (nat_lt 16400 (header_at 6 bytes)) FrameTooLong
+    ++ (when (nat_lt limit (header_at 6 bytes)) FrameTooLong
     ++ (when (nat_lt (length bytes) (16 + header_at 6 bytes)) FrameShort
     ++ when (nat_lt (16 + header_at 6 bytes) (length bytes)) FrameTrailing))))))
+
+-- The number of a packet's kind.
+abbrev pub is_packet_kind : ℕ → Bool
+is_packet_kind n = is_some (kind_numbered n)
+
+-- The most bytes that a packet's body has.
+abbrev pub body_limit : ℕ
+body_limit = 16400
 
 -- The packet that the fields of a frame say.
 abbrev pub packet_at : List ℕ → Option PacketParts
@@ -60,10 +69,9 @@ packet_at bytes =
 
 -- All faults of a frame: those of the header, and a body that isn't of its kind.
 abbrev pub faults_of : List ℕ → List Fault
-faults_of bytes = header_faults bytes ++ when (is_none (packet_at bytes)) FrameBadField
+faults_of bytes = header_faults is_packet_kind body_limit bytes ++ when (is_none (packet_at bytes)) FrameBadField
 
--- The bytes have no fault and say the packet, or the first fault is theirs; or memory ran out once all
--- bytes were known to be there.
+-- The bytes have no fault and say the packet, unless memory ran out, or the first fault is theirs.
 abbrev pub Answers : Result PacketParts Fault → List ℕ → Type 0
 Answers (Ok p) bytes = (faults_of bytes ≡ []) × (packet_at bytes ≡ Some p)
-Answers (Err f) bytes = ((f ≡ FrameNoMemory) × (header_faults bytes ≡ [])) ⊎ (slice_get (faults_of bytes) 0 ≡ Some f)
+Answers (Err f) bytes = ((f ≡ FrameNoMemory) × (faults_of bytes ≡ [])) ⊎ (slice_get (faults_of bytes) 0 ≡ Some f)

@@ -6,6 +6,7 @@ use Rattle.messages.specs.declared.body.Body.{Body}
 use Rattle.messages.specs.declared.body.Body.TheVariants.{Jobs, JobsOk, Start, Started, Trigger, State, NoState, StateAck, Stop, Stopped, Verify, WantState, Saved, NoSaved, Report, Refused}
 use Rattle.messages.specs.declared.refusal.Asked.{Asked}
 use Rattle.messages.specs.declared.refusal.Asked.TheVariants as asks
+use Rattle.messages.specs.declared.refusal.Refusal.{Refusal}
 use Rattle.messages.specs.declared.refusal.Reason.{Reason}
 use Rattle.messages.specs.declared.refusal.Reason.TheVariants as reasons
 
@@ -47,6 +48,12 @@ abbrev pub is_attempt_refused : Asked → ℕ → Bool
 is_attempt_refused asks.Verify attempt = is_attempt attempt
 is_attempt_refused _ attempt = attempt == 0
 
+-- The ranges of a refusal.
+abbrev pub is_refusal : Refusal → Bool
+is_refusal r =
+    is_run r.run && is_word r.value && is_job_refused r.reason r.job r.jobs
+    && is_attempt_refused r.asked r.attempt
+
 -- The ranges, by kind.
 abbrev pub is_body : Body → Bool
 is_body (Jobs run text) = is_run run && is_text text
@@ -64,8 +71,7 @@ is_body (WantState run attempt job) = is_run run && is_attempt attempt && is_job
 is_body (Saved attempt state) = is_attempt attempt
 is_body (NoSaved run attempt job) = is_run run && is_attempt attempt && is_job job
 is_body (Report run attempt job jobs report) = is_run run && is_attempt attempt && is_job_of job jobs && is_report report
-is_body (Refused asked reason job jobs run attempt value) =
-    is_run run && is_word value && is_job_refused reason job jobs && is_attempt_refused asked attempt
+is_body (Refused r) = is_refusal r
 
 -- What a verify state keeps, where a body has one.
 abbrev pub KeepsState : Body → Type 0

@@ -3,10 +3,8 @@
 ghost use Rattle.std.specs.Prelude.{◌≡◌, Some, None, if◌then◌else◌};
 
 use crate::kind::PacketKind;
-use crate::ranges::{
-    is_attempt, is_attempt_refused, is_job, is_job_of, is_job_refused, is_jobs, is_run, is_value,
-};
-use crate::refusal::{Act, Asked, Reason};
+use crate::ranges::{is_attempt, is_job, is_job_of, is_jobs, is_refusal, is_run};
+use crate::refusal::{Act, Refusal};
 use crate::text::{TEXT_LIMIT, Text};
 use fc_base::{Attempt, CheckReport, JobNo, RunNo};
 use verify_state::VerifyState;
@@ -94,17 +92,8 @@ pub enum Body {
         jobs: u32,
         report: CheckReport,
     },
-    /// A server: it refuses. `job` and `jobs` are 0 but for a state that doesn't fit, `attempt` is 0
-    /// but for a Verify, and `value` is a number that goes with the reason.
-    Refused {
-        asked: Asked,
-        reason: Reason,
-        job: JobNo,
-        jobs: u32,
-        run: RunNo,
-        attempt: Attempt,
-        value: u64,
-    },
+    /// A server: it refuses.
+    Refused(Refusal),
 }
 
 impl Body {
@@ -131,7 +120,7 @@ impl Body {
             Body::Saved { .. } => PacketKind::Saved,
             Body::NoSaved { .. } => PacketKind::NoSaved,
             Body::Report { .. } => PacketKind::Report,
-            Body::Refused { .. } => PacketKind::Refused,
+            Body::Refused(_) => PacketKind::Refused,
         }
     }
 
@@ -169,20 +158,7 @@ impl Body {
                     && is_job_of(*job, *jobs)
                     && report.parts().is_report()
             }
-            Body::Refused {
-                asked,
-                reason,
-                job,
-                jobs,
-                run,
-                attempt,
-                value,
-            } => {
-                is_run(*run)
-                    && is_value(*value)
-                    && is_job_refused(*reason, *job, *jobs)
-                    && is_attempt_refused(*asked, *attempt)
-            }
+            Body::Refused(refusal) => is_refusal(refusal),
         }
     }
 

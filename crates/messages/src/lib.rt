@@ -15,10 +15,10 @@ mod writing;
 
 pub use body::Body;
 pub use kind::PacketKind;
-pub use law::{no_spelling_begins_another, one_spelling};
+pub use law::{lengths_are_bounded, no_spelling_begins_another, one_spelling};
 pub use node::Node;
 pub use packet::{Packet, PacketParts};
 pub use reading::decode;
-pub use refusal::{Act, Asked, Reason};
+pub use refusal::{Act, Asked, Reason, Refusal};
 pub use text::{TEXT_LIMIT, Text};
 pub use writing::encode;

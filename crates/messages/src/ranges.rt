@@ -1,16 +1,16 @@
 //! The ranges of the numbers in a body.
 
 ghost use Rattle.std.specs.Prelude.{◌≡◌};
-ghost use Rattle.messages.specs.Ranges.{is_word, is_run, is_attempt, is_jobs, is_job, is_job_of, is_job_refused, is_attempt_refused};
+ghost use Rattle.messages.specs.Ranges.{is_word, is_run, is_attempt, is_jobs, is_job, is_job_of, is_job_refused, is_attempt_refused, is_refusal};
 
-use crate::refusal::{Asked, Reason};
+use crate::refusal::{Asked, Reason, Refusal};
 use fc_base::{Attempt, JobNo, RunNo};
 
 /// How many jobs a file may have.
 const JOBS_LIMIT: u32 = 16;
 
 /// Every number of eight bytes may go with a reason.
-pub(crate) fn is_value(value: u64) -> bool
+fn is_value(value: u64) -> bool
     ensures { result ≡ is_word value }
 {
     value <= u64::MAX
@@ -46,7 +46,7 @@ pub(crate) fn is_job_of(job: JobNo, jobs: u32) -> bool
     is_jobs(jobs) && job.0 < jobs
 }
 
-pub(crate) fn is_job_refused(reason: Reason, job: JobNo, jobs: u32) -> bool
+fn is_job_refused(reason: Reason, job: JobNo, jobs: u32) -> bool
     ensures { result ≡ is_job_refused reason job jobs }
 {
     match reason {
@@ -55,11 +55,20 @@ pub(crate) fn is_job_refused(reason: Reason, job: JobNo, jobs: u32) -> bool
     }
 }
 
-pub(crate) fn is_attempt_refused(asked: Asked, attempt: Attempt) -> bool
+fn is_attempt_refused(asked: Asked, attempt: Attempt) -> bool
     ensures { result ≡ is_attempt_refused asked attempt }
 {
     match asked {
         Asked::Verify => is_attempt(attempt),
         _ => attempt.0 == 0,
     }
+}
+
+pub(crate) fn is_refusal(refusal: &Refusal) -> bool
+    ensures { result ≡ is_refusal refusal.now }
+{
+    is_run(refusal.run)
+        && is_value(refusal.value)
+        && is_job_refused(refusal.reason, refusal.job, refusal.jobs)
+        && is_attempt_refused(refusal.asked, refusal.attempt)
 }

@@ -5,7 +5,7 @@ ghost use Rattle.messages.specs.Ranges.{is_body};
 ghost use Rattle.messages.specs.Layouts.{numbers};
 ghost use Rattle.messages.specs.Bodies.{Reads, body_at};
 ghost use Rattle.messages.specs.Packets.{Answers, header};
-ghost use Rattle.messages.specs.Laws.{Spells};
+ghost use Rattle.messages.specs.Laws.{Says};
 ghost use Rattle.messages.specs.Headers.{HeaderIs};
 
 mod plain;
@@ -32,10 +32,11 @@ const BODY_LIMIT: u32 = 16_400;
 /// don't begin with FC and version 1; `BadKind`; `FrameBadField` for a node above 8; `FrameTooLong`
 /// for a body of more than 16,400 bytes; `FrameShort` and `FrameTrailing` where fewer or more bytes
 /// follow than the header says; `FrameBadField` for a body that isn't of its kind or has a number out
-/// of its range; and `FrameNoMemory`, which is asked for only once the bytes are known to be a frame.
+/// of its range. `FrameNoMemory` is answered only of bytes that have none of these: memory is asked
+/// for a job file's text alone, and last.
 pub fn decode(alloc: Global, bytes: &[u8]) -> Result<Packet, Fault>
     ensures answer { Answers result bytes.now }
-    ensures spelled { IfOk result (Spells bytes.now) }
+    ensures said { IfOk result (Says bytes.now) }
 {
     one_spelling();
     let header = header_of(bytes)?;
@@ -133,16 +134,16 @@ fn body_of(alloc: Global, kind: PacketKind, bytes: &[u8]) -> Result<Body, Fault>
         PacketKind::Start => in_place(plain::start(bytes)),
         PacketKind::Started => in_place(plain::started(bytes)),
         PacketKind::Trigger => in_place(plain::trigger(bytes)),
-        PacketKind::State => states::state(alloc, bytes),
+        PacketKind::State => in_place(states::state(bytes)),
         PacketKind::NoState => in_place(plain::no_state(bytes)),
         PacketKind::StateAck => in_place(plain::state_ack(bytes)),
         PacketKind::Stop => in_place(plain::stop(bytes)),
         PacketKind::Stopped => in_place(plain::stopped(bytes)),
         PacketKind::Verify => texts::verify(alloc, bytes),
         PacketKind::WantState => in_place(plain::want_state(bytes)),
-        PacketKind::Saved => states::saved(alloc, bytes),
+        PacketKind::Saved => in_place(states::saved(bytes)),
         PacketKind::NoSaved => in_place(plain::no_saved(bytes)),
-        PacketKind::Report => report::report(alloc, bytes),
+        PacketKind::Report => in_place(report::report(bytes)),
         PacketKind::Refused => in_place(plain::refused(bytes)),
     }
 }

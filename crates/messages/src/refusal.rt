@@ -3,7 +3,7 @@
 ghost use Rattle.std.specs.Prelude.{◌≡◌};
 ghost use Rattle.messages.specs.Choices.{act_number, act_numbered, asked_number, asked_numbered, reason_fault, reason_number, reason_numbered};
 
-use fc_base::Fault;
+use fc_base::{Attempt, Fault, JobNo, RunNo};
 
 /// What a server does once the client has the states of a trigger: fio's trigger command, of which
 /// this profile has the word `cut` alone.
@@ -44,6 +44,19 @@ pub enum Reason {
     BadJobs,
     /// A verify state doesn't fit the job that reads.
     Misfit,
+}
+
+/// A server's refusal of a request: which, why, and of what. `job` and `jobs` are 0 but for a state
+/// that doesn't fit, `attempt` is 0 but for a Verify, and `value` is a number that goes with the reason.
+#[derive(Clone, Copy, Debug, PartialEq, Eq)]
+pub struct Refusal {
+    pub asked: Asked,
+    pub reason: Reason,
+    pub job: JobNo,
+    pub jobs: u32,
+    pub run: RunNo,
+    pub attempt: Attempt,
+    pub value: u64,
 }
 
 const ACTS: [Act; 2] = [Act::None, Act::Cut];

@@ -7,7 +7,7 @@ ghost use Rattle.messages.specs.declared.body.Body.TheVariants.{Jobs, State, Ver
 ghost use Rattle.messages.specs.Layouts.{bytes_of, spelled, spelled_blocks};
 ghost use Rattle.messages.specs.Kinds.{number_of};
 ghost use Rattle.messages.specs.Nodes.{node_number};
-ghost use Rattle.messages.specs.Bodies.{spelled_body, spelled_state, length_of, end_number, end_at};
+ghost use Rattle.messages.specs.Bodies.{spelled_body, length_of, end_number, end_at};
 ghost use Rattle.messages.specs.Packets.{header, header_of, spelling};
 
 use crate::body::Body;
@@ -15,7 +15,7 @@ use crate::bytes::{put_u8, put_u32, put_u64};
 use crate::kind::PacketKind;
 use crate::node::Node;
 use crate::packet::Packet;
-use crate::refusal::{Asked, Reason};
+use crate::refusal::Refusal;
 use crate::text::Text;
 use fc_base::{Attempt, JobNo, ReportEnd, ReportParts, RunNo};
 use std::alloc::{AllocError, Global};
@@ -34,7 +34,7 @@ const LENGTH_AT: usize = 12;
 /// the body has, and the body. Every number has its high byte first.
 pub fn encode(alloc: Global, packet: &Packet) -> Result<Vec<u8>, AllocError>
     ensures spelling { IfOk result (λ bytes. bytes.items ≡ spelling packet.now) }
-    ensures len { IfOk result (λ bytes. length bytes.items ≤ 16416) }
+    ensures len { IfOk result (λ bytes. length bytes.items ≡ HEADER + length_of packet.now.body) }
 {
     let mut out = framed(alloc, packet)?;
     let len = (out.len() - HEADER) as u32;
@@ -47,6 +47,7 @@ fn framed(alloc: Global, packet: &Packet) -> Result<Vec<u8>, AllocError>
     ensures bytes { IfOk result (λ bytes. bytes.items ≡ header_of packet.now.from packet.now.to packet.now.body 0 ++ spelled_body packet.now.body) }
     ensures len { IfOk result (λ bytes. (length bytes.items ≡ 16 + length_of packet.now.body) × (length_of packet.now.body ≤ 16400)) }
 {
+    verify_state::one_spelling();
     packet.keeps_its_ranges();
     let mut out = Vec::new(alloc);
     put_header(&mut out, packet.kind(), packet.from(), packet.to())?;
@@ -114,16 +115,8 @@ fn put_body(out: &mut Vec<u8>, body: &Body) -> Result<(), AllocError>
             job,
             jobs,
             report,
-        } => put_report(out, *run, *attempt, *job, *jobs, report.parts()),
-        Body::Refused {
-            asked,
-            reason,
-            job,
-            jobs,
-            run,
-            attempt,
-            value,
-        } => put_refused(out, *asked, *reason, *job, *jobs, *run, *attempt, *value),
+        } => put_report(out, *run, *attempt, *job, *jobs, &report.parts()),
+        Body::Refused(refusal) => put_refused(out, refusal),
     }
 }
 
@@ -134,27 +127,20 @@ fn put_jobs(out: &mut Vec<u8>, run: RunNo, text: &Text) -> Result<(), AllocError
     out.extend_from_slice(text.as_slice())
 }
 
+#[tactic(auto, unfolding(crate::specs::Bodies::spelled_state))]
 fn put_state(out: &mut Vec<u8>, jobs: u32, state: &VerifyState) -> Result<(), AllocError>
     ensures { OnOk result (out.new.items ≡ out.old.items ++ spelled_body (State jobs state.now)) }
 {
-    let bytes = spelled_state(state)?;
     put_u32(out, jobs)?;
-    out.extend_from_slice(&bytes)
-}
-
-fn put_saved(out: &mut Vec<u8>, attempt: Attempt, state: &VerifyState) -> Result<(), AllocError>
-    ensures { OnOk result (out.new.items ≡ out.old.items ++ spelled_body (Saved attempt state.now)) }
-{
-    let bytes = spelled_state(state)?;
-    put_u64(out, attempt.0)?;
-    out.extend_from_slice(&bytes)
+    state.push_to(out)
 }
 
 #[tactic(auto, unfolding(crate::specs::Bodies::spelled_state))]
-fn spelled_state(state: &VerifyState) -> Result<Vec<u8>, AllocError>
-    ensures { IfOk result (λ bytes. bytes.items ≡ spelled_state state.now) }
+fn put_saved(out: &mut Vec<u8>, attempt: Attempt, state: &VerifyState) -> Result<(), AllocError>
+    ensures { OnOk result (out.new.items ≡ out.old.items ++ spelled_body (Saved attempt state.now)) }
 {
-    state.encode()
+    put_u64(out, attempt.0)?;
+    state.push_to(out)
 }
 
 fn put_verify(
@@ -221,18 +207,18 @@ fn put_blocks(out: &mut Vec<u8>, blocks: &[u32]) -> Result<(), AllocError>
     Ok(())
 }
 
-fn put_refused(
-    out: &mut Vec<u8>,
-    asked: Asked,
-    reason: Reason,
-    job: JobNo,
-    jobs: u32,
-    run: RunNo,
-    attempt: Attempt,
-    value: u64,
-) -> Result<(), AllocError>
-    ensures { OnOk result (out.new.items ≡ out.old.items ++ spelled_body (Refused asked reason job jobs run attempt value)) }
+fn put_refused(out: &mut Vec<u8>, refusal: &Refusal) -> Result<(), AllocError>
+    ensures { OnOk result (out.new.items ≡ out.old.items ++ spelled_body (Refused refusal.now)) }
 {
+    let Refusal {
+        asked,
+        reason,
+        job,
+        jobs,
+        run,
+        attempt,
+        value,
+    } = *refusal;
     put_u8(out, asked.number())?;
     put_u8(out, reason.number())?;
     put_u32(out, job.0)?;

@@ -1,5 +1,5 @@
 -- Bytes without a fault, piece by piece, are the spelling of what they say.
-use Rattle.std.proofs.Common.{◌≡◌, ℕ, ◌+◌, ◌*◌, ◌^◌, ◌<◌, ◌≤◌, zero, suc, true, ◌&&◌, ◌-◌, false, eqb, ltb, leb, List, [], ◌∷◌, ◌++◌, length, take, drop, get_or, sym, refl, ap, ◌∙◌, subst, inl, inr, arith}
+use Rattle.std.proofs.Common.{Bool, ◌||◌, ◌≡◌, ℕ, ◌+◌, ◌*◌, ◌^◌, ◌<◌, ◌≤◌, zero, suc, true, ◌&&◌, ◌-◌, false, eqb, ltb, leb, List, [], ◌∷◌, ◌++◌, length, take, drop, get_or, sym, refl, ap, ◌∙◌, subst, inl, inr, arith}
 use Rattle.std.specs.Prelude.{codes, nat_eq, if◌then◌else◌}
 use Rattle.std.specs.List.{AllByRecursion, starts_with}
 use Rattle.std.specs.Cmp.Lexicographic.{pointwise}
@@ -116,22 +116,6 @@ same_bytes (x ∷ xs) (y ∷ ys) e =
 pub magic_is : (bytes : List ℕ) → is_layout_2 bytes ≡ true → codes "FCV2" ++ drop 4 bytes ≡ bytes
 unfolding is_layout_2
 magic_is bytes e = ap (λ l. l ++ drop 4 bytes) (same_bytes (codes "FCV2") (take 4 bytes) e) ∙ take-append-drop 4 bytes
-
-first_bytes : (text bytes : List ℕ) → starts_with nat_eq bytes text ≡ true → take (length text) bytes ≡ text
-first_bytes text bytes e = sym (same_bytes text (take (length text) bytes) e)
-
-different : (m n : ℕ) → m < n → m ≡ n → ⊥
-different m n lt e = omega arith
-
--- no bytes are of both layouts
-pub one_layout : (bytes : List ℕ) → is_layout_2 bytes ≡ true → is_layout_1 bytes ≡ false
-unfolding is_layout_1 is_layout_2
-one_layout bytes two = elim (cases_Bool (starts_with nat_eq bytes (codes "FCV1"))) [
-  | inl one ↦
-      let same : codes "FCV1" ≡ codes "FCV2" = sym (first_bytes (codes "FCV1") bytes one) ∙ first_bytes (codes "FCV2") bytes two in
-      absurd (different 49 50 (omega arith) (ap (λ (l : List ℕ). get_or l 3 0) same))
-  | inr none ↦ none
-]
 
 pub kind_again : (n : ℕ) → ltb n 3 ≡ true → kind_code (kind_of n) ≡ n
 kind_again zero e = refl
@@ -251,10 +235,14 @@ spelled_marks bytes fits s two m =
     ∙ ap (λ l. codes "FCV2" ++ l) key
     ∙ magic_is bytes two
 
-pub spelled : (bytes : List ℕ) → IsBytes bytes → faults_of bytes ≡ [] → is_layout_2 bytes ≡ true → spelling (state_in bytes) ≡ bytes
-spelled bytes fits e two =
+or_else : (a b : Bool) → (a || b) ≡ true → a ≡ false → b ≡ true
+or_else true b e f = absurd cc
+or_else false b e f = e
+
+pub spelled : (bytes : List ℕ) → IsBytes bytes → faults_of bytes ≡ [] → is_layout_1 bytes ≡ false → spelling (state_in bytes) ≡ bytes
+spelled bytes fits e one =
     let whole = is_whole bytes e in
-    let one = one_layout bytes two in
+    let two = or_else (is_layout_1 bytes) (is_layout_2 bytes) whole.front.layout one in
     ap (λ b. spelling (if b then state_listed bytes else state_marked bytes)) one
     ∙ spelled_marks bytes fits whole.front two (whole.marks one)
 

@@ -1,5 +1,5 @@
 -- What holds of the spelling alone.
-use Rattle.std.specs.Prelude.{◌≡◌, ℕ, ◌<◌, List, [], ◌++◌, length, IsTrue}
+use Rattle.std.specs.Prelude.{◌≡◌, ℕ, false, ◌<◌, List, [], ◌++◌, length, IsTrue}
 use Rattle.std.specs.List.{AllByRecursion}
 use Rattle.verify_state.specs.State.{State, IsState}
 use Rattle.verify_state.specs.Spelling.{spelling}
@@ -16,11 +16,11 @@ pub record IsReadBack (s : State) : Type 0 where
 abbrev pub ReadsBack : Type 0
 ReadsBack = (s : State) → IsState s → IsReadBack s
 
--- Bytes of layout 2 that have no fault are the spelling of the state that they say.
+-- Bytes that have no fault, and aren't of layout 1, are the spelling of the state that they say.
 abbrev pub IsSpelled : Type 0
 IsSpelled =
     (bytes : List ℕ) → AllByRecursion (λ byte. byte < 256) bytes → faults_of bytes ≡ [] →
-    IsTrue (is_layout_2 bytes) → spelling (state_in bytes) ≡ bytes
+    is_layout_1 bytes ≡ false → spelling (state_in bytes) ≡ bytes
 
 -- Bytes of layout 1 that have no fault say the state of their list.
 abbrev pub SaysItsList : Type 0

@@ -8,7 +8,7 @@ ghost use Rattle.messages.specs.Bodies.{body_at};
 use crate::body::Body;
 use crate::bytes::{split_u8, split_u32, split_u64};
 use crate::reading::in_range;
-use crate::refusal::{Act, Asked, Reason};
+use crate::refusal::{Act, Asked, Reason, Refusal};
 use fc_base::{Attempt, JobNo, RunNo};
 
 pub(super) fn jobs_ok(bytes: &[u8]) -> Option<Body>
@@ -157,7 +157,7 @@ pub(super) fn refused(bytes: &[u8]) -> Option<Body>
     let (value, _) = split_u64(rest);
     let asked = Asked::numbered(asked)?;
     let reason = Reason::numbered(reason)?;
-    in_range(Body::Refused {
+    in_range(Body::Refused(Refusal {
         asked,
         reason,
         job: JobNo(job),
@@ -165,5 +165,5 @@ pub(super) fn refused(bytes: &[u8]) -> Option<Body>
         run: RunNo(run),
         attempt: Attempt(attempt),
         value,
-    })
+    }))
 }

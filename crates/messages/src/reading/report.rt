@@ -1,26 +1,17 @@
 //! Reading the report of a check.
 
-ghost use Rattle.std.specs.Prelude.{◌≡◌, ◌*◌, ◌≤◌, ◌∷◌, [], length, drop, IfOk};
+ghost use Rattle.std.specs.Prelude.{◌≡◌, ◌*◌, ◌≤◌, ◌∷◌, [], length, drop};
 ghost use Rattle.messages.specs.declared.kind.PacketKind.TheVariants.{Report};
 ghost use Rattle.messages.specs.Layouts.{numbers, blocks_in};
-ghost use Rattle.messages.specs.Bodies.{Reads, body_at, layout, end_numbered};
-ghost use Rattle.messages.specs.Blocks.{climbs};
-ghost use Rattle.messages.specs.ReportFields.{is_report_of, has_counts_of, has_blocks_of, has_end_of};
+ghost use Rattle.messages.specs.Bodies.{body_at, layout, end_numbered};
 
 use crate::body::Body;
 use crate::bytes::{split_u8, split_u32, split_u64};
-use crate::ranges::{is_attempt, is_job_of, is_run};
-use fc_base::{Attempt, Blocks, CheckReport, Fault, JobNo, ReportEnd, ReportParts, RunNo};
-use std::alloc::{AllocError, Global};
+use crate::reading::in_range;
+use fc_base::{Attempt, Blocks, CheckReport, JobNo, MAX_LISTED, ReportEnd, ReportParts, RunNo};
 
 /// How many bytes a report has before its blocks.
 const FIELDS: usize = 41;
-
-/// How many blocks a report lists.
-const LISTED: u32 = 32;
-
-/// One past the greatest number of a block.
-const BLOCKS_END: u32 = 65_536;
 
 /// The numbers of a report, as they stand.
 #[derive(Clone, Copy)]
@@ -36,39 +27,37 @@ struct ReportFields {
     count: u32,
 }
 
-pub(super) fn report(alloc: Global, bytes: &[u8]) -> Result<Body, Fault>
-    ensures { Reads result (body_at Report bytes.now) }
+pub(super) fn report(bytes: &[u8]) -> Option<Body>
+    ensures { result ≡ body_at Report bytes.now }
 {
     if bytes.len() < FIELDS {
-        return Err(Fault::FrameBadField);
+        return None;
     }
     let (fields, blocks) = report_fields(bytes);
-    let Some(end) = end_numbered(fields.end, fields.at) else {
-        return Err(Fault::FrameBadField);
-    };
-    if !is_in_range(&fields, end, blocks) {
-        return Err(Fault::FrameBadField);
+    let end = end_numbered(fields.end, fields.at)?;
+    if fields.count as usize > MAX_LISTED {
+        return None;
     }
-    let first = match blocks_of(alloc, fields.count, blocks) {
-        Ok(first) => Blocks::from_vec(first),
-        Err(_) => return Err(Fault::FrameNoMemory),
-    };
-    let report = CheckReport::make(ReportParts {
+    if blocks.len() != 4 * fields.count as usize {
+        return None;
+    }
+    let parts = ReportParts {
         checked: fields.checked,
         faults: fields.faults,
-        first,
+        first: blocks_of(fields.count, blocks),
         end,
-    });
-    match report {
-        Ok(report) => Ok(Body::Report {
-            run: RunNo(fields.run),
-            attempt: Attempt(fields.attempt),
-            job: JobNo(fields.job),
-            jobs: fields.jobs,
-            report,
-        }),
-        Err(_) => Err(Fault::FrameBadField),
-    }
+    };
+    let report = match CheckReport::make(parts) {
+        Ok(report) => report,
+        Err(_) => return None,
+    };
+    in_range(Body::Report {
+        run: RunNo(fields.run),
+        attempt: Attempt(fields.attempt),
+        job: JobNo(fields.job),
+        jobs: fields.jobs,
+        report,
+    })
 }
 
 fn report_fields(bytes: &[u8]) -> (ReportFields, &[u8])
@@ -110,64 +99,18 @@ fn end_numbered(number: u8, at: u32) -> Option<ReportEnd>
     }
 }
 
-/// Whether a body can be made of these numbers, and of just these bytes as its blocks.
-fn is_in_range(fields: &ReportFields, end: ReportEnd, blocks: &[u8]) -> bool
-    ensures { result ≡ is_report_of fields.now end blocks.now }
+/// So many blocks, from the front of the bytes.
+fn blocks_of(count: u32, bytes: &[u8]) -> Blocks
+    requires few { count ≤ 32 }
+    requires there { 4 * count ≤ length bytes.now }
+    ensures { result ≡ blocks_in count bytes.now }
 {
-    is_run(RunNo(fields.run))
-        && is_attempt(Attempt(fields.attempt))
-        && is_job_of(JobNo(fields.job), fields.jobs)
-        && has_counts(fields)
-        && has_blocks(fields, blocks)
-        && has_end(fields, end)
-}
-
-fn has_counts(fields: &ReportFields) -> bool
-    ensures { result ≡ has_counts_of fields.now }
-{
-    fields.faults <= fields.checked && fields.checked <= BLOCKS_END
-}
-
-fn has_blocks(fields: &ReportFields, blocks: &[u8]) -> bool
-    ensures { result ≡ has_blocks_of fields.now blocks.now }
-{
-    fields.count == fields.faults.min(LISTED)
-        && blocks.len() == 4 * fields.count as usize
-        && climbs(0, fields.count, blocks)
-}
-
-fn has_end(fields: &ReportFields, end: ReportEnd) -> bool
-    ensures { result ≡ has_end_of fields.now end }
-{
-    match end {
-        ReportEnd::Whole => true,
-        ReportEnd::AtFault => fields.faults == 1,
-        ReportEnd::ReadFault(block) => block < BLOCKS_END,
-    }
-}
-
-/// Whether so many blocks ascend, from `least` on.
-fn climbs(least: u32, count: u32, bytes: &[u8]) -> bool
-    requires { 4 * count ≤ length bytes.now }
-    ensures { result ≡ climbs least (blocks_in count bytes.now) }
-{
-    if count == 0 {
-        return true;
-    }
-    let (block, rest) = split_u32(bytes);
-    least <= block && block < BLOCKS_END && climbs(block + 1, count - 1, rest)
-}
-
-fn blocks_of(alloc: Global, count: u32, bytes: &[u8]) -> Result<Vec<u32>, AllocError>
-    requires { 4 * count ≤ length bytes.now }
-    ensures { IfOk result (λ blocks. blocks.items ≡ blocks_in count bytes.now) }
-{
-    let mut found = Vec::with_capacity(alloc, count as usize)?;
+    let mut found = Blocks::new();
     let mut rest = bytes;
     for _ in 0..count {
         let (block, after) = split_u32(rest);
-        found.push(block)?;
+        found.push(block);
         rest = after;
     }
-    Ok(found)
+    found
 }

@@ -12,4 +12,4 @@ returns-clause-reads_back c = λ s is. record {
 }
 
 pub returns-clause-is_spelled : goal.returns-clause-is_spelled
-returns-clause-is_spelled c = λ bytes fits e two. spelled bytes (are_bytes bytes fits) e two
+returns-clause-is_spelled c = λ bytes fits e other. spelled bytes (are_bytes bytes fits) e other

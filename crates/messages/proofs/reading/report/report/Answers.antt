@@ -1,22 +1,39 @@
-use Rattle.std.proofs.Common.{inr, refl, arith, sym, ◌∙◌}
-use Rattle.messages.proofs.ReportLemmas.{report_there, report_none, report_short, report_kept, report_not_lost}
+use Rattle.std.proofs.Common.{◌∙◌, sym, ap, Some, None}
+use Rattle.std.specs.Prelude.{if◌then◌else◌}
+use Rattle.fc_base.specs.declared.report.ReportParts.{ReportParts}
+use Rattle.messages.specs.declared.body.Body.TheVariants.{Report}
+use Rattle.messages.specs.Ranges.{is_body}
+use Rattle.messages.proofs.ReportLemmas.{report_short, report_long, report_uneven, report_even, report_none, report_refused, report_kept}
 use Rattle.messages.proofs.reading.report.report.Goals as goal
 
 pub returns-then-bytes-lt-FIELDS : goal.returns-then-bytes-lt-FIELDS
-returns-then-bytes-lt-FIELDS c = inr (refl, report_short c.args.bytes.now (omega arith))
+returns-then-bytes-lt-FIELDS c = sym (report_short c.args.bytes.now c.if-bytes-lt-FIELDS.true)
 
-pub returns-then-not-is_in_range : goal.returns-then-not-is_in_range
-returns-then-not-is_in_range c =
-    let fields = c.report_fields in
-    inr (refl, report_none c.args.bytes.now fields.result.1.now fields.result.0 c.in-Some.end fields.ensures.numbers fields.ensures.rest (omega arith) (sym c.in-Some.ensures) (sym c.if-not-is_in_range.ensures))
+pub returns-then-fields-gt-MAX_LISTED : goal.returns-then-fields-gt-MAX_LISTED
+returns-then-fields-gt-MAX_LISTED c =
+    let r = c.report_fields in
+    sym (report_long c.args.bytes.now r.result.1.now r.result.0 c.in_ok-end.end r.ensures.numbers r.ensures.rest c.if-bytes-lt-FIELDS.false (sym c.end_numbered.ensures ∙ c.in_ok-end.was) c.if-fields-gt-MAX_LISTED.true)
 
-pub returns-in-Ok-report : goal.returns-in-Ok-report
-returns-in-Ok-report c =
-    let fields = c.report_fields in
-    let there = report_there c.args.bytes.now fields.result.1.now fields.result.0 c.in-Some.end fields.ensures.numbers fields.ensures.rest (omega arith) (sym c.in-Some.ensures) (sym c.if-not-is_in_range.ensures) in
-    there ∙ report_kept fields.result.0 c.in-Some.end fields.result.1.now c.from_vec-first.result c.in-Ok-report.report (c.from_vec-first.ensures ∙ c.in-Ok.ensures) (sym c.make-report.ensures ∙ c.in-Ok-report.is)
+pub returns-then-blocks-fields : goal.returns-then-blocks-fields
+returns-then-blocks-fields c =
+    let r = c.report_fields in
+    sym (report_uneven c.args.bytes.now r.result.1.now r.result.0 c.in_ok-end.end r.ensures.numbers r.ensures.rest c.if-bytes-lt-FIELDS.false (sym c.end_numbered.ensures ∙ c.in_ok-end.was) c.if-blocks-fields.true)
 
 pub returns : goal.returns
 returns c =
-    let fields = c.report_fields in
-    absurd (report_not_lost fields.result.0 c.in-Some.end fields.result.1.now c.from_vec-first.result c.in-Err-report.field-0 (sym c.if-not-is_in_range.ensures) (c.from_vec-first.ensures ∙ c.in-Ok.ensures) (sym c.make-report.ensures ∙ c.in-Err-report.is))
+    let r = c.report_fields in
+    let f = r.result.0 in
+    let blocks = r.result.1.now in
+    let even = report_even c.args.bytes.now blocks f c.in_ok-end.end r.ensures.numbers r.ensures.rest c.if-bytes-lt-FIELDS.false (sym c.end_numbered.ensures ∙ c.in_ok-end.was) c.if-blocks-fields.false in
+    let made = report_kept f c.in_ok-end.end blocks c.blocks_of.result c.in-Ok.report c.blocks_of.ensures (sym c.make.ensures ∙ c.in-Ok.is) in
+    c.in_range.ensures
+    ∙ ap (λ (x : ReportParts). if is_body (Report f.run f.attempt f.job f.jobs x) then Some (Report f.run f.attempt f.job f.jobs x) else None) made
+    ∙ sym even
+
+pub returns-in-Err : goal.returns-in-Err
+returns-in-Err c =
+    let r = c.report_fields in
+    let f = r.result.0 in
+    let blocks = r.result.1.now in
+    let even = report_even c.args.bytes.now blocks f c.in_ok-end.end r.ensures.numbers r.ensures.rest c.if-bytes-lt-FIELDS.false (sym c.end_numbered.ensures ∙ c.in_ok-end.was) c.if-blocks-fields.false in
+    sym (even ∙ report_none f blocks c.in_ok-end.end (report_refused f c.in_ok-end.end blocks c.blocks_of.result c.in-Err.field-0 c.blocks_of.ensures (sym c.make.ensures ∙ c.in-Err.is)))
