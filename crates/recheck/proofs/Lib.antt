@@ -1,5 +1,6 @@
 mod DiskLemmas
 mod ExpectedLemmas
+mod FitLemmas
 mod LossLemmas
 mod ReportLemmas
 mod TallyLemmas

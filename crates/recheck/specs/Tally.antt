@@ -1,5 +1,5 @@
 -- A tally as it is kept.
-use Rattle.std.specs.Prelude.{◌≡◌, ℕ, ◌≤◌, min, length, nat_lt, IsTrue, vec_capacity}
+use Rattle.std.specs.Prelude.{◌≡◌, ℕ, ◌≤◌, min, length, nat_lt, IsTrue}
 use Rattle.std.specs.List.{list_all}
 use Rattle.fc_base.specs.Ascending.{ascends}
 use Rattle.recheck.specs.Report.{Tally}
@@ -10,12 +10,11 @@ pub record Noted : Type 0 where
   pub next : ℕ
   pub found : Tally
 
--- What every tally keeps: its numbers fit together, and there is room for the blocks that it may list.
+-- What every tally keeps: its numbers fit together.
 pub record IsTally (t : Inside) : Type 0 where
   pub next : t.next ≤ 65536
   pub checked : t.checked ≤ t.next
   pub faults : t.faults ≤ t.checked
-  pub listed : length t.first.items ≡ min t.faults 32
-  pub ascending : IsTrue (ascends t.first.items)
-  pub below : IsTrue (list_all (λ b. nat_lt b t.next) t.first.items)
-  pub room : 32 ≤ vec_capacity t.first
+  pub listed : length t.first ≡ min t.faults 32
+  pub ascending : IsTrue (ascends t.first)
+  pub below : IsTrue (list_all (λ b. nat_lt b t.next) t.first)

@@ -48,7 +48,7 @@ impl Recheck {
     /// A state of another run, server or job is [`Fault::OtherKey`]; one of a job that writes other
     /// bytes, or less, is [`Fault::OtherJob`]; one whose generator stands elsewhere is
     /// [`Fault::OtherPlace`]; then want of memory. It takes 4 bytes for each block, as much again
-    /// for a random order with a map, and some lists of fixed size.
+    /// for a random order with a map, and a list of the writes in flight.
     pub fn new(
         alloc: Global,
         job: &JobRecord,
@@ -62,13 +62,10 @@ impl Recheck {
         let Ok(expected) = Expected::new(alloc, key, job, state) else {
             return Err(Fault::NoMemory);
         };
-        let Ok(tally) = Tally::new(alloc) else {
-            return Err(Fault::NoMemory);
-        };
         Ok(Recheck {
             expected,
             fatal,
-            tally,
+            tally: Tally::new(),
         })
     }
 

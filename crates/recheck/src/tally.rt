@@ -1,16 +1,12 @@
 //! The tally of the blocks that came to a check.
 
-ghost use Rattle.std.specs.Prelude.{◌≡◌, ◌+◌, ◌≤◌, ◌<◌, IfOk, IsTrue, List, [], ◌∷◌, ◌++◌, length, take, vec_capacity};
+ghost use Rattle.std.specs.Prelude.{◌≡◌, ◌+◌, ◌≤◌, ◌<◌, IsTrue, [], ◌∷◌, ◌++◌, length, take};
 ghost use Rattle.recheck.specs.Check.{with_verdict, nothing};
 ghost use Rattle.recheck.specs.Report.{told, can_end};
 
 use crate::verdict::Verdict;
-use fc_base::{Blocks, CheckReport, ReportEnd, ReportParts};
-use std::alloc::{AllocError, Global};
+use fc_base::{Blocks, CheckReport, MAX_LISTED, ReportEnd, ReportParts};
 use std::marker::Model;
-
-/// How many faulty blocks are listed.
-const LISTED: usize = 32;
 
 /// How many blocks were checked, how many of them are faulty, and the first 32 that are, which are
 /// noted in ascending order.
@@ -19,7 +15,7 @@ pub struct Tally {
     next: u32,
     checked: u32,
     faults: u32,
-    first: Vec<u32>,
+    first: Blocks,
 }
 
 impl Model for Tally {
@@ -29,23 +25,23 @@ impl Model for Tally {
 
     ghost view = { λ t. record {
       next = t.next;
-      found = record { checked = t.checked; faults = t.faults; first = t.first.items };
+      found = record { checked = t.checked; faults = t.faults; first = t.first };
     } };
 
     ghost invariant = { IsTally };
 }
 
 impl Tally {
-    /// The tally of no blocks, with room for all that it may list.
-    pub fn new(alloc: Global) -> Result<Tally, AllocError>
-        ensures { IfOk result (λ t. t ≡ record { next = 0; found = nothing }) }
+    /// The tally of no blocks.
+    pub fn new() -> Tally
+        ensures { result ≡ record { next = 0; found = nothing } }
     {
-        Ok(Tally {
+        Tally {
             next: 0,
             checked: 0,
             faults: 0,
-            first: Vec::with_capacity(alloc, LISTED)?,
-        })
+            first: Blocks::new(),
+        }
     }
 
     /// Notes what was found at the next block.
@@ -84,7 +80,6 @@ impl Tally {
             faults,
             first,
         } = self;
-        let first = Blocks::from_vec(first);
         match CheckReport::make(ReportParts {
             checked,
             faults,
@@ -98,13 +93,11 @@ impl Tally {
 }
 
 /// Lists a faulty block, where it is one of the first.
-fn list(first: &mut Vec<u32>, block: u32)
-    requires few { length first.old.items ≤ 32 }
-    requires room { 32 ≤ vec_capacity first.old }
-    ensures items { first.new.items ≡ take 32 (first.old.items ++ block ∷ []) }
-    ensures room { vec_capacity first.new ≡ vec_capacity first.old }
+fn list(first: &mut Blocks, block: u32)
+    requires few { length first.old ≤ 32 }
+    ensures { first.new ≡ take 32 (first.old ++ block ∷ []) }
 {
-    if first.len() < LISTED {
-        first.push_reserved(block);
+    if first.len() < MAX_LISTED {
+        first.push(block);
     }
 }

@@ -19,8 +19,8 @@ use verify_state::VerifyState;
 ///
 /// Refused are a state that doesn't fit ([`Fault::OtherKey`], [`Fault::OtherJob`] and
 /// [`Fault::OtherPlace`], as by [`Recheck::new`]), want of memory ([`Fault::NoMemory`]), and
-/// [`Fault::Off`] where the state fits, some block has to be read, and the disk is off. The file is then
-/// the same.
+/// [`Fault::Off`] where the state fits, some block has to be read, and the disk is off. The file is
+/// then the same.
 pub fn check_disk<D: Disk>(
     alloc: Global,
     job: &JobRecord,

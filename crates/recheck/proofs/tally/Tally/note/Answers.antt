@@ -10,7 +10,6 @@ invariant_of-self c = let from : c.self.inside.next ≤ c.args.block = omega (ar
   listed = c.self.invariant.listed;
   ascending = c.self.invariant.ascending;
   below = below_higher _ c.self.inside.next (c.args.block + 1) (omega arith) c.self.invariant.below;
-  room = c.self.invariant.room;
 }
 
 pub invariant_of-self-in-Good : goal.invariant_of-self-in-Good
@@ -21,17 +20,16 @@ invariant_of-self-in-Good c = let from : c.self.inside.next ≤ c.args.block = o
   listed = c.self.invariant.listed;
   ascending = c.self.invariant.ascending;
   below = below_higher _ c.self.inside.next (c.args.block + 1) (omega arith) c.self.invariant.below;
-  room = c.self.invariant.room;
 }
 
 pub invariant_of-self-in-Fault : goal.invariant_of-self-in-Fault
 invariant_of-self-in-Fault c =
     let from : c.self.inside.next ≤ c.args.block = omega (arith, c.requires.next, ap (λ n. n.next) c.self.view_is) in
-    let kept : Listed c.self.inside.faults c.self.inside.next c.self.inside.first.items =
+    let kept : Listed c.self.inside.faults c.self.inside.next c.self.inside.first =
     record { listed = c.self.invariant.listed; ascending = c.self.invariant.ascending; below = c.self.invariant.below } in
-    let more : Listed (c.self.inside.faults + 1) (c.args.block + 1) c.list.new.first.items =
-    subst (Listed (c.self.inside.faults + 1) (c.args.block + 1)) (sym c.list.ensures.items)
-    (listed_more c.self.inside.faults c.self.inside.next c.args.block c.self.inside.first.items (omega arith) kept) in
+    let more : Listed (c.self.inside.faults + 1) (c.args.block + 1) c.list.new.first =
+    subst (Listed (c.self.inside.faults + 1) (c.args.block + 1)) (sym c.list.ensures)
+    (listed_more c.self.inside.faults c.self.inside.next c.args.block c.self.inside.first (omega arith) kept) in
     record {
       next = omega arith;
       checked = omega arith;
@@ -39,5 +37,4 @@ invariant_of-self-in-Fault c =
       listed = more.listed;
       ascending = more.ascending;
       below = more.below;
-      room = omega (arith, c.list.ensures.room, c.self.invariant.room);
     }
