@@ -1,14 +1,22 @@
 -- The writes in flight, as marks on slots.
-use Rattle.std.proofs.Common.{◌≡◌, ℕ, ◌+◌, ◌-◌, ◌/◌, ◌%◌, ◌<◌, ◌≤◌, suc, Bool, true, false, cond, ◌&&◌, not, eqb, ltb, leb, List, [], ◌∷◌, ◌++◌, length, filter, sym, refl, ap, ◌∙◌, add-one, inl, inr, arith}
+use Rattle.std.proofs.Common.{◌≡◌, ℕ, ◌+◌, ◌-◌, ◌/◌, ◌%◌, ◌^◌, ◌<◌, ◌≤◌, suc, Bool, true, false, cond, ◌&&◌, not, eqb, ltb, leb, List, [], ◌∷◌, ◌++◌, length, filter, sym, refl, ap, ◌∙◌, add-one, bit_and, inl, inr, arith, w64}
 use Rattle.std.specs.List.{list_any}
-use Rattle.std.proofs.Math.Nat.{mul-le-mul_left}
-use Rattle.std.proofs.lemmas.Bool.{cases_Bool, cases_lt, cases_eq, false≢true, or_right, and_parts, and_from, and_left, and_right, eq-eqb, ne_eqb, ltb-true, lt-ltb, leb-true, le-leb, lt-leb, not_from_true}
+use Rattle.std.specs.Int.{bit_not}
+use Rattle.std.specs.Int.Bits.{and_lt}
+use Rattle.std.proofs.Math.Nat.{mul-le-mul_left, mod-add-mod}
+use Rattle.std.proofs.lemmas.Nat.Bits.{bit_at-zero}
+use Rattle.std.proofs.lemmas.Bool.{cases_Bool, cases_lt, cases_eq, false≢true, or_right, and_parts, and_from, and_left, and_right, eq-eqb, ne_eqb, ltb-true, lt-ltb, le-ltb, leb-true, le-leb, lt-leb, not_from_true}
 use Rattle.std.proofs.lemmas.Bool.Decides.{same_from_decides}
 use Rattle.std.proofs.lemmas.List.Elements.{filter-append}
 use Rattle.std.proofs.lemmas.List.Filters.{length-filter_both}
 use Rattle.fc_base.specs.Counted.{has, numbers_below}
 use Rattle.window.specs.Numbers.{without}
-use Rattle.window.specs.InFlight.{Flights, is_marked, is_current, marked_numbers}
+use Rattle.fc_base.specs.Marks.{word_of}
+use Rattle.fc_base.proofs.MarkLemmas.{word_from_bits}
+use Rattle.window.specs.Kept.{has_completed}
+use Rattle.window.proofs.BitLemmas.{set_and, set_not, clear_is}
+use Rattle.window.proofs.MarkLemmas.{and_true}
+use Rattle.window.specs.InFlight.{Flights, is_set, is_marked, is_current, marked_numbers}
 use Rattle.window.specs.declared.marks.Marks.{Marks}
 use Rattle.fc_base.proofs.NumberLemmas.{has_filter, has_numbers_below, filter_agree_below, filter_next, length_numbers_below}
 use Rattle.window.proofs.NumberLemmas.{has_head, filter_twice, length_filter_without, and_not}
@@ -216,3 +224,32 @@ pub length_marked : (m : Marks) (window issued : ℕ) → length (marked_numbers
 length_marked m window issued =
     let p = is_current m window issued in
     omega (arith, length-filter_both p (λ k. not (p k)) (λ k. refl) (numbers_below issued), length_numbers_below issued)
+
+-- ---- the numbers that have completed, 64 of them
+
+pub none_completed : (m : Marks) (window issued first : ℕ) → issued ≤ first → 0 ≡ word_of (has_completed issued (marked_numbers m window issued)) first
+none_completed m window issued first past =
+    let flying = marked_numbers m window issued in
+    word_from_bits 0 (has_completed issued flying) first (omega arith) (λ i small.
+    clear_is 0 i (bit_at-zero i) ∙ sym (and_left (ltb (first + i) issued) (not (has flying (first + i))) (le-ltb (first + i) issued (omega arith))))
+
+completed_bit : (m : Marks) (window issued first i : ℕ) (flying mask : Bool) → issued ≤ first + window → first < issued → (i < window → flying ≡ is_marked m ((first % window + i) % window)) → mask ≡ ltb i (issued - first) → (not flying && mask) ≡ has_completed issued (marked_numbers m window issued) (first + i)
+completed_bit m window issued first i flying mask near below same masked = elim (cases_lt i (issued - first)) [
+  | inl within ↦
+      let last : (ltb (first + i) issued && leb issued (first + i + window)) ≡ true = and_from (ltb (first + i) issued) (leb issued (first + i + window)) (lt-ltb (first + i) issued (omega arith)) (le-leb issued (first + i + window) (omega arith)) in
+      let flies : has (marked_numbers m window issued) (first + i) ≡ flying =
+      has_marked m window issued (first + i)
+      ∙ ap (λ b. b && is_marked m ((first + i) % window)) last
+      ∙ sym (same (omega arith) ∙ ap (is_marked m) (mod-add-mod first window i)) in
+      rw (flies, masked, lt-ltb i (issued - first) within, lt-ltb (first + i) issued (omega arith)) (and_true (not flying))
+  | inr past ↦
+      and_right (not flying) mask (masked ∙ le-ltb i (issued - first) past)
+      ∙ sym (and_left (ltb (first + i) issued) (not (has (marked_numbers m window issued) (first + i))) (le-ltb (first + i) issued (omega arith)))
+]
+
+pub completed_word : (m : Marks) (window issued first flying mask : ℕ) → flying < 2 ^ 64 → mask < 2 ^ 64 → issued ≤ first + window → first < issued → ((i : ℕ) → i < 64 → i < window → is_set flying i ≡ is_marked m ((first % window + i) % window)) → ((i : ℕ) → i < 64 → is_set mask i ≡ ltb i (issued - first)) → bit_and (bit_not w64 flying) mask ≡ word_of (has_completed issued (marked_numbers m window issued)) first
+completed_word m window issued first flying mask small small_mask near below same masked =
+    word_from_bits (bit_and (bit_not w64 flying) mask) (has_completed issued (marked_numbers m window issued)) first (and_lt 64 (bit_not w64 flying) mask (omega arith) small_mask) (λ i under.
+    set_and (bit_not w64 flying) mask i
+    ∙ ap (λ b. b && is_set mask i) (set_not flying i small under)
+    ∙ completed_bit m window issued first i (is_set flying i) (is_set mask i) near below (same i under) (masked i under))

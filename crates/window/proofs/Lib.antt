@@ -1,3 +1,4 @@
+pub mod BitLemmas
 pub mod CountingLemmas
 pub mod HistoryLemmas
 pub mod NumberLemmas

@@ -4,9 +4,13 @@ use Rattle.std.specs.Int.{bit_at}
 use Rattle.fc_base.specs.Counted.{numbers_below}
 use Rattle.window.specs.declared.marks.Marks.{Marks}
 
+-- Bit i of a word is set.
+abbrev pub is_set : ℕ → ℕ → Bool
+is_set word i = bit_at word i == 1
+
 -- The bit of a slot: 64 slots a word, the lowest bit first.
 abbrev pub is_marked : Marks → ℕ → Bool
-is_marked marks slot = bit_at (slice_index marks.words (slot / 64)) (slot % 64) == 1
+is_marked marks slot = is_set (slice_index marks.words (slot / 64)) (slot % 64)
 
 -- A number of the last window of those issued, whose slot is marked.
 abbrev pub is_current : Marks → ℕ → ℕ → ℕ → Bool
