@@ -6,8 +6,8 @@ ghost use Rattle.window.specs.Numbers.{without};
 ghost use Rattle.fc_base.specs.Marks.{floor_of, word_of, marks_of};
 ghost use Rattle.window.specs.Kept.{is_held, has_completed};
 
-use crate::marks::{Marks, low_bits};
-use fc_base::Seq;
+use crate::ring::{around, low_bits};
+use fc_base::{Marks, Seq};
 use std::marker::Model;
 
 /// Which of the last writes are in flight, and which of those are open. All lie within one window
@@ -113,7 +113,7 @@ impl InFlight {
             return 0;
         }
         let slot = slot(first, self.window);
-        let flying = self.marks.around(slot, self.window as usize);
+        let flying = around(&self.marks, slot, self.window as usize);
         !flying & low_bits(self.issued - first)
     }
 

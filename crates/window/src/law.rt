@@ -1,12 +1,19 @@
 //! What holds of every legal history. The functions have nothing to run.
 
-ghost use Rattle.window.specs.Counting.{CountsTheCompleted, ComesToPossible, StaysInOneWindow};
+ghost use Rattle.window.specs.Counting.{CountsTheCompleted, ComesToPossible, MarksCountTheCompleted, ComesToPossibleMarks, StaysInOneWindow};
 
 /// Why a verify state may forget old completions: the last two windows of them and the number of
 /// writes issued count exactly the completed writes, and never make an impossible state.
 pub fn counting_law()
     ensures counts_the_completed { CountsTheCompleted }
     ensures comes_to_possible { ComesToPossible }
+{}
+
+/// Why a verify state may keep marks alone: with the number of writes issued they count exactly the
+/// completed writes, and never make an impossible state.
+pub fn marks_law()
+    ensures counts_the_completed { MarksCountTheCompleted }
+    ensures comes_to_possible { ComesToPossibleMarks }
 {}
 
 /// Why a window needs one slot for each of its numbers: all writes in flight lie within one window

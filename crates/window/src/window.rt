@@ -3,7 +3,7 @@
 ghost use Rattle.std.specs.Prelude.{◌≡◌, ◌<◌, ◌≤◌, [], if◌then◌else◌, is_ok, IfOk, OnOk, Ok, Err};
 ghost use Rattle.fc_base.specs.Counted.{has};
 ghost use Rattle.fc_base.specs.Marks.{floor_of, marks_of};
-ghost use Rattle.window.specs.History.{issue, done, fail, in_flight, is_done, issued, open_writes, recent};
+ghost use Rattle.window.specs.History.{issue, done, done_marks, fail, in_flight, issued, open_writes, recent};
 ghost use Rattle.window.specs.Legal.{HasRoom};
 ghost use Rattle.window.specs.Kept.{StandsFor, EachHistory, Adds, has_completed, room_of, after_issue, after_done, after_fail};
 
@@ -21,6 +21,7 @@ use std::marker::Model;
 /// profile, is how far writes may run ahead of one that hasn't completed. It keeps the last two
 /// windows of completions, the "last so many" of fio's write state (manual, "Verification and
 /// triggers"): they suffice to count all completed writes, by [`counting_law`](crate::counting_law).
+/// [`marks`](Window::marks) tells the same by a bit for each write, by [`marks_law`](crate::marks_law).
 ///
 /// Only making it and [`recent`](Window::recent) take memory, and only `recent` takes time that
 /// grows with the window.
@@ -138,7 +139,7 @@ impl Window {
         ensures value { result ≡ marks_of (has_completed self.now.issued self.now.in_flight)
             (floor_of self.now.window self.now.issued) }
         ensures history { EachHistory self.now
-            (λ depth window h. result ≡ marks_of (is_done h) (floor_of window (issued h))) }
+            (λ depth window h. result ≡ done_marks window h) }
     {
         self.in_flight.completed()
     }
