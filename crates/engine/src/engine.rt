@@ -2,7 +2,7 @@
 
 ghost use Rattle.std.specs.Prelude.{◌≡◌, [], length, is_ok, false, true, if◌then◌else◌, IsTrue, IfOk, OnOk};
 ghost use Rattle.window.specs.History.{done, fail, open_writes};
-ghost use Rattle.verify_state.specs.State.{is_key};
+ghost use Rattle.fc_base.specs.Keys.{is_key};
 ghost use Rattle.engine.specs.Running.{Origin, running_of, StandsFor, EachHistory, Adds, after_done, after_fail};
 ghost use Rattle.engine.specs.Answers.{answer_of, answer_to, after_answer, AddsAnswer, names_one_of, ticket_answer, has_ended, ended_of};
 ghost use Rattle.engine.specs.Taken.{state_now, state_after, CountsTheDone};
@@ -41,7 +41,7 @@ pub struct Engine {
 }
 
 impl Model for Engine {
-    ghost use Rattle.verify_state.specs.State.{is_key};
+    ghost use Rattle.fc_base.specs.Keys.{is_key};
     ghost use Rattle.engine.specs.Running.{Running};
 
     ghost Value = { Running };
