@@ -3,6 +3,7 @@ use Rattle.std.proofs.Common.{◌≡◌, ℕ, Bool, true, false, cond, not, ◌|
 use Rattle.std.proofs.lemmas.Bool.{and_parts}
 use Rattle.std.specs.Prelude.{Result, Ok, Err}
 use Rattle.fc_base.specs.Counted.{has}
+use Rattle.fc_base.specs.Keys.{is_same_key}
 use Rattle.fc_base.specs.declared.fault.Fault.{Fault}
 use Rattle.fc_base.specs.declared.fault.Fault.TheVariants.{OldBoot, NotInFlight}
 use Rattle.write_order.specs.Blocks.{block_of}
@@ -13,7 +14,7 @@ use Rattle.engine.specs.declared.issue.Issue.{Issue}
 use Rattle.engine.specs.declared.issue.Issue.TheVariants.{Write, Full, Held, Overlap, Finished, Stopped}
 use Rattle.engine.specs.Legal.{any_goes_to}
 use Rattle.engine.specs.Running.{Origin, Running}
-use Rattle.engine.specs.Answers.{ticket_of, answer_of, is_same_key, names_one_of, ticket_answer}
+use Rattle.engine.specs.Answers.{ticket_of, answer_of, names_one_of, ticket_answer}
 
 -- the first of the tests that holds
 abbrev pub first_of_tests : Bool → Bool → Bool → Bool → Bool → Ticket → Issue

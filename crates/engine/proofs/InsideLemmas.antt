@@ -26,6 +26,14 @@ depth_limit job within =
     let depth = and_parts (leb 1 job.depth && leb job.depth 64) _ queue.1 in
     leb-true job.depth 64 (and_parts (leb 1 job.depth) (leb job.depth 64) depth.0).1
 
+-- the widest window has 256 writes
+pub window_limit : (job : JobParts) → IsTrue (is_within_limits job) → job.window ≤ 256
+window_limit job within =
+    let most = and_parts (has_block_size job && has_region job && has_queue job) (has_pattern job) within in
+    let queue = and_parts (has_block_size job && has_region job) (has_queue job) most.0 in
+    let width = and_parts (leb 1 job.depth && leb job.depth 64) (leb job.depth job.window && leb job.window 256) queue.1 in
+    leb-true job.window 256 (and_parts (leb job.depth job.window) (leb job.window 256) width.1).1
+
 -- a job has at most a million writes
 pub total_limit : (job : JobParts) → IsTrue (is_within_limits job) → job.total ≤ 1000000
 total_limit job within =

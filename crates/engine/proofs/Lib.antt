@@ -1,5 +1,6 @@
 pub mod AnswerLemmas
 pub mod InsideLemmas
+pub mod LegalLemmas
 pub mod ProgressLemmas
 pub mod RunningLemmas
 pub mod TakenLemmas

@@ -7,7 +7,8 @@ use Rattle.window.specs.History.{Event, failures, in_flight, issued, open_writes
 use Rattle.engine.specs.declared.issue.Issue.TheVariants.{Write}
 use Rattle.engine.specs.Legal.{has_failed}
 use Rattle.engine.specs.Running.{Origin}
-use Rattle.engine.specs.Answers.{ticket_of, answer_by, AlwaysGoesOn}
+use Rattle.engine.specs.Answers.{ticket_of, answer_by}
+use Rattle.engine.specs.Laws.{AlwaysGoesOn}
 
 none_in : (ks : List ℕ) → ltb 0 (length ks) ≡ false → ks ≡ []
 none_in [] e = refl

@@ -50,7 +50,7 @@ done_step r kept k adds h s =
       running_is = running_from r.origin r.stopped r.failed kept (done k ∷ h) (failed_is r h s) w.kept_is;
     }
 
-failed_now : (k : ℕ) (h : List Event) → true ≡ has_failed (fail k ∷ h)
+pub failed_now : (k : ℕ) (h : List Event) → true ≡ has_failed (fail k ∷ h)
 failed_now k h = sym (lt-ltb 0 (length (failures h ++ k ∷ [])) (omega (arith, length_push (failures h) k)))
 
 pub fail_step : (r : Running) (kept : Kept) (k : ℕ) → window.Adds r.kept kept (fail k) → Adds r (record r { failed = true; kept = kept }) (fail k)

@@ -1,18 +1,22 @@
 -- Why the state of a legal history is one that can be, and what it counts.
 use Rattle.std.proofs.Common.{◌≡◌, ℕ, ◌+◌, ◌*◌, ◌≤◌, min, Bool, true, false, ◌&&◌, eqb, ltb, leb, List, [], ◌∷◌, length, refl, ap, sym, ◌∙◌, arith, inl, inr}
 use Rattle.std.specs.List.{list_all}
+use Rattle.std.proofs.lemmas.List.Elements.{filter_agree}
 use Rattle.std.proofs.lemmas.Bool.{and_parts, and_from, or_cases, eqb-true, ltb-true, lt-ltb, le-leb}
 use Rattle.fc_base.specs.declared.numbers.Key.{Key}
 use Rattle.fc_base.specs.declared.record.JobParts.{JobParts}
-use Rattle.fc_base.specs.Counted.{has, is_counted, counted, uncounted, is_distinct, is_possible}
+use Rattle.fc_base.specs.Counted.{has, numbers_below, is_counted, counted, uncounted, is_distinct}
+use Rattle.fc_base.specs.Keys.{is_key}
+use Rattle.fc_base.specs.Marks.{counted_by, is_possible_by}
 use Rattle.fc_base.proofs.NumberLemmas.{has_counted}
-use Rattle.window.specs.History.{Event, issued, is_done, recent}
+use Rattle.window.specs.History.{Event, issued, is_done, recent, done_marks}
+use Rattle.window.specs.Kept as window
 use Rattle.window.specs.Legal as rules
-use Rattle.window.specs.Counting.{CountsTheCompleted, ComesToPossible}
+use Rattle.window.specs.Counting.{CountsTheCompleted, ComesToPossible, MarksCountTheCompleted, ComesToPossibleMarks}
 use Rattle.engine.specs.Running.{Running, StandsFor}
-use Rattle.engine.specs.Taken.{state_now, CountsTheDone}
-use Rattle.engine.proofs.RunningLemmas.{kept_is}
-use Rattle.verify_state.specs.State.{is_key, has_counts, has_come, field_faults}
+use Rattle.engine.specs.Taken.{state_now, state_after, CountsTheDone}
+use Rattle.engine.proofs.RunningLemmas.{kept_is, in_window}
+use Rattle.verify_state.specs.State.{state_of, state_by, has_come_by, field_faults_by}
 
 -- ---- what counts was issued
 
@@ -56,26 +60,38 @@ counts_the_done counts comes depth window h legal k =
     let all = and_parts (is_distinct (recent window h)) _ once.0 in
     counted_where window (issued h) k (recent window h) all.1 ∙ counts depth window h legal k
 
--- a list that some job can have come to is no longer than two windows
-short_enough : (depth window n : ℕ) (ks : List ℕ) → is_possible depth window n ks ≡ true → length ks ≤ 2 * window
-short_enough depth window n ks possible =
-    let whole = and_parts (listed_once n ks) (left_none_out depth window n ks) possible in
-    let long = and_parts (leb (length (uncounted window n ks)) depth) _ whole.1 in
-    omega (arith, eqb-true (length ks) _ long.1)
-
--- so nothing is wrong with its fields
-pub no_faults : (key : Key) (job : JobParts) (n : ℕ) (ks : List ℕ) → is_key key ≡ true → n ≤ job.total → job.total ≤ 1000000 → is_possible job.depth job.window n ks ≡ true → field_faults key job n ks ≡ []
-unfolding has_come
-no_faults key job n ks is_one fewer most possible =
-    let counts : has_counts job.window n (length ks) ≡ true = and_from _ _ (le-leb n 1000000 (omega arith)) (le-leb (length ks) (2 * job.window) (short_enough job.depth job.window n ks possible)) in
-    let come : has_come job n ks ≡ true = and_from _ _ (le-leb n job.total fewer) possible in
-    rw (is_one, counts, come) refl
+-- and so do its marks
+marks_count : CountsTheCompleted → MarksCountTheCompleted → (depth window : ℕ) (h : List Event) → window ≤ 256 → rules.IsLegal depth window h → counted_by window (issued h) (done_marks window h) ≡ counted window (issued h) (recent window h)
+marks_count counts marks depth window h narrow legal =
+    marks depth window h narrow legal
+    ∙ sym (filter_agree (is_counted window (issued h) (recent window h)) (is_done h) (counts depth window h legal) (numbers_below (issued h)))
 
 -- ---- the state of an engine
 
-pub possible_in : ComesToPossible → (r : Running) (h : List Event) → StandsFor r h → is_possible r.origin.job.depth r.origin.job.window r.kept.issued r.kept.recent ≡ true
-possible_in comes r h s =
-    rw (kept_is r h s) (comes r.origin.job.depth r.origin.job.window h s.legal.by_window)
+-- nothing is wrong with the fields of marks that some job can have come to
+pub no_faults : (key : Key) (job : JobParts) (n : ℕ) (marks : List ℕ) → is_key key ≡ true → n ≤ job.total → job.total ≤ 1000000 → is_possible_by job.depth job.window n marks ≡ true → field_faults_by key job n marks ≡ []
+unfolding has_come_by
+no_faults key job n marks is_one fewer most possible =
+    let come : has_come_by job n marks ≡ true = and_from _ _ (le-leb n job.total fewer) possible in
+    rw (is_one, le-leb n 1000000 (omega arith), come) refl
+
+-- the marks of an engine's window are those of its history
+marks_in : (r : Running) (marks : List ℕ) → window.EachHistory r.kept (λ depth window h. marks ≡ done_marks window h) → (h : List Event) → StandsFor r h → marks ≡ done_marks r.origin.job.window h
+marks_in r marks each h s = each r.origin.job.depth r.origin.job.window h (in_window r h s)
+
+pub possible_in : ComesToPossibleMarks → (r : Running) (marks : List ℕ) → r.origin.job.window ≤ 256 → window.EachHistory r.kept (λ depth window h. marks ≡ done_marks window h) → (h : List Event) → StandsFor r h → is_possible_by r.origin.job.depth r.origin.job.window r.kept.issued marks ≡ true
+possible_in comes r marks narrow each h s =
+    rw (kept_is r h s, marks_in r marks each h s) (comes r.origin.job.depth r.origin.job.window h narrow s.legal.by_window)
+
+pub counted_in : CountsTheCompleted → MarksCountTheCompleted → (r : Running) (marks : List ℕ) → r.origin.job.window ≤ 256 → window.EachHistory r.kept (λ depth window h. marks ≡ done_marks window h) → (h : List Event) → StandsFor r h → counted_by r.origin.job.window r.kept.issued marks ≡ counted r.origin.job.window r.kept.issued r.kept.recent
+counted_in counts by_marks r marks narrow each h s =
+    rw (kept_is r h s, marks_in r marks each h s) (marks_count counts by_marks r.origin.job.depth r.origin.job.window h narrow s.legal.by_window)
+
+pub state_with : (key : Key) (job : JobParts) (n : ℕ) (place marks completions : List ℕ) → counted_by job.window n marks ≡ counted job.window n completions → state_by key job n place marks ≡ state_of key job n place completions
+state_with key job n place marks completions e = rw e refl
+
+pub state_of_history : (r : Running) (h : List Event) → StandsFor r h → state_now r ≡ state_after r.origin h
+state_of_history r h s = rw (kept_is r h s) refl
 
 pub state_counts : CountsTheCompleted → ComesToPossible → (r : Running) (h : List Event) → StandsFor r h → CountsTheDone (state_now r) h
 state_counts counts comes r h s k =

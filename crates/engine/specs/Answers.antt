@@ -1,7 +1,7 @@
 -- The answers of an engine, read from the history of its job and from whether it was stopped.
-use Rattle.std.specs.Prelude.{◌≡◌, ℕ, ◌==◌, Bool, true, false, not, ◌&&◌, ◌||◌, ◌<◌, ◌≤◌, nat_le, List, [], length, if◌then◌else◌, Result, Ok, Err}
+use Rattle.std.specs.Prelude.{◌≡◌, ℕ, ◌==◌, Bool, true, false, not, ◌&&◌, ◌||◌, nat_le, List, length, if◌then◌else◌, Result, Ok, Err}
 use Rattle.fc_base.specs.Counted.{has}
-use Rattle.fc_base.specs.declared.numbers.Key.{Key}
+use Rattle.fc_base.specs.Keys.{is_same_key}
 use Rattle.fc_base.specs.declared.fault.Fault.{Fault}
 use Rattle.fc_base.specs.declared.fault.Fault.TheVariants.{OldBoot, NotInFlight}
 use Rattle.write_order.specs.Blocks.{block_of}
@@ -10,7 +10,7 @@ use Rattle.window.specs.Kept.{is_held, after_issue}
 use Rattle.engine.specs.declared.issue.Ticket.{Ticket}
 use Rattle.engine.specs.declared.issue.Issue.{Issue}
 use Rattle.engine.specs.declared.issue.Issue.TheVariants.{Write, Full, Held, Overlap, Finished, Stopped}
-use Rattle.engine.specs.Legal.{IsLegal, has_failed, any_goes_to}
+use Rattle.engine.specs.Legal.{has_failed, any_goes_to}
 use Rattle.engine.specs.Running.{Origin, Running, Adds}
 
 -- The ticket of write k.
@@ -69,10 +69,6 @@ has_ended origin stopped h =
 abbrev pub ended_of : Running → Bool
 ended_of running = (length running.kept.open_writes == 0) && not (is_write (answer_of running))
 
--- Two keys are of the same run, server and job.
-abbrev pub is_same_key : Key → Key → Bool
-is_same_key a b = (a.run == b.run) && ((a.server == b.server) && (a.job == b.job))
-
 -- A ticket names one of these writes by its key, number and block.
 abbrev pub names_one_of : Origin → List ℕ → Ticket → Bool
 names_one_of origin writes ticket =
@@ -85,11 +81,3 @@ abbrev pub ticket_answer : Origin → List ℕ → Ticket → Result Unit Fault
 ticket_answer origin open_writes ticket =
     if not (ticket.boot == origin.boot) then Err OldBoot
     else (if names_one_of origin open_writes ticket then Ok tt else Err NotInFlight)
-
--- With no open write, a job that was not stopped, has not failed and has a write left issues it.
-abbrev pub AlwaysGoesOn : Type 0
-AlwaysGoesOn =
-    (origin : Origin) (h : List Event) →
-    IsLegal origin.job h → 1 ≤ origin.job.depth
-    → open_writes h ≡ [] → has_failed h ≡ false → issued h < origin.job.total
-    → answer_to origin false h ≡ Write (ticket_of origin (issued h))

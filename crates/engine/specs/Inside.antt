@@ -6,7 +6,7 @@ use Rattle.write_order.specs.Blocks.{block_of}
 use Rattle.window.specs.History.{Event}
 use Rattle.engine.specs.declared.writes.OpenWrite.{OpenWrite}
 use Rattle.engine.specs.declared.engine.Engine.TheInside.{Inside}
-use Rattle.verify_state.specs.State.{is_key}
+use Rattle.fc_base.specs.Keys.{is_key}
 use Rattle.engine.specs.Running.{Origin, Running, StandsFor}
 
 -- Where the writes come from.

@@ -1,5 +1,6 @@
 pub mod Answers
 pub mod Inside
+pub mod Laws
 pub mod Legal
 pub mod Running
 pub mod Taken

@@ -2,7 +2,7 @@
 
 ghost use Rattle.std.specs.Prelude.{◌≡◌, [], length, is_ok, false, true, if◌then◌else◌, IsTrue, IfOk, OnOk};
 ghost use Rattle.window.specs.History.{done, fail, open_writes};
-ghost use Rattle.verify_state.specs.State.{is_key};
+ghost use Rattle.fc_base.specs.Keys.{is_key};
 ghost use Rattle.engine.specs.Running.{Origin, running_of, StandsFor, EachHistory, Adds, after_done, after_fail};
 ghost use Rattle.engine.specs.Answers.{answer_of, answer_to, after_answer, AddsAnswer, names_one_of, ticket_answer, has_ended, ended_of};
 ghost use Rattle.engine.specs.Taken.{state_now, state_after, CountsTheDone};
@@ -13,7 +13,7 @@ use fc_base::{Fault, JobRecord, Key, Seq};
 use std::alloc::{AllocError, Global};
 use std::marker::Model;
 use verify_state::VerifyState;
-use window::{Room, Window, counting_law};
+use window::{Room, Window, counting_law, marks_law};
 use write_order::Order;
 
 /// Issues the writes of one job of a run, and keeps account of them until they complete.
@@ -22,7 +22,7 @@ use write_order::Order;
 /// (fio's manual, "I/O depth") and the window of the job leave room, and where no write in flight
 /// goes to its block. Its state can be taken at any moment (manual, "Verification and triggers").
 ///
-/// Only making it and taking a state take memory. `issue` takes as many steps as there are open
+/// Only making it takes memory. `issue` takes as many steps as there are open
 /// writes, and once a pass of a random order with a map as many as there are blocks.
 #[derive(Debug, Drop)]
 pub struct Engine {
@@ -41,7 +41,7 @@ pub struct Engine {
 }
 
 impl Model for Engine {
-    ghost use Rattle.verify_state.specs.State.{is_key};
+    ghost use Rattle.fc_base.specs.Keys.{is_key};
     ghost use Rattle.engine.specs.Running.{Running};
 
     ghost Value = { Running };
@@ -138,19 +138,18 @@ impl Engine {
     }
 
     /// The state of the job as of now: how many writes were issued, the place of the generator after
-    /// them, and the last two windows of completions. It counts exactly the writes that have
-    /// completed. The only error is want of memory.
-    pub fn take(&self) -> Result<VerifyState, AllocError>
-        ensures value { IfOk result (λ state. state ≡ state_now self.now) }
-        ensures history { IfOk result
-            (λ state. EachHistory self.now (λ h. state ≡ state_after self.now.origin h)) }
-        ensures counted { IfOk result (λ state. EachHistory self.now (CountsTheDone state)) }
+    /// them, and which writes have completed. It counts exactly those. Taking it needs no memory.
+    pub fn take(&self) -> VerifyState
+        ensures value { result ≡ state_now self.now }
+        ensures history { EachHistory self.now (λ h. result ≡ state_after self.now.origin h) }
+        ensures counted { EachHistory self.now (CountsTheDone result) }
     {
         counting_law();
+        marks_law();
         let issued = self.order.issued();
-        let recent = self.window.recent()?;
-        match VerifyState::make(self.key, &self.job, issued, self.order.place(), recent) {
-            Ok(state) => Ok(state),
+        let marks = self.window.marks();
+        match VerifyState::make_marked(self.key, &self.job, issued, self.order.place(), marks) {
+            Ok(state) => state,
             Err(_) => unreachable!(),
         }
     }

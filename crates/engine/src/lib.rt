@@ -8,4 +8,4 @@ mod writes;
 
 pub use engine::Engine;
 pub use issue::{Issue, Ticket};
-pub use law::progress_law;
+pub use law::{ended_law, legal_law, overlap_law, progress_law, taken_law};

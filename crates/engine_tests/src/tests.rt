@@ -8,7 +8,7 @@ use fc_base::{Fault, JobNo, JobParts, JobRecord, Key, Kind, RunNo, Seq, ServerNo
 use std::alloc::Global;
 use std::process::Abort;
 use std::test::Fail;
-use step::{Step, first_unlike, state_after};
+use step::{Step, copies_alike, first_unlike, state_after};
 use verify_state::VerifyState;
 
 const KEY: Key = Key {
@@ -74,6 +74,11 @@ fn refused(ticket: Ticket, fault: Fault) -> Step {
     Step::Done(ticket, Err(fault))
 }
 
+/// Whether a state has this floor, and marks of the next 64 writes alone: these.
+fn has_marks(state: &VerifyState, floor: u64, word: u64) -> bool {
+    state.floor() == floor && state.marks() == [word, 0, 0, 0]
+}
+
 #[test]
 fn overlap_on_one_block(rt: HostRuntime) -> Result<(), Fail> {
     let steps = [
@@ -98,8 +103,32 @@ fn overlap_without_a_map(rt: HostRuntime) -> Result<(), Fail> {
     };
     let steps = [issued(0), Step::Issue(Issue::Overlap)];
     let state = state_after(rt.alloc(), job, &steps)?;
-    assert!(rt; state.issued() == 1 && state.completed() == 0);
+    assert!(rt; state.issued() == 1 && state.completed() == 0 && has_marks(&state, 0, 0));
     assert!(rt; state.place().as_slice() == &WORDS[1..5]);
+    Ok(())
+}
+
+/// Write 0 lies below the floor, so that it counts without a mark.
+#[test]
+fn torn_overwrite(rt: HostRuntime) -> Result<(), Fail> {
+    let job = JobParts {
+        kind: Kind::Sequential,
+        depth: 1,
+        window: 1,
+        ..ONE_BLOCK
+    };
+    let steps = [issued(0), done(0), Step::Issue(Issue::Write(ticket(1, 0)))];
+    let state = state_after(rt.alloc(), job, &steps)?;
+    assert!(rt; state.issued() == 2 && has_marks(&state, 1, 0));
+    assert!(rt; state.counts(Seq(0)) && !state.counts(Seq(1)));
+    Ok(())
+}
+
+#[test]
+fn trigger_before_any_issue(rt: HostRuntime) -> Result<(), Fail> {
+    let state = state_after(rt.alloc(), PARTS, &[])?;
+    assert!(rt; state.issued() == 0 && state.completed() == 0 && has_marks(&state, 0, 0));
+    assert!(rt; state.place().as_slice() == &WORDS[0..4]);
     Ok(())
 }
 
@@ -152,15 +181,15 @@ fn tickets_that_name_no_open_write(rt: HostRuntime) -> Result<(), Fail> {
     Ok(())
 }
 
-/// The bytes of a state of `PARTS` with this list, before any word of the generator is used.
-fn bytes_of(alloc: Global, issued: u64, list: &[Seq]) -> Result<Vec<u8>, Fail> {
+/// A state of `PARTS` with this list, before any word of the generator is used.
+fn state_of(alloc: Global, issued: u64, list: &[Seq]) -> Result<VerifyState, Fail> {
     let rec = JobRecord::make(PARTS).ok_or("within the limits")?;
     let place = [WORDS[0], WORDS[1], WORDS[2], WORDS[3]];
     let list = Vec::from_slice(alloc, list)?;
     let state = VerifyState::make(KEY, &rec, issued, place, list)
         .ok()
         .ok_or("a job can come to this list")?;
-    Ok(state.encode()?)
+    Ok(state)
 }
 
 #[test]
@@ -177,9 +206,9 @@ fn completions_out_of_order(rt: HostRuntime) -> Result<(), Fail> {
         done(3),
         done(4),
     ];
-    let bytes = state_after(rt.alloc(), PARTS, &steps)?.encode()?;
-    let expected = bytes_of(rt.alloc(), 5, &[Seq(2), Seq(1), Seq(0), Seq(3), Seq(4)])?;
-    assert!(rt; bytes.as_slice() == expected.as_slice());
+    let state = state_after(rt.alloc(), PARTS, &steps)?;
+    let listed = state_of(rt.alloc(), 5, &[Seq(2), Seq(1), Seq(0), Seq(3), Seq(4)])?;
+    assert!(rt; has_marks(&state, 2, 7) && state.same(&listed));
     Ok(())
 }
 
@@ -207,5 +236,13 @@ fn first_reason_is_told(rt: HostRuntime) -> Result<(), Fail> {
         Step::Ended(true),
     ];
     assert_eq!(rt; first_unlike(rt.alloc(), job, &steps)?, None);
+    Ok(())
+}
+
+#[test]
+fn million_states_like_their_copies(rt: HostRuntime) -> Result<(), Fail> {
+    let steps = [issued(0), issued(1), done(1)];
+    let alike = copies_alike(rt.alloc(), PARTS, &steps, 1_000_000)?;
+    assert_eq!(rt; alike, 1_000_000);
     Ok(())
 }

@@ -1,19 +1,22 @@
 -- The counting law.
-use Rattle.std.proofs.Common.{◌≡◌, ℕ, ◌+◌, ◌-◌, ◌*◌, ◌<◌, ◌≤◌, suc, Bool, true, false, not, eqb, ltb, List, [], ◌∷◌, ◌++◌, length, filter, drop, sym, refl, ap, ◌∙◌, subst, inl, inr, arith}
+use Rattle.std.proofs.Common.{◌≡◌, ℕ, ◌+◌, ◌-◌, ◌*◌, ◌<◌, ◌≤◌, suc, Bool, true, false, not, eqb, ltb, List, [], ◌∷◌, ◌++◌, ◌&&◌, length, filter, drop, sym, refl, ap, ◌∙◌, subst, inl, inr, arith}
 use Rattle.std.specs.Cmp.{nat_eq_equiv}
 use Rattle.std.specs.Prelude.{nat_eq, min}
 use Rattle.std.specs.List.{list_all, AllByRecursion, IsDistinct}
-use Rattle.std.proofs.lemmas.Bool.{cases_lt, false≢true, or_left, or_right, or_cases, eqb-true, eq-eqb, and_from, lt-ltb, le-leb, ltb-true}
+use Rattle.std.proofs.lemmas.Bool.{cases_lt, false≢true, and_parts, or_left, or_right, or_cases, eqb-true, eq-eqb, and_from, lt-ltb, le-leb, ltb-true}
 use Rattle.std.proofs.lemmas.Bool.Decides.{same_from_decides}
 use Rattle.std.proofs.lemmas.List.{length-append, length-drop, drop_at, drop-append-le, append_assoc, length_push}
 use Rattle.std.proofs.lemmas.List.Elements.{filter_agree}
 use Rattle.std.proofs.lemmas.List.Filters.{length-filter_both}
 use Rattle.std.proofs.lemmas.Map.Keys.{IsDistinct-push}
 use Rattle.fc_base.specs.Counted.{has, numbers_below, is_counted, is_distinct}
-use Rattle.window.specs.History.{Event, issue, done, fail, issues, completions, issued, is_done, recent}
+use Rattle.fc_base.specs.Marks.{floor_of, marks_of, ends_by, counted_by}
+use Rattle.window.specs.History.{Event, issue, done, fail, issues, completions, issued, is_done, recent, done_marks}
 use Rattle.window.specs.Legal.{IsLegal}
-use Rattle.window.specs.Counting.{CountsTheCompleted, ComesToPossible}
-use Rattle.fc_base.proofs.NumberLemmas.{has_push, length_numbers_below}
+use Rattle.window.specs.Counting.{CountsTheCompleted, ComesToPossible, MarksCountTheCompleted, ComesToPossibleMarks}
+use Rattle.fc_base.proofs.NumberLemmas.{has_push, has_filter, has_numbers_below, length_numbers_below}
+use Rattle.fc_base.proofs.MarkLemmas.{marks_agree}
+use Rattle.fc_base.proofs.CountedByLemmas.{counted_again, ends_again}
 use Rattle.window.proofs.NumberLemmas.{eqb_comm, has_append_right, has_head, has_is_member, has_last_of, IsDistinct-drop, length-le_from_range}
 use Rattle.window.proofs.HistoryLemmas.{in_flight_are_numbers, open_is, done_issued, old_is_done, few_in_flight, length-in_flight-completions}
 
@@ -128,3 +131,31 @@ comes_to_possible depth window h l =
     let few = le-leb (length (filter (λ k. not (counted k)) numbers)) depth (omega (arith, ap length flying, few_in_flight depth window h l)) in
     let whole = eq-eqb (length list) (min (2 * window) (length (filter counted numbers))) (omega (arith, ap length done_ones, both, ap length (in_flight_are_numbers depth window h l), length-in_flight-completions depth window h l, length_numbers_below (issued h), length-drop (length (completions h) - 2 * window) (completions h))) in
     and_from _ _ (and_from _ _ distinct all_issued) (and_from _ _ few whole)
+
+-- ---- marks
+
+abbrev done_ones : List Event → List ℕ
+done_ones h = filter (is_done h) (numbers_below (issued h))
+
+-- all that has completed was issued
+has_done_ones : (depth window : ℕ) (h : List Event) → IsLegal depth window h → (k : ℕ) → has (done_ones h) k ≡ is_done h k
+has_done_ones depth window h l k =
+    has_filter (is_done h) (numbers_below (issued h)) k
+    ∙ same_from_decides (has (numbers_below (issued h)) k && is_done h k) (is_done h k)
+    (λ e. (and_parts (has (numbers_below (issued h)) k) (is_done h k) e).1, λ d. and_from (has (numbers_below (issued h)) k) (is_done h k) (has_numbers_below (issued h) k ∙ lt-ltb k (issued h) (done_issued depth window h l k d)) d) (λ e. e, λ e. e)
+
+marks_of_done_ones : (depth window : ℕ) (h : List Event) → IsLegal depth window h → marks_of (has (done_ones h)) (floor_of window (issued h)) ≡ done_marks window h
+marks_of_done_ones depth window h l =
+    marks_agree (has (done_ones h)) (is_done h) (floor_of window (issued h)) (λ i small. has_done_ones depth window h l (floor_of window (issued h) + i))
+
+pub marks_count_the_completed : MarksCountTheCompleted
+marks_count_the_completed depth window h narrow l =
+    ap (counted_by window (issued h)) (sym (marks_of_done_ones depth window h l))
+    ∙ counted_again window (issued h) (is_done h) narrow (old_is_done depth window h l)
+
+pub comes_to_possible_marks : ComesToPossibleMarks
+comes_to_possible_marks depth window h narrow l =
+    let both = length-filter_both (is_done h) (λ k. not (is_done h k)) (λ k. refl) (numbers_below (issued h)) in
+    let ends = ap (ends_by (issued h - floor_of window (issued h))) (sym (marks_of_done_ones depth window h l)) ∙ ends_again window (issued h) (is_done h) in
+    and_from _ _ ends
+    (le-leb _ depth (omega (arith, ap length (marks_count_the_completed depth window h narrow l), both, ap length (in_flight_are_numbers depth window h l), few_in_flight depth window h l, length_numbers_below (issued h))))

@@ -1,12 +1,13 @@
 -- Legal histories.
 use Rattle.std.proofs.Common.{◌≡◌, ℕ, ◌+◌, ◌<◌, ◌≤◌, suc, Bool, true, false, ◌&&◌, not, eqb, ltb, List, [], ◌∷◌, ◌++◌, length, filter, sym, refl, ap, ◌∙◌, inl, inr, arith}
-use Rattle.std.proofs.lemmas.Bool.{false≢true, or_left, or_cases, and_parts, eqb-true, not-true, ltb-true, cases_lt}
+use Rattle.std.proofs.lemmas.Bool.{false≢true, or_left, or_cases, and_parts, eqb-true, not-true, ltb-true, lt-ltb, cases_lt}
 use Rattle.std.proofs.lemmas.List.{length_push}
 use Rattle.std.proofs.lemmas.List.Elements.{filter-append}
 use Rattle.fc_base.specs.Counted.{has, numbers_below}
 use Rattle.window.specs.Numbers.{without}
 use Rattle.window.specs.History.{Event, issue, done, fail, issues, completions, failures, issued, is_done, in_flight, open_writes}
 use Rattle.window.specs.Legal.{IsLegal}
+use Rattle.window.specs.Kept.{has_completed}
 use Rattle.window.specs.Counting.{StaysInOneWindow}
 use Rattle.fc_base.proofs.NumberLemmas.{has_push, has_filter, has_numbers_below}
 use Rattle.window.proofs.NumberLemmas.{filter_not_push, filter-without, filter_twice, length_filter_without}
@@ -135,3 +136,16 @@ stays_in_one_window depth window h l = record {
   few = few_in_flight depth window h l;
   near = in_flight_near depth window h l;
 }
+
+-- ---- the marks of the last writes
+
+and_between : (issued flying was_done : Bool) → flying ≡ (issued && not was_done) → (was_done ≡ true → issued ≡ true) → (issued && not flying) ≡ was_done
+and_between true flying true e below = ap not e
+and_between true flying false e below = ap not e
+and_between false flying true e below = below refl
+and_between false flying false e below = refl
+
+-- what is issued and not in flight has completed
+pub completed_is_done : (depth window : ℕ) (h : List Event) → IsLegal depth window h → (k : ℕ) → has_completed (issued h) (in_flight h) k ≡ is_done h k
+completed_is_done depth window h l k =
+    and_between (ltb k (issued h)) (has (in_flight h) k) (is_done h k) (has_in_flight depth window h l k) (λ e. lt-ltb k (issued h) (done_issued depth window h l k e))

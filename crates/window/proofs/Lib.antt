@@ -1,7 +1,8 @@
+pub mod BitLemmas
 pub mod CountingLemmas
 pub mod HistoryLemmas
 pub mod NumberLemmas
 pub mod StepLemmas
-pub mod MarkLemmas
+pub mod RingLemmas
 pub mod FlightLemmas
 pub mod PlainLemmas

@@ -4,12 +4,14 @@ use Rattle.std.specs.List.{list_any}
 use Rattle.std.proofs.lemmas.Bool.{cases_Bool, false≢true, or_left, or_right, or_cases, and_parts, and_from, eqb-true, eq-eqb, not-true, lt-ltb, leb-true, leb-false, le-leb}
 use Rattle.std.proofs.lemmas.List.{length_push}
 use Rattle.fc_base.specs.Counted.{has}
+use Rattle.fc_base.specs.Marks.{floor_of, marks_of}
+use Rattle.fc_base.proofs.MarkLemmas.{marks_agree}
 use Rattle.window.specs.History.{Event, issue, done, fail, completions, issued, is_done, in_flight}
 use Rattle.window.specs.Legal.{IsLegal, IsClear, HasRoom}
-use Rattle.window.specs.Kept.{Kept, kept_of, StandsFor, room_of, after_issue, after_done, after_fail}
+use Rattle.window.specs.Kept.{Kept, kept_of, StandsFor, has_completed, room_of, after_issue, after_done, after_fail}
 use Rattle.window.specs.declared.room.Room.TheVariants.{Open, Depth, Held}
 use Rattle.window.proofs.NumberLemmas.{last_of_push}
-use Rattle.window.proofs.HistoryLemmas.{has_in_flight, in_flight-issue, in_flight-done, open_writes-issue, open_writes-done, open_writes-fail}
+use Rattle.window.proofs.HistoryLemmas.{completed_is_done, has_in_flight, in_flight-issue, in_flight-done, open_writes-issue, open_writes-done, open_writes-fail}
 
 -- ---- a test of some number in a list
 
@@ -51,6 +53,15 @@ room_is depth window kept h some_kept s =
     let P : Kept → Type 0 = λ k. HasRoom depth window h (room_of k) in
     let some : 0 < window = omega (arith, ap (λ (k : Kept). k.window) s.kept_is) in
     subst P (sym s.kept_is) (room_at depth window h some s.legal (leb depth (length (in_flight h))) (list_any (λ j. leb (j + window) (issued h)) (in_flight h)) refl refl)
+
+-- ---- the marks
+
+-- the marks of what a window shows are those of the history's completions
+pub marks_are : (depth window : ℕ) (kept : Kept) (h : List Event) → StandsFor depth window kept h → marks_of (has_completed kept.issued kept.in_flight) (floor_of kept.window kept.issued) ≡ marks_of (is_done h) (floor_of window (issued h))
+marks_are depth window kept h s =
+    let floor = floor_of window (issued h) in
+    ap (λ (k : Kept). marks_of (has_completed k.issued k.in_flight) (floor_of k.window k.issued)) s.kept_is
+    ∙ marks_agree (has_completed (issued h) (in_flight h)) (is_done h) floor (λ i small. completed_is_done depth window h s.legal (floor + i))
 
 -- ---- the three events
 

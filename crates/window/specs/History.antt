@@ -1,6 +1,7 @@
 -- The history of a job's writes, and the sets of writes that are read from it.
 use Rattle.std.specs.Prelude.{ℕ, ◌*◌, Bool, not, List, [], ◌∷◌, ◌++◌, length, filter}
 use Rattle.fc_base.specs.Counted.{has}
+use Rattle.fc_base.specs.Marks.{floor_of, marks_of}
 use Rattle.window.specs.Numbers.{last_of}
 
 -- A write is issued, completes or fails. A history is a list of these, the newest first.
@@ -49,3 +50,7 @@ open_writes h = filter (λ k. not (has (failures h) k)) (in_flight h)
 -- The completions that a verify state keeps: the last of them, two windows long.
 abbrev pub recent : ℕ → List Event → List ℕ
 recent window h = last_of (2 * window) (completions h)
+
+-- The marks that a verify state keeps: which of the last window of writes issued have completed.
+abbrev pub done_marks : ℕ → List Event → List ℕ
+done_marks window h = marks_of (is_done h) (floor_of window (issued h))

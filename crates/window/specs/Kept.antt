@@ -1,6 +1,7 @@
 -- What a window shows of itself, and the histories that it stands for.
-use Rattle.std.specs.Prelude.{◌≡◌, ℕ, ◌+◌, ◌*◌, nat_le, Bool, List, [], ◌∷◌, ◌++◌, length, if◌then◌else◌}
+use Rattle.std.specs.Prelude.{◌≡◌, ℕ, ◌+◌, ◌*◌, nat_le, nat_lt, Bool, not, ◌&&◌, List, [], ◌∷◌, ◌++◌, length, if◌then◌else◌}
 use Rattle.std.specs.List.{list_any}
+use Rattle.fc_base.specs.Counted.{has}
 use Rattle.window.specs.Numbers.{last_of, without}
 use Rattle.window.specs.History.{Event, issued, in_flight, open_writes, recent}
 use Rattle.window.specs.Legal.{IsLegal}
@@ -44,6 +45,10 @@ Adds old new event = EachHistory old (λ depth window h. StandsFor depth window 
 -- Some write in flight lies a window or more below the next one.
 abbrev pub is_held : ℕ → ℕ → List ℕ → Bool
 is_held window issued in_flight = list_any (λ j. nat_le (j + window) issued) in_flight
+
+-- A write is issued and not in flight.
+abbrev pub has_completed : ℕ → List ℕ → ℕ → Bool
+has_completed issued in_flight k = nat_lt k issued && not (has in_flight k)
 
 -- The room where the depth is reached or not, and where a write is held or not.
 abbrev pub room_by : Bool → Bool → Room

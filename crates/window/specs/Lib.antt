@@ -5,3 +5,4 @@ pub mod Kept
 pub mod Legal
 pub mod Numbers
 pub mod Plain
+pub mod Sets

@@ -3,10 +3,11 @@
 ghost use Rattle.std.specs.Prelude.{◌≡◌, ◌+◌, ◌%◌, ◌<◌, ◌≤◌, [], ◌∷◌, ◌++◌, ◌&&◌, nat_lt, nat_le, length, false, IsTrue};
 ghost use Rattle.fc_base.specs.Counted.{has};
 ghost use Rattle.window.specs.Numbers.{without};
-ghost use Rattle.window.specs.Kept.{is_held};
+ghost use Rattle.fc_base.specs.Marks.{floor_of, word_of, marks_of};
+ghost use Rattle.window.specs.Kept.{is_held, has_completed};
 
-use crate::marks::Marks;
-use fc_base::Seq;
+use crate::ring::{around, low_bits};
+use fc_base::{Marks, Seq};
 use std::marker::Model;
 
 /// Which of the last writes are in flight, and which of those are open. All lie within one window
@@ -32,7 +33,8 @@ impl Model for InFlight {
     ghost view = { λ a. flights_of a.window a.issued a.marks a.open_marks };
 
     ghost invariant = { λ a. (1 ≤ a.window) × (a.window ≤ 256)
-        × (a.count ≡ length (marked_numbers a.marks a.window a.issued)) };
+        × (a.count ≡ length (marked_numbers a.marks a.window a.issued))
+        × (a.issued ≤ 1000000) };
 }
 
 impl InFlight {
@@ -86,6 +88,33 @@ impl InFlight {
         ensures { result ≡ is_held self.now.window self.now.issued self.now.in_flight }
     {
         self.issued >= self.window && self.has(Seq(self.issued - self.window))
+    }
+
+    /// The marks of the last window of numbers issued: which of them have completed.
+    pub(crate) fn completed(&self) -> [u64; 4]
+        ensures { result ≡ marks_of (has_completed self.now.issued self.now.in_flight)
+            (floor_of self.now.window self.now.issued) }
+    {
+        let floor = self.issued.saturating_sub(self.window);
+        [
+            self.completed_from(floor),
+            self.completed_from(floor + 64),
+            self.completed_from(floor + 128),
+            self.completed_from(floor + 192),
+        ]
+    }
+
+    /// Which of the 64 numbers from this one on have completed, as bits, the lowest first.
+    fn completed_from(&self, first: u64) -> u64
+        requires { self.now.issued ≤ first + self.now.window }
+        ensures { result ≡ word_of (has_completed self.now.issued self.now.in_flight) first }
+    {
+        if first >= self.issued {
+            return 0;
+        }
+        let slot = slot(first, self.window);
+        let flying = around(&self.marks, slot, self.window as usize);
+        !flying & low_bits(self.issued - first)
     }
 
     /// Issues the next write.

@@ -1,6 +1,7 @@
 //! What holds of every legal history. The functions have nothing to run.
 
-ghost use Rattle.window.specs.Counting.{CountsTheCompleted, ComesToPossible, StaysInOneWindow};
+ghost use Rattle.window.specs.Counting.{CountsTheCompleted, ComesToPossible, MarksCountTheCompleted, ComesToPossibleMarks, StaysInOneWindow};
+ghost use Rattle.window.specs.Sets.{InFlightIsNotDone, OpenIsNotFailed, DoneWasIssued, RoomIsRight};
 
 /// Why a verify state may forget old completions: the last two windows of them and the number of
 /// writes issued count exactly the completed writes, and never make an impossible state.
@@ -9,8 +10,27 @@ pub fn counting_law()
     ensures comes_to_possible { ComesToPossible }
 {}
 
+/// Why a verify state may keep marks alone: with the number of writes issued they count exactly the
+/// completed writes, and never make an impossible state.
+pub fn marks_law()
+    ensures counts_the_completed { MarksCountTheCompleted }
+    ensures comes_to_possible { ComesToPossibleMarks }
+{}
+
 /// Why a window needs one slot for each of its numbers: all writes in flight lie within one window
 /// below the next number.
 pub fn in_flight_law()
     ensures { StaysInOneWindow }
+{}
+
+/// A write is issued, and is then in flight until it completes, and open until it completes or fails.
+pub fn sets_law()
+    ensures in_flight { InFlightIsNotDone }
+    ensures open_writes { OpenIsNotFailed }
+    ensures completed { DoneWasIssued }
+{}
+
+/// Why the room may be read from the writes in flight alone.
+pub fn room_law()
+    ensures { RoomIsRight }
 {}

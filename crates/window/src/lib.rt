@@ -3,11 +3,11 @@
 
 mod in_flight;
 mod law;
-mod marks;
+mod ring;
 mod room;
 mod window;
 
-pub use law::{counting_law, in_flight_law};
+pub use law::{counting_law, in_flight_law, marks_law, room_law, sets_law};
 pub use room::Room;
 pub use window::Window;
 

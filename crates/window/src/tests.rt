@@ -51,9 +51,9 @@ fn refuses(window: &mut Window, number: u64) -> bool {
         && fail(window, number) == Err(Fault::NotInFlight)
 }
 
-/// Whether `count` writes complete in turn, each with the next `ahead` writes in flight.
-fn runs(window: &mut Window, ahead: u32, count: u32) -> bool {
-    for number in 0..u64::from(count) {
+/// Whether the writes from `first` up to `end` complete in turn, each with the next `ahead` in flight.
+fn runs(window: &mut Window, first: u32, end: u32, ahead: u32) -> bool {
+    for number in u64::from(first)..u64::from(end) {
         let issued = issue(window);
         let answer = complete(window, number);
         if issued != Some(Seq(number + u64::from(ahead))) || answer != Ok(()) {
@@ -77,7 +77,7 @@ fn completions_out_of_order(rt: HostRuntime) -> Result<(), Fail> {
     assert!(rt; issues(&mut window, 0, 3) && completes(&mut window, &[2, 1, 0]));
     assert!(rt; issues(&mut window, 3, 5) && completes(&mut window, &[3, 4]));
     assert!(rt; recalls(&window, &[Seq(2), Seq(1), Seq(0), Seq(3), Seq(4)]));
-    assert!(rt; window.issued() == 5);
+    assert!(rt; window.issued() == 5 && window.marks() == [7, 0, 0, 0]);
     Ok(())
 }
 
@@ -86,7 +86,20 @@ fn held_by_the_window(rt: HostRuntime) -> Result<(), Fail> {
     let mut window = Window::new(rt.alloc(), 2, 2)?;
     assert!(rt; issues(&mut window, 0, 2) && window.room() == Room::Depth);
     assert!(rt; completes(&mut window, &[1]) && window.room() == Room::Held);
-    assert!(rt; completes(&mut window, &[0]) && issues(&mut window, 2, 3));
+    assert!(rt; window.marks() == [2, 0, 0, 0] && completes(&mut window, &[0]));
+    assert!(rt; issues(&mut window, 2, 3) && window.marks() == [1, 0, 0, 0]);
+    Ok(())
+}
+
+/// The floor is 44, so that 107 and 108 lie on both sides of a word's end, and 255 and 256, the last
+/// slot and the first one, in the fourth word.
+#[test]
+fn marks_across_words(rt: HostRuntime) -> Result<(), Fail> {
+    let mut window = Window::new(rt.alloc(), 64, 256)?;
+    assert!(rt; runs(&mut window, 0, 107, 0) && issues(&mut window, 107, 109));
+    assert!(rt; runs(&mut window, 109, 255, 0) && issues(&mut window, 255, 257));
+    assert!(rt; runs(&mut window, 257, 300, 0) && window.issued() == 300);
+    assert!(rt; window.marks() == [!(1 << 63), !1, u64::MAX, !(3 << 19)]);
     Ok(())
 }
 
@@ -108,7 +121,7 @@ fn failed_write_stays_in_flight(rt: HostRuntime) -> Result<(), Fail> {
 #[test]
 fn no_memory_after_the_making(rt: HostRuntime) -> Result<(), Fail> {
     let mut window = Window::new(rt.alloc(), 64, 256)?;
-    assert!(rt; issues(&mut window, 0, 63) && runs(&mut window, 63, 1_000));
+    assert!(rt; issues(&mut window, 0, 63) && runs(&mut window, 0, 1_000, 63));
     assert!(rt; fail(&mut window, 1_000) == Ok(()));
     assert!(rt; window.issued() == 1_063 && window.is_in_flight(Seq(1_062)));
     Ok(())
@@ -127,7 +140,7 @@ fn count_up(seqs: &[Seq], first: u64) -> bool {
 #[test]
 fn million_writes(rt: HostRuntime) -> Result<(), Fail> {
     let mut window = Window::new(rt.alloc(), 64, 256)?;
-    assert!(rt; runs(&mut window, 0, 1_000_000));
+    assert!(rt; runs(&mut window, 0, 1_000_000, 0));
     let recent = window.recent()?;
     assert!(rt; recent.len() == 512 && count_up(&recent, 999_488));
     Ok(())
@@ -139,6 +152,20 @@ fn issue_plain(plain: &mut PlainWindow) -> Option<Seq> {
         return None;
     }
     Some(plain.issue())
+}
+
+/// Whether just the numbers are marked that the plain window's lists say have completed.
+fn marks_alike(window: &Window, plain: &PlainWindow, length: u64) -> bool {
+    let marks = window.marks();
+    let issued = plain.issued();
+    for bit in 0..256_usize {
+        let number = issued.saturating_sub(length).saturating_add(bit as u64);
+        let is_done = number < issued && !plain.is_in_flight(Seq(number));
+        if is_done != ((marks[bit / 64] >> (bit % 64)) & 1 == 1) {
+            return false;
+        }
+    }
+    true
 }
 
 /// Whether both windows answer alike to a step at random, and after it.
@@ -168,6 +195,7 @@ fn run_beside(rt: &impl Abort, alloc: Global, depth: u64, length: u64) -> Result
     for _ in 0..200 {
         word = word.wrapping_mul(6_364_136_223_846_793_005).wrapping_add(1);
         assert!(rt; step_alike(&mut window, &mut plain, word));
+        assert!(rt; marks_alike(&window, &plain, length));
     }
     assert!(rt; recalls(&window, &plain.recent()?));
     Ok(())

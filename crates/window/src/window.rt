@@ -2,9 +2,10 @@
 
 ghost use Rattle.std.specs.Prelude.{◌≡◌, ◌<◌, ◌≤◌, [], if◌then◌else◌, is_ok, IfOk, OnOk, Ok, Err};
 ghost use Rattle.fc_base.specs.Counted.{has};
-ghost use Rattle.window.specs.History.{issue, done, fail, in_flight, issued, open_writes, recent};
+ghost use Rattle.fc_base.specs.Marks.{floor_of, marks_of};
+ghost use Rattle.window.specs.History.{issue, done, done_marks, fail, in_flight, issued, open_writes, recent};
 ghost use Rattle.window.specs.Legal.{HasRoom};
-ghost use Rattle.window.specs.Kept.{StandsFor, EachHistory, Adds, room_of, after_issue, after_done, after_fail};
+ghost use Rattle.window.specs.Kept.{StandsFor, EachHistory, Adds, has_completed, room_of, after_issue, after_done, after_fail};
 
 use crate::in_flight::InFlight;
 use crate::room::Room;
@@ -20,6 +21,7 @@ use std::marker::Model;
 /// profile, is how far writes may run ahead of one that hasn't completed. It keeps the last two
 /// windows of completions, the "last so many" of fio's write state (manual, "Verification and
 /// triggers"): they suffice to count all completed writes, by [`counting_law`](crate::counting_law).
+/// [`marks`](Window::marks) tells the same by a bit for each write, by [`marks_law`](crate::marks_law).
 ///
 /// Only making it and [`recent`](Window::recent) take memory, and only `recent` takes time that
 /// grows with the window.
@@ -128,6 +130,18 @@ impl Window {
             (λ list. EachHistory self.now (λ depth window h. list.items ≡ recent window h)) }
     {
         self.completions.to_vec(*self.completions.allocator())
+    }
+
+    /// Which of the last writes have completed, a window of them: bit `i % 64` of word `i / 64` is that
+    /// of number `floor + i`, where the floor is the number issued less the window, or 0. All writes
+    /// below the floor have completed, and the bits of numbers not yet issued are clear.
+    pub fn marks(&self) -> [u64; 4]
+        ensures value { result ≡ marks_of (has_completed self.now.issued self.now.in_flight)
+            (floor_of self.now.window self.now.issued) }
+        ensures history { EachHistory self.now
+            (λ depth window h. result ≡ done_marks window h) }
+    {
+        self.in_flight.completed()
     }
 
     /// Whether a write is issued and hasn't completed. A failed write is in flight.

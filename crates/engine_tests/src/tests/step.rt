@@ -60,7 +60,26 @@ pub fn first_unlike(alloc: Global, job: JobParts, steps: &[Step]) -> Result<Opti
 pub fn state_after(alloc: Global, job: JobParts, steps: &[Step]) -> Result<VerifyState, Fail> {
     let mut engine = engine_of(alloc, job)?;
     match step_through(&mut engine, steps) {
-        None => Ok(engine.take()?),
+        None => Ok(engine.take()),
         Some(_) => Err("the engine answers otherwise".into()),
     }
+}
+
+/// How many of the states that are taken after these steps, so many times, are the same as their
+/// copies.
+pub fn copies_alike(alloc: Global, job: JobParts, steps: &[Step], times: u32) -> Result<u32, Fail> {
+    let mut engine = engine_of(alloc, job)?;
+    if step_through(&mut engine, steps).is_some() {
+        return Err("the engine answers otherwise".into());
+    }
+    Ok(alike_now(&engine, times))
+}
+
+fn alike_now(engine: &Engine, times: u32) -> u32 {
+    (0..times).filter(|_| is_like_its_copy(engine)).count() as u32
+}
+
+fn is_like_its_copy(engine: &Engine) -> bool {
+    let state = engine.take();
+    state.same(&state.copy())
 }

@@ -1,8 +1,9 @@
 use Rattle.std.proofs.Common.{◌≡◌, ◌&&◌, true, ap, sym, ◌∙◌, eqb}
 use Rattle.std.specs.List.{list_any}
+use Rattle.fc_base.specs.Keys.{is_same_key}
 use Rattle.engine.specs.declared.writes.OpenWrite.{OpenWrite}
 use Rattle.engine.specs.Running.{Running}
-use Rattle.engine.specs.Answers.{is_same_key, names_one_of}
+use Rattle.engine.specs.Answers.{names_one_of}
 use Rattle.engine.specs.Inside.{origin_in}
 use Rattle.engine.proofs.WriteLemmas.{any_write}
 use Rattle.engine.proofs.engine.Engine.names_open_write.Goals as goal

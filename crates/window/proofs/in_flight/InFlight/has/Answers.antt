@@ -1,5 +1,5 @@
 use Rattle.std.proofs.Common.{◌%◌, ◌&&◌, sym, ap, ◌∙◌}
-use Rattle.window.specs.InFlight.{is_marked}
+use Rattle.fc_base.specs.Marks.{is_marked}
 use Rattle.window.proofs.FlightLemmas.{has_marked}
 use Rattle.window.proofs.in_flight.InFlight.has.Goals as goal
 

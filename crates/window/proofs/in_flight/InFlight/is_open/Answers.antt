@@ -1,6 +1,7 @@
 use Rattle.std.proofs.Common.{◌%◌, ◌&&◌, sym, ap, ◌∙◌}
 use Rattle.fc_base.specs.Counted.{has}
-use Rattle.window.specs.InFlight.{Flights, is_marked}
+use Rattle.fc_base.specs.Marks.{is_marked}
+use Rattle.window.specs.InFlight.{Flights}
 use Rattle.window.proofs.FlightLemmas.{has_open}
 use Rattle.window.proofs.in_flight.InFlight.is_open.Goals as goal
 
