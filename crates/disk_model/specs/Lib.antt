@@ -2,6 +2,7 @@ pub mod File
 pub mod Disk
 pub mod Picks
 pub mod Run
+pub mod Singles
 pub mod Sectors
 pub mod MemDisk
 pub mod Notes

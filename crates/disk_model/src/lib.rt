@@ -11,6 +11,7 @@ mod notes;
 mod picks;
 mod run;
 mod sectors;
+mod singles;
 
 pub use disk::Disk;
 pub use fault_disk::FaultDisk;
