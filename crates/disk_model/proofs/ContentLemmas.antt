@@ -1,5 +1,5 @@
 -- What a write to one run does to the content that runs stand for.
-use Rattle.std.proofs.Common.{◌≡◌, ◌≢◌, ◌==◌, ℕ, zero, suc, ne_eqb, ◌+◌, ◌*◌, ◌-◌, ◌/◌, ◌%◌, ◌<◌, ◌≤◌, ◌&&◌, Bool, true, false, cond, leb, ltb, List, length, Option, None, Some, refl, sym, ◌∙◌, ap, ap₂, ⊎_elim, arith, take, drop, length-drop, length-take-le}
+use Rattle.std.proofs.Common.{◌≡◌, ◌≢◌, ◌==◌, ℕ, zero, suc, ne_eqb, ◌+◌, ◌*◌, ◌-◌, ◌/◌, ◌%◌, ◌<◌, ◌≤◌, ◌&&◌, Bool, true, false, cond, leb, ltb, List, length, Option, Some, refl, sym, ◌∙◌, ap, ap₂, ⊎_elim, arith, take, drop, length-drop, length-take-le}
 use Rattle.std.specs.Ordering.{nat_cmp}
 use Rattle.std.specs.BTreeMap.{is_at}
 use Rattle.std.proofs.lemmas.Bool.{cases_lt, cases_eq}

@@ -1,7 +1,7 @@
 -- Sectors of bytes: of zeros, of a part, of bytes with a part written over.
 use Rattle.std.proofs.Common.{◌≡◌, ℕ, zero, suc, ◌+◌, ◌*◌, ◌-◌, ◌/◌, ◌<◌, ◌≤◌, ◌&&◌, Bool, true, false, ◌≢◌, cond, eq-eqb, ne_eqb, leb, ltb, List, [], ◌++◌, length, take, drop, replicate, refl, sym, ◌∙◌, ap, ap₂, ⊎_elim, arith, length-drop}
 use Rattle.std.specs.Int.{bit_at}
-use Rattle.std.proofs.lemmas.List.{append-nil, append_assoc, drop_all, replicate-append-replicate, take-append-le, drop-append-le, drop-drop, drop-take, take-take, take-replicate, drop-replicate, drop_at, take_all, take_at, length-take-le}
+use Rattle.std.proofs.lemmas.List.{append-nil, append_assoc, drop_all, take-append-le, drop-append-le, drop-drop, drop-take, take-take, take-replicate, drop-replicate, drop_at, take_all, take_at, length-take-le}
 use Rattle.std.proofs.lemmas.Bool.{cases_lt, cases_eq}
 use Rattle.std.proofs.lemmas.Bool.Decides.{nat_tests}
 use Rattle.std.proofs.Math.Seq.{take-add}

@@ -8,5 +8,7 @@ pub mod MemDisk
 pub mod Notes
 pub mod MemNotes
 pub mod Countdown
+pub mod Laws
+pub mod Left
 pub mod FaultNotes
 pub mod FaultDisk

@@ -89,11 +89,15 @@ fn rot_runs(disk: &mut MemDisk, count: u32) -> Result<(), AllocError> {
 }
 
 /// Whether a run, which is a block of the greatest size, has its first sector as it was replaced,
-/// and the next as zeros.
+/// and zeros behind it.
 fn has_mark(disk: &mut MemDisk, run: u32) -> bool {
+    if run >= 65_536 {
+        return false;
+    }
     let mut bytes = [0xff; 65_536];
-    let is_read = run < 65_536 && disk.read(run, &mut bytes).is_ok();
-    is_read && is_full_of(&bytes[..512], mark(run)) && is_full_of(&bytes[512..1024], 0)
+    let is_read = disk.read(run, &mut bytes).is_ok();
+    let (front, back) = bytes.split_at(512);
+    is_read && is_full_of(front, mark(run)) && is_full_of(back, 0)
 }
 
 #[test]

@@ -1,4 +1,4 @@
-use Rattle.std.proofs.Common.{ℕ, ◌/◌, ◌%◌, nat_cmp, length, refl, sym, ◌∙◌, ap, arith}
+use Rattle.std.proofs.Common.{◌/◌, ◌%◌, nat_cmp, length, refl, sym, ◌∙◌, arith}
 use Rattle.std.specs.BTreeMap.{get}
 use Rattle.disk_model.specs.File.{sector_of}
 use Rattle.disk_model.specs.Sectors.{content_of}
