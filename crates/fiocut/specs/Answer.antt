@@ -1,16 +1,16 @@
 -- What the program answers to a text.
-use Rattle.std.specs.Prelude.{◌≡◌, ◌⊎◌, ℕ, List, [], Option, Result, Ok, Err}
+use Rattle.std.specs.Prelude.{◌≡◌, ◌⊎◌, ℕ, List, Option, None, Result, Ok, Err}
 use Rattle.std.specs.Io.KnownBytes.{Appends}
 use Rattle.fc_base.specs.declared.fault.Fault.TheVariants.{JobNoMemory, ReadError}
 use Rattle.job_file.specs.declared.job.JobSet.{JobSet}
-use Rattle.job_file.specs.JobSet.{faults_of, IsSetOf}
+use Rattle.job_file.specs.JobSet.{refusal_of, IsSetOf}
 use Rattle.fiocut.specs.declared.refusal.Refusal.{Refusal}
 use Rattle.fiocut.specs.Lines.{set_lines}
 use Rattle.fiocut.specs.Refusal.{plain, RefusesText}
 
 -- The text has no fault, and these are the lines of its set.
 pub record AreLinesOf (lines : List ℕ) (text : List ℕ) : Type 0 where
-  pub sound : faults_of text ≡ []
+  pub sound : refusal_of text ≡ None
   pub set : JobSet
   pub is_set : IsSetOf set text
   pub printed : lines ≡ set_lines set

@@ -42,9 +42,9 @@ impl From<Fault> for Refusal {
 }
 
 impl From<JobFault> for Refusal {
-    ghost use Rattle.fiocut.specs.Refusal.{refusal_of};
+    ghost use Rattle.fiocut.specs.Refusal.{refusal_for};
 
-    ghost from_gives = { λ fault refusal. refusal ≡ refusal_of fault };
+    ghost from_gives = { λ fault refusal. refusal ≡ refusal_for fault };
 
     fn from(found: JobFault) -> Refusal {
         // A fault is passed on whole, so the second call gets a copy.
