@@ -1,16 +1,24 @@
 -- Refusals, and what is printed of them.
 use Rattle.std.specs.Prelude.{◌≡◌, ℕ, List, [], ◌∷◌, Option, Some, None, codes, decimal}
 use Rattle.fc_base.specs.declared.fault.Fault.{Fault}
+use Rattle.fc_base.specs.declared.fault.Fault.TheVariants as base
 use Rattle.fc_base.specs.Fault.{number_of, name_of}
 use Rattle.job_file.specs.declared.fault.JobFault.{JobFault}
 use Rattle.job_file.specs.Fault.{fault_of, place_of}
 use Rattle.job_file.specs.JobSet.{refusal_of}
+use Rattle.fiocut.specs.declared.input.InputFault.{InputFault as Unread}
+use Rattle.fiocut.specs.declared.input.InputFault.TheVariants as unread
 use Rattle.fiocut.specs.declared.refusal.Refusal.{Refusal}
 use Rattle.fiocut.specs.Lines.{spaced}
 
 -- A fault that has neither a line nor a job.
 abbrev pub plain : Fault → Refusal
 plain row = record { fault = row; place = None }
+
+-- An input that was not read is refused as a job file that could not be read, or had no memory.
+abbrev pub of_input : Unread → Refusal
+of_input unread.ReadError = plain base.ReadError
+of_input unread.NoMemory = plain base.JobNoMemory
 
 -- A fault of a job file, with its line or its job.
 abbrev pub refusal_for : JobFault → Refusal

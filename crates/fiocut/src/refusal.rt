@@ -3,6 +3,7 @@
 ghost use Rattle.std.specs.Prelude.{◌≡◌, Some};
 ghost use Rattle.fc_base.specs.declared.fault.Fault.TheVariants.{JobNoMemory};
 
+use crate::input::InputFault;
 use fc_base::Fault;
 use job_file::JobFault;
 use std::alloc::AllocError;
@@ -27,6 +28,19 @@ impl fmt::Display for Refusal {
         match self.place {
             Some(place) => write!(f, "refused {} {fault} {place}", fault.number()),
             None => write!(f, "refused {} {fault}", fault.number()),
+        }
+    }
+}
+
+impl From<InputFault> for Refusal {
+    ghost use Rattle.fiocut.specs.Refusal.{of_input};
+
+    ghost from_gives = { λ fault refusal. refusal ≡ of_input fault };
+
+    fn from(fault: InputFault) -> Refusal {
+        match fault {
+            InputFault::ReadError => Refusal::from(Fault::ReadError),
+            InputFault::NoMemory => Refusal::from(Fault::JobNoMemory),
         }
     }
 }
