@@ -10,9 +10,9 @@ use Rattle.std.proofs.lemmas.Nat.Bits.{bit_at-suc, bit_at-zero}
 use Rattle.disk_model.specs.File.{sector_of, landed, has_bit}
 use Rattle.disk_model.specs.Run.{run_sector}
 
--- the content by runs, and by the sectors past their reach
+-- the content by runs, and by the sectors that lie by themselves
 abbrev pub content_by : (ℕ → Option (List ℕ)) → (ℕ → List ℕ) → ℕ → List ℕ
-content_by runs far s = cond (ltb s 8388608) (run_sector (runs (s / 128)) (s % 128)) (far s)
+content_by runs singles s = run_sector (runs (s / 128)) (singles s) (s % 128)
 
 -- within the run of a first sector, places in the run compare as the sectors do
 pub is_within-in_run : (first count s : ℕ) → s / 128 ≡ first / 128 →
@@ -25,42 +25,34 @@ is_within-in_run first count s same = ap₂ (λ a b. a && b) low high
     high : ltb (s % 128) (first % 128 + count) ≡ ltb s (first + count)
     high = ⊎_elim (λ (lt : s < first + count). grind (arith, nat_tests)) (λ (le : first + count ≤ s). grind (arith, nat_tests)) (cases_lt s (first + count))
 
--- a sector of another run, or past the reach of runs, is not within
+-- a sector of another run is not within
 pub is_within-elsewhere : (first count s : ℕ) → first % 128 + count ≤ 128 → s / 128 ≢ first / 128 →
     (leb first s && ltb s (first + count)) ≡ false
 is_within-elsewhere first count s fits apart =
     ⊎_elim (λ (lt : s < first). grind (arith, nat_tests)) (λ (le : first ≤ s). ⊎_elim (λ (lt : s < first + count). absurd (apart (omega arith))) (λ (past : first + count ≤ s). grind (arith, nat_tests)) (cases_lt s (first + count))) (cases_lt s first)
 
-pub content_by-landed : (runs later : ℕ → Option (List ℕ)) (far : ℕ → List ℕ) (picks : ℕ → Bool) (run new bytes : List ℕ) (first s : ℕ) →
+pub content_by-landed : (runs later : ℕ → Option (List ℕ)) (singles : ℕ → List ℕ) (picks : ℕ → Bool) (run new bytes : List ℕ) (first s : ℕ) →
     runs (first / 128) ≡ Some run → later (first / 128) ≡ Some new →
     ((r : ℕ) → r ≢ first / 128 → later r ≡ runs r) →
-    first < 8388608 → first % 128 + length bytes / 512 ≤ 128 →
+    first % 128 + length bytes / 512 ≤ 128 →
     ((i : ℕ) → i < 128 → sector_of new i
     ≡ cond (leb (first % 128) i && ltb i (first % 128 + length bytes / 512) && picks (i - first % 128)) (sector_of bytes (i - first % 128)) (sector_of run i)) →
-    content_by later far s ≡ landed picks first bytes (content_by runs far) s
-content_by-landed runs later far picks run new bytes first s had has others reach fits wrote =
+    content_by later singles s ≡ landed picks first bytes (content_by runs singles) s
+content_by-landed runs later singles picks run new bytes first s had has others fits wrote =
     ⊎_elim here elsewhere (cases_eq (s / 128) (first / 128))
   where
-    n : ℕ
-    n = length bytes / 512
-
-    elsewhere : s / 128 ≢ first / 128 → content_by later far s ≡ landed picks first bytes (content_by runs far) s
+    elsewhere : s / 128 ≢ first / 128 → content_by later singles s ≡ landed picks first bytes (content_by runs singles) s
     elsewhere apart =
-        ap (λ (o : Option (List ℕ)). cond (ltb s 8388608) (run_sector o (s % 128)) (far s)) (others (s / 128) apart)
-        ∙ sym (ap (λ b. cond (b && picks (s - first)) (sector_of bytes (s - first)) (content_by runs far s)) (is_within-elsewhere first (length bytes / 512) s fits apart))
-
-    in_reach : s / 128 ≡ first / 128 → ltb s 8388608 ≡ true
-    in_reach same = grind (arith, nat_tests)
+        ap (λ (o : Option (List ℕ)). run_sector o (singles s) (s % 128)) (others (s / 128) apart)
+        ∙ sym (ap (λ b. cond (b && picks (s - first)) (sector_of bytes (s - first)) (content_by runs singles s)) (is_within-elsewhere first (length bytes / 512) s fits apart))
 
     shift : s / 128 ≡ first / 128 → s % 128 - first % 128 ≡ s - first
     shift same = omega arith
 
-    by_runs : (f : ℕ → Option (List ℕ)) (r : List ℕ) → f (first / 128) ≡ Some r → s / 128 ≡ first / 128 → content_by f far s ≡ sector_of r (s % 128)
-    by_runs f r is same =
-        ap (λ b. cond b (run_sector (f (s / 128)) (s % 128)) (far s)) (in_reach same)
-        ∙ ap (λ (o : Option (List ℕ)). run_sector o (s % 128)) (ap f same ∙ is)
+    by_runs : (f : ℕ → Option (List ℕ)) (r : List ℕ) → f (first / 128) ≡ Some r → s / 128 ≡ first / 128 → content_by f singles s ≡ sector_of r (s % 128)
+    by_runs f r is same = ap (λ (o : Option (List ℕ)). run_sector o (singles s) (s % 128)) (ap f same ∙ is)
 
-    here : s / 128 ≡ first / 128 → content_by later far s ≡ landed picks first bytes (content_by runs far) s
+    here : s / 128 ≡ first / 128 → content_by later singles s ≡ landed picks first bytes (content_by runs singles) s
     here same =
         let below : s % 128 < 128 = omega arith in
         by_runs later new has same
@@ -72,16 +64,11 @@ content_by-landed runs later far picks run new bytes first s had has others reac
 pub other_key : (k r : ℕ) → r ≢ k → is_at (nat_cmp k) r ≡ false
 other_key k r apart = grind (arith, nat_tests)
 
-pub content_by-in_run : (runs : ℕ → Option (List ℕ)) (far : ℕ → List ℕ) (first i : ℕ) →
-    first % 128 + i < 128 → first + i < 8388608 →
-    content_by runs far (first + i) ≡ run_sector (runs (first / 128)) (first % 128 + i)
-content_by-in_run runs far first i fits reach =
-    ap (λ b. cond b (run_sector (runs ((first + i) / 128)) ((first + i) % 128)) (far (first + i))) in_reach
-    ∙ ap₂ (λ (r k : ℕ). run_sector (runs r) k) same_run same_place
+pub content_by-in_run : (runs : ℕ → Option (List ℕ)) (singles : ℕ → List ℕ) (first i : ℕ) → first % 128 + i < 128 →
+    content_by runs singles (first + i) ≡ run_sector (runs (first / 128)) (singles (first + i)) (first % 128 + i)
+content_by-in_run runs singles first i fits =
+    ap₂ (λ (r k : ℕ). run_sector (runs r) (singles (first + i)) k) same_run same_place
   where
-    in_reach : ltb (first + i) 8388608 ≡ true
-    in_reach = grind (arith, nat_tests)
-
     same_run : (first + i) / 128 ≡ first / 128
     same_run = omega arith
 
@@ -142,35 +129,32 @@ landed-twice picks rest first second m bytes front back old mid s rest_is second
         same_choice (leb second s && ltb s (second + length back / 512)) (leb first s && ltb s (first + length bytes / 512)) (rest (s - second)) (picks (s - first)) (sector_of back (s - second)) (sector_of bytes (s - first)) (mid s) (old s) (both_behind le) (rest_is (s - second) ∙ ap picks place)
         (ap (λ (l : List ℕ). sector_of l (s - second)) back_is ∙ sector_of-drop m bytes (s - second) ∙ ap (λ k. sector_of bytes k) place) old_is
 
--- one sector past the reach of runs
-pub content_by-rotten : (runs : ℕ → Option (List ℕ)) (far later : ℕ → List ℕ) (bytes : List ℕ) (sector s : ℕ) →
-    8388608 ≤ sector → length bytes ≡ 512 → later sector ≡ bytes → (s ≢ sector → later s ≡ far s) →
-    content_by runs later s ≡ landed (λ _. true) sector bytes (content_by runs far) s
-content_by-rotten runs far later bytes sector s past len is others = ⊎_elim here elsewhere (cases_eq s sector)
+-- one sector is within itself alone
+pub is_within-one : (sector n s : ℕ) → n ≡ 1 → s ≡ sector → (leb sector s && ltb s (sector + n)) ≡ true
+is_within-one sector n s one same = grind (arith, nat_tests)
+
+pub is_within-another : (sector n s : ℕ) → n ≡ 1 → s ≢ sector → (leb sector s && ltb s (sector + n)) ≡ false
+is_within-another sector n s one apart =
+    ⊎_elim (λ (lt : s < sector). grind (arith, nat_tests)) (λ (le : sector ≤ s). grind (arith, nat_tests)) (cases_lt s sector)
+
+-- one sector was replaced
+pub landed-one : (later content : ℕ → List ℕ) (bytes : List ℕ) (sector s : ℕ) →
+    length bytes ≡ 512 → later sector ≡ bytes → (s ≢ sector → later s ≡ content s) →
+    later s ≡ landed (λ _. true) sector bytes content s
+landed-one later content bytes sector s len is others = ⊎_elim here elsewhere (cases_eq s sector)
   where
-    out : s ≡ sector → ltb s 8388608 ≡ false
-    out same = grind (arith, nat_tests)
+    one : length bytes / 512 ≡ 1
+    one = omega arith
 
-    within : s ≡ sector → (leb sector s && ltb s (sector + length bytes / 512)) ≡ true
-    within same = grind (arith, nat_tests, len)
-
-    without : s ≢ sector → (leb sector s && ltb s (sector + length bytes / 512)) ≡ false
-    without apart = ⊎_elim (λ (lt : s < sector). grind (arith, nat_tests)) (λ (le : sector ≤ s). grind (arith, nat_tests, len)) (cases_lt s sector)
-
-    whole : sector_of bytes 0 ≡ bytes
-    whole = take_all 512 bytes (omega arith)
-
-    here : s ≡ sector → content_by runs later s ≡ landed (λ _. true) sector bytes (content_by runs far) s
+    here : s ≡ sector → later s ≡ landed (λ _. true) sector bytes content s
     here same =
         let none : 0 ≡ s - sector = omega arith in
-        ap (λ b. cond b (run_sector (runs (s / 128)) (s % 128)) (later s)) (out same)
-        ∙ ap later same ∙ is ∙ sym whole ∙ ap (λ k. sector_of bytes k) none
-        ∙ sym (ap (λ b. cond (b && true) (sector_of bytes (s - sector)) (content_by runs far s)) (within same))
+        ap later same ∙ is ∙ sym (take_all 512 bytes (omega arith)) ∙ ap (λ k. sector_of bytes k) none
+        ∙ sym (ap (λ b. cond (b && true) (sector_of bytes (s - sector)) (content s)) (is_within-one sector (length bytes / 512) s one same))
 
-    elsewhere : s ≢ sector → content_by runs later s ≡ landed (λ _. true) sector bytes (content_by runs far) s
+    elsewhere : s ≢ sector → later s ≡ landed (λ _. true) sector bytes content s
     elsewhere apart =
-        ap (λ (l : List ℕ). cond (ltb s 8388608) (run_sector (runs (s / 128)) (s % 128)) l) (others apart)
-        ∙ sym (ap (λ b. cond (b && true) (sector_of bytes (s - sector)) (content_by runs far s)) (without apart))
+        others apart ∙ sym (ap (λ b. cond (b && true) (sector_of bytes (s - sector)) (content s)) (is_within-another sector (length bytes / 512) s one apart))
 
 pub landed-same : (picks : ℕ → Bool) (first : ℕ) (bytes : List ℕ) (content other : ℕ → List ℕ) (s : ℕ) → content s ≡ other s →
     landed picks first bytes content s ≡ landed picks first bytes other s

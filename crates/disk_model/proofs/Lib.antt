@@ -1,3 +1,4 @@
 pub mod SectorLemmas
 pub mod PickLemmas
 pub mod ContentLemmas
+pub mod LawLemmas

@@ -1,7 +1,7 @@
 -- Sectors of bytes: of zeros, of a part, of bytes with a part written over.
 use Rattle.std.proofs.Common.{◌≡◌, ℕ, zero, suc, ◌+◌, ◌*◌, ◌-◌, ◌/◌, ◌<◌, ◌≤◌, ◌&&◌, Bool, true, false, ◌≢◌, cond, eq-eqb, ne_eqb, leb, ltb, List, [], ◌++◌, length, take, drop, replicate, refl, sym, ◌∙◌, ap, ap₂, ⊎_elim, arith, length-drop}
 use Rattle.std.specs.Int.{bit_at}
-use Rattle.std.proofs.lemmas.List.{append-nil, append_assoc, drop_all, replicate-append-replicate, take-append-le, drop-append-le, drop-drop, drop-take, take-take, take-replicate, drop-replicate, drop_at, take_at, length-take-le}
+use Rattle.std.proofs.lemmas.List.{append-nil, append_assoc, drop_all, take-append-le, drop-append-le, drop-drop, drop-take, take-take, take-replicate, drop-replicate, drop_at, take_all, take_at, length-take-le}
 use Rattle.std.proofs.lemmas.Bool.{cases_lt, cases_eq}
 use Rattle.std.proofs.lemmas.Bool.Decides.{nat_tests}
 use Rattle.std.proofs.Math.Seq.{take-add}
@@ -211,19 +211,14 @@ sectors-same f g a b (suc count) same =
         let right : b + (i + 1) ≡ b + 1 + i = omega arith in
         ap f left ∙ same (i + 1) (omega arith) ∙ ap g right
 
-pub sectors-zeros : (f : ℕ → List ℕ) (first count : ℕ) → ((i : ℕ) → i < count → f (first + i) ≡ zeros) →
-    sectors f first count ≡ replicate (512 * count) 0
-unfolding zeros
-sectors-zeros f first zero are = refl
-sectors-zeros f first (suc count) are =
-    let more : 512 * suc count ≡ 512 + 512 * count = omega arith in
-    let here : first + 0 ≡ first = omega arith in
-    rw more (ap₂ (λ (x y : List ℕ). x ++ y) (sym (ap f here) ∙ are 0 (omega arith)) (sectors-zeros f (first + 1) count rest) ∙ replicate-append-replicate 512 (512 * count) 0)
+-- bytes whose sectors are those of a content
+pub sectors-read : (f : ℕ → List ℕ) (bytes : List ℕ) (first count : ℕ) → length bytes ≡ 512 * count →
+    ((i : ℕ) → i < count → sector_of bytes i ≡ f (first + i)) → bytes ≡ sectors f first count
+sectors-read f bytes first count len are =
+    sym (take_all (512 * count) bytes (omega arith)) ∙ sym (sectors-sector_of bytes 0 count) ∙ sectors-same (sector_of bytes) f 0 first count at
   where
-    rest : (i : ℕ) → i < count → f (first + 1 + i) ≡ zeros
-    rest i lt =
-        let left : first + 1 + i ≡ first + (i + 1) = omega arith in
-        ap f left ∙ are (i + 1) (omega arith)
+    at : (i : ℕ) → i < count → sector_of bytes (0 + i) ≡ f (first + i)
+    at i lt = let none : 0 + i ≡ i = omega arith in ap (λ k. sector_of bytes k) none ∙ are i lt
 
 -- a part read, and then the rest
 pub read_twice : (f : ℕ → List ℕ) (first a m n : ℕ) (p q r : List ℕ) → length p ≡ a → length r ≡ length q →
@@ -237,3 +232,35 @@ read_twice f first a m n p q r len same p_is r_is =
   where
     none : drop (length (p ++ q) - a) (drop a (p ++ q)) ≡ []
     none = drop_all (length (p ++ q) - a) (drop a (p ++ q)) (omega (arith, length-drop a (p ++ q)))
+
+-- one sector more was put where zeros were
+pub placed_one : (to part : List ℕ) (wanted : ℕ → List ℕ) (i j : ℕ) → length part ≡ 512 → part ≡ wanted i →
+    512 * i + 512 ≤ length to → sector_of to j ≡ cond (ltb j i) (wanted j) zeros →
+    sector_of (take (i * 512) to ++ (part ++ drop (i * 512 + 512 - i * 512) (drop (i * 512) to))) j ≡ cond (ltb j (i + 1)) (wanted j) zeros
+placed_one to part wanted i j len is fits so_far =
+    sector_of-written (i * 512) (i * 512 + 512 - i * 512) i 1 to part j (omega arith) (omega arith) (omega arith) (omega arith)
+    ∙ ⊎_elim below (λ le. ⊎_elim (here le) above (cases_lt j (i + 1))) (cases_lt j i)
+  where
+    below : j < i → cond (leb i j && ltb j (i + 1)) (sector_of part (j - i)) (sector_of to j) ≡ cond (ltb j (i + 1)) (wanted j) zeros
+    below lt = grind (arith, nat_tests, so_far)
+
+    above : i + 1 ≤ j → cond (leb i j && ltb j (i + 1)) (sector_of part (j - i)) (sector_of to j) ≡ cond (ltb j (i + 1)) (wanted j) zeros
+    above le = grind (arith, nat_tests, so_far)
+
+    here : i ≤ j → j < i + 1 → cond (leb i j && ltb j (i + 1)) (sector_of part (j - i)) (sector_of to j) ≡ cond (ltb j (i + 1)) (wanted j) zeros
+    here le lt =
+        let same : j ≡ i = omega arith in
+        let none : j - i ≡ 0 = omega arith in
+        let whole : sector_of part (j - i) ≡ wanted j = ap (λ k. sector_of part k) none ∙ take_all 512 part (omega arith) ∙ is ∙ ap wanted (sym same) in
+        grind (arith, nat_tests, whole)
+
+-- one place more is left with its zeros
+pub passed_one : (to : List ℕ) (wanted : ℕ → List ℕ) (i j : ℕ) → wanted i ≡ zeros →
+    sector_of to j ≡ cond (ltb j i) (wanted j) zeros → sector_of to j ≡ cond (ltb j (i + 1)) (wanted j) zeros
+passed_one to wanted i j none so_far = so_far ∙ ⊎_elim here other (cases_eq j i)
+  where
+    here : j ≡ i → cond (ltb j i) (wanted j) zeros ≡ cond (ltb j (i + 1)) (wanted j) zeros
+    here same = let is : wanted j ≡ zeros = ap wanted same ∙ none in grind (arith, nat_tests, is)
+
+    other : j ≢ i → cond (ltb j i) (wanted j) zeros ≡ cond (ltb j (i + 1)) (wanted j) zeros
+    other apart = ⊎_elim (λ (lt : j < i). grind (arith, nat_tests)) (λ (le : i ≤ j). grind (arith, nat_tests)) (cases_lt j i)

@@ -1,6 +1,7 @@
 -- Notes of which one save fails.
 use Rattle.std.specs.Prelude.{ℕ, Bool, Option}
 use Rattle.disk_model.specs.Notes.{Note}
+use Rattle.disk_model.specs.MemNotes.{Saved}
 use Rattle.disk_model.specs.Countdown.{left_of, failures_of}
 use Rattle.disk_model.specs.declared.fault_notes.FaultNotes.{FaultNotes}
 
@@ -15,3 +16,7 @@ saves_left notes = left_of notes.countdown
 -- Whether the failing save leaves the new bytes.
 abbrev pub lands : FaultNotes → Bool
 lands notes = notes.landed
+
+-- The notes in memory.
+abbrev pub notes_of : FaultNotes → Saved
+notes_of notes = notes.notes

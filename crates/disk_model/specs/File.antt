@@ -67,6 +67,10 @@ IsSameOutside old new block len =
     is_within (first_sector block len) (len / 512) s ≡ false →
     new.content s ≡ old.content s
 
+-- Each sector has 512 bytes.
+abbrev pub HasWholeSectors : File → Type 0
+HasWholeSectors file = (s : ℕ) → length (file.content s) ≡ 512
+
 -- Bit i of a mask stands for sector i.
 abbrev pub has_bit : ℕ → ℕ → Bool
 has_bit mask i = bit_at mask i == 1

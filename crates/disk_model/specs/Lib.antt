@@ -2,10 +2,13 @@ pub mod File
 pub mod Disk
 pub mod Picks
 pub mod Run
+pub mod Singles
 pub mod Sectors
 pub mod MemDisk
 pub mod Notes
 pub mod MemNotes
 pub mod Countdown
+pub mod Laws
+pub mod Left
 pub mod FaultNotes
 pub mod FaultDisk

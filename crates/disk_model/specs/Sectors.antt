@@ -1,18 +1,16 @@
 -- The content that sectors in memory have. No public contract cites how they lie.
-use Rattle.std.specs.Prelude.{◌≡◌, ℕ, ◌/◌, ◌%◌, nat_lt, List, IsSome, unwrap_or, if◌then◌else◌}
+use Rattle.std.specs.Prelude.{◌≡◌, ℕ, ◌/◌, ◌%◌, List, IsSome}
 use Rattle.std.specs.Ordering.{nat_cmp}
 use Rattle.std.specs.BTreeMap.{get}
-use Rattle.disk_model.specs.File.{zeros}
 use Rattle.disk_model.specs.Run.{run_sector}
+use Rattle.disk_model.specs.Singles.{single_of}
 use Rattle.disk_model.specs.declared.sectors.Sectors.{Sectors}
 
--- Sectors that a block can reach lie in runs of 128, the others by themselves. Where nothing lies
+-- A sector lies in its run of 128 where that run is there, and else by itself. Where nothing lies
 -- there are zeros.
 abbrev pub content_of : Sectors → ℕ → List ℕ
 content_of sectors s =
-    if nat_lt s 8388608
-    then run_sector (get nat_cmp sectors.runs (s / 128)) (s % 128)
-    else unwrap_or (get nat_cmp sectors.far s) zeros
+    run_sector (get nat_cmp sectors.runs (s / 128)) (single_of sectors.singles s) (s % 128)
 
 -- The sectors have this content.
 abbrev pub HasContent : Sectors → (ℕ → List ℕ) → Type 0

@@ -35,6 +35,15 @@ impl FaultDisk {
         }
     }
 
+    /// The disk in memory, with all that was done to it.
+    pub fn into_disk(self) -> MemDisk
+        ensures disk { result ≡ disk_of self }
+        ensures file { file_of result ≡ record (faulty_file self) { failures = 0 } }
+    {
+        let FaultDisk { disk, countdown: _ } = self;
+        disk
+    }
+
     /// The disk in memory, to cut it and to power it on. What is done to it counts for no call.
     pub fn disk_mut(&mut self) -> &mut MemDisk
         ensures* lends { sem 𝓛 (LendsDisk self.entry result) }

@@ -19,7 +19,7 @@ pub struct FaultNotes {
 }
 
 impl FaultNotes {
-    ghost use Rattle.disk_model.specs.FaultNotes.{faulty_note, saves_left, lands};
+    ghost use Rattle.disk_model.specs.FaultNotes.{faulty_note, saves_left, lands, notes_of};
 
     /// Notes whose save number `at`, counted from 0, answers `SaveFault`, and leaves the new bytes
     /// where `landed`, else the old.
@@ -33,6 +33,19 @@ impl FaultNotes {
             countdown: Countdown::Left(at),
             landed,
         }
+    }
+
+    /// The notes in memory, with all that was saved in them.
+    pub fn into_notes(self) -> MemNotes
+        ensures notes { result ≡ notes_of self }
+        ensures note { note_of result ≡ record (faulty_note self) { failures = 0 } }
+    {
+        let FaultNotes {
+            notes,
+            countdown: _,
+            landed: _,
+        } = self;
+        notes
     }
 }
 

@@ -1,20 +1,27 @@
 //! Disks and durable notes: what they promise, models that keep it, and models that fail.
 #![tactic(auto)]
 
+mod block;
 mod countdown;
 mod disk;
 mod fault_disk;
 mod fault_notes;
+mod law;
+mod left;
 mod mem_disk;
 mod mem_notes;
 mod notes;
 mod picks;
 mod run;
 mod sectors;
+mod singles;
 
+pub use block::is_block;
 pub use disk::Disk;
 pub use fault_disk::FaultDisk;
 pub use fault_notes::FaultNotes;
+pub use law::{block_law, save_law, sector_law};
+pub use left::Left;
 pub use mem_disk::MemDisk;
 pub use mem_notes::MemNotes;
 pub use notes::Notes;

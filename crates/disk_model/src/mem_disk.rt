@@ -2,7 +2,7 @@
 
 ghost use Rattle.std.specs.Prelude.{◌≡◌, ◌==◌, ◌≤◌, ◌+◌, ◌/◌, ℕ, None, Some, length, OnOk, OnErr};
 ghost use Rattle.disk_model.specs.File.{IsBlock, zeros, first_sector, has_bit};
-ghost use Rattle.disk_model.specs.File.{with_landed, with_sector, IsSameOutside};
+ghost use Rattle.disk_model.specs.File.{with_landed, with_sector, IsSameOutside, HasWholeSectors};
 
 use crate::disk::Disk;
 use crate::picks::Picks;
@@ -45,8 +45,8 @@ impl MemDisk {
         self.power = Some(epoch);
     }
 
-    /// The epoch in which the disk is on.
-    pub(crate) fn power(&self) -> Option<u64>
+    /// The epoch in which the disk is on, or none while it is off.
+    pub fn power(&self) -> Option<u64>
         ensures { result ≡ (file_of self.now).power }
     {
         self.power
@@ -71,6 +71,8 @@ impl MemDisk {
             (file_of self.new ≡ with_landed (λ i. i == 0) block bytes.now (file_of self.old)) }
         ensures outside { OnOk result
             (IsSameOutside (file_of self.old) (file_of self.new) block (length bytes.now)) }
+        ensures whole { OnOk result
+            (HasWholeSectors (file_of self.old) → HasWholeSectors (file_of self.new)) }
         ensures err { OnErr result (file_of self.new ≡ file_of self.old) }
     {
         self.land(block, bytes, 1)?;

@@ -1,8 +1,8 @@
 //! Which sectors of a block land.
 
-ghost use Rattle.std.specs.Prelude.{◌≡◌, ℕ, ◌+◌, ◌*◌, ◌/◌, ◌%◌, ◌<◌, ◌≤◌, length, if◌then◌else◌};
+ghost use Rattle.std.specs.Prelude.{◌≡◌, ℕ, ◌+◌, ◌*◌, ◌/◌, ◌%◌, ◌<◌, ◌≤◌, false, IsTrue, IsFalse, length, if◌then◌else◌};
 ghost use Rattle.disk_model.specs.File.{sector_of, has_bit};
-ghost use Rattle.disk_model.specs.Picks.{is_picked};
+ghost use Rattle.disk_model.specs.Picks.{is_picked, HasPick, HasBitBelow};
 
 use crate::run::SECTOR;
 
@@ -27,6 +27,19 @@ impl Picks {
         }
     }
 
+    /// Whether one of so many sectors is picked.
+    pub(crate) fn has_any(self, count: usize) -> bool
+        requires least { 0 < count }
+        requires most { count ≤ 128 }
+        ensures some { IsTrue result → HasPick self count }
+        ensures none { IsFalse result → (i : ℕ) → i < count → is_picked self i ≡ false }
+    {
+        match self {
+            Picks::All => true,
+            Picks::Masked(mask) => has_bit_below(mask, count),
+        }
+    }
+
     /// Copies the picked sectors.
     pub(crate) fn copy(self, from: &[u8], to: &mut [u8])
         requires same { length to.old ≡ length from.now }
@@ -40,6 +53,19 @@ impl Picks {
             Picks::Masked(mask) => copy_masked(from, to, mask),
         }
     }
+}
+
+fn has_bit_below(mask: u128, count: usize) -> bool
+    requires { count ≤ 128 }
+    ensures some { IsTrue result → HasBitBelow mask count }
+    ensures none { IsFalse result → (i : ℕ) → i < count → has_bit mask i ≡ false }
+{
+    for i in 0..count {
+        if (mask >> i) & 1 == 1 {
+            return true;
+        }
+    }
+    false
 }
 
 fn copy_masked(from: &[u8], to: &mut [u8], mask: u128)

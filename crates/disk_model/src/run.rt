@@ -1,7 +1,7 @@
 //! A run of sectors.
 
 ghost use Rattle.std.specs.Prelude.{◌≡◌, ℕ, ◌+◌, ◌*◌, ◌/◌, ◌%◌, ◌<◌, ◌≤◌, length, replicate, IfOk};
-ghost use Rattle.disk_model.specs.File.{zeros, sector_of, sectors, landed};
+ghost use Rattle.disk_model.specs.File.{sector_of, sectors, landed};
 ghost use Rattle.disk_model.specs.Picks.{is_picked};
 
 use crate::picks::Picks;
@@ -31,7 +31,7 @@ impl Model for Run {
 }
 
 /// The bytes of a run of zeros, copied a sector at a time, which is faster than byte by byte.
-fn zero_bytes(alloc: Global) -> Result<Vec<u8>, AllocError>
+pub(crate) fn zero_bytes(alloc: Global) -> Result<Vec<u8>, AllocError>
     ensures { IfOk result (λ bytes. bytes.items ≡ replicate 65536 0) }
 {
     let sector = [0; SECTOR];
@@ -42,22 +42,13 @@ fn zero_bytes(alloc: Global) -> Result<Vec<u8>, AllocError>
     Ok(bytes)
 }
 
-fn zero_sectors(alloc: Global) -> Result<Vec<u8>, AllocError>
-    ensures len { IfOk result (λ bytes. length bytes.items ≡ 65536) }
-    ensures zeros { IfOk result (λ bytes. (i : ℕ) → i < 128 → sector_of bytes.items i ≡ zeros) }
-{
-    let bytes = zero_bytes(alloc)?;
-    Ok(bytes)
-}
-
 impl Run {
-    /// A run of zeros.
-    pub(crate) fn zeroed(alloc: Global) -> Result<Run, AllocError>
-        ensures { IfOk result (λ run. (i : ℕ) → i < 128 → sector_of run i ≡ zeros) }
+    /// The run of these bytes.
+    pub(crate) fn make(bytes: Vec<u8>) -> Self
+        requires { length bytes.items ≡ 65536 }
+        ensures { result ≡ bytes.items }
     {
-        Ok(Run {
-            bytes: zero_sectors(alloc)?,
-        })
+        Run { bytes }
     }
 
     /// Reads sectors from `first` on.

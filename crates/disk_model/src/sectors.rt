@@ -1,20 +1,20 @@
 //! The sectors of a file in memory.
 
-ghost use Rattle.std.specs.Prelude.{◌≡◌, ◌+◌, ◌*◌, ◌/◌, ◌%◌, ◌<◌, ◌≤◌, length, OnOk, OnErr};
+ghost use Rattle.std.specs.Prelude.{◌≡◌, ◌+◌, ◌*◌, ◌/◌, ◌%◌, ◌^◌, ◌<◌, ◌≤◌, length, OnOk, OnErr};
 ghost use Rattle.disk_model.specs.File.{zeros, sectors, landed, put};
 ghost use Rattle.disk_model.specs.Picks.{is_picked};
 
 use crate::picks::Picks;
 use crate::run::{RUN_SECTORS, Run, SECTOR};
+use crate::singles::Singles;
 use std::alloc::{AllocError, Global};
 use std::collections::BTreeMap;
 
-/// Sectors by their numbers. Those that a block can reach lie together in runs.
+/// Sectors by their numbers. They lie in runs where bytes were written, and else by themselves.
 #[derive(Drop)]
 pub(crate) struct Sectors {
-    alloc: Global,
     runs: BTreeMap<u64, Run>,
-    far: BTreeMap<u64, [u8; 512]>,
+    singles: Singles,
 }
 
 impl Sectors {
@@ -25,20 +25,21 @@ impl Sectors {
         ensures { content_of result ≡ (λ _. zeros) }
     {
         Sectors {
-            alloc,
             runs: BTreeMap::new(alloc),
-            far: BTreeMap::new(alloc),
+            singles: Singles::new(alloc),
         }
     }
 
-    /// Makes a run, where there is none.
+    /// Makes a run, where there is none. It takes over the sectors that lie by themselves.
     fn make_run(&mut self, run: u64) -> Result<(), AllocError>
+        requires { run < 2 ^ 57 }
         ensures made { OnOk result (HasRun self.new run) }
         ensures others { KeepsRuns self.old self.new }
         ensures content { HasContent self.new (content_of self.old) }
     {
         if !self.runs.contains_key(&run) {
-            self.runs.insert(run, Run::zeroed(self.alloc)?)?;
+            self.runs.insert(run, self.singles.gather(run)?)?;
+            self.singles.forget(run);
         }
         Ok(())
     }
@@ -46,7 +47,6 @@ impl Sectors {
     /// Lands bytes in one run.
     fn land_in_run(&mut self, first: u64, bytes: &[u8], picks: Picks)
         requires run { HasRun self.old (first / 128) }
-        requires reach { first < 8388608 }
         requires within { first % 128 + length bytes.now / 512 ≤ 128 }
         requires whole { length bytes.now % 512 ≡ 0 }
         ensures runs { KeepsRuns self.old self.new }
@@ -66,12 +66,13 @@ impl Sectors {
     {
         match self.runs.get(&(first / 128)) {
             Some(run) => run.read((first % 128) as usize, bytes),
-            None => bytes.fill(0),
+            None => self.singles.read(first, bytes),
         }
     }
 
     /// Makes the one or two runs that some bytes lie in.
     fn make_room(&mut self, first: u64, front: usize, len: usize) -> Result<(), AllocError>
+        requires { first < 8388608 }
         ensures made { OnOk result (HasRun self.new (first / 128)) }
         ensures second { OnOk result (front < len → HasRun self.new (first / 128 + 1)) }
         ensures content { HasContent self.new (content_of self.old) }
@@ -83,7 +84,7 @@ impl Sectors {
         Ok(())
     }
 
-    /// Lands the picked sectors of some bytes.
+    /// Lands the picked sectors of some bytes. Where none is picked no memory is taken.
     pub(crate) fn land(&mut self, first: u64, bytes: &[u8], picks: Picks) -> Result<(), AllocError>
         requires reach { first + length bytes.now / 512 ≤ 8388608 }
         requires least { 512 ≤ length bytes.now }
@@ -93,6 +94,9 @@ impl Sectors {
             (HasContent self.new (landed (is_picked picks) first bytes.now (content_of self.old))) }
         ensures err { OnErr result (HasContent self.new (content_of self.old)) }
     {
+        if !picks.has_any(bytes.len() / SECTOR) {
+            return Ok(());
+        }
         let front = front_len(first, bytes.len());
         self.make_room(first, front, bytes.len())?;
         self.land_in_run(first, &bytes[..front], picks);
@@ -126,12 +130,11 @@ impl Sectors {
         ensures ok { OnOk result (HasContent self.new (put sector bytes (content_of self.old))) }
         ensures err { OnErr result (HasContent self.new (content_of self.old)) }
     {
-        let slice = bytes.as_slice();
-        if sector < 8_388_608 {
-            return self.land(sector, slice, Picks::All);
+        if self.runs.contains_key(&(sector / 128)) {
+            self.land_in_run(sector, bytes.as_slice(), Picks::All);
+            return Ok(());
         }
-        self.far.insert(sector, bytes)?;
-        Ok(())
+        self.singles.replace(sector, bytes)
     }
 }
 

@@ -1,11 +1,11 @@
 -- What is answered to the front of an input that was read is the answer to the whole of it.
-use Rattle.std.proofs.Common.{◌≡◌, inl, inr, ℕ, ◌<◌, ◌≤◌, Bool, true, false, nat_lt, List, [], ◌++◌, length, Option, None, Some, Result, Ok, Err, IfSome, slice_get, refl, sym, ap, subst, ◌∙◌, arith, append-nil, length-append}
+use Rattle.std.proofs.Common.{◌≡◌, inl, inr, ℕ, ◌<◌, ◌≤◌, Bool, true, false, nat_lt, List, ◌++◌, length, Option, None, Some, Result, Ok, Err, IfSome, slice_get, refl, sym, ap, subst, ◌∙◌, arith, append-nil, length-append}
 use Rattle.std.proofs.lemmas.Bool.{cases_lt}
 use Rattle.std.proofs.lemmas.Bool.Decides.{nat_tests}
 use Rattle.job_file.specs.declared.fault.JobFault.{JobFault}
 use Rattle.job_file.specs.declared.fault.JobFault.TheVariants.{TooLong}
 use Rattle.job_file.specs.Fault.{when}
-use Rattle.job_file.specs.JobSet.{faults_of}
+use Rattle.job_file.specs.JobSet.{refusal_of}
 use Rattle.fiocut.specs.declared.refusal.Refusal.{Refusal}
 use Rattle.fiocut.specs.Input.{IsRead}
 use Rattle.fiocut.specs.Refusal.{RefusesText}
@@ -26,15 +26,15 @@ first_is_long : (test : Bool) (faults more : List JobFault) → test ≡ true �
 first_is_long true faults more e = refl
 first_is_long false faults more e = absurd (cc)
 
-none_is_long : (test : Bool) (faults more : List JobFault) → (when test TooLong ++ faults) ++ more ≡ [] → test ≡ false
+none_is_long : (test : Bool) (faults more : List JobFault) → slice_get ((when test TooLong ++ faults) ++ more) 0 ≡ None → test ≡ false
 none_is_long true faults more e = absurd (cc)
 none_is_long false faults more e = refl
 
 -- A longer text is refused as such.
-refused_long : (text : List ℕ) → 16384 < length text → slice_get (faults_of text) 0 ≡ Some TooLong
+refused_long : (text : List ℕ) → 16384 < length text → refusal_of text ≡ Some TooLong
 refused_long text long = first_is_long (nat_lt 16384 (length text)) _ _ (grind (arith, nat_tests))
 
-sound_is_short : (text : List ℕ) → faults_of text ≡ [] → length text < 16385
+sound_is_short : (text : List ℕ) → refusal_of text ≡ None → length text < 16385
 sound_is_short text sound =
     let short : nat_lt 16384 (length text) ≡ false = none_is_long (nat_lt 16384 (length text)) _ _ sound in
     grind (arith, nat_tests)

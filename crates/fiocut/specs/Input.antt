@@ -7,3 +7,9 @@ pub record IsRead (bound : ℕ) (old new : Option (List ℕ)) (bytes : List ℕ)
   pub bounded : length bytes ≤ bound
   pub taken : Consumes old new bytes
   pub whole : length bytes < bound → IsAtEnd new
+
+-- The input has lost at most so many of its next bytes.
+pub record HasRead (bound : ℕ) (old new : Option (List ℕ)) : Type 0 where
+  pub bytes : List ℕ
+  pub few : length bytes ≤ bound
+  pub taken : Consumes old new bytes

@@ -1,10 +1,13 @@
 -- Refusals, and what is printed of them.
-use Rattle.std.specs.Prelude.{◌≡◌, ℕ, List, [], ◌∷◌, Option, Some, None, codes, decimal, slice_get}
+use Rattle.std.specs.Prelude.{◌≡◌, ℕ, List, [], ◌∷◌, Option, Some, None, codes, decimal}
 use Rattle.fc_base.specs.declared.fault.Fault.{Fault}
+use Rattle.fc_base.specs.declared.fault.Fault.TheVariants as base
 use Rattle.fc_base.specs.Fault.{number_of, name_of}
 use Rattle.job_file.specs.declared.fault.JobFault.{JobFault}
 use Rattle.job_file.specs.Fault.{fault_of, place_of}
-use Rattle.job_file.specs.JobSet.{faults_of}
+use Rattle.job_file.specs.JobSet.{refusal_of}
+use Rattle.fiocut.specs.declared.input.InputFault.{InputFault as Unread}
+use Rattle.fiocut.specs.declared.input.InputFault.TheVariants as unread
 use Rattle.fiocut.specs.declared.refusal.Refusal.{Refusal}
 use Rattle.fiocut.specs.Lines.{spaced}
 
@@ -12,9 +15,14 @@ use Rattle.fiocut.specs.Lines.{spaced}
 abbrev pub plain : Fault → Refusal
 plain row = record { fault = row; place = None }
 
+-- An input that was not read is refused as a job file that could not be read, or had no memory.
+abbrev pub of_input : Unread → Refusal
+of_input unread.ReadError = plain base.ReadError
+of_input unread.NoMemory = plain base.JobNoMemory
+
 -- A fault of a job file, with its line or its job.
-abbrev pub refusal_of : JobFault → Refusal
-refusal_of fault = record { fault = fault_of fault; place = place_of fault }
+abbrev pub refusal_for : JobFault → Refusal
+refusal_for fault = record { fault = fault_of fault; place = place_of fault }
 
 -- A place is a word of its own.
 abbrev pub place_words : Option ℕ → List (List ℕ)
@@ -29,5 +37,5 @@ refusal_line refusal =
 -- The refusal is that of the first fault of a text.
 pub record RefusesText (refusal : Refusal) (text : List ℕ) : Type 0 where
   pub fault : JobFault
-  pub first : slice_get (faults_of text) 0 ≡ Some fault
-  pub refused : refusal ≡ refusal_of fault
+  pub first : refusal_of text ≡ Some fault
+  pub refused : refusal ≡ refusal_for fault

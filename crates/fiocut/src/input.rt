@@ -1,44 +1,53 @@
 //! Bounded reading: neither an endless input nor one that makes no progress holds the program up.
 
-ghost use Rattle.std.specs.Prelude.{◌≡◌, ◌⊎◌, ◌+◌, ◌<◌, ◌≤◌, length, take, drop, OnErr, IfOk, IfErr};
+ghost use Rattle.std.specs.Prelude.{◌≡◌, ◌+◌, ◌<◌, ◌≤◌, length, take, drop, OnErr, IfOk, IfErr, Err};
 ghost use Rattle.std.specs.Io.KnownBytes.{Consumes, IsAtEnd, Keeps};
-ghost use Rattle.fiocut.specs.Input.{IsRead};
+ghost use Rattle.fiocut.specs.Input.{IsRead, HasRead};
 
-use fc_base::Fault;
 use std::alloc::Global;
 use std::io;
 use std::io::{ErrorKind, Read};
 
-/// The most bytes that are read: one more than a job file may have, so that a longer one shows.
-const MAX_BYTES: usize = 16_385;
+/// Why the bytes of an input are not there.
+#[derive(Clone, Copy, Debug, PartialEq, Eq)]
+pub enum InputFault {
+    /// A read failed, or so many reads reached neither the end nor the last of the bytes.
+    ReadError,
+    /// There was no memory for the bytes. Nothing was read.
+    NoMemory,
+}
 
-/// The most calls of `read`. Those that a signal interrupts are made again, and count.
-const MAX_READS: u32 = 20_000;
-
-/// Reads a text to its end, or its first 16,385 bytes where it is longer: the rest is not read.
+/// Reads an input to its end, or its first `max_bytes` where it is longer: the rest is not read.
 ///
-/// [`Fault::ReadError`] where a read fails, or where 20,000 reads reach neither the end nor the
-/// last of these bytes. [`Fault::JobNoMemory`] comes before the first read.
-pub fn read_text<R: Read>(alloc: Global, reader: &mut R) -> Result<Vec<u8>, Fault>
-    ensures ok { IfOk result (λ text. IsRead 16385 (R.remaining reader.old) (R.remaining reader.new) text.items) }
-    ensures err { IfErr result (λ fault. (fault ≡ Fault.ReadError) ⊎ (fault ≡ Fault.JobNoMemory)) }
+/// It calls `read` at most `max_reads` times. Calls that a signal interrupts are made again, and
+/// count. Memory for all of `max_bytes` is got before the first read.
+pub fn read_input<R: Read>(
+    alloc: Global,
+    reader: &mut R,
+    max_bytes: usize,
+    max_reads: u32,
+) -> Result<Vec<u8>, InputFault>
+    ensures ok { IfOk result (λ bytes. IsRead max_bytes (R.remaining reader.old) (R.remaining reader.new) bytes.items) }
+    ensures err { OnErr result (HasRead max_bytes (R.remaining reader.old) (R.remaining reader.new)) }
+    ensures memory { result ≡ Err InputFault.NoMemory → Keeps (R.remaining reader.old) (R.remaining reader.new) }
 {
-    let Ok(mut text) = vec![in alloc; 0; MAX_BYTES] else {
-        return Err(Fault::JobNoMemory);
+    let Ok(mut bytes) = vec![in alloc; 0; max_bytes] else {
+        return Err(InputFault::NoMemory);
     };
-    let filled = fill(reader, text.as_mut_slice())?;
-    text.truncate(filled);
-    Ok(text)
+    let filled = fill(reader, bytes.as_mut_slice(), max_reads)?;
+    bytes.truncate(filled);
+    Ok(bytes)
 }
 
 /// Reads until the input ends or the buffer is full, and answers how many of its bytes are filled.
-fn fill<R: Read>(reader: &mut R, buffer: &mut [u8]) -> Result<usize, Fault>
+fn fill<R: Read>(reader: &mut R, buffer: &mut [u8], max_reads: u32) -> Result<usize, InputFault>
     ensures bound { IfOk result (λ filled. filled ≤ length buffer.new) }
     ensures ok { IfOk result (λ filled. IsRead (length buffer.new) (R.remaining reader.old) (R.remaining reader.new) (take filled buffer.new)) }
-    ensures err { IfErr result (λ fault. fault ≡ Fault.ReadError) }
+    ensures read { OnErr result (HasRead (length buffer.new) (R.remaining reader.old) (R.remaining reader.new)) }
+    ensures err { IfErr result (λ fault. fault ≡ InputFault.ReadError) }
 {
     let mut filled = 0;
-    for _ in 0..MAX_READS {
+    for _ in 0..max_reads {
         if filled >= buffer.len() {
             return Ok(filled);
         }
@@ -47,7 +56,7 @@ fn fill<R: Read>(reader: &mut R, buffer: &mut [u8]) -> Result<usize, Fault>
             Ok(count) => filled += count,
             Err(error) => {
                 if error.kind() != ErrorKind::Interrupted {
-                    return Err(Fault::ReadError);
+                    return Err(InputFault::ReadError);
                 }
             }
         }
@@ -55,7 +64,7 @@ fn fill<R: Read>(reader: &mut R, buffer: &mut [u8]) -> Result<usize, Fault>
     if filled >= buffer.len() {
         Ok(filled)
     } else {
-        Err(Fault::ReadError)
+        Err(InputFault::ReadError)
     }
 }
 

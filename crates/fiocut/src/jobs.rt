@@ -1,11 +1,13 @@
 //! `fiocut jobs`: a job file in, its jobs or its first fault out.
 
-ghost use Rattle.std.specs.Prelude.{◌≡◌, ◌⊎◌, ◌++◌, OnOk, IfSome, codes, string_bytes};
+ghost use Rattle.std.specs.Prelude.{◌≡◌, ◌⊎◌, IfOk, OnOk, IfSome, string_bytes};
 ghost use Rattle.std.specs.Io.KnownBytes.{Appends};
+ghost use Rattle.fiocut.specs.Lines.{ended};
 ghost use Rattle.fiocut.specs.Refusal.{refusal_line};
-ghost use Rattle.fiocut.specs.Answer.{AnswersText, WritesLinesOf};
+ghost use Rattle.fiocut.specs.Input.{HasRead};
+ghost use Rattle.fiocut.specs.Answer.{AnswersText, WritesLinesOf, WritesRefusalOf};
 
-use crate::input::read_text;
+use crate::input::read_input;
 use crate::lines::lines_of_set;
 use crate::refusal::Refusal;
 use job_file::parse;
@@ -20,33 +22,44 @@ const PRINTED: u8 = 0;
 /// failed.
 pub const REFUSED: u8 = 2;
 
+/// The most bytes that are read: one more than a job file may have, so that a longer one shows.
+const MAX_BYTES: usize = 16_385;
+
+/// The most calls of `read`.
+const MAX_READS: u32 = 20_000;
+
 /// Reads a job file and writes a line for each of its notes and jobs and a last line with their
 /// number, or the one line `refused CODE NAME` with the line or job where the fault has one. Answers
 /// the exit status.
 ///
-/// All memory is got before the first line is written. Nothing is written after a failed write.
-pub fn run_jobs<R: Read, W: Write>(alloc: Global, reader: &mut R, writer: &mut W) -> u8
-    ensures status { (result ≡ 0) ⊎ (result ≡ 2) }
-    ensures printed { result ≡ 0 → IfSome (R.remaining reader.old)
-        (λ text. WritesLinesOf text (W.contents writer.old) (W.contents writer.new)) }
+/// All memory is got before the first line is written. An error is that of a write: nothing is
+/// written after it.
+pub fn run_jobs<R: Read, W: Write>(alloc: Global, reader: &mut R, writer: &mut W) -> io::Result<u8>
+    ensures status { IfOk result (λ status. (status ≡ 0) ⊎ (status ≡ 2)) }
+    ensures printed { IfOk result (λ status. status ≡ 0 → IfSome (R.remaining reader.old)
+        (λ text. WritesLinesOf text (W.contents writer.old) (W.contents writer.new))) }
+    ensures refused { IfOk result (λ status. status ≡ 2 → IfSome (R.remaining reader.old)
+        (λ text. WritesRefusalOf text (W.contents writer.old) (W.contents writer.new))) }
+    ensures read { HasRead 16385 (R.remaining reader.old) (R.remaining reader.new) }
 {
     match lines_of_input(alloc, reader) {
-        Ok(lines) => match write_text(writer, &lines) {
-            Ok(()) => PRINTED,
-            Err(_) => REFUSED,
-        },
+        Ok(lines) => {
+            write_text(writer, &lines)?;
+            Ok(PRINTED)
+        }
         Err(refusal) => {
-            let _ = write_refusal(writer, refusal);
-            REFUSED
+            write_refusal(writer, refusal)?;
+            Ok(REFUSED)
         }
     }
 }
 
 /// All that is printed for the text of this input, or why it is refused.
 fn lines_of_input<R: Read>(alloc: Global, reader: &mut R) -> Result<String, Refusal>
-    ensures { IfSome (R.remaining reader.old) (AnswersText string_bytes result) }
+    ensures answer { IfSome (R.remaining reader.old) (AnswersText string_bytes result) }
+    ensures read { HasRead 16385 (R.remaining reader.old) (R.remaining reader.new) }
 {
-    let text = read_text(alloc, reader)?;
+    let text = read_input(alloc, reader, MAX_BYTES, MAX_READS)?;
     lines_of_text(alloc, &text)
 }
 
@@ -67,7 +80,7 @@ fn write_text<W: Write>(writer: &mut W, text: &str) -> io::Result<()>
 }
 
 fn write_refusal<W: Write>(writer: &mut W, refusal: Refusal) -> io::Result<()>
-    ensures { OnOk result (Appends (W.contents writer.old) (W.contents writer.new) (refusal_line refusal ++ codes "\n")) }
+    ensures { OnOk result (Appends (W.contents writer.old) (W.contents writer.new) (ended (refusal_line refusal))) }
 {
     writeln!(writer, "{refusal}")?;
     writer.flush()

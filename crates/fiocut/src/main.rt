@@ -9,11 +9,10 @@ mod refusal;
 #[cfg(test)]
 mod tests;
 
-use command::{Request, read_words};
+use command::{Request, read_words, refuse_words};
 use jobs::{REFUSED, run_jobs};
 use std::alloc::Global;
 use std::io;
-use std::io::Write;
 use std::process::ExitCode;
 use std::rt::Env;
 
@@ -24,13 +23,11 @@ fn main(rt: HostRuntime) -> ExitCode {
 /// Does what the command line asks for, and answers the exit status. All text goes to standard output.
 fn run<R: Env + AllocGlobal + Input + Print>(rt: &R) -> u8 {
     let mut writer = io::writer(rt);
-    match request_of(rt) {
+    let answer = match request_of(rt) {
         Some(Request::Jobs) => run_jobs(rt.alloc(), &mut rt.reader(), &mut writer),
-        None => {
-            let _ = writer.write_all(b"bad command\n");
-            REFUSED
-        }
-    }
+        None => refuse_words(&mut writer),
+    };
+    answer.unwrap_or(REFUSED)
 }
 
 /// What this process's command line asks for. `None` is a bad command: also words that are not UTF-8,

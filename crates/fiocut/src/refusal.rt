@@ -3,6 +3,7 @@
 ghost use Rattle.std.specs.Prelude.{◌≡◌, Some};
 ghost use Rattle.fc_base.specs.declared.fault.Fault.TheVariants.{JobNoMemory};
 
+use crate::input::InputFault;
 use fc_base::Fault;
 use job_file::JobFault;
 use std::alloc::AllocError;
@@ -31,6 +32,19 @@ impl fmt::Display for Refusal {
     }
 }
 
+impl From<InputFault> for Refusal {
+    ghost use Rattle.fiocut.specs.Refusal.{of_input};
+
+    ghost from_gives = { λ fault refusal. refusal ≡ of_input fault };
+
+    fn from(fault: InputFault) -> Refusal {
+        match fault {
+            InputFault::ReadError => Refusal::from(Fault::ReadError),
+            InputFault::NoMemory => Refusal::from(Fault::JobNoMemory),
+        }
+    }
+}
+
 impl From<Fault> for Refusal {
     ghost use Rattle.fiocut.specs.Refusal.{plain};
 
@@ -42,9 +56,9 @@ impl From<Fault> for Refusal {
 }
 
 impl From<JobFault> for Refusal {
-    ghost use Rattle.fiocut.specs.Refusal.{refusal_of};
+    ghost use Rattle.fiocut.specs.Refusal.{refusal_for};
 
-    ghost from_gives = { λ fault refusal. refusal ≡ refusal_of fault };
+    ghost from_gives = { λ fault refusal. refusal ≡ refusal_for fault };
 
     fn from(found: JobFault) -> Refusal {
         // A fault is passed on whole, so the second call gets a copy.

@@ -3,10 +3,11 @@
 
 mod fakes;
 
-use crate::command::{Request, read_words};
+use crate::command::{Request, read_words, refuse_words};
 use crate::jobs::run_jobs;
-use fakes::{Source, failing, in_steps, interrupted, page_with, source_of};
+use fakes::{Held, Source, failing, held_output, in_steps, interrupted, page_with, source_of};
 use std::alloc::{AllocError, Global};
+use std::io;
 use std::process::Abort;
 use std::test::Fail;
 
@@ -14,7 +15,7 @@ use std::test::Fail;
 fn answers(alloc: Global, source: &mut Source<'_>, status: u8, lines: &str) -> bool {
     let mut page = page_with(alloc, usize::MAX);
     let answer = run_jobs(alloc, source, &mut page);
-    answer == status && page.text.as_slice() == lines.as_bytes()
+    answer.ok() == Some(status) && page.text.as_slice() == lines.as_bytes()
 }
 
 /// Checks the status and the lines of a run.
@@ -178,7 +179,7 @@ fn stops_at_failed_write(alloc: Global, text: &[u8], lines: &str, room: usize) -
     let mut page = page_with(alloc, room);
     let status = run_jobs(alloc, &mut source_of(text), &mut page);
     let printed = page.text.as_slice();
-    status == 2
+    status.is_err()
         && page.late_writes == 0
         && printed.len() == room
         && lines.as_bytes().starts_with(printed)
@@ -191,6 +192,24 @@ fn failed_write(rt: HostRuntime) {
         let (text, line) = (b"[a]\nfoo=1\n", "refused 4 UnknownOption 2\n");
         assert!(rt; stops_at_failed_write(rt.alloc(), text, line, room));
     }
+}
+
+/// Whether an answer is this status, and an output shows these lines.
+fn shows(output: &Held, answer: io::Result<u8>, status: u8, lines: &str) -> bool {
+    answer.ok() == Some(status) && output.shown.as_slice() == lines.as_bytes()
+}
+
+#[test]
+fn answers_are_flushed(rt: HostRuntime) {
+    let mut output = held_output(rt.alloc());
+    let answer = run_jobs(rt.alloc(), &mut source_of(LATER_GLOBAL), &mut output);
+    assert!(rt; shows(&output, answer, 0, LATER_GLOBAL_LINES));
+    let mut output = held_output(rt.alloc());
+    let answer = run_jobs(rt.alloc(), &mut source_of(b""), &mut output);
+    assert!(rt; shows(&output, answer, 2, "refused 6 NoJobs\n"));
+    let mut output = held_output(rt.alloc());
+    let answer = refuse_words(&mut output);
+    assert!(rt; shows(&output, answer, 2, "bad command\n"));
 }
 
 /// Checks that no command is read from these words.
@@ -206,7 +225,7 @@ fn good_command(rt: HostRuntime) {
 
 #[test]
 fn bad_commands(rt: HostRuntime) {
-    let bad: [&[&str]; 20] = [
+    let bad: [&[&str]; 21] = [
         &[],
         &["fiocut"],
         &["fiocut", ""],
@@ -216,6 +235,7 @@ fn bad_commands(rt: HostRuntime) {
         &["fiocut", "jobs", ""],
         &["fiocut", "jobs", "x"],
         &["fiocut", "jobs", "jobs"],
+        &["fiocut", "jobs", "--"],
         &["fiocut", "jobs", "-v"],
         &["fiocut", "-x", "jobs"],
         &["fiocut", "--", "jobs"],

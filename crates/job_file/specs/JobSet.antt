@@ -104,13 +104,25 @@ faults_of text =
 abbrev pub phase_of : List Draft → Phase
 phase_of drafts = if some_write drafts then Write else Read
 
+-- The jobs of a text, faulty or not, numbered from 0.
+abbrev pub jobs_of : List ℕ → List Job
+jobs_of text = jobs_from 0 (with_copies (drafts_of (lines_of text)))
+
+-- The phase of a text's jobs.
+abbrev pub phase_in : List ℕ → Phase
+phase_in text = phase_of (drafts_of (lines_of text))
+
+-- The first fault of a text, or none where it has none.
+abbrev pub refusal_of : List ℕ → Option JobFault
+refusal_of text = slice_get (faults_of text) 0
+
 -- The set is that of the text.
 pub record IsSetOf (set : JobSet) (text : List ℕ) : Type 0 where
-  pub phase : set.phase ≡ phase_of (drafts_of (lines_of text))
-  pub jobs : set.jobs ≡ jobs_from 0 (with_copies (drafts_of (lines_of text)))
+  pub phase : set.phase ≡ phase_in text
+  pub jobs : set.jobs ≡ jobs_of text
   pub notes : set.notes ≡ notes_from 1 (lines_of text)
 
 -- A text without faults gives its set, and any other its first fault, unless memory ran out.
 abbrev pub Answers : Result JobSet JobFault → List ℕ → Type 0
-Answers (Ok set) text = (faults_of text ≡ []) × IsSetOf set text
-Answers (Err fault) text = (fault ≡ NoMemory) ⊎ (slice_get (faults_of text) 0 ≡ Some fault)
+Answers (Ok set) text = (refusal_of text ≡ None) × IsSetOf set text
+Answers (Err fault) text = (fault ≡ NoMemory) ⊎ (refusal_of text ≡ Some fault)

@@ -2,6 +2,7 @@ pub mod Bytes
 pub mod Draft
 pub mod Fault
 pub mod JobSet
+pub mod Laws
 pub mod Line
 pub mod Number
 pub mod Reader

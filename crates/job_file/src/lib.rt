@@ -6,6 +6,7 @@ mod bytes;
 mod draft;
 mod fault;
 mod job;
+mod law;
 mod line;
 mod number;
 mod option;
@@ -17,5 +18,6 @@ mod value;
 
 pub use fault::JobFault;
 pub use job::{Job, JobSet, Jobs, Note, Notes, Phase};
+pub use law::{jobs_are_within_limits, jobs_fit};
 pub use parser::parse;
 pub use text::Text;

@@ -101,3 +101,30 @@ pub fn page_with(alloc: Global, room: usize) -> Page {
         late_writes: 0,
     }
 }
+
+/// An output that shows nothing until it is flushed.
+#[derive(Drop)]
+pub struct Held {
+    pub shown: Vec<u8>,
+    held: Vec<u8>,
+}
+
+impl Write for Held {
+    fn write(&mut self, buf: &[u8]) -> io::Result<usize> {
+        self.held.extend_from_slice(buf)?;
+        Ok(buf.len())
+    }
+
+    fn flush(&mut self) -> io::Result<()> {
+        self.shown.extend_from_slice(&self.held)?;
+        self.held.clear();
+        Ok(())
+    }
+}
+
+pub fn held_output(alloc: Global) -> Held {
+    Held {
+        shown: Vec::new(alloc),
+        held: Vec::new(alloc),
+    }
+}
