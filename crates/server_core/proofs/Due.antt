@@ -1,0 +1,64 @@
+-- What is due is a Start of a run above the last one.
+use Rattle.std.proofs.Common.{◌≡◌, refl, sym, ap, subst, ℕ, ◌<◌, ◌≤◌, arith, Bool, true, false, ◌&&◌, ◌==◌, List, ◌∷◌, Option, None, Some}
+use Rattle.std.specs.Prelude.{not, nat_lt, if◌then◌else◌}
+use Rattle.std.proofs.lemmas.Bool.{eqb-true, ltb-true, and_parts}
+use Rattle.disk_model.specs.declared.left.Left.{Left}
+use Rattle.disk_model.specs.Left.{has_new}
+use Rattle.server_core.specs.History.{Opening, Entry, Met, Cut, Restart}
+use Rattle.server_core.specs.Request.{Request, ToStage, ToStart, ToTrigger, ToMark, ToStop, ToVerify, ToHold, ToPassFully, ToIssue, ToEnd, ToReport, ToNobody, asked}
+use Rattle.server_core.specs.Run.{Work, is_open}
+use Rattle.server_core.specs.Words.{Staged, for_run, is_on, is_due, recorded, last_run, work, staged, due}
+
+-- What is due: a Start of the staged run, which is above the last one.
+pub record IsStart (last : ℕ) (x : Request) (s : Staged) : Type 0 where
+  pub start : x ≡ ToStart s.run
+  pub above : last < s.run
+
+-- Both tests hold where the whole gives something.
+both : {X : Type 0} (a b : Bool) (y : Option X) (s : X) → (if a && b then y else None) ≡ Some s → (b ≡ true) × (y ≡ Some s)
+both true true y s h = (refl, h)
+both true false y s h = cc
+both false b y s h = cc
+
+same_run : (t : Bool) (s found : Staged) → (if t then Some s else None) ≡ Some found → (t ≡ true) × (s ≡ found)
+same_run true s found h = (refl, cc)
+same_run false s found h = cc
+
+of_run : (r : ℕ) (staged : Option Staged) (s : Staged) → for_run r staged ≡ Some s → s.run ≡ r
+of_run r None s h = cc
+of_run r (Some t) s h =
+    let p = same_run (t.run == r) t s h in
+    subst (λ (u : Staged). u.run ≡ r) p.1 (eqb-true t.run r p.0)
+
+pub due_start : (on : Bool) (last : ℕ) (staged : Option Staged) (now : Option Work) (x : Request) (s : Staged) → is_due on last staged now x ≡ Some s → IsStart last x s
+due_start on last staged now (ToStart r) s h =
+    let p = both on (nat_lt last r && not (is_open now)) (for_run r staged) s h in
+    let q = and_parts (nat_lt last r) (not (is_open now)) p.0 in
+    let same = of_run r staged s p.1 in
+    record { start = ap ToStart (sym same); above = subst (λ n. last < n) (sym same) (ltb-true last r q.0) }
+due_start on last staged now (ToStage r text) s h = cc
+due_start on last staged now (ToTrigger r act) s h = cc
+due_start on last staged now (ToMark r j) s h = cc
+due_start on last staged now (ToStop r) s h = cc
+due_start on last staged now (ToVerify r a text) s h = cc
+due_start on last staged now (ToHold a state) s h = cc
+due_start on last staged now (ToPassFully a j) s h = cc
+due_start on last staged now (ToIssue j) s h = cc
+due_start on last staged now (ToEnd ticket end) s h = cc
+due_start on last staged now (ToReport b a j report) s h = cc
+due_start on last staged now ToNobody s h = cc
+
+raises : (b : Bool) (n last : ℕ) → last ≤ n → last ≤ (if b then n else last)
+raises true n last h = h
+raises false n last h = omega arith
+
+recorded_grows : (left : Left) (d : Option Staged) (last : ℕ) (x : Request) → ((s : Staged) → d ≡ Some s → IsStart last x s) → last ≤ recorded left d last
+recorded_grows left None last x f = omega arith
+recorded_grows left (Some s) last x f = let above = (f s refl).above in raises (has_new left) s.run last (omega arith)
+
+-- The last run never falls.
+pub last_grows : (o : Opening) (e : Entry) (past : List Entry) → last_run o past ≤ last_run o (e ∷ past)
+last_grows o (Met e left) past =
+    recorded_grows left (due o past e) (last_run o past) (asked o.me e) (due_start (is_on past) (last_run o past) (staged o past) (work o past) (asked o.me e))
+last_grows o Cut past = omega arith
+last_grows o (Restart left) past = omega arith

@@ -1,0 +1,4 @@
+pub mod Due
+pub mod StartLemmas
+pub mod Takings
+pub mod WorkLemmas

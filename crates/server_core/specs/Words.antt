@@ -1,0 +1,127 @@
+-- The words of a server, each read from the list: whether it is on, its boot, its last run, what is
+-- staged, the present run.
+use Rattle.std.specs.Prelude.{ℕ, ◌+◌, Bool, false, not, ◌&&◌, ◌==◌, nat_lt, List, [], ◌∷◌, Option, Some, None, Result, Ok, Err, if◌then◌else◌}
+use Rattle.job_file.specs.declared.job.Job.{Job}
+use Rattle.job_file.specs.declared.job.Phase.TheVariants.{Write}
+use Rattle.server_core.specs.declared.event.Event.{Event}
+use Rattle.disk_model.specs.declared.left.Left.{Left}
+use Rattle.disk_model.specs.declared.left.Left.TheVariants.{NoSave, Saved, LostNew, LostOld}
+use Rattle.disk_model.specs.Left.{has_new, is_lost, is_saved}
+use Rattle.server_core.specs.History.{Opening, Entry, Met, Cut, Restart}
+use Rattle.server_core.specs.Request.{Request, ToStage, ToStart, asked}
+use Rattle.server_core.specs.Texts.{jobs_for}
+use Rattle.server_core.specs.Run.{Work, goes_on, is_open}
+
+-- The server is on: a restart answered Ok, and since then came no cut and no failed save.
+abbrev pub is_on : List Entry → Bool
+is_on [] = false
+is_on (Met e left ∷ past) = is_on past && not (is_lost left)
+is_on (Cut ∷ past) = false
+is_on (Restart left ∷ past) = is_saved left
+
+-- The boot of the opening, and one more for each restart whose save left the new bytes.
+abbrev pub boot : Opening → List Entry → ℕ
+boot o [] = o.boot
+boot o (Met e left ∷ past) = boot o past
+boot o (Cut ∷ past) = boot o past
+boot o (Restart left ∷ past) = if has_new left then boot o past + 1 else boot o past
+
+-- A run, and the jobs that are staged for it.
+pub record Staged : Type 0 where
+  pub run : ℕ
+  pub jobs : List Job
+
+-- The jobs of a text that has no fault.
+abbrev pub staged_by : ℕ → Result (List Job) ℕ → Option Staged
+staged_by r (Ok js) = Some (record { run = r; jobs = js })
+staged_by r (Err value) = None
+
+-- What a request can stage: a set of writing jobs for a run above the last run, where no write is
+-- open.
+abbrev pub stages : Bool → ℕ → Option Work → Request → Option Staged
+stages on last now (ToStage r text) =
+    if on && (nat_lt last r && not (is_open now)) then staged_by r (jobs_for Write text) else None
+stages on last now _ = None
+
+-- What could be staged in this life, with one more. A failed save ends the life.
+abbrev pub staged_after : Left → Option Staged → List Staged → List Staged
+staged_after NoSave None older = older
+staged_after NoSave (Some s) older = s ∷ older
+staged_after Saved None older = older
+staged_after Saved (Some s) older = s ∷ older
+staged_after LostNew new older = []
+staged_after LostOld new older = []
+
+-- The greater of two staged runs, the older where they are equal. A run up to the last is none.
+abbrev pub greater : ℕ → Staged → Option Staged → Option Staged
+greater last s None = if nat_lt last s.run then Some s else None
+greater last s (Some older) = if nat_lt older.run s.run then Some s else Some older
+
+-- The greatest of these runs above the last run, as it was staged first.
+abbrev pub greatest : ℕ → List Staged → Option Staged
+greatest last [] = None
+greatest last (s ∷ older) = greater last s (greatest last older)
+
+-- What is staged, where it is this run.
+abbrev pub for_run : ℕ → Option Staged → Option Staged
+for_run r None = None
+for_run r (Some s) = if s.run == r then Some s else None
+
+-- What a request is due to record: a Start of the staged run, above the last run, where no write is
+-- open.
+abbrev pub is_due : Bool → ℕ → Option Staged → Option Work → Request → Option Staged
+is_due on last staged now (ToStart r) =
+    if on && (nat_lt last r && not (is_open now)) then for_run r staged else None
+is_due on last staged now _ = None
+
+-- The last run, where what was due is recorded once the save left the new bytes.
+abbrev pub recorded : Left → Option Staged → ℕ → ℕ
+recorded left None last = last
+recorded left (Some s) last = if has_new left then s.run else last
+
+-- The present run behind a request: one begins where what was due was saved; a failed save ends the
+-- life; else the run goes on.
+abbrev pub work_after : Left → Option Staged → ℕ → ℕ → Request → Option Work → Option Work
+work_after NoSave due me now_boot x w = goes_on x w
+work_after Saved None me now_boot x w = goes_on x w
+work_after Saved (Some s) me now_boot x w =
+    Some (record { server = me; boot = now_boot; run = s.run; jobs = s.jobs; since = [] })
+work_after LostNew due me now_boot x w = None
+work_after LostOld due me now_boot x w = None
+
+abbrev mutual
+  -- The greatest recorded run, else that of the opening.
+  pub last_run : Opening → List Entry → ℕ
+  last_run o [] = o.last
+  last_run o (Met e left ∷ past) =
+      recorded left
+      (is_due (is_on past) (last_run o past) (greatest (last_run o past) (stagings o past)) (work o past) (asked o.me e))
+      (last_run o past)
+  last_run o (Cut ∷ past) = last_run o past
+  last_run o (Restart left ∷ past) = last_run o past
+
+  -- All that could be staged in this life, the newest first.
+  pub stagings : Opening → List Entry → List Staged
+  stagings o [] = []
+  stagings o (Met e left ∷ past) =
+      staged_after left (stages (is_on past) (last_run o past) (work o past) (asked o.me e)) (stagings o past)
+  stagings o (Cut ∷ past) = []
+  stagings o (Restart left ∷ past) = []
+
+  -- The present run: that of the last accepted Start of this life.
+  pub work : Opening → List Entry → Option Work
+  work o [] = None
+  work o (Met e left ∷ past) =
+      work_after left
+      (is_due (is_on past) (last_run o past) (greatest (last_run o past) (stagings o past)) (work o past) (asked o.me e))
+      o.me (boot o past) (asked o.me e) (work o past)
+  work o (Cut ∷ past) = None
+  work o (Restart left ∷ past) = None
+
+-- The staged run: the greatest above the last run.
+abbrev pub staged : Opening → List Entry → Option Staged
+staged o past = greatest (last_run o past) (stagings o past)
+
+-- The run that an event is due to record.
+abbrev pub due : Opening → List Entry → Event → Option Staged
+due o past e = is_due (is_on past) (last_run o past) (staged o past) (work o past) (asked o.me e)

@@ -1,0 +1,32 @@
+//! What comes to a server.
+
+use engine::Ticket;
+use fc_base::{Attempt, CheckReport, JobNo};
+use messages::Packet;
+
+/// How a write ended.
+#[derive(Clone, Copy, Debug, PartialEq, Eq)]
+pub enum WriteEnd {
+    /// Its bytes are in the file.
+    Done,
+    /// The file's disk has failed. The write stays in flight, and its job issues no more.
+    Failed,
+}
+
+/// What comes to a server: from the client, or from the workers that carry out its writes and checks.
+#[derive(Debug, Drop)]
+pub enum Event {
+    /// A packet is delivered.
+    Deliver(Packet),
+    /// A worker asks for the next write of a job.
+    Issue(JobNo),
+    /// A worker has carried out a write, or has failed to.
+    WriteDone(Ticket, WriteEnd),
+    /// A job's file was checked, in this boot and for this attempt.
+    CheckDone {
+        boot: u64,
+        attempt: Attempt,
+        job: JobNo,
+        report: CheckReport,
+    },
+}
