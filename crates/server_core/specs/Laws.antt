@@ -1,12 +1,16 @@
 -- What holds of every list of what came to a server.
-use Rattle.std.specs.Prelude.{◌≡◌, ℕ, ◌<◌, ◌≤◌, true, List, ◌∷◌, ◌++◌, length, Some}
+use Rattle.std.specs.Prelude.{◌≡◌, ℕ, ◌<◌, ◌≤◌, true, List, [], ◌∷◌, ◌++◌, length, Contains, Option, Some, None}
 use Rattle.disk_model.specs.declared.left.Left.{Left}
 use Rattle.disk_model.specs.Left.{has_new}
+use Rattle.verify_state.specs.State.{State}
+use Rattle.messages.specs.declared.body.Body.TheVariants as bodies
+use Rattle.messages.specs.declared.packet.PacketParts.{PacketParts}
 use Rattle.server_core.specs.declared.event.Event.{Event}
 use Rattle.server_core.specs.History.{Opening, Entry, Met}
-use Rattle.server_core.specs.Run.{Work}
-use Rattle.server_core.specs.Words.{Staged, boot, last_run, work, due}
-use Rattle.server_core.specs.Taken.{takings}
+use Rattle.server_core.specs.Run.{Work, is_halted}
+use Rattle.server_core.specs.Words.{Staged, is_on, boot, last_run, work, due}
+use Rattle.server_core.specs.Taken.{taken, takings}
+use Rattle.server_core.specs.Answers.{packets, looked}
 
 -- The last run and the boot never fall.
 abbrev pub NumbersGrow : Type 0
@@ -36,3 +40,66 @@ PresentIsLast =
 -- A run's job is taken at most once.
 abbrev pub TakenAtMostOnce : Type 0
 TakenAtMostOnce = (o : Opening) (run j : ℕ) (past : List Entry) → length (takings o run j past) ≤ 1
+
+-- A server that is on shows all that came to it.
+abbrev pub LooksAtAll : Type 0
+LooksAtAll = (past : List Entry) → is_on past ≡ true → looked past ≡ past
+
+-- A taken state has the key of the last run, and is the one that was ever taken of it.
+pub record IsTheTaken (o : Opening) (past : List Entry) (j : ℕ) (state : State) : Type 0 where
+  pub key : state.key ≡ record { run = last_run o past; server = o.me; job = j }
+  pub one : takings o (last_run o past) j past ≡ state ∷ []
+
+-- Each state that a server holds is the one that was taken.
+abbrev pub HoldsTheTaken : Type 0
+HoldsTheTaken =
+    (o : Opening) (past : List Entry) (j : ℕ) (state : State) →
+    taken o past j ≡ Some state → IsTheTaken o past j state
+
+-- Each state that a server sends is the one that was taken.
+abbrev pub SendsTheTaken : Type 0
+SendsTheTaken =
+    (o : Opening) (past : List Entry) (e : Entry) (p : PacketParts) (jobs : ℕ) (state : State) →
+    Contains (packets o past e) p → p.body ≡ bodies.State jobs state
+    → (j : ℕ) × IsTheTaken o (e ∷ past) j state
+
+-- The present run has so many jobs.
+pub record HasJobs (o : Opening) (list : List Entry) (jobs : ℕ) : Type 0 where
+  pub now : Work
+  pub works : work o list ≡ Some now
+  pub number : jobs ≡ length now.jobs
+
+-- A State tells how many jobs the present run has.
+abbrev pub StatesTellJobs : Type 0
+StatesTellJobs =
+    (o : Opening) (past : List Entry) (e : Entry) (p : PacketParts) (jobs : ℕ) (state : State) →
+    Contains (packets o past e) p → p.body ≡ bodies.State jobs state → HasJobs o (e ∷ past) jobs
+
+-- This run is the present one and has come to its end, has so many jobs, and no state of this one was
+-- ever taken.
+pub record IsUntaken (o : Opening) (list : List Entry) (run j jobs : ℕ) : Type 0 where
+  pub now : Work
+  pub works : work o list ≡ Some now
+  pub run_is : run ≡ now.run
+  pub number : jobs ≡ length now.jobs
+  pub over : is_halted now ≡ true
+  pub none : takings o run j list ≡ []
+
+-- A NoState is of a job of the present run of which no state was taken.
+abbrev pub NoStateIsUntaken : Type 0
+NoStateIsUntaken =
+    (o : Opening) (past : List Entry) (e : Entry) (p : PacketParts) (run j jobs : ℕ) →
+    Contains (packets o past e) p → p.body ≡ bodies.NoState run j jobs
+    → IsUntaken o (e ∷ past) run j jobs
+
+-- The run isn't worked on, or has come to its end.
+abbrev pub IsOver : ℕ → Option Work → Type 0
+IsOver run None = Unit {0}
+IsOver run (Some w) = w.run ≡ run → is_halted w ≡ true
+
+-- Once a run has come to its end, no state of it is taken any more.
+abbrev pub TakingsStay : Type 0
+TakingsStay =
+    (o : Opening) (run j : ℕ) (newer list : List Entry) →
+    run ≤ last_run o list → IsOver run (work o list)
+    → takings o run j (newer ++ list) ≡ takings o run j list

@@ -1,5 +1,8 @@
+pub mod Answers
+pub mod Check
 pub mod History
 pub mod Laws
+pub mod Replies
 pub mod Request
 pub mod Run
 pub mod Taken

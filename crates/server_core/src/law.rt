@@ -1,6 +1,6 @@
 //! What holds of every list of what came to a server. The functions have nothing to run.
 
-ghost use Rattle.server_core.specs.Laws.{TakenAtMostOnce, NumbersGrow, StartsOnce, PresentIsLast};
+ghost use Rattle.server_core.specs.Laws.{TakenAtMostOnce, NumbersGrow, StartsOnce, PresentIsLast, LooksAtAll, HoldsTheTaken, SendsTheTaken, StatesTellJobs, NoStateIsUntaken, TakingsStay};
 
 /// The last run and the boot never fall.
 pub fn numbers_grow()
@@ -16,4 +16,23 @@ pub fn starts()
 /// A run's job is taken at most once.
 pub fn one_taking()
     ensures { TakenAtMostOnce }
+{}
+
+/// A server that is on shows all that came to it.
+pub fn looks_at_all()
+    ensures { LooksAtAll }
+{}
+
+/// Each state that a server holds or sends is the one that was taken.
+pub fn the_taken()
+    ensures held { HoldsTheTaken }
+    ensures sent { SendsTheTaken }
+{}
+
+/// A State or NoState tells how many jobs its run has; of a job without a state none was taken, and
+/// none is taken once the run has come to its end.
+pub fn the_untaken()
+    ensures states { StatesTellJobs }
+    ensures no_states { NoStateIsUntaken }
+    ensures stay { TakingsStay }
 {}

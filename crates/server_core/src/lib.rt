@@ -4,6 +4,8 @@
 
 mod event;
 mod law;
+mod status;
 
 pub use event::{Event, WriteEnd};
-pub use law::{numbers_grow, one_taking, starts};
+pub use law::{looks_at_all, numbers_grow, one_taking, starts, the_taken, the_untaken};
+pub use status::{Stage, Status};
