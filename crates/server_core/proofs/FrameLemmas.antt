@@ -218,10 +218,10 @@ reply_frames n (ToEnd ticket end) = tt
 reply_frames n (ToReport b a j report) = report_frames (IsSent (ToReport b a j report) n.run) j report n.check
 reply_frames n ToNobody = tt
 
-none_in : {X : Type 0} (x : X) → Contains [] x → ⊥
+pub none_in : {X : Type 0} (x : X) → Contains [] x → ⊥
 none_in x h = omega (arith, h.1)
 
-only_in : {X : Type 0} (y x : X) → Contains (y ∷ []) x → y ≡ x
+pub only_in : {X : Type 0} (y x : X) → Contains (y ∷ []) x → y ≡ x
 only_in y x h = elim (Contains-push_cases [] y x h) [ inl i ↦ absurd (none_in x i) | inr e ↦ e ]
 
 found : (P : Body → Type 0) (me : ℕ) (bs : List Body) (p : PacketParts) → Each P bs → Contains (to_client me bs) p → Of P p.body

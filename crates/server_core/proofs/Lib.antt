@@ -1,8 +1,13 @@
+pub mod CountLemmas
+pub mod DoneLemmas
 pub mod Due
 pub mod FrameLemmas
+pub mod JobLemmas
+pub mod KeyLemmas
+pub mod LegalLemmas
 pub mod Looked
 pub mod StartLemmas
 pub mod StayLemmas
-pub mod Takings
 pub mod TakenLemmas
+pub mod Takings
 pub mod WorkLemmas

@@ -1,16 +1,27 @@
 -- What holds of every list of what came to a server.
-use Rattle.std.specs.Prelude.{◌≡◌, ℕ, ◌<◌, ◌≤◌, true, List, [], ◌∷◌, ◌++◌, length, Contains, Option, Some, None}
+use Rattle.std.specs.Prelude.{◌≡◌, ℕ, ◌<◌, ◌≤◌, true, List, [], ◌∷◌, ◌++◌, length, Contains, Option, Some, None, Ok, IsTrue}
+use Rattle.std.specs.List.{AllByRecursion}
+use Rattle.fc_base.specs.JobParts.{is_within_limits}
+use Rattle.job_file.specs.declared.job.Job.{Job}
+use Rattle.job_file.specs.declared.job.Phase.{Phase}
+use Rattle.job_file.specs.Laws.{AreWithinLimits, FitsItsWidths}
 use Rattle.disk_model.specs.declared.left.Left.{Left}
 use Rattle.disk_model.specs.Left.{has_new}
 use Rattle.verify_state.specs.State.{State}
+use Rattle.engine.specs.Legal.{IsLegal}
+use Rattle.engine.specs.Running.{Origin}
 use Rattle.messages.specs.declared.body.Body.TheVariants as bodies
 use Rattle.messages.specs.declared.packet.PacketParts.{PacketParts}
 use Rattle.server_core.specs.declared.event.Event.{Event}
 use Rattle.server_core.specs.History.{Opening, Entry, Met}
-use Rattle.server_core.specs.Run.{Work, is_halted}
+use Rattle.server_core.specs.Request.{Request}
+use Rattle.server_core.specs.Texts.{jobs_for}
+use Rattle.server_core.specs.Run.{Work, is_halted, history}
 use Rattle.server_core.specs.Words.{Staged, is_on, boot, last_run, work, due}
 use Rattle.server_core.specs.Taken.{taken, takings}
+use Rattle.server_core.specs.Check.{Check, check}
 use Rattle.server_core.specs.Answers.{packets, looked}
+use Rattle.server_core.specs.Accepted.{IsTaking}
 
 -- The last run and the boot never fall.
 abbrev pub NumbersGrow : Type 0
@@ -103,3 +114,34 @@ TakingsStay =
     (o : Opening) (run j : ℕ) (newer list : List Entry) →
     run ≤ last_run o list → IsOver run (work o list)
     → takings o run j (newer ++ list) ≡ takings o run j list
+
+-- A set of jobs: 1 to 16, each within its limits, and its seed and pattern within their widths.
+pub record IsSet (jobs : List Job) : Type 0 where
+  pub within : AreWithinLimits jobs
+  pub widths : AllByRecursion FitsItsWidths jobs
+
+-- The jobs that a text gives are a set.
+abbrev pub TextsGiveSets : Type 0
+TextsGiveSets =
+    (phase : Phase) (text : List ℕ) (jobs : List Job) → jobs_for phase text ≡ Ok jobs → IsSet jobs
+
+-- So are the jobs of the present run.
+abbrev pub RunsHaveSets : Type 0
+RunsHaveSets = (o : Opening) (past : List Entry) (w : Work) → work o past ≡ Some w → IsSet w.jobs
+
+-- And so are those of the open check.
+abbrev pub ChecksHaveSets : Type 0
+ChecksHaveSets = (o : Opening) (past : List Entry) (c : Check) → check o past ≡ Some c → IsSet c.jobs
+
+-- The history of a job that is within its limits is legal, so that an engine can stand for it.
+abbrev pub HistoriesAreLegal : Type 0
+HistoriesAreLegal =
+    (origin : Origin) (since : List Request) →
+    IsTrue (is_within_limits origin.job) → IsLegal origin.job (history origin since)
+
+-- A state that was ever taken was taken once its run was started, and counts exactly the writes that
+-- were completed between.
+abbrev pub CountsTheDone : Type 0
+CountsTheDone =
+    (o : Opening) (run j : ℕ) (list : List Entry) (state : State) →
+    Contains (takings o run j list) state → IsTaking o run j list state

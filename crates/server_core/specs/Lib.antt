@@ -1,3 +1,4 @@
+pub mod Accepted
 pub mod Answers
 pub mod Check
 pub mod History

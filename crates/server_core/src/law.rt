@@ -1,6 +1,9 @@
 //! What holds of every list of what came to a server. The functions have nothing to run.
 
-ghost use Rattle.server_core.specs.Laws.{TakenAtMostOnce, NumbersGrow, StartsOnce, PresentIsLast, LooksAtAll, HoldsTheTaken, SendsTheTaken, StatesTellJobs, NoStateIsUntaken, TakingsStay};
+ghost use Rattle.server_core.specs.Laws.{TakenAtMostOnce, NumbersGrow, StartsOnce, PresentIsLast, LooksAtAll, HoldsTheTaken, SendsTheTaken, StatesTellJobs, NoStateIsUntaken, TakingsStay, TextsGiveSets, RunsHaveSets, ChecksHaveSets, HistoriesAreLegal, CountsTheDone};
+
+use engine::{legal_law, taken_law};
+use job_file::{jobs_are_within_limits, jobs_fit};
 
 /// The last run and the boot never fall.
 pub fn numbers_grow()
@@ -36,3 +39,25 @@ pub fn the_untaken()
     ensures no_states { NoStateIsUntaken }
     ensures stay { TakingsStay }
 {}
+
+/// The jobs of a text, of the present run and of the open check are a set, and the history of each job
+/// is legal.
+pub fn legal_histories()
+    ensures texts { TextsGiveSets }
+    ensures runs { RunsHaveSets }
+    ensures checks { ChecksHaveSets }
+    ensures histories { HistoriesAreLegal }
+{
+    jobs_are_within_limits();
+    jobs_fit();
+    legal_law();
+}
+
+/// A state counts exactly the writes that were completed between the accepted Start of its run and its
+/// taking.
+pub fn counts_the_done()
+    ensures { CountsTheDone }
+{
+    legal_histories();
+    taken_law();
+}

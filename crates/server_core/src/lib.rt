@@ -7,5 +7,8 @@ mod law;
 mod status;
 
 pub use event::{Event, WriteEnd};
-pub use law::{looks_at_all, numbers_grow, one_taking, starts, the_taken, the_untaken};
+pub use law::{
+    counts_the_done, legal_histories, looks_at_all, numbers_grow, one_taking, starts, the_taken,
+    the_untaken,
+};
 pub use status::{Stage, Status};

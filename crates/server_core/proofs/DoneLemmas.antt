@@ -1,0 +1,362 @@
+-- The history of a job has just the completions that were accepted since its Start.
+use Rattle.std.proofs.Common.{◌≡◌, refl, sym, ◌∙◌, ap, subst, ◌⊎◌, inl, inr, ℕ, Bool, true, false, ◌&&◌, ◌==◌, List, [], ◌∷◌, ◌++◌, Option, None, Some}
+use Rattle.std.specs.Prelude.{nat_lt, if◌then◌else◌, not, ◌||◌, is_some, slice_get, Result, Ok, Err}
+use Rattle.std.specs.List.{list_any}
+use Rattle.std.proofs.lemmas.Bool.{and_parts, or_cases, or_left, or_right, eqb-true, eq-eqb}
+use Rattle.std.proofs.lemmas.List.Folds.{list_any-append}
+use Rattle.fc_base.specs.declared.fault.Fault.{Fault}
+use Rattle.fc_base.specs.declared.fault.Fault.TheVariants.{OldBoot, NotInFlight}
+use Rattle.fc_base.specs.declared.numbers.Key.{Key}
+use Rattle.fc_base.specs.Counted.{has}
+use Rattle.job_file.specs.declared.job.Job.{Job}
+use Rattle.window.specs.History as window
+use Rattle.write_order.specs.Blocks.{block_of}
+use Rattle.engine.specs.declared.issue.Ticket.{Ticket}
+use Rattle.engine.specs.declared.issue.Issue.{Issue as Answer}
+use Rattle.engine.specs.declared.issue.Issue.TheVariants as issues
+use Rattle.engine.specs.Running.{Origin}
+use Rattle.fc_base.specs.Keys.{is_same_key}
+use Rattle.engine.specs.Answers.{answer_to, ticket_answer, names_one_of}
+use Rattle.messages.specs.declared.body.Body.{Body}
+use Rattle.messages.specs.declared.body.Body.TheVariants as bodies
+use Rattle.server_core.specs.declared.event.Event.{Event}
+use Rattle.server_core.specs.declared.event.Event.TheVariants.{Deliver, Issue, WriteDone, CheckDone}
+use Rattle.server_core.specs.declared.event.WriteEnd.{WriteEnd}
+use Rattle.server_core.specs.declared.event.WriteEnd.TheVariants.{Done, Failed}
+use Rattle.disk_model.specs.declared.left.Left.{Left}
+use Rattle.disk_model.specs.declared.left.Left.TheVariants.{NoSave, Saved, LostNew, LostOld}
+use Rattle.disk_model.specs.Left.{is_lost}
+use Rattle.server_core.specs.History.{Opening, Entry, Met, Cut, Restart}
+use Rattle.server_core.specs.Request.{Request, ToStage, ToStart, ToTrigger, ToMark, ToStop, ToVerify, ToHold, ToPassFully, ToIssue, ToEnd, ToReport, ToNobody, is_client, is_server, asked_by, asked}
+use Rattle.server_core.specs.Run.{Work, is_open, halted, origin_of, with_issue, with_ticket, with_request, history, goes_on}
+use Rattle.server_core.specs.Words.{Staged, for_run, is_on, boot, is_due, work_after, last_run, staged, work, due}
+use Rattle.server_core.specs.Answers.{names_open_of, refused_by, refusal}
+use Rattle.server_core.specs.Accepted.{IsDoneBy, IsDoneIn}
+use Rattle.server_core.proofs.WorkLemmas.{is_of}
+use Rattle.server_core.proofs.KeyLemmas.{same_key}
+
+-- ---- a server that works on a run is on
+
+abbrev OnWith : Bool → Option Work → Type 0
+OnWith on None = Unit {0}
+OnWith on (Some w) = on ≡ true
+
+on_after : (on : Bool) (left : Left) (d : Option Staged) (me b : ℕ) (x : Request) (w : Option Work) → (d ≡ None ⊎ (on ≡ true)) → OnWith on w → OnWith (on && not (is_lost left)) (work_after left d me b x w)
+on_after on NoSave d me b x None f h = tt
+on_after on NoSave d me b x (Some w) f h = rw h refl
+on_after on Saved None me b x None f h = tt
+on_after on Saved None me b x (Some w) f h = rw h refl
+on_after on Saved (Some s) me b x w (inr e) h = rw e refl
+on_after on Saved (Some s) me b x w (inl e) h = cc
+on_after on LostNew d me b x w f h = tt
+on_after on LostOld d me b x w f h = tt
+
+none_or_on : (on b : Bool) (y : Option Staged) → (if on && b then y else None) ≡ None ⊎ (on ≡ true)
+none_or_on true b y = inr refl
+none_or_on false b y = inl refl
+
+due_on : (on : Bool) (last : ℕ) (s : Option Staged) (w : Option Work) (x : Request) → is_due on last s w x ≡ None ⊎ (on ≡ true)
+due_on on last s w (ToStart r) = none_or_on on (nat_lt last r && not (is_open w)) (for_run r s)
+due_on on last s w (ToStage r text) = inl refl
+due_on on last s w (ToTrigger r act) = inl refl
+due_on on last s w (ToMark r j) = inl refl
+due_on on last s w (ToStop r) = inl refl
+due_on on last s w (ToVerify r a text) = inl refl
+due_on on last s w (ToHold a state) = inl refl
+due_on on last s w (ToPassFully a j) = inl refl
+due_on on last s w (ToIssue j) = inl refl
+due_on on last s w (ToEnd ticket end) = inl refl
+due_on on last s w (ToReport b a j report) = inl refl
+due_on on last s w ToNobody = inl refl
+
+on_of : (o : Opening) (past : List Entry) → OnWith (is_on past) (work o past)
+on_of o [] = tt
+on_of o (Met e left ∷ past) = on_after (is_on past) left (due o past e) o.me (boot o past) (asked o.me e) (work o past) (due_on (is_on past) (last_run o past) (staged o past) (work o past) (asked o.me e)) (on_of o past)
+on_of o (Cut ∷ past) = tt
+on_of o (Restart left ∷ past) = tt
+
+pub works_on : (o : Opening) (past : List Entry) (w : Work) → work o past ≡ Some w → is_on past ≡ true
+works_on o past w h = subst (λ v. OnWith (is_on past) v) h (on_of o past)
+
+-- ---- one request
+
+deliver_body : (origin : Origin) (stopped : Bool) (h : List window.Event) (b : Body) → with_request origin stopped (asked_by b) h ≡ h
+deliver_body origin stopped h (bodies.Jobs r t) = refl
+deliver_body origin stopped h (bodies.JobsOk r n) = refl
+deliver_body origin stopped h (bodies.Start r) = refl
+deliver_body origin stopped h (bodies.Started r) = refl
+deliver_body origin stopped h (bodies.Trigger r act) = refl
+deliver_body origin stopped h (bodies.State n t) = refl
+deliver_body origin stopped h (bodies.NoState r j n) = refl
+deliver_body origin stopped h (bodies.StateAck r j) = refl
+deliver_body origin stopped h (bodies.Stop r) = refl
+deliver_body origin stopped h (bodies.Stopped r) = refl
+deliver_body origin stopped h (bodies.Verify r a t) = refl
+deliver_body origin stopped h (bodies.WantState r a j) = refl
+deliver_body origin stopped h (bodies.Saved a s) = refl
+deliver_body origin stopped h (bodies.NoSaved r a j) = refl
+deliver_body origin stopped h (bodies.Report r a j n report) = refl
+deliver_body origin stopped h (bodies.Refused refusal) = refl
+
+deliver_by : (origin : Origin) (stopped t : Bool) (h : List window.Event) (b : Body) → with_request origin stopped (if t then asked_by b else ToNobody) h ≡ h
+deliver_by origin stopped true h b = deliver_body origin stopped h b
+deliver_by origin stopped false h b = refl
+
+issue_done : (answer : Answer) (h : List window.Event) (k : ℕ) → window.is_done (with_issue answer h) k ≡ window.is_done h k
+issue_done (issues.Write ticket) h k = refl
+issue_done issues.Full h k = refl
+issue_done issues.Held h k = refl
+issue_done issues.Overlap h k = refl
+issue_done issues.Finished h k = refl
+issue_done issues.Stopped h k = refl
+
+issue_done_if : (t : Bool) (answer : Answer) (h : List window.Event) (k : ℕ) → window.is_done (if t then with_issue answer h else h) k ≡ window.is_done h k
+issue_done_if true answer h k = issue_done answer h k
+issue_done_if false answer h k = refl
+
+failed_done : (answer : Result (Unit {0}) Fault) (seq : ℕ) (h : List window.Event) (k : ℕ) → window.is_done (with_ticket answer Failed seq h) k ≡ window.is_done h k
+failed_done (Ok u) seq h k = refl
+failed_done (Err fault) seq h k = refl
+
+-- A ticket that is accepted.
+record IsAccepted (origin : Origin) (writes : List ℕ) (ticket : Ticket) : Type 0 where
+  pub boot_is : (ticket.boot == origin.boot) ≡ true
+  pub names : names_one_of origin writes ticket ≡ true
+
+verdict : (same named : Bool) (u : Unit {0}) → (if not same then Err OldBoot else (if named then Ok tt else Err NotInFlight)) ≡ Ok u → (same ≡ true) × (named ≡ true)
+verdict true true u h = (refl, refl)
+verdict true false u h = cc
+verdict false named u h = cc
+
+accepted_of : (origin : Origin) (writes : List ℕ) (ticket : Ticket) (u : Unit {0}) → ticket_answer origin writes ticket ≡ Ok u → IsAccepted origin writes ticket
+accepted_of origin writes ticket u h =
+    let p = verdict (ticket.boot == origin.boot) (names_one_of origin writes ticket) u h in
+    record { boot_is = p.0; names = p.1 }
+
+key_of : (origin : Origin) (writes : List ℕ) (ticket : Ticket) → names_one_of origin writes ticket ≡ true → ticket.key ≡ origin.key
+key_of origin writes ticket h =
+    same_key ticket.key origin.key (and_parts (is_same_key ticket.key origin.key) (has writes ticket.seq && (block_of origin.job ticket.seq == ticket.block)) h).0
+
+-- What the run and job are, in which a completion comes.
+record IsAt (o : Opening) (past : List Entry) (v : Work) (j : ℕ) (job : Job) : Type 0 where
+  pub works : work o past ≡ Some v
+  pub has_job : slice_get v.jobs j ≡ Some job
+
+abbrev open_in : Work → ℕ → Job → List ℕ
+open_in v j job = window.open_writes (history (origin_of v j job) v.since)
+
+not_refused : (same named : Bool) → same ≡ true → named ≡ true → refused_by same named ≡ None
+not_refused same named a b = rw (a, b) refl
+
+refused_not : (same named : Bool) → refused_by same named ≡ None → (same ≡ true) × (named ≡ true)
+refused_not true true h = (refl, refl)
+refused_not true false h = cc
+refused_not false named h = cc
+
+named_at : (v : Work) (ticket : Ticket) (j : ℕ) (job : Job) → slice_get v.jobs j ≡ Some job → ticket.key.job ≡ j → names_open_of v ticket (slice_get v.jobs ticket.key.job) ≡ names_one_of (origin_of v j job) (open_in v j job) ticket
+named_at v ticket j job h e =
+    subst (λ n. names_open_of v ticket (slice_get v.jobs ticket.key.job) ≡ names_one_of (origin_of v n job) (open_in v n job) ticket) e
+    (ap (names_open_of v ticket) (ap (slice_get v.jobs) e ∙ h))
+
+-- The refusal of a completion, in the run's words.
+refusal_at : (o : Opening) (past : List Entry) (v : Work) (ticket : Ticket) (end : WriteEnd) → work o past ≡ Some v
+    → refusal o past (WriteDone ticket end) ≡ refused_by (ticket.boot == v.boot) (names_open_of v ticket (slice_get v.jobs ticket.key.job))
+refusal_at o past v ticket end h =
+    let on = works_on o past v h in
+    let of = is_of o past v h in
+    rw (on, h, of.boot_is) refl
+
+has_push : (xs : List ℕ) (s k : ℕ) → has (xs ++ s ∷ []) k ≡ true → (has xs k ≡ true) ⊎ (s ≡ k)
+has_push xs s k h = elim (or_cases (has xs k) ((s == k) || false) (sym (list_any-append (λ j. j == k) xs (s ∷ [])) ∙ h)) [
+  | inl a ↦ inl a
+  | inr b ↦ elim (or_cases (s == k) false b) [ inl c ↦ inr (eqb-true s k c) | inr c ↦ absurd (no c) ]
+]
+  where
+    no : false ≡ true → ⊥
+    no c = cc
+
+has_kept : (xs : List ℕ) (s k : ℕ) → has xs k ≡ true → has (xs ++ s ∷ []) k ≡ true
+has_kept xs s k h = list_any-append (λ j. j == k) xs (s ∷ []) ∙ or_left (has xs k) (list_any (λ j. j == k) (s ∷ [])) h
+
+has_last : (xs : List ℕ) (s k : ℕ) → s ≡ k → has (xs ++ s ∷ []) k ≡ true
+has_last xs s k e = list_any-append (λ j. j == k) xs (s ∷ []) ∙ or_right (has xs k) (list_any (λ j. j == k) (s ∷ [])) (or_left (s == k) false (eq-eqb s k e))
+
+-- A completion: what it adds was accepted.
+ended_one : (o : Opening) (past : List Entry) (v : Work) (j : ℕ) (job : Job) (ticket : Ticket) (k : ℕ) (answer : Result (Unit {0}) Fault) → IsAt o past v j job
+    → ticket_answer (origin_of v j job) (open_in v j job) ticket ≡ answer
+    → window.is_done (with_ticket answer Done ticket.seq (history (origin_of v j job) v.since)) k ≡ true
+    → (window.is_done (history (origin_of v j job) v.since) k ≡ true) ⊎ IsDoneBy o past (WriteDone ticket Done) (origin_of v j job).key k
+ended_one o past v j job ticket k (Err fault) at e h = inl h
+ended_one o past v j job ticket k (Ok u) at e h =
+    elim (has_push (window.completions (history (origin_of v j job) v.since)) ticket.seq k h) [
+      | inl a ↦ inl a
+      | inr b ↦
+          let acc = accepted_of (origin_of v j job) (open_in v j job) ticket u e in
+          let key = key_of (origin_of v j job) (open_in v j job) ticket acc.names in
+          let job_is : ticket.key.job ≡ j = ap (λ (x : Key). x.job) key in
+          inr (key, b, refusal_at o past v ticket Done at.works ∙ not_refused (ticket.boot == v.boot) (names_open_of v ticket (slice_get v.jobs ticket.key.job)) acc.boot_is (named_at v ticket j job at.has_job job_is ∙ acc.names))
+    ]
+
+accepted_answer : (origin : Origin) (writes : List ℕ) (ticket : Ticket) → (ticket.boot == origin.boot) ≡ true → names_one_of origin writes ticket ≡ true → ticket_answer origin writes ticket ≡ Ok tt
+accepted_answer origin writes ticket a b = rw (a, b) refl
+
+ended_back : (o : Opening) (past : List Entry) (v : Work) (j : ℕ) (job : Job) (ticket : Ticket) (k : ℕ) → IsAt o past v j job
+    → IsDoneBy o past (WriteDone ticket Done) (origin_of v j job).key k
+    → window.is_done (with_ticket (ticket_answer (origin_of v j job) (open_in v j job) ticket) Done ticket.seq (history (origin_of v j job) v.since)) k ≡ true
+ended_back o past v j job ticket k at d =
+    let job_is : ticket.key.job ≡ j = ap (λ (x : Key). x.job) d.0 in
+    let p = refused_not (ticket.boot == v.boot) (names_open_of v ticket (slice_get v.jobs ticket.key.job)) (sym (refusal_at o past v ticket Done at.works) ∙ d.2) in
+    let names = sym (named_at v ticket j job at.has_job job_is) ∙ p.1 in
+    subst (λ a. window.is_done (with_ticket a Done ticket.seq (history (origin_of v j job) v.since)) k ≡ true)
+    (sym (accepted_answer (origin_of v j job) (open_in v j job) ticket p.0 names))
+    (has_last (window.completions (history (origin_of v j job) v.since)) ticket.seq k d.1)
+
+kept_one : (answer : Result (Unit {0}) Fault) (seq : ℕ) (h : List window.Event) (k : ℕ) → window.is_done h k ≡ true → window.is_done (with_ticket answer Done seq h) k ≡ true
+kept_one (Ok u) seq h k e = has_kept (window.completions h) seq k e
+kept_one (Err fault) seq h k e = e
+
+-- One event: what its job's history has more was accepted.
+one_on : (o : Opening) (past : List Entry) (v : Work) (j : ℕ) (job : Job) (e : Event) (k : ℕ) (stopped : Bool) → IsAt o past v j job
+    → window.is_done (with_request (origin_of v j job) stopped (asked o.me e) (history (origin_of v j job) v.since)) k ≡ true
+    → (window.is_done (history (origin_of v j job) v.since) k ≡ true) ⊎ IsDoneBy o past e (origin_of v j job).key k
+one_on o past v j job (Deliver p) k stopped at h =
+    inl (subst (λ l. window.is_done l k ≡ true) (deliver_by (origin_of v j job) stopped (is_client p.from && is_server o.me p.to) (history (origin_of v j job) v.since) p.body) h)
+one_on o past v j job (Issue i) k stopped at h =
+    inl (sym (issue_done_if (i == j) (answer_to (origin_of v j job) stopped (history (origin_of v j job) v.since)) (history (origin_of v j job) v.since) k) ∙ h)
+one_on o past v j job (WriteDone ticket Done) k stopped at h = ended_one o past v j job ticket k (ticket_answer (origin_of v j job) (open_in v j job) ticket) at refl h
+one_on o past v j job (WriteDone ticket Failed) k stopped at h =
+    inl (sym (failed_done (ticket_answer (origin_of v j job) (open_in v j job) ticket) ticket.seq (history (origin_of v j job) v.since) k) ∙ h)
+one_on o past v j job (CheckDone b a i report) k stopped at h = inl h
+
+one_back : (o : Opening) (past : List Entry) (v : Work) (j : ℕ) (job : Job) (e : Event) (k : ℕ) (stopped : Bool) → IsAt o past v j job
+    → IsDoneBy o past e (origin_of v j job).key k
+    → window.is_done (with_request (origin_of v j job) stopped (asked o.me e) (history (origin_of v j job) v.since)) k ≡ true
+one_back o past v j job (WriteDone ticket Done) k stopped at d = ended_back o past v j job ticket k at d
+one_back o past v j job (WriteDone ticket Failed) k stopped at d = absurd d
+one_back o past v j job (Deliver p) k stopped at d = absurd d
+one_back o past v j job (Issue i) k stopped at d = absurd d
+one_back o past v j job (CheckDone b a i report) k stopped at d = absurd d
+
+one_kept : (o : Opening) (v : Work) (j : ℕ) (job : Job) (e : Event) (k : ℕ) (stopped : Bool) → window.is_done (history (origin_of v j job) v.since) k ≡ true
+    → window.is_done (with_request (origin_of v j job) stopped (asked o.me e) (history (origin_of v j job) v.since)) k ≡ true
+one_kept o v j job (WriteDone ticket Done) k stopped h = kept_one (ticket_answer (origin_of v j job) (open_in v j job) ticket) ticket.seq (history (origin_of v j job) v.since) k h
+one_kept o v j job (WriteDone ticket Failed) k stopped h = failed_done (ticket_answer (origin_of v j job) (open_in v j job) ticket) ticket.seq (history (origin_of v j job) v.since) k ∙ h
+one_kept o v j job (Deliver p) k stopped h =
+    subst (λ l. window.is_done l k ≡ true) (sym (deliver_by (origin_of v j job) stopped (is_client p.from && is_server o.me p.to) (history (origin_of v j job) v.since) p.body)) h
+one_kept o v j job (Issue i) k stopped h = issue_done_if (i == j) (answer_to (origin_of v j job) stopped (history (origin_of v j job) v.since)) (history (origin_of v j job) v.since) k ∙ h
+one_kept o v j job (CheckDone b a i report) k stopped h = h
+
+-- ---- all that came since a Start
+
+-- The run w goes on through these entries, which came behind others.
+abbrev pub Since : Opening → List Entry → List Entry → Work → Type 0
+Since o before [] w = (work o before ≡ Some w) × (w.since ≡ [])
+Since o before (Met e left ∷ between) w =
+    (v : Work) × Since o before between v × (record v { since = asked o.me e ∷ v.since } ≡ w) × (work o (Met e left ∷ (between ++ before)) ≡ Some w)
+Since o before (Cut ∷ between) w = ⊥
+Since o before (Restart left ∷ between) w = ⊥
+
+since_works : (o : Opening) (before between : List Entry) (w : Work) → Since o before between w → work o (between ++ before) ≡ Some w
+since_works o before [] w s = s.0
+since_works o before (Met e left ∷ between) w s = s.3
+since_works o before (Cut ∷ between) w s = absurd s
+since_works o before (Restart left ∷ between) w s = absurd s
+
+none_done : (origin : Origin) (since : List Request) (k : ℕ) → since ≡ [] → window.is_done (history origin since) k ≡ true → ⊥
+none_done origin since k e h = let moved : window.is_done (history origin []) k ≡ true = subst (λ l. window.is_done (history origin l) k ≡ true) e h in cc
+
+pub done_on : (o : Opening) (before between : List Entry) (w : Work) (j : ℕ) (job : Job) (k : ℕ) → Since o before between w → slice_get w.jobs j ≡ Some job
+    → window.is_done (history (origin_of w j job) w.since) k ≡ true → IsDoneIn o before between (origin_of w j job).key k
+done_on o before [] w j job k s f h = none_done (origin_of w j job) w.since k s.1 h
+done_on o before (Met e left ∷ between) w j job k s f h =
+    let v = s.0 in
+    let jobs_is : v.jobs ≡ w.jobs = ap (λ (x : Work). x.jobs) s.2 in
+    let found : slice_get v.jobs j ≡ Some job = subst (λ l. slice_get l j ≡ Some job) (sym jobs_is) f in
+    let at : IsAt o (between ++ before) v j job = record { works = since_works o before between v s.1; has_job = found } in
+    let here = subst (λ (x : Work). window.is_done (history (origin_of x j job) x.since) k ≡ true) (sym s.2) h in
+    let key_is : (origin_of v j job).key ≡ (origin_of w j job).key = ap (λ (x : Work). (origin_of x j job).key) s.2 in
+    subst (λ key. IsDoneIn o before between key k ⊎ IsDoneBy o (between ++ before) e key k) key_is
+    (elim (one_on o (between ++ before) v j job e k (is_some (halted v.run v.since)) at here) [
+      | inl a ↦ inl (done_on o before between v j job k s.1 found a)
+      | inr b ↦ inr b
+    ])
+done_on o before (Cut ∷ between) w j job k s f h = absurd s
+done_on o before (Restart left ∷ between) w j job k s f h = absurd s
+
+pub done_back : (o : Opening) (before between : List Entry) (w : Work) (j : ℕ) (job : Job) (k : ℕ) → Since o before between w → slice_get w.jobs j ≡ Some job
+    → IsDoneIn o before between (origin_of w j job).key k → window.is_done (history (origin_of w j job) w.since) k ≡ true
+done_back o before [] w j job k s f d = absurd d
+done_back o before (Met e left ∷ between) w j job k s f d =
+    let v = s.0 in
+    let jobs_is : v.jobs ≡ w.jobs = ap (λ (x : Work). x.jobs) s.2 in
+    let found : slice_get v.jobs j ≡ Some job = subst (λ l. slice_get l j ≡ Some job) (sym jobs_is) f in
+    let at : IsAt o (between ++ before) v j job = record { works = since_works o before between v s.1; has_job = found } in
+    let key_is : (origin_of w j job).key ≡ (origin_of v j job).key = ap (λ (x : Work). (origin_of x j job).key) (sym s.2) in
+    let moved = subst (λ key. IsDoneIn o before between key k ⊎ IsDoneBy o (between ++ before) e key k) key_is d in
+    subst (λ (x : Work). window.is_done (history (origin_of x j job) x.since) k ≡ true) s.2
+    (elim moved [
+      | inl a ↦ one_kept o v j job e k (is_some (halted v.run v.since)) (done_back o before between v j job k s.1 found a)
+      | inr b ↦ one_back o (between ++ before) v j job e k (is_some (halted v.run v.since)) at b
+    ])
+done_back o before (Cut ∷ between) w j job k s f d = absurd s
+done_back o before (Restart left ∷ between) w j job k s f d = absurd s
+
+-- Where the present run began.
+pub record Began (o : Opening) (past : List Entry) (w : Work) : Type 0 where
+  pub between : List Entry
+  pub start : Event
+  pub older : List Entry
+  pub started : Staged
+  pub split : past ≡ between ++ Met start Saved ∷ older
+  pub accepted : due o older start ≡ Some started
+  pub run_is : started.run ≡ w.run
+  pub since : Since o (Met start Saved ∷ older) between w
+
+same_work : (x y : Work) → Some x ≡ Some y → x ≡ y
+same_work x y h = cc
+
+went_on : (o : Opening) (past : List Entry) (e : Event) (left : Left) (x : Option Work) (w : Work) → ((v : Work) → x ≡ Some v → Began o past v)
+    → work o (Met e left ∷ past) ≡ Some w → goes_on (asked o.me e) x ≡ Some w → Began o (Met e left ∷ past) w
+went_on o past e left None w f all h = cc
+went_on o past e left (Some v) w f all h =
+    let b = f v refl in
+    let here = same_work (record v { since = asked o.me e ∷ v.since }) w h in
+    record {
+      between = Met e left ∷ b.between;
+      start = b.start;
+      older = b.older;
+      started = b.started;
+      split = ap (λ l. Met e left ∷ l) b.split;
+      accepted = b.accepted;
+      run_is = b.run_is ∙ ap (λ (x : Work). x.run) here;
+      since = (v, b.since, here, subst (λ l. work o (Met e left ∷ l) ≡ Some w) b.split all);
+    }
+
+began_now : (o : Opening) (past : List Entry) (e : Event) (s : Staged) (w : Work) → due o past e ≡ Some s → work o (Met e Saved ∷ past) ≡ Some w
+    → ◌≡◌ {A = Option Work} (Some (record { server = o.me; boot = boot o past; run = s.run; jobs = s.jobs; since = [] })) (Some w) → Began o (Met e Saved ∷ past) w
+began_now o past e s w is all h =
+    let here = same_work (record { server = o.me; boot = boot o past; run = s.run; jobs = s.jobs; since = [] }) w h in
+    record {
+      between = [];
+      start = e;
+      older = past;
+      started = s;
+      split = refl;
+      accepted = is;
+      run_is = ap (λ (x : Work). x.run) here;
+      since = (all, sym (ap (λ (x : Work). x.since) here));
+    }
+
+began_at : (o : Opening) (past : List Entry) (e : Event) (left : Left) (d : Option Staged) (w : Work) → due o past e ≡ d → ((v : Work) → work o past ≡ Some v → Began o past v)
+    → work o (Met e left ∷ past) ≡ Some w → work_after left d o.me (boot o past) (asked o.me e) (work o past) ≡ Some w → Began o (Met e left ∷ past) w
+began_at o past e NoSave d w is f all h = went_on o past e NoSave (work o past) w f all h
+began_at o past e Saved None w is f all h = went_on o past e Saved (work o past) w f all h
+began_at o past e Saved (Some s) w is f all h = began_now o past e s w is all h
+began_at o past e LostNew d w is f all h = cc
+began_at o past e LostOld d w is f all h = cc
+
+pub began : (o : Opening) (past : List Entry) (w : Work) → work o past ≡ Some w → Began o past w
+began o [] w h = cc
+began o (Met e left ∷ past) w h = began_at o past e left (due o past e) w refl (began o past) h h
+began o (Cut ∷ past) w h = cc
+began o (Restart left ∷ past) w h = cc
