@@ -34,6 +34,7 @@ use Rattle.server_core.specs.Laws.{IsTheTaken, HasJobs, IsUntaken}
 use Rattle.server_core.proofs.Takings.{Known, known}
 use Rattle.server_core.proofs.TakenLemmas.{stands_by, holds_the_taken}
 use Rattle.server_core.proofs.Due.{due_start}
+use Rattle.server_core.proofs.ListLemmas.{none_in, only_in}
 
 -- What is known of a body that tells of a taking: it has a state, or says that there is none.
 abbrev Of : (Body → Type 0) → Body → Type 0
@@ -217,12 +218,6 @@ reply_frames n (ToIssue j) = tt
 reply_frames n (ToEnd ticket end) = tt
 reply_frames n (ToReport b a j report) = report_frames (IsSent (ToReport b a j report) n.run) j report n.check
 reply_frames n ToNobody = tt
-
-pub none_in : {X : Type 0} (x : X) → Contains [] x → ⊥
-none_in x h = omega (arith, h.1)
-
-pub only_in : {X : Type 0} (y x : X) → Contains (y ∷ []) x → y ≡ x
-only_in y x h = elim (Contains-push_cases [] y x h) [ inl i ↦ absurd (none_in x i) | inr e ↦ e ]
 
 found : (P : Body → Type 0) (me : ℕ) (bs : List Body) (p : PacketParts) → Each P bs → Contains (to_client me bs) p → Of P p.body
 found P me [] p h i = absurd (none_in p i)

@@ -1,11 +1,16 @@
+pub mod ActLemmas
 pub mod CountLemmas
 pub mod DoneLemmas
 pub mod Due
 pub mod FrameLemmas
+pub mod HeardLemmas
+pub mod HeldLemmas
 pub mod JobLemmas
 pub mod KeyLemmas
 pub mod LegalLemmas
+pub mod ListLemmas
 pub mod Looked
+pub mod QuietLemmas
 pub mod StartLemmas
 pub mod StayLemmas
 pub mod TakenLemmas

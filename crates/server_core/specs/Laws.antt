@@ -1,5 +1,5 @@
 -- What holds of every list of what came to a server.
-use Rattle.std.specs.Prelude.{◌≡◌, ℕ, ◌<◌, ◌≤◌, true, List, [], ◌∷◌, ◌++◌, length, Contains, Option, Some, None, Ok, IsTrue}
+use Rattle.std.specs.Prelude.{◌≡◌, ℕ, ◌<◌, ◌≤◌, Bool, true, false, List, [], ◌∷◌, ◌++◌, length, Contains, Option, Some, None, Ok, IsTrue}
 use Rattle.std.specs.List.{AllByRecursion}
 use Rattle.fc_base.specs.JobParts.{is_within_limits}
 use Rattle.job_file.specs.declared.job.Job.{Job}
@@ -8,20 +8,24 @@ use Rattle.job_file.specs.Laws.{AreWithinLimits, FitsItsWidths}
 use Rattle.disk_model.specs.declared.left.Left.{Left}
 use Rattle.disk_model.specs.Left.{has_new}
 use Rattle.verify_state.specs.State.{State}
+use Rattle.engine.specs.declared.issue.Issue.{Issue}
+use Rattle.engine.specs.Answers.{is_write}
 use Rattle.engine.specs.Legal.{IsLegal}
 use Rattle.engine.specs.Running.{Origin}
 use Rattle.messages.specs.declared.body.Body.TheVariants as bodies
 use Rattle.messages.specs.declared.packet.PacketParts.{PacketParts}
+use Rattle.messages.specs.declared.refusal.Act.TheVariants as acts
 use Rattle.server_core.specs.declared.event.Event.{Event}
 use Rattle.server_core.specs.History.{Opening, Entry, Met}
-use Rattle.server_core.specs.Request.{Request}
+use Rattle.server_core.specs.Request.{Request, asked}
 use Rattle.server_core.specs.Texts.{jobs_for}
 use Rattle.server_core.specs.Run.{Work, is_halted, history}
 use Rattle.server_core.specs.Words.{Staged, is_on, boot, last_run, work, due}
-use Rattle.server_core.specs.Taken.{taken, takings}
-use Rattle.server_core.specs.Check.{Check, check}
-use Rattle.server_core.specs.Answers.{packets, looked}
+use Rattle.server_core.specs.Taken.{taken, takes, takings}
+use Rattle.server_core.specs.Check.{Check, With, check, progress}
+use Rattle.server_core.specs.Answers.{packets, issue, act, looked}
 use Rattle.server_core.specs.Accepted.{IsTaking}
+use Rattle.server_core.specs.Heard.{IsHeard, IsKept}
 
 -- The last run and the boot never fall.
 abbrev pub NumbersGrow : Type 0
@@ -145,3 +149,38 @@ abbrev pub CountsTheDone : Type 0
 CountsTheDone =
     (o : Opening) (run j : ℕ) (list : List Entry) (state : State) →
     Contains (takings o run j list) state → IsTaking o run j list state
+
+-- The answer gives a write.
+abbrev pub gives_write : Option Issue → Bool
+gives_write None = false
+gives_write (Some answer) = is_write answer
+
+-- Behind a taking of a run no write is issued, of any job or run, for as long as the last run is that
+-- one.
+abbrev pub QuietWhileLast : Type 0
+QuietWhileLast =
+    (o : Opening) (older between : List Entry) (trigger e : Event) (was : Left) (run j : ℕ) (state : State) →
+    takes run j (asked o.me trigger) (work o older) ≡ Some state
+    → last_run o (between ++ Met trigger was ∷ older) ≡ run
+    → gives_write (issue o (between ++ Met trigger was ∷ older) e) ≡ false
+
+-- Between a taking of a run and any moment at which a job is checked with a state of that run, no write
+-- is issued, of any job or run.
+abbrev pub QuietUntilChecked : Type 0
+QuietUntilChecked =
+    (o : Opening) (older between newer : List Entry) (trigger e : Event) (was left : Left) (run j i : ℕ) (state with_it : State) →
+    takes run j (asked o.me trigger) (work o older) ≡ Some state
+    → progress o (newer ++ Met e left ∷ (between ++ Met trigger was ∷ older)) i ≡ Some (With with_it)
+    → with_it.key.run ≡ run
+    → gives_write (issue o (between ++ Met trigger was ∷ older) e) ≡ false
+
+-- A state that a job is checked with is of the last run and fits the job, and the client sent it in
+-- this life.
+abbrev pub WithWasHeard : Type 0
+WithWasHeard =
+    (o : Opening) (past : List Entry) (j : ℕ) (state : State) →
+    progress o past j ≡ Some (With state) → IsHeard o past j state
+
+-- A server asks for the cut only once the client has told of each job of the run that its state is kept.
+abbrev pub CutsWhenKept : Type 0
+CutsWhenKept = (o : Opening) (past : List Entry) (e : Event) → act o past e ≡ acts.Cut → IsKept o past e

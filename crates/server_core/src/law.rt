@@ -1,6 +1,6 @@
 //! What holds of every list of what came to a server. The functions have nothing to run.
 
-ghost use Rattle.server_core.specs.Laws.{TakenAtMostOnce, NumbersGrow, StartsOnce, PresentIsLast, LooksAtAll, HoldsTheTaken, SendsTheTaken, StatesTellJobs, NoStateIsUntaken, TakingsStay, TextsGiveSets, RunsHaveSets, ChecksHaveSets, HistoriesAreLegal, CountsTheDone};
+ghost use Rattle.server_core.specs.Laws.{TakenAtMostOnce, NumbersGrow, StartsOnce, PresentIsLast, LooksAtAll, HoldsTheTaken, SendsTheTaken, StatesTellJobs, NoStateIsUntaken, TakingsStay, TextsGiveSets, RunsHaveSets, ChecksHaveSets, HistoriesAreLegal, CountsTheDone, QuietWhileLast, QuietUntilChecked, WithWasHeard, CutsWhenKept};
 
 use engine::{legal_law, taken_law};
 use job_file::{jobs_are_within_limits, jobs_fit};
@@ -61,3 +61,22 @@ pub fn counts_the_done()
     legal_histories();
     taken_law();
 }
+
+/// Behind a taking of a run no write is issued, of any job or run, for as long as the last run is that
+/// one, and so until any moment at which a job is checked with a state of it.
+pub fn quiet()
+    ensures while_last { QuietWhileLast }
+    ensures until_checked { QuietUntilChecked }
+{}
+
+/// A state that a job is checked with is of the last run and fits the job, and the client sent it in
+/// this life.
+pub fn with_was_heard()
+    ensures { WithWasHeard }
+{}
+
+/// A server asks for the cut only once the client has told of each job of the run that its state is
+/// kept.
+pub fn cuts_when_kept()
+    ensures { CutsWhenKept }
+{}
