@@ -1,5 +1,5 @@
 -- A taken state counts exactly the writes that were completed between the accepted Start and the taking.
-use Rattle.std.proofs.Common.{◌≡◌, refl, sym, ◌∙◌, ap, subst, inl, inr, ℕ, ◌<◌, arith, Bool, true, false, ◌&&◌, ◌==◌, List, [], ◌∷◌, Option, None, Some}
+use Rattle.std.proofs.Common.{◌≡◌, refl, sym, ◌∙◌, ap, subst, inl, inr, ℕ, Bool, true, false, ◌&&◌, ◌==◌, List, [], ◌∷◌, Option, None, Some}
 use Rattle.std.specs.Prelude.{if◌then◌else◌, slice_get, Contains, IsTrue}
 use Rattle.std.proofs.lemmas.List.Elements.{Contains-append_cases}
 use Rattle.std.proofs.lemmas.Bool.{eqb-true}
@@ -22,7 +22,7 @@ use Rattle.server_core.specs.Taken.{job_state, saved_state, triggers, takes_now,
 use Rattle.server_core.specs.Accepted.{IsDoneIn, IsTaking}
 use Rattle.server_core.proofs.WorkLemmas.{is_of}
 use Rattle.server_core.specs.Laws.{RunsHaveSets, HistoriesAreLegal}
-use Rattle.server_core.proofs.JobLemmas.{job_at}
+use Rattle.server_core.proofs.SetLemmas.{job_at}
 use Rattle.server_core.proofs.ListLemmas.{none_in, only_in}
 use Rattle.server_core.proofs.DoneLemmas.{began, done_on, done_back}
 

@@ -1,5 +1,5 @@
 -- The history of a job is legal, so that an engine can stand for it.
-use Rattle.std.proofs.Common.{◌≡◌, refl, ℕ, ◌≤◌, arith, Bool, true, false, ◌&&◌, ◌==◌, List, [], ◌∷◌}
+use Rattle.std.proofs.Common.{◌≡◌, refl, ◌≤◌, arith, Bool, true, false, ◌&&◌, ◌==◌, List, [], ◌∷◌}
 use Rattle.std.specs.Prelude.{if◌then◌else◌, nat_le, is_some, Result, Ok, Err}
 use Rattle.std.proofs.lemmas.Bool.{and_parts, leb-true}
 use Rattle.fc_base.specs.declared.fault.Fault.{Fault}
@@ -16,7 +16,7 @@ use Rattle.engine.specs.Laws.{WritesAreLegal, EndsAreLegal}
 use Rattle.server_core.specs.declared.event.WriteEnd.{WriteEnd}
 use Rattle.server_core.specs.declared.event.WriteEnd.TheVariants.{Done, Failed}
 use Rattle.server_core.specs.Request.{Request, ToStage, ToStart, ToTrigger, ToMark, ToStop, ToVerify, ToHold, ToPassFully, ToIssue, ToEnd, ToReport, ToNobody}
-use Rattle.server_core.specs.Run.{halted, with_issue, with_end, with_ticket, with_request, history}
+use Rattle.server_core.specs.Run.{halted, with_issue, with_ticket, with_request, history}
 
 answer_legal : WritesAreLegal → (origin : Origin) (stopped : Bool) (h : List window.Event) (answer : Issue) → 1 ≤ origin.job.window → IsLegal origin.job h → answer_to origin stopped h ≡ answer → IsLegal origin.job (with_issue answer h)
 answer_legal writes origin stopped h (issues.Write ticket) some legal e = (writes origin stopped h ticket some legal e).1

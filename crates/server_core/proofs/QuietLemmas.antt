@@ -20,16 +20,13 @@ use Rattle.server_core.proofs.Due.{IsStart, due_start, last_grows}
 use Rattle.server_core.proofs.Takings.{Known, known}
 use Rattle.server_core.specs.Check.{With, progress}
 use Rattle.server_core.proofs.HeldLemmas.{with_state}
+use Rattle.server_core.proofs.StayLemmas.{still}
 use Rattle.fc_base.specs.declared.numbers.Key.{Key}
 
 -- The run that the server works on is this one, and it is halted.
 abbrev Calm : ℕ → Option Work → Type 0
 Calm run None = Unit {0}
 Calm run (Some w) = (w.run ≡ run) × (is_halted w ≡ true)
-
-still : (a b : Option Halt) → is_some a ≡ true → is_some (option_or a b) ≡ true
-still None b h = cc
-still (Some halt) b h = refl
 
 calm_on : (run : ℕ) (x : Request) (w : Option Work) → Calm run w → Calm run (goes_on x w)
 calm_on run x None c = c

@@ -14,7 +14,8 @@ use Rattle.server_core.specs.Laws.{IsOver}
 use Rattle.server_core.proofs.StartLemmas.{grows_on}
 use Rattle.server_core.proofs.Due.{IsStart, due_start}
 
-still : (a b : Option Halt) → is_some a ≡ true → is_some (option_or a b) ≡ true
+-- A run that has come to its end stays so.
+pub still : (a b : Option Halt) → is_some a ≡ true → is_some (option_or a b) ≡ true
 still None b h = cc
 still (Some halt) b h = refl
 

@@ -45,10 +45,10 @@ pub record IsTaking (o : Opening) (run j : ℕ) (list : List Entry) (state : Sta
   pub accepted : due o older start ≡ Some started
   pub run_is : started.run ≡ run
   pub pulls :
-    takes run j (asked o.me trigger) (work o (between ++ Met start Saved ∷ older)) ≡ Some state
+      takes run j (asked o.me trigger) (work o (between ++ Met start Saved ∷ older)) ≡ Some state
   pub counts :
-    (k : ℕ) → has state.counted k ≡ true
-    → IsDoneIn o (Met start Saved ∷ older) between (record { run = run; server = o.me; job = j }) k
+      (k : ℕ) → has state.counted k ≡ true
+      → IsDoneIn o (Met start Saved ∷ older) between (record { run = run; server = o.me; job = j }) k
   pub counts_all :
-    (k : ℕ) → IsDoneIn o (Met start Saved ∷ older) between (record { run = run; server = o.me; job = j }) k
-    → has state.counted k ≡ true
+      (k : ℕ) → IsDoneIn o (Met start Saved ∷ older) between (record { run = run; server = o.me; job = j }) k
+      → has state.counted k ≡ true

@@ -36,7 +36,7 @@ pub record IsHeard (o : Opening) (past : List Entry) (j : ℕ) (state : State) :
   pub fits : misfit state state.key job.rec ≡ None
   pub attempt : ℕ
   pub sent :
-    Contains (heard past) (record { from = Client; to = Server o.me; body = Saved attempt state })
+      Contains (heard past) (record { from = Client; to = Server o.me; body = Saved attempt state })
 
 -- The present run was taken by a Trigger that asks for the cut, and with this event the client has told
 -- of each of its jobs that its state is kept, or needn't be.
@@ -45,5 +45,5 @@ pub record IsKept (o : Opening) (past : List Entry) (e : Event) : Type 0 where
   pub works : work o past ≡ Some now
   pub wants : wants_cut (halted now.run now.since) ≡ true
   pub kept :
-    (j : ℕ) → j < length now.jobs
-    → Contains (heard_with e (heard past)) (record { from = Client; to = Server o.me; body = StateAck now.run j })
+      (j : ℕ) → j < length now.jobs
+      → Contains (heard_with e (heard past)) (record { from = Client; to = Server o.me; body = StateAck now.run j })

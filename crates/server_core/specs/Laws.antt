@@ -14,18 +14,20 @@ use Rattle.engine.specs.Legal.{IsLegal}
 use Rattle.engine.specs.Running.{Origin}
 use Rattle.messages.specs.declared.body.Body.TheVariants as bodies
 use Rattle.messages.specs.declared.packet.PacketParts.{PacketParts}
+use Rattle.messages.specs.Laws.{IsPacket}
 use Rattle.messages.specs.declared.refusal.Act.TheVariants as acts
 use Rattle.server_core.specs.declared.event.Event.{Event}
 use Rattle.server_core.specs.History.{Opening, Entry, Met}
 use Rattle.server_core.specs.Request.{Request, asked}
 use Rattle.server_core.specs.Texts.{jobs_for}
 use Rattle.server_core.specs.Run.{Work, is_halted, history}
-use Rattle.server_core.specs.Words.{Staged, is_on, boot, last_run, work, due}
+use Rattle.server_core.specs.Words.{Staged, is_on, boot, last_run, staged, work, due}
 use Rattle.server_core.specs.Taken.{taken, takes, takings}
 use Rattle.server_core.specs.Check.{Check, With, check, progress}
 use Rattle.server_core.specs.Answers.{packets, issue, act, looked}
 use Rattle.server_core.specs.Accepted.{IsTaking}
 use Rattle.server_core.specs.Heard.{IsHeard, IsKept}
+use Rattle.server_core.specs.Ranges.{CameInRange, OpensInRange}
 
 -- The last run and the boot never fall.
 abbrev pub NumbersGrow : Type 0
@@ -129,6 +131,10 @@ abbrev pub TextsGiveSets : Type 0
 TextsGiveSets =
     (phase : Phase) (text : List ℕ) (jobs : List Job) → jobs_for phase text ≡ Ok jobs → IsSet jobs
 
+-- So are the jobs that are staged.
+abbrev pub StagingsHaveSets : Type 0
+StagingsHaveSets = (o : Opening) (past : List Entry) (s : Staged) → staged o past ≡ Some s → IsSet s.jobs
+
 -- So are the jobs of the present run.
 abbrev pub RunsHaveSets : Type 0
 RunsHaveSets = (o : Opening) (past : List Entry) (w : Work) → work o past ≡ Some w → IsSet w.jobs
@@ -184,3 +190,13 @@ WithWasHeard =
 -- A server asks for the cut only once the client has told of each job of the run that its state is kept.
 abbrev pub CutsWhenKept : Type 0
 CutsWhenKept = (o : Opening) (past : List Entry) (e : Event) → act o past e ≡ acts.Cut → IsKept o past e
+
+-- A server sends at most 16 packets in answer to one event.
+abbrev pub PacketsAreFew : Type 0
+PacketsAreFew = (o : Opening) (past : List Entry) (e : Entry) → length (packets o past e) ≤ 16
+
+-- The packets that a server sends are within the ranges of packets, where what came is within its.
+abbrev pub PacketsAreInRange : Type 0
+PacketsAreInRange =
+    (o : Opening) (past : List Entry) (e : Entry) →
+    OpensInRange o → CameInRange (e ∷ past) → AllByRecursion IsPacket (packets o past e)

@@ -4,6 +4,7 @@ pub mod Check
 pub mod Heard
 pub mod History
 pub mod Laws
+pub mod Ranges
 pub mod Replies
 pub mod Request
 pub mod Run

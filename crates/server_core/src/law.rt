@@ -1,9 +1,10 @@
 //! What holds of every list of what came to a server. The functions have nothing to run.
 
-ghost use Rattle.server_core.specs.Laws.{TakenAtMostOnce, NumbersGrow, StartsOnce, PresentIsLast, LooksAtAll, HoldsTheTaken, SendsTheTaken, StatesTellJobs, NoStateIsUntaken, TakingsStay, TextsGiveSets, RunsHaveSets, ChecksHaveSets, HistoriesAreLegal, CountsTheDone, QuietWhileLast, QuietUntilChecked, WithWasHeard, CutsWhenKept};
+ghost use Rattle.server_core.specs.Laws.{TakenAtMostOnce, NumbersGrow, StartsOnce, PresentIsLast, LooksAtAll, HoldsTheTaken, SendsTheTaken, StatesTellJobs, NoStateIsUntaken, TakingsStay, TextsGiveSets, StagingsHaveSets, RunsHaveSets, ChecksHaveSets, HistoriesAreLegal, CountsTheDone, QuietWhileLast, QuietUntilChecked, WithWasHeard, CutsWhenKept, PacketsAreFew, PacketsAreInRange};
 
 use engine::{legal_law, taken_law};
 use job_file::{jobs_are_within_limits, jobs_fit};
+use window::counting_law;
 
 /// The last run and the boot never fall.
 pub fn numbers_grow()
@@ -40,10 +41,11 @@ pub fn the_untaken()
     ensures stay { TakingsStay }
 {}
 
-/// The jobs of a text, of the present run and of the open check are a set, and the history of each job
-/// is legal.
+/// The jobs of a text, and so those that are staged, run or checked, are a set, and the history of each
+/// job is legal.
 pub fn legal_histories()
     ensures texts { TextsGiveSets }
+    ensures stagings { StagingsHaveSets }
     ensures runs { RunsHaveSets }
     ensures checks { ChecksHaveSets }
     ensures histories { HistoriesAreLegal }
@@ -80,3 +82,18 @@ pub fn with_was_heard()
 pub fn cuts_when_kept()
     ensures { CutsWhenKept }
 {}
+
+/// A server sends at most 16 packets in answer to one event.
+pub fn few_packets()
+    ensures { PacketsAreFew }
+{
+    legal_histories();
+}
+
+/// The packets that a server sends are within the ranges of packets, where what came is within its.
+pub fn packets_are_in_range()
+    ensures { PacketsAreInRange }
+{
+    legal_histories();
+    counting_law();
+}

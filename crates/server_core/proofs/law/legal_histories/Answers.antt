@@ -1,9 +1,12 @@
-use Rattle.server_core.proofs.JobLemmas.{text_set, run_set, check_set}
+use Rattle.server_core.proofs.SetLemmas.{text_set, staged_set, run_set, check_set}
 use Rattle.server_core.proofs.LegalLemmas.{history_legal, some_window}
 use Rattle.server_core.proofs.law.legal_histories.Goals as goal
 
 pub returns-clause-texts : goal.returns-clause-texts
 returns-clause-texts c = text_set c.jobs_are_within_limits.ensures c.jobs_fit.ensures
+
+pub returns-clause-stagings : goal.returns-clause-stagings
+returns-clause-stagings c = staged_set (text_set c.jobs_are_within_limits.ensures c.jobs_fit.ensures)
 
 pub returns-clause-runs : goal.returns-clause-runs
 returns-clause-runs c = run_set (text_set c.jobs_are_within_limits.ensures c.jobs_fit.ensures)
