@@ -24,7 +24,7 @@ use Rattle.server_core.proofs.WorkLemmas.{is_of}
 use Rattle.server_core.specs.Laws.{RunsHaveSets, HistoriesAreLegal}
 use Rattle.server_core.proofs.SetLemmas.{job_at}
 use Rattle.server_core.proofs.ListLemmas.{none_in, only_in}
-use Rattle.server_core.proofs.DoneLemmas.{began, done_on, done_back}
+use Rattle.server_core.proofs.BeganLemmas.{began, done_on, done_back}
 
 -- What a taking takes.
 record Takes (run j : ℕ) (w : Work) (state : State) : Type 0 where

@@ -1,4 +1,7 @@
 pub mod ActLemmas
+pub mod BeganLemmas
+pub mod BodyLemmas
+pub mod CheckReplyLemmas
 pub mod CountLemmas
 pub mod DoneLemmas
 pub mod Due
@@ -13,6 +16,7 @@ pub mod Looked
 pub mod QuietLemmas
 pub mod RangeLemmas
 pub mod ReplyLemmas
+pub mod RunReplyLemmas
 pub mod SetLemmas
 pub mod StartLemmas
 pub mod StateLemmas

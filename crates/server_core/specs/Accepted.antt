@@ -50,5 +50,6 @@ pub record IsTaking (o : Opening) (run j : ℕ) (list : List Entry) (state : Sta
       (k : ℕ) → has state.counted k ≡ true
       → IsDoneIn o (Met start Saved ∷ older) between (record { run = run; server = o.me; job = j }) k
   pub counts_all :
-      (k : ℕ) → IsDoneIn o (Met start Saved ∷ older) between (record { run = run; server = o.me; job = j }) k
+      (k : ℕ)
+      → IsDoneIn o (Met start Saved ∷ older) between (record { run = run; server = o.me; job = j }) k
       → has state.counted k ≡ true

@@ -66,7 +66,8 @@ is_attempt a (Some c) = c.attempt == a
 
 -- Something of another boot is refused first, and then what isn't there.
 abbrev pub refused_by : Bool → Bool → Option Fault
-refused_by same_boot there = if not same_boot then Some OldBoot else (if there then None else Some NotInFlight)
+refused_by same_boot there =
+    if not same_boot then Some OldBoot else (if there then None else Some NotInFlight)
 
 -- Why a request is refused, if it is.
 abbrev pub refusal_of : Now → Request → Option Fault

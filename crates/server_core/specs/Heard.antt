@@ -46,4 +46,5 @@ pub record IsKept (o : Opening) (past : List Entry) (e : Event) : Type 0 where
   pub wants : wants_cut (halted now.run now.since) ≡ true
   pub kept :
       (j : ℕ) → j < length now.jobs
-      → Contains (heard_with e (heard past)) (record { from = Client; to = Server o.me; body = StateAck now.run j })
+      → Contains (heard_with e (heard past))
+      (record { from = Client; to = Server o.me; body = StateAck now.run j })

@@ -133,7 +133,8 @@ TextsGiveSets =
 
 -- So are the jobs that are staged.
 abbrev pub StagingsHaveSets : Type 0
-StagingsHaveSets = (o : Opening) (past : List Entry) (s : Staged) → staged o past ≡ Some s → IsSet s.jobs
+StagingsHaveSets =
+    (o : Opening) (past : List Entry) (s : Staged) → staged o past ≡ Some s → IsSet s.jobs
 
 -- So are the jobs of the present run.
 abbrev pub RunsHaveSets : Type 0
@@ -165,7 +166,8 @@ gives_write (Some answer) = is_write answer
 -- one.
 abbrev pub QuietWhileLast : Type 0
 QuietWhileLast =
-    (o : Opening) (older between : List Entry) (trigger e : Event) (was : Left) (run j : ℕ) (state : State) →
+    (o : Opening) (older between : List Entry) (trigger e : Event) (was : Left) (run j : ℕ)
+    (state : State) →
     takes run j (asked o.me trigger) (work o older) ≡ Some state
     → last_run o (between ++ Met trigger was ∷ older) ≡ run
     → gives_write (issue o (between ++ Met trigger was ∷ older) e) ≡ false
@@ -174,7 +176,8 @@ QuietWhileLast =
 -- is issued, of any job or run.
 abbrev pub QuietUntilChecked : Type 0
 QuietUntilChecked =
-    (o : Opening) (older between newer : List Entry) (trigger e : Event) (was left : Left) (run j i : ℕ) (state with_it : State) →
+    (o : Opening) (older between newer : List Entry) (trigger e : Event) (was left : Left)
+    (run j i : ℕ) (state with_it : State) →
     takes run j (asked o.me trigger) (work o older) ≡ Some state
     → progress o (newer ++ Met e left ∷ (between ++ Met trigger was ∷ older)) i ≡ Some (With with_it)
     → with_it.key.run ≡ run
@@ -187,7 +190,8 @@ WithWasHeard =
     (o : Opening) (past : List Entry) (j : ℕ) (state : State) →
     progress o past j ≡ Some (With state) → IsHeard o past j state
 
--- A server asks for the cut only once the client has told of each job of the run that its state is kept.
+-- A server asks for the cut only once the client has told of each job of the run that its state is
+-- kept.
 abbrev pub CutsWhenKept : Type 0
 CutsWhenKept = (o : Opening) (past : List Entry) (e : Event) → act o past e ≡ acts.Cut → IsKept o past e
 

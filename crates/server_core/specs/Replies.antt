@@ -31,7 +31,16 @@ pub record Now : Type 0 where
 -- A refusal of a request for a run, and an attempt where there is one, with a value.
 abbrev pub refuse : Asked → Reason → ℕ → ℕ → ℕ → List Body
 refuse asked reason r a value =
-    Refused (record { asked = asked; reason = reason; job = 0; jobs = 0; run = r; attempt = a; value = value }) ∷ []
+    Refused (record {
+      asked = asked;
+      reason = reason;
+      job = 0;
+      jobs = 0;
+      run = r;
+      attempt = a;
+      value = value;
+    })
+    ∷ []
 
 -- The number of the staged run, 0 where there is none.
 abbrev pub number_staged : Option Staged → ℕ
@@ -51,7 +60,8 @@ reply_to_new_jobs r None is_open text = if is_open then refuse Jobs Busy r 0 0 e
 -- Jobs of a run up to the last run, or below the staged run, are old.
 abbrev pub reply_to_jobs : Now → ℕ → List ℕ → List Body
 reply_to_jobs now r text =
-    if nat_le r now.last || nat_lt r (number_staged now.staged) then refuse Jobs Old r 0 (max now.last (number_staged now.staged))
+    if nat_le r now.last || nat_lt r (number_staged now.staged)
+    then refuse Jobs Old r 0 (max now.last (number_staged now.staged))
     else reply_to_new_jobs r (for_run r now.staged) (is_open now.run) (jobs_for Write text)
 
 -- The present run, where it is this one.
@@ -125,7 +135,8 @@ progress_frame c j (checks.Done report) = Report c.run c.attempt j (length c.job
 -- Those of jobs, numbered on from j.
 abbrev pub check_frames_from : Check → ℕ → List Job → List Body
 check_frames_from c j [] = []
-check_frames_from c j (job ∷ jobs) = progress_frame c j (progress_after c j job c.since) ++ check_frames_from c (j + 1) jobs
+check_frames_from c j (job ∷ jobs) =
+    progress_frame c j (progress_after c j job c.since) ++ check_frames_from c (j + 1) jobs
 
 -- The packets of a check, in the order of its jobs.
 abbrev pub check_frames : Check → List Body
@@ -134,7 +145,14 @@ check_frames c = check_frames_from c 0 c.jobs
 -- A check that is opened, or what is wrong with its text.
 abbrev pub reply_to_check_text : Now → ℕ → ℕ → Result (List Job) ℕ → List Body
 reply_to_check_text now r a (Ok js) =
-    check_frames (record { server = now.server; boot = now.boot; run = r; attempt = a; jobs = js; since = [] })
+    check_frames (record {
+      server = now.server;
+      boot = now.boot;
+      run = r;
+      attempt = a;
+      jobs = js;
+      since = [];
+    })
 reply_to_check_text now r a (Err value) = refuse Verify BadJobs r a value
 
 -- A Verify of a new attempt waits until no write is open and each job of a writing run has ended.

@@ -16,7 +16,8 @@ job_state origin before = state_after origin (history origin before)
 -- The same of job j of a run, where there is such a job and it saves its state.
 abbrev pub saved_state : Work → ℕ → Option Job → List Request → Option State
 saved_state w j None before = None
-saved_state w j (Some job) before = if job.save then Some (job_state (origin_of w j job) before) else None
+saved_state w j (Some job) before =
+    if job.save then Some (job_state (origin_of w j job) before) else None
 
 -- The state of job j of a run behind these requests, where it saves one.
 abbrev pub state_of_job : Work → ℕ → List Request → Option State

@@ -95,7 +95,8 @@ abbrev mutual
   last_run o [] = o.last
   last_run o (Met e left ∷ past) =
       recorded left
-      (is_due (is_on past) (last_run o past) (greatest (last_run o past) (stagings o past)) (work o past) (asked o.me e))
+      (is_due (is_on past) (last_run o past) (greatest (last_run o past) (stagings o past)) (work o past)
+      (asked o.me e))
       (last_run o past)
   last_run o (Cut ∷ past) = last_run o past
   last_run o (Restart left ∷ past) = last_run o past
@@ -104,7 +105,8 @@ abbrev mutual
   pub stagings : Opening → List Entry → List Staged
   stagings o [] = []
   stagings o (Met e left ∷ past) =
-      staged_after left (stages (is_on past) (last_run o past) (work o past) (asked o.me e)) (stagings o past)
+      staged_after left (stages (is_on past) (last_run o past) (work o past) (asked o.me e))
+      (stagings o past)
   stagings o (Cut ∷ past) = []
   stagings o (Restart left ∷ past) = []
 
@@ -113,7 +115,8 @@ abbrev mutual
   work o [] = None
   work o (Met e left ∷ past) =
       work_after left
-      (is_due (is_on past) (last_run o past) (greatest (last_run o past) (stagings o past)) (work o past) (asked o.me e))
+      (is_due (is_on past) (last_run o past) (greatest (last_run o past) (stagings o past)) (work o past)
+      (asked o.me e))
       o.me (boot o past) (asked o.me e) (work o past)
   work o (Cut ∷ past) = None
   work o (Restart left ∷ past) = None

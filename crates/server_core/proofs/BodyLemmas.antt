@@ -1,0 +1,106 @@
+-- What is known of bodies and numbers that are in their ranges.
+use Rattle.std.proofs.Common.{◌≡◌, refl, sym, subst, ℕ, zero, suc, ◌+◌, ◌^◌, ◌<◌, arith, Bool, true, false, ◌&&◌, ◌==◌, List, [], ◌∷◌, ◌++◌, length, Option, None, Some}
+use Rattle.std.specs.Prelude.{if◌then◌else◌, ◌||◌, nat_lt, nat_le, max, slice_get, Result, Ok, Err, IsTrue}
+use Rattle.std.specs.List.{AllByRecursion}
+use Rattle.std.proofs.lemmas.Bool.{and_parts, and_from, le-leb, lt-ltb}
+use Rattle.fc_base.specs.declared.fault.Fault.{Fault}
+use Rattle.fc_base.specs.declared.fault.Fault.TheVariants as base
+use Rattle.fc_base.specs.declared.report.ReportParts.{ReportParts}
+use Rattle.fc_base.specs.Report.{is_report}
+use Rattle.fc_base.specs.JobParts.{is_within_limits}
+use Rattle.job_file.specs.declared.job.Job.{Job}
+use Rattle.job_file.specs.declared.job.Phase.TheVariants.{Read, Write}
+use Rattle.job_file.specs.Laws.{FitsItsWidths}
+use Rattle.verify_state.specs.State.{State as SavedState}
+use Rattle.messages.specs.declared.body.Body.{Body}
+use Rattle.messages.specs.declared.body.Body.TheVariants as bodies
+use Rattle.messages.specs.declared.refusal.Asked.{Asked}
+use Rattle.messages.specs.declared.refusal.Asked.TheVariants as asks
+use Rattle.messages.specs.declared.refusal.Reason.{Reason}
+use Rattle.messages.specs.declared.refusal.Reason.TheVariants as reasons
+use Rattle.messages.specs.Ranges.{is_word, is_run, is_attempt, is_jobs, is_job_of, is_body, is_job_refused, is_attempt_refused, KeepsState}
+use Rattle.messages.specs.Laws.{IsPacket}
+use Rattle.disk_model.specs.Left.{is_lost}
+use Rattle.server_core.specs.History.{Met, Cut, Restart}
+use Rattle.server_core.specs.Request.{Request, ToStage, ToStart, ToTrigger, ToMark, ToStop, ToVerify, ToHold, ToPassFully, ToIssue, ToEnd, ToReport, ToNobody, asked}
+use Rattle.server_core.specs.Texts.{jobs_for}
+use Rattle.server_core.specs.Run.{Work, Halt, Triggered, Stopped, halted, origin_of, is_open, is_unended}
+use Rattle.server_core.specs.Words.{Staged, for_run, is_on, boot, last_run, work}
+use Rattle.verify_state.specs.Misfit.{misfit}
+use Rattle.server_core.specs.Taken.{job_state}
+use Rattle.server_core.specs.Check.{Check, Progress, Wanting, Full, With, Refused, Done, held, passed, reported, begun, progress_after, progress_by, progress_at, progress_in}
+use Rattle.server_core.specs.Replies.{Now, refuse, number_staged, reply_to_text, reply_to_new_jobs, present, reply_to_new_start, reply_to_start, gone_or_unknown, state_frame, state_frames, reply_to_halt, reply_to_trigger, reply_to_stop, progress_frame, check_frames_from, check_frames, reply_to_check_text, reply_to_new_check, reply_to_attempt, misfit_frame, reply_to_state_for, reply_to_state, reply_to_report, replies}
+use Rattle.server_core.specs.Answers.{now, is_ready, is_attempt as is_attempt_of, refused_by, refusal_of, refusal, to_client, sent_by}
+use Rattle.window.specs.Counting.{ComesToPossible}
+use Rattle.server_core.specs.Laws.{IsSet, TextsGiveSets, HistoriesAreLegal, PacketsAreInRange}
+use Rattle.server_core.proofs.WorkLemmas as works
+use Rattle.server_core.proofs.StateLemmas.{run_below, state_fits}
+use Rattle.server_core.proofs.SetLemmas.{SomeStaged, SomeWork, CheckFits, for_run_fits, staged_fits}
+use Rattle.server_core.proofs.SetLemmas as kept
+use Rattle.server_core.proofs.RangeLemmas.{fault_word, TextFits, text_fits, RequestFits, asked_fits, InRun, InAttempt, kept_in_range, last_below}
+
+-- The laws of the layers below, on which the ranges rest.
+pub record Below : Type 0 where
+  pub texts : TextsGiveSets
+  pub legal : HistoriesAreLegal
+  pub possible : ComesToPossible
+
+-- A run whose numbers are in their ranges, and its jobs a set.
+pub record RunFits (w : Work) : Type 0 where
+  pub run : is_run w.run ≡ true
+  pub server : w.server < 8
+  pub jobs : IsSet w.jobs
+
+abbrev pub SomeRun : Option Work → Type 0
+SomeRun None = Unit {0}
+SomeRun (Some w) = RunFits w
+
+pub run_of : (me b last : ℕ) (x : Option Work) → me < 8 → SomeWork InRun x → works.Of me b last x → SomeRun x
+run_of me b last None l h k = tt
+run_of me b last (Some w) l h k = record { run = h.run; server = subst (λ n. n < 8) (sym k.server) l; jobs = h.jobs }
+
+abbrev pub CheckInRange : Check → Type 0
+CheckInRange c = CheckFits RequestFits InRun InAttempt c
+
+abbrev pub SomeCheck : Option Check → Type 0
+SomeCheck c = kept.SomeCheck RequestFits InRun InAttempt c
+
+abbrev pub BodyFits : Body → Type 0
+BodyFits b = (is_body b ≡ true) × KeepsState b
+
+abbrev pub Fit : List Body → Type 0
+Fit bs = AllByRecursion BodyFits bs
+
+pub all_append : {X : Type 0} (P : X → Type 0) (xs ys : List X) → AllByRecursion P xs → AllByRecursion P ys → AllByRecursion P (xs ++ ys)
+all_append P [] ys a b = b
+all_append P (x ∷ xs) ys a b = (a.0, all_append P xs ys a.1 b)
+
+pub fit_if : (b : Bool) (xs ys : List Body) → Fit xs → Fit ys → Fit (if b then xs else ys)
+fit_if true xs ys h k = h
+fit_if false xs ys h k = k
+
+-- ---- numbers
+
+pub word : (n : ℕ) → n < 2 ^ 64 → is_word n ≡ true
+word n h = lt-ltb n (2 ^ 64) h
+
+pub run_word : (r : ℕ) → is_run r ≡ true → is_word r ≡ true
+run_word r h = word r (run_below r h)
+
+pub jobs_number : (js : List Job) → IsSet js → is_jobs (length js) ≡ true
+jobs_number js s = and_from _ _ (le-leb 1 (length js) s.within.some) (le-leb (length js) 16 s.within.few)
+
+pub one_of : (js : List Job) (j : ℕ) → IsSet js → j < length js → is_job_of j (length js) ≡ true
+one_of js j s l = and_from _ _ (jobs_number js s) (lt-ltb j (length js) l)
+
+pub job_number : (js : List Job) (j : ℕ) → IsSet js → j < length js → j < 16
+job_number js j s l = let m = s.within.few in omega arith
+
+-- ---- refusals
+
+pub refuse_fits : (asked : Asked) (reason : Reason) (r a value : ℕ) → is_run r ≡ true → is_word value ≡ true → is_job_refused reason 0 0 ≡ true → is_attempt_refused asked a ≡ true → Fit (refuse asked reason r a value)
+refuse_fits asked reason r a value h v j k = ((and_from _ _ (and_from _ _ (and_from _ _ h v) j) k, tt), tt)
+
+pub gone_fits : (asked : Asked) (r last : ℕ) → is_run r ≡ true → last < 2 ^ 64 → is_attempt_refused asked 0 ≡ true → Fit (gone_or_unknown asked r last)
+gone_fits asked r last h l a =
+    fit_if (nat_le r last) _ _ (refuse_fits asked reasons.Gone r 0 last h (word last l) refl a) (refuse_fits asked reasons.Unknown r 0 last h (word last l) refl a)
