@@ -5,6 +5,7 @@ pub mod CheckReplyLemmas
 pub mod CountLemmas
 pub mod DoneLemmas
 pub mod Due
+pub mod ExampleLemmas
 pub mod FewLemmas
 pub mod FrameLemmas
 pub mod HeardLemmas

@@ -1,6 +1,7 @@
 //! What holds of every list of what came to a server. The functions have nothing to run.
 
 ghost use Rattle.server_core.specs.Laws.{TakenAtMostOnce, NumbersGrow, StartsOnce, PresentIsLast, LooksAtAll, HoldsTheTaken, SendsTheTaken, StatesTellJobs, NoStateIsUntaken, TakingsStay, TextsGiveSets, StagingsHaveSets, RunsHaveSets, ChecksHaveSets, HistoriesAreLegal, CountsTheDone, QuietWhileLast, QuietUntilChecked, WithWasHeard, CutsWhenKept, PacketsAreFew, PacketsAreInRange};
+ghost use Rattle.server_core.specs.Examples.{StartsAndIssues, TakesOnce, ForgetsByACut, SavesBeforeItStarts, StopsForGood, ChecksTheLastRun};
 
 use engine::{legal_law, taken_law};
 use job_file::{jobs_are_within_limits, jobs_fit};
@@ -97,3 +98,13 @@ pub fn packets_are_in_range()
     legal_histories();
     counting_law();
 }
+
+/// Lists of events that can be followed by hand, and what a server answers in them.
+pub fn examples()
+    ensures starts { StartsAndIssues }
+    ensures takes { TakesOnce }
+    ensures forgets { ForgetsByACut }
+    ensures saves { SavesBeforeItStarts }
+    ensures stops { StopsForGood }
+    ensures checks { ChecksTheLastRun }
+{}

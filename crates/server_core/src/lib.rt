@@ -8,7 +8,8 @@ mod status;
 
 pub use event::{Event, WriteEnd};
 pub use law::{
-    counts_the_done, cuts_when_kept, few_packets, legal_histories, looks_at_all, numbers_grow,
-    one_taking, packets_are_in_range, quiet, starts, the_taken, the_untaken, with_was_heard,
+    counts_the_done, cuts_when_kept, examples, few_packets, legal_histories, looks_at_all,
+    numbers_grow, one_taking, packets_are_in_range, quiet, starts, the_taken, the_untaken,
+    with_was_heard,
 };
 pub use status::{Stage, Status};
