@@ -1,39 +1,17 @@
 -- The history of a job has just the completions that were accepted since its Start.
-use Rattle.std.proofs.Common.{◌≡◌, refl, sym, ◌∙◌, ap, subst, ◌⊎◌, inl, inr, ℕ, Bool, true, false, ◌&&◌, ◌==◌, List, [], ◌∷◌, ◌++◌, Option, None, Some}
-use Rattle.std.specs.Prelude.{nat_lt, if◌then◌else◌, not, ◌||◌, is_some, slice_get, Result, Ok, Err}
-use Rattle.std.specs.List.{list_any}
-use Rattle.std.proofs.lemmas.Bool.{and_parts, or_cases, or_left, or_right, eqb-true, eq-eqb}
-use Rattle.std.proofs.lemmas.List.Folds.{list_any-append}
-use Rattle.fc_base.specs.declared.fault.Fault.{Fault}
-use Rattle.fc_base.specs.declared.fault.Fault.TheVariants.{OldBoot, NotInFlight}
-use Rattle.fc_base.specs.declared.numbers.Key.{Key}
-use Rattle.fc_base.specs.Counted.{has}
+use Rattle.std.proofs.Common.{◌≡◌, refl, sym, ◌∙◌, ap, subst, ◌⊎◌, inl, inr, ℕ, true, List, [], ◌∷◌, ◌++◌, Option, None, Some}
+use Rattle.std.specs.Prelude.{is_some, slice_get}
 use Rattle.job_file.specs.declared.job.Job.{Job}
 use Rattle.window.specs.History as window
-use Rattle.write_order.specs.Blocks.{block_of}
-use Rattle.engine.specs.declared.issue.Ticket.{Ticket}
-use Rattle.engine.specs.declared.issue.Issue.{Issue as Answer}
-use Rattle.engine.specs.declared.issue.Issue.TheVariants as issues
 use Rattle.engine.specs.Running.{Origin}
-use Rattle.fc_base.specs.Keys.{is_same_key}
-use Rattle.engine.specs.Answers.{answer_to, ticket_answer, names_one_of}
-use Rattle.messages.specs.declared.body.Body.{Body}
-use Rattle.messages.specs.declared.body.Body.TheVariants as bodies
 use Rattle.server_core.specs.declared.event.Event.{Event}
-use Rattle.server_core.specs.declared.event.Event.TheVariants.{Deliver, Issue, WriteDone, CheckDone}
-use Rattle.server_core.specs.declared.event.WriteEnd.{WriteEnd}
-use Rattle.server_core.specs.declared.event.WriteEnd.TheVariants.{Done, Failed}
 use Rattle.disk_model.specs.declared.left.Left.{Left}
 use Rattle.disk_model.specs.declared.left.Left.TheVariants.{NoSave, Saved, LostNew, LostOld}
-use Rattle.disk_model.specs.Left.{is_lost}
 use Rattle.server_core.specs.History.{Opening, Entry, Met, Cut, Restart}
-use Rattle.server_core.specs.Request.{Request, ToStage, ToStart, ToTrigger, ToMark, ToStop, ToVerify, ToHold, ToPassFully, ToIssue, ToEnd, ToReport, ToNobody, is_client, is_server, asked_by, asked}
-use Rattle.server_core.specs.Run.{Work, is_open, halted, origin_of, with_issue, with_ticket, with_request, history, goes_on}
-use Rattle.server_core.specs.Words.{Staged, for_run, is_on, boot, is_due, work_after, last_run, staged, work, due}
-use Rattle.server_core.specs.Answers.{names_open_of, refused_by, refusal}
+use Rattle.server_core.specs.Request.{Request, asked}
+use Rattle.server_core.specs.Run.{Work, halted, origin_of, history, goes_on}
+use Rattle.server_core.specs.Words.{Staged, boot, work_after, work, due}
 use Rattle.server_core.specs.Accepted.{IsDoneBy, IsDoneIn}
-use Rattle.server_core.proofs.WorkLemmas.{is_of}
-use Rattle.server_core.proofs.KeyLemmas.{same_key}
 use Rattle.server_core.proofs.DoneLemmas.{IsAt, one_on, one_back, one_kept}
 
 -- The run w goes on through these entries, which came behind others.

@@ -1,43 +1,25 @@
 -- What is replied to Verify, Saved and reports is in its ranges.
-use Rattle.std.proofs.Common.{◌≡◌, refl, sym, subst, ℕ, zero, suc, ◌+◌, ◌^◌, ◌<◌, arith, Bool, true, false, ◌&&◌, ◌==◌, List, [], ◌∷◌, ◌++◌, length, Option, None, Some}
-use Rattle.std.specs.Prelude.{if◌then◌else◌, ◌||◌, nat_lt, nat_le, max, slice_get, Result, Ok, Err, IsTrue}
+use Rattle.std.proofs.Common.{◌≡◌, refl, ℕ, zero, suc, ◌+◌, ◌<◌, arith, Bool, true, false, ◌&&◌, ◌==◌, List, [], ◌∷◌, length, Option, None, Some}
+use Rattle.std.specs.Prelude.{if◌then◌else◌, ◌||◌, nat_lt, slice_get, Result, Ok, Err}
 use Rattle.std.specs.List.{AllByRecursion}
-use Rattle.std.proofs.lemmas.Bool.{and_parts, and_from, le-leb, lt-ltb}
+use Rattle.std.proofs.lemmas.Bool.{and_parts, and_from, lt-ltb}
 use Rattle.fc_base.specs.declared.fault.Fault.{Fault}
-use Rattle.fc_base.specs.declared.fault.Fault.TheVariants as base
 use Rattle.fc_base.specs.declared.report.ReportParts.{ReportParts}
 use Rattle.fc_base.specs.Report.{is_report}
-use Rattle.fc_base.specs.JobParts.{is_within_limits}
 use Rattle.job_file.specs.declared.job.Job.{Job}
-use Rattle.job_file.specs.declared.job.Phase.TheVariants.{Read, Write}
-use Rattle.job_file.specs.Laws.{FitsItsWidths}
+use Rattle.job_file.specs.declared.job.Phase.TheVariants.{Read}
 use Rattle.verify_state.specs.State.{State as SavedState}
-use Rattle.messages.specs.declared.body.Body.{Body}
-use Rattle.messages.specs.declared.body.Body.TheVariants as bodies
-use Rattle.messages.specs.declared.refusal.Asked.{Asked}
 use Rattle.messages.specs.declared.refusal.Asked.TheVariants as asks
-use Rattle.messages.specs.declared.refusal.Reason.{Reason}
 use Rattle.messages.specs.declared.refusal.Reason.TheVariants as reasons
-use Rattle.messages.specs.Ranges.{is_word, is_run, is_attempt, is_jobs, is_job_of, is_body, is_job_refused, is_attempt_refused, KeepsState}
-use Rattle.messages.specs.Laws.{IsPacket}
-use Rattle.disk_model.specs.Left.{is_lost}
-use Rattle.server_core.specs.History.{Met, Cut, Restart}
-use Rattle.server_core.specs.Request.{Request, ToStage, ToStart, ToTrigger, ToMark, ToStop, ToVerify, ToHold, ToPassFully, ToIssue, ToEnd, ToReport, ToNobody, asked}
+use Rattle.messages.specs.Ranges.{is_word, is_run, is_attempt}
+use Rattle.server_core.specs.Request.{Request, ToStage, ToStart, ToTrigger, ToMark, ToStop, ToVerify, ToHold, ToPassFully, ToIssue, ToEnd, ToReport, ToNobody}
 use Rattle.server_core.specs.Texts.{jobs_for}
-use Rattle.server_core.specs.Run.{Work, Halt, Triggered, Stopped, halted, origin_of, is_open, is_unended}
-use Rattle.server_core.specs.Words.{Staged, for_run, is_on, boot, last_run, work}
+use Rattle.server_core.specs.Run.{is_open, is_unended}
 use Rattle.verify_state.specs.Misfit.{misfit}
-use Rattle.server_core.specs.Taken.{job_state}
 use Rattle.server_core.specs.Check.{Check, Progress, Wanting, Full, With, Refused, Done, held, passed, reported, begun, progress_after, progress_by, progress_at, progress_in}
-use Rattle.server_core.specs.Replies.{Now, refuse, number_staged, reply_to_text, reply_to_new_jobs, present, reply_to_new_start, reply_to_start, gone_or_unknown, state_frame, state_frames, reply_to_halt, reply_to_trigger, reply_to_stop, progress_frame, check_frames_from, check_frames, reply_to_check_text, reply_to_new_check, reply_to_attempt, misfit_frame, reply_to_state_for, reply_to_state, reply_to_report, replies}
-use Rattle.server_core.specs.Answers.{now, is_ready, is_attempt as is_attempt_of, refused_by, refusal_of, refusal, to_client, sent_by}
-use Rattle.window.specs.Counting.{ComesToPossible}
-use Rattle.server_core.specs.Laws.{IsSet, TextsGiveSets, HistoriesAreLegal, PacketsAreInRange}
-use Rattle.server_core.proofs.WorkLemmas as works
-use Rattle.server_core.proofs.StateLemmas.{run_below, state_fits}
-use Rattle.server_core.proofs.SetLemmas.{SomeStaged, SomeWork, CheckFits, for_run_fits, staged_fits}
-use Rattle.server_core.proofs.SetLemmas as kept
-use Rattle.server_core.proofs.RangeLemmas.{fault_word, TextFits, text_fits, RequestFits, asked_fits, InRun, InAttempt, kept_in_range, last_below}
+use Rattle.server_core.specs.Replies.{Now, progress_frame, check_frames_from, check_frames, reply_to_check_text, reply_to_new_check, reply_to_attempt, misfit_frame, reply_to_state_for, reply_to_state, reply_to_report}
+use Rattle.server_core.specs.Answers.{is_ready, is_attempt as is_attempt_of, refused_by}
+use Rattle.server_core.proofs.RangeLemmas.{fault_word, TextFits, text_fits, RequestFits}
 use Rattle.server_core.proofs.BodyLemmas.{Below, CheckInRange, SomeCheck, BodyFits, Fit, all_append, fit_if, run_word, one_of, job_number, refuse_fits}
 
 abbrev ProgressFits : Progress → Type 0

@@ -1,6 +1,6 @@
 -- What one event adds to the history of a job was accepted.
 use Rattle.std.proofs.Common.{◌≡◌, refl, sym, ◌∙◌, ap, subst, ◌⊎◌, inl, inr, ℕ, Bool, true, false, ◌&&◌, ◌==◌, List, [], ◌∷◌, ◌++◌, Option, None, Some}
-use Rattle.std.specs.Prelude.{nat_lt, if◌then◌else◌, not, ◌||◌, is_some, slice_get, Result, Ok, Err}
+use Rattle.std.specs.Prelude.{nat_lt, if◌then◌else◌, not, ◌||◌, slice_get, Result, Ok, Err}
 use Rattle.std.specs.List.{list_any}
 use Rattle.std.proofs.lemmas.Bool.{and_parts, or_cases, or_left, or_right, eqb-true, eq-eqb}
 use Rattle.std.proofs.lemmas.List.Folds.{list_any-append}
@@ -28,10 +28,10 @@ use Rattle.disk_model.specs.declared.left.Left.TheVariants.{NoSave, Saved, LostN
 use Rattle.disk_model.specs.Left.{is_lost}
 use Rattle.server_core.specs.History.{Opening, Entry, Met, Cut, Restart}
 use Rattle.server_core.specs.Request.{Request, ToStage, ToStart, ToTrigger, ToMark, ToStop, ToVerify, ToHold, ToPassFully, ToIssue, ToEnd, ToReport, ToNobody, is_client, is_server, asked_by, asked}
-use Rattle.server_core.specs.Run.{Work, is_open, halted, origin_of, with_issue, with_ticket, with_request, history, goes_on}
+use Rattle.server_core.specs.Run.{Work, is_open, origin_of, with_issue, with_ticket, with_request, history}
 use Rattle.server_core.specs.Words.{Staged, for_run, is_on, boot, is_due, work_after, last_run, staged, work, due}
 use Rattle.server_core.specs.Answers.{names_open_of, refused_by, refusal}
-use Rattle.server_core.specs.Accepted.{IsDoneBy, IsDoneIn}
+use Rattle.server_core.specs.Accepted.{IsDoneBy}
 use Rattle.server_core.proofs.WorkLemmas.{is_of}
 use Rattle.server_core.proofs.KeyLemmas.{same_key}
 

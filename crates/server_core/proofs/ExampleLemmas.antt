@@ -1,5 +1,5 @@
 -- The examples, by computation.
-use Rattle.std.proofs.Common.{◌≡◌, refl}
+use Rattle.std.proofs.Common.{refl}
 use Rattle.server_core.specs.Texts.{jobs_for}
 use Rattle.server_core.specs.Run.{has_open, have_ended}
 use Rattle.server_core.specs.Taken.{job_state}

@@ -14,6 +14,7 @@ pub mod KeyLemmas
 pub mod LegalLemmas
 pub mod ListLemmas
 pub mod Looked
+pub mod NoteLemmas
 pub mod QuietLemmas
 pub mod RangeLemmas
 pub mod ReplyLemmas

@@ -5,6 +5,7 @@ pub mod Examples
 pub mod Heard
 pub mod History
 pub mod Laws
+pub mod Note
 pub mod Ranges
 pub mod Replies
 pub mod Request

@@ -4,6 +4,7 @@
 
 mod event;
 mod law;
+mod note;
 mod status;
 
 pub use event::{Event, WriteEnd};
@@ -12,4 +13,5 @@ pub use law::{
     numbers_grow, one_taking, packets_are_in_range, quiet, starts, the_taken, the_untaken,
     with_was_heard,
 };
+pub use note::{Noted, one_note};
 pub use status::{Stage, Status};
