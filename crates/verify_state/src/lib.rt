@@ -2,6 +2,7 @@
 #![tactic(auto)]
 
 mod counting;
+mod distinct;
 mod label;
 mod laws;
 mod layouts;

@@ -75,7 +75,7 @@ impl History {
     /// Stops the job, takes its state and cuts the power, and after the restart checks the disk.
     fn cut_and_check(&mut self, alloc: Global) -> Result<CheckReport, Fail> {
         self.engine.stop();
-        let state = self.engine.take()?;
+        let state = self.engine.take();
         self.disk.cut();
         self.disk.power_on(3);
         Ok(
