@@ -10,3 +10,5 @@ pub mod ChoiceLemmas
 pub mod FitLemmas
 pub mod ToldLemmas
 pub mod LawLemmas
+pub mod FramesOfLemmas
+pub mod FrameReading

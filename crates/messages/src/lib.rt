@@ -3,10 +3,14 @@
 
 mod body;
 mod bytes;
+mod chunk;
+mod frame;
+mod frames;
 mod kind;
 mod law;
 mod node;
 mod packet;
+mod piece;
 mod ranges;
 mod reading;
 mod refusal;
@@ -14,11 +18,15 @@ mod text;
 mod writing;
 
 pub use body::Body;
+pub use chunk::{CHUNK_LIMIT, Chunk};
+pub use frame::Frame;
+pub use frames::{Frames, frames_of};
 pub use kind::PacketKind;
 pub use law::{lengths_are_bounded, no_spelling_begins_another, one_spelling};
 pub use node::Node;
 pub use packet::{Packet, PacketParts};
-pub use reading::decode;
+pub use piece::{Piece, PieceParts, Tag};
+pub use reading::{decode, decode_frame};
 pub use refusal::{Act, Asked, Reason, Refusal};
 pub use text::{TEXT_LIMIT, Text};
-pub use writing::encode;
+pub use writing::{encode, encode_frame};
