@@ -12,3 +12,5 @@ pub mod ToldLemmas
 pub mod LawLemmas
 pub mod FramesOfLemmas
 pub mod FrameReading
+pub mod Positions
+pub mod Joining

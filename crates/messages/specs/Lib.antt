@@ -12,3 +12,5 @@ pub mod FramesOf
 pub mod Headers
 pub mod FrameHeaders
 pub mod Laws
+pub mod Tags
+pub mod Assemblies

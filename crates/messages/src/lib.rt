@@ -1,6 +1,7 @@
 //! What the client and the servers say to each other, and its bytes: packets and their frames.
 #![tactic(auto)]
 
+mod assembly;
 mod body;
 mod bytes;
 mod chunk;
@@ -11,12 +12,14 @@ mod law;
 mod node;
 mod packet;
 mod piece;
+mod places;
 mod ranges;
 mod reading;
 mod refusal;
 mod text;
 mod writing;
 
+pub use assembly::Assembly;
 pub use body::Body;
 pub use chunk::{CHUNK_LIMIT, Chunk};
 pub use frame::Frame;

@@ -101,6 +101,19 @@ pub(crate) fn is_place(length: u32, at: u32, count: usize) -> bool
 
 impl Tag {
     ghost use Rattle.messages.specs.PieceRanges.{is_tag_in_range};
+    ghost use Rattle.messages.specs.Tags.{is_tag};
+
+    /// Whether the tags are the same.
+    pub(crate) fn is_same(self, other: Tag) -> bool
+        ensures { result ≡ is_tag self other }
+    {
+        self.whole.number() == other.whole.number()
+            && self.run.0 == other.run.0
+            && self.number == other.number
+            && self.server.0 == other.server.0
+            && self.job.0 == other.job.0
+            && self.length == other.length
+    }
 
     /// Whether the numbers are in their ranges.
     pub fn is_in_range(self) -> bool
@@ -169,6 +182,14 @@ impl Piece {
         ensures { result ≡ self.now.tag }
     {
         self.parts.tag
+    }
+
+    /// How many bytes the whole body has.
+    pub fn length(&self) -> u32
+        ensures value { result ≡ self.now.tag.length }
+        ensures range { result ≤ 16400 }
+    {
+        self.parts.tag.length
     }
 
     /// Where its bytes begin in the body.

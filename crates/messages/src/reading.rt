@@ -155,7 +155,7 @@ fn in_range(body: Body) -> Option<Body>
 }
 
 /// The body of a kind, all of the bytes.
-fn body_of(alloc: Global, kind: PacketKind, bytes: &[u8]) -> Result<Body, Fault>
+pub(crate) fn body_of(alloc: Global, kind: PacketKind, bytes: &[u8]) -> Result<Body, Fault>
     ensures { Reads result (body_at kind bytes.now) }
 {
     match kind {
