@@ -14,3 +14,7 @@ pub mod FramesOfLemmas
 pub mod FrameReading
 pub mod Positions
 pub mod Joining
+pub mod TagLemmas
+pub mod Cutting
+pub mod Assembled
+pub mod AnyOrder

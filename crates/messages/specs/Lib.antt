@@ -14,3 +14,4 @@ pub mod FrameHeaders
 pub mod Laws
 pub mod Tags
 pub mod Assemblies
+pub mod PieceLaws
