@@ -1,12 +1,11 @@
 -- The pieces of a body, in any order and with repeats.
-use Rattle.std.proofs.Common.{◌≡◌, refl, sym, ◌∙◌, ap, subst, ◌⊎◌, inl, inr, ℕ, zero, suc, ◌+◌, ◌-◌, ◌<◌, ◌≤◌, arith, Bool, true, false, ◌&&◌, ◌==◌, List, [], ◌∷◌, ◌++◌, length, take, drop, Option, Some, None}
-use Rattle.std.specs.Prelude.{if◌then◌else◌, nat_lt, Contains}
+use Rattle.std.proofs.Common.{◌≡◌, refl, sym, ◌∙◌, ap, subst, inl, inr, ℕ, zero, suc, ◌-◌, ◌≤◌, arith, Bool, true, false, ◌&&◌, ◌==◌, List, [], ◌∷◌, ◌++◌, length, drop, Option, Some, None}
+use Rattle.std.specs.Prelude.{if◌then◌else◌, Contains}
 use Rattle.std.proofs.lemmas.Bool.{eqb-true, cases_Bool}
 use Rattle.std.proofs.lemmas.List.{length-append}
 use Rattle.std.proofs.lemmas.List.Elements.{Contains-append_left, Contains-append_right}
 use Rattle.messages.specs.declared.packet.PacketParts.{PacketParts}
 use Rattle.messages.specs.Bodies.{length_of, spelled_body}
-use Rattle.messages.specs.Laws.{IsPacket}
 use Rattle.verify_state.specs.Laws.{ReadsBack}
 use Rattle.messages.proofs.BodyLemmas.{length-spelled_body}
 use Rattle.messages.specs.declared.piece.Tag.{Tag}
@@ -14,8 +13,8 @@ use Rattle.messages.specs.declared.piece.PieceParts.{PieceParts}
 use Rattle.messages.specs.declared.places.Filled.{Filled}
 use Rattle.messages.specs.declared.places.Row.{Row}
 use Rattle.messages.specs.Tags.{is_tag}
-use Rattle.messages.specs.Pieces.{tag_of, places, bytes_at, piece_at, pieces_of}
-use Rattle.messages.specs.Assemblies.{filled_at, unless_filled, fill, after_these, joined, filled_of, with_piece, completed, Look, Waits, Gives, look_at, look, has_tag, replaced, newest, put, taken_at, taken}
+use Rattle.messages.specs.Pieces.{tag_of, places, bytes_at, pieces_of}
+use Rattle.messages.specs.Assemblies.{filled_at, unless_filled, fill, after_these, joined, filled_of, with_piece, completed, Look, Waits, Gives, look_at, has_tag, replaced, put, taken_at, taken}
 use Rattle.messages.specs.PieceLaws.{IsPartOf, has_place, has_places, all_taken, PiecesGiveTheBytes, PiecesGiveThePacket}
 use Rattle.messages.proofs.Cutting.{slices, slices_all}
 use Rattle.messages.proofs.TagLemmas.{is_tag_self}

@@ -1,13 +1,13 @@
 -- What comes together of pieces of sent packets.
-use Rattle.std.proofs.Common.{◌≡◌, refl, sym, ◌∙◌, ap, subst, ◌⊎◌, inl, inr, ℕ, zero, suc, ◌+◌, ◌-◌, ◌<◌, ◌≤◌, arith, Bool, true, false, ◌&&◌, ◌==◌, List, [], ◌∷◌, ◌++◌, length, take, drop, Option, Some, None}
-use Rattle.std.specs.Prelude.{if◌then◌else◌, nat_lt, Contains, map}
+use Rattle.std.proofs.Common.{◌≡◌, refl, sym, ◌∙◌, ap, subst, ◌⊎◌, inl, inr, ℕ, zero, suc, ◌-◌, arith, Bool, true, false, ◌&&◌, ◌==◌, List, [], ◌∷◌, ◌++◌, length, drop, Option, Some, None}
+use Rattle.std.specs.Prelude.{if◌then◌else◌, Contains, map}
 use Rattle.std.proofs.lemmas.Bool.{eqb-true}
 use Rattle.std.proofs.lemmas.List.Elements.{Contains-append_cases, Contains-push_cases}
 use Rattle.messages.specs.declared.body.Body.{Body}
 use Rattle.messages.specs.declared.packet.PacketParts.{PacketParts}
 use Rattle.messages.specs.Ranges.{is_body, KeepsState}
 use Rattle.messages.specs.Nodes.{is_node}
-use Rattle.messages.specs.Bodies.{kind_of, length_of, spelled_body, body_at}
+use Rattle.messages.specs.Bodies.{length_of, spelled_body, body_at}
 use Rattle.messages.specs.Laws.{IsPacket}
 use Rattle.verify_state.specs.Laws.{ReadsBack}
 use Rattle.messages.proofs.TestLemmas.{both}
@@ -19,8 +19,8 @@ use Rattle.messages.specs.Pieces.{is_cut, tag_in, tag_of, places, bytes_at, piec
 use Rattle.messages.specs.declared.places.Filled.{Filled}
 use Rattle.messages.specs.declared.places.Row.{Row}
 use Rattle.messages.specs.Tags.{is_tag}
-use Rattle.messages.specs.Assemblies.{filled_at, unless_filled, fill, joined, filled_of, with_piece, completed, Look, Waits, Gives, NoPacket, packet_of, of_tag, look_at, look, without, has_tag, replaced, newest, put, taken_at, taken}
-use Rattle.messages.specs.PieceLaws.{OneBodyOfEachTag, ArePackets, WasCut, AreCut, WasSent, IsPieceOf, OnlySentComesTogether, GivesThis, OnlyWholeBodiesAreGiven}
+use Rattle.messages.specs.Assemblies.{filled_at, unless_filled, joined, filled_of, with_piece, completed, Look, Waits, Gives, NoPacket, packet_of, of_tag, look_at, look, without, has_tag, replaced, put, taken_at, taken}
+use Rattle.messages.specs.PieceLaws.{OneBodyOfEachTag, ArePackets, WasCut, AreCut, WasSent, OnlySentComesTogether, GivesThis, OnlyWholeBodiesAreGiven}
 use Rattle.messages.proofs.Cutting.{slices, slices_all, AreOf, joined_slices}
 use Rattle.messages.proofs.TagLemmas.{is_tag_self, same_tag}
 

@@ -1,6 +1,6 @@
 -- Putting the filled places of a body together.
-use Rattle.std.proofs.Common.{◌≡◌, refl, sym, ◌∙◌, ap, inl, inr, ℕ, zero, suc, ◌+◌, ◌<◌, ◌≤◌, arith, Bool, true, false, ◌==◌, Option, Some, None, List, [], ◌∷◌, ◌++◌, length, get_or, drop, append_assoc}
-use Rattle.std.specs.Prelude.{if◌then◌else◌, is_some, nat_le, ◌&&◌, Result, Ok, Err}
+use Rattle.std.proofs.Common.{◌≡◌, refl, sym, ◌∙◌, ap, inl, inr, ℕ, zero, suc, ◌+◌, ◌<◌, ◌≤◌, arith, Bool, true, false, ◌==◌, Option, Some, None, List, [], ◌∷◌, ◌++◌, length, append_assoc}
+use Rattle.std.specs.Prelude.{if◌then◌else◌, is_some, nat_le, ◌&&◌, Err}
 use Rattle.fc_base.specs.declared.fault.Fault.{Fault}
 use Rattle.fc_base.specs.declared.fault.Fault.TheVariants.{FrameNoMemory}
 use Rattle.std.proofs.lemmas.List.{append-nil}
@@ -8,7 +8,7 @@ use Rattle.std.proofs.lemmas.Bool.{eqb-true, cases_Bool}
 use Rattle.messages.specs.declared.piece.PieceParts.{PieceParts}
 use Rattle.messages.specs.declared.places.Filled.{Filled}
 use Rattle.messages.specs.Pieces.{tag_in, places_from, places}
-use Rattle.messages.specs.Assemblies.{filled_at, unless_filled, fill, after_these, joined, Look, Gives, NoPacket, packet_of, of_tag, look_at, LookAnswers}
+use Rattle.messages.specs.Assemblies.{filled_at, unless_filled, fill, after_these, joined, Gives, NoPacket, packet_of, of_tag, look_at, LookAnswers}
 use Rattle.messages.specs.declared.body.Body.{Body}
 use Rattle.messages.specs.Nodes.{is_node}
 use Rattle.messages.specs.Ranges.{is_run}

@@ -1,6 +1,5 @@
 -- What is promised of pieces.
 use Rattle.std.specs.Prelude.{◌≡◌, ◌⊎◌, ℕ, Bool, true, false, ◌==◌, ◌&&◌, if◌then◌else◌, List, [], ◌∷◌, length, Some, Contains}
-use Rattle.messages.specs.declared.body.Body.{Body}
 use Rattle.messages.specs.declared.packet.PacketParts.{PacketParts}
 use Rattle.messages.specs.declared.piece.Tag.{Tag}
 use Rattle.messages.specs.declared.piece.PieceParts.{PieceParts}
@@ -9,7 +8,7 @@ use Rattle.messages.specs.declared.places.Row.{Row}
 use Rattle.messages.specs.Bodies.{spelled_body, length_of, body_at}
 use Rattle.messages.specs.Laws.{IsPacket}
 use Rattle.messages.specs.Pieces.{is_cut, tag_in, tag_of, places, bytes_at, pieces_of}
-use Rattle.messages.specs.Assemblies.{Look, Waits, Gives, completed, packet_of, look_at, look, taken, has_tag}
+use Rattle.messages.specs.Assemblies.{Waits, Gives, completed, packet_of, look_at, look, taken, has_tag}
 
 -- A piece of a body of these bytes, whoever sends it.
 pub record IsPartOf (tag : Tag) (bytes : List ℕ) (q : PieceParts) : Type 0 where

@@ -13,8 +13,7 @@ pub fn pieces_come_together()
 /// A packet is given exactly where the last place is filled and the bytes in order are its body.
 pub fn only_whole_bodies_are_given()
     ensures { OnlyWholeBodiesAreGiven }
-{
-}
+{}
 
 /// Of pieces of some packets, among which a tag names one body, only those packets come together.
 pub fn only_sent_comes_together()

@@ -1,5 +1,5 @@
 use Rattle.std.proofs.Common.{◌∙◌, sym}
-use Rattle.messages.proofs.Joining.{with_the_piece, here_some, here_this, here_none}
+use Rattle.messages.proofs.Joining.{here_some, here_this, here_none}
 use Rattle.messages.proofs.places.bytes_with.Goals as goal
 
 pub returns-in-Some : goal.returns-in-Some

@@ -1,5 +1,5 @@
 use Rattle.messages.specs.Assemblies.{fill}
-use Rattle.messages.proofs.Joining.{look_none, look_one, look_lacks, look_all}
+use Rattle.messages.proofs.Joining.{look_none, look_one}
 use Rattle.messages.proofs.places.is_completed.Goals as goal
 
 pub loop-at-init : goal.loop-at-init

@@ -1,5 +1,5 @@
 use Rattle.messages.specs.Assemblies.{fill}
-use Rattle.messages.proofs.Joining.{join_none, join_one, join_lacks, join_all}
+use Rattle.messages.proofs.Joining.{join_one}
 use Rattle.messages.proofs.places.join.Goals as goal
 
 pub loop-at-preserved : goal.loop-at-preserved

@@ -1,4 +1,3 @@
-use Rattle.std.proofs.Common.{subst}
 use Rattle.messages.proofs.Joining.{piece_length}
 use Rattle.messages.proofs.piece.Piece.length.Goals as goal
 
