@@ -121,7 +121,7 @@ stays_failed stopped (done k) h e = e
 stays_failed stopped (fail k) h e = or_right stopped (has_failed (fail k ∷ h)) (sym (failed_now k h))
 
 pub stays_stopped : StaysStopped
-stays_stopped origin stopped event h legal e =
+stays_stopped origin stopped event h e =
     rw (stays_failed stopped event h (stopped_by (stopped || has_failed h) _ _ _ _ _ e)) refl
 
 -- no write can be issued where all were

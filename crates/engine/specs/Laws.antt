@@ -53,12 +53,11 @@ FlyApart =
     IsLegal job h → IsTrue (has (in_flight h) j) → IsTrue (has (in_flight h) k)
     → block_of job j ≡ block_of job k → j ≡ k
 
--- A job that was stopped, or has failed, stays so.
+-- A job that was stopped, or has failed, stays so, whatever is added.
 abbrev pub StaysStopped : Type 0
 StaysStopped =
     (origin : Origin) (stopped : Bool) (event : Event) (h : List Event) →
-    IsLegal origin.job (event ∷ h) → answer_to origin stopped h ≡ Stopped
-    → answer_to origin stopped (event ∷ h) ≡ Stopped
+    answer_to origin stopped h ≡ Stopped → answer_to origin stopped (event ∷ h) ≡ Stopped
 
 -- A job that has issued all its writes stays so. Only the failure of one changes the answer, to Stopped.
 abbrev pub StaysFinished : Type 0

@@ -8,7 +8,7 @@ mod vectors;
 use fc_base::{Fault, JobParts, JobRecord, Seq};
 use std::alloc::Global;
 use std::test::Fail;
-use vectors::{BEFORE_ANY_ISSUE, OPEN_WRITE, OUT_OF_ORDER, ROWS, Row};
+use vectors::{BEFORE_ANY_ISSUE, IN_FLIGHT, OPEN_WRITE, OUT_OF_ORDER, ROWS, Row};
 use verify_state::VerifyState;
 
 fn list(alloc: Global, numbers: &[u64]) -> Result<Vec<Seq>, Fail> {
@@ -35,28 +35,37 @@ fn has_fields(state: &VerifyState, row: &Row) -> bool {
         && state.completed() == row.completed
 }
 
-fn has_bytes(state: &VerifyState, bytes: &[u8]) -> Result<bool, Fail> {
-    Ok(state.encode()?.as_slice() == bytes)
+fn has_bytes(alloc: Global, state: &VerifyState, bytes: &[u8]) -> Result<bool, Fail> {
+    Ok(state.encode(alloc)?.as_slice() == bytes)
 }
 
-fn read(alloc: Global, bytes: &[u8]) -> Result<VerifyState, Fail> {
-    Ok(VerifyState::decode(alloc, bytes)?)
+fn read(bytes: &[u8]) -> Result<VerifyState, Fail> {
+    Ok(VerifyState::decode(bytes)?)
 }
 
 /// Whether these bytes are read as this state.
-fn says(alloc: Global, bytes: &[u8], state: &VerifyState) -> Result<bool, Fail> {
-    Ok(read(alloc, bytes)?.same(state))
+fn says(bytes: &[u8], state: &VerifyState) -> Result<bool, Fail> {
+    Ok(read(bytes)?.same(state))
 }
 
-fn copies_itself(state: &VerifyState) -> Result<bool, Fail> {
-    Ok(state.copy()?.same(state))
+/// Whether a state is made again of its marks, and is its own copy.
+fn is_made_again(state: &VerifyState) -> Result<bool, Fail> {
+    let again = VerifyState::make_marked(
+        state.key(),
+        &state.rec(),
+        state.issued(),
+        state.place(),
+        state.marks(),
+    )?;
+    Ok(again.same(state) && state.copy().same(state))
 }
 
-/// Whether the state of a row has its fields and its bytes, and comes back from them.
+/// Whether the state of a row has its fields, is written in layout 2, and is read from either.
 fn agrees(alloc: Global, row: &Row) -> Result<bool, Fail> {
     let state = state_of(alloc, row)?;
-    let written = has_fields(&state, row) && has_bytes(&state, row.bytes)?;
-    Ok(written && says(alloc, row.bytes, &state)? && copies_itself(&state)?)
+    let written = has_fields(&state, row) && has_bytes(alloc, &state, row.bytes)?;
+    let read = says(row.bytes, &state)? && says(row.listed, &state)?;
+    Ok(written && read && is_made_again(&state)?)
 }
 
 #[test]
@@ -68,8 +77,8 @@ fn states_and_their_bytes(rt: HostRuntime) -> Result<(), Fail> {
 }
 
 /// Why these bytes are refused, or nothing.
-fn refusal(alloc: Global, bytes: &[u8]) -> Option<Fault> {
-    VerifyState::decode(alloc, bytes).err()
+fn refusal(bytes: &[u8]) -> Option<Fault> {
+    VerifyState::decode(bytes).err()
 }
 
 /// The bytes with another one at this place.
@@ -86,40 +95,81 @@ fn refusal_of_change(
     at: usize,
     byte: u8,
 ) -> Result<Option<Fault>, Fail> {
-    Ok(refusal(alloc, &changed(alloc, bytes, at, byte)?))
+    Ok(refusal(&changed(alloc, bytes, at, byte)?))
 }
 
-fn longer(alloc: Global, bytes: &[u8]) -> Result<Vec<u8>, Fail> {
+/// Whether every prefix of the bytes is refused as too short, and one byte more as too long.
+fn ends_where_it_ends(alloc: Global, bytes: &[u8]) -> Result<bool, Fail> {
+    for end in 0..bytes.len() {
+        if refusal(&bytes[..end]) != Some(Fault::StateShort) {
+            return Ok(false);
+        }
+    }
     let mut longer = Vec::from_slice(alloc, bytes)?;
     longer.push(0)?;
-    Ok(longer)
+    Ok(refusal(&longer) == Some(Fault::StateTrailing))
 }
 
 #[test]
 fn other_lengths(rt: HostRuntime) -> Result<(), Fail> {
-    let bytes = OUT_OF_ORDER.bytes;
-    for end in 0..bytes.len() {
-        assert!(rt;
-            refusal(rt.alloc(), &bytes[..end]) == Some(Fault::StateShort),
-            "{end}"
-        );
+    for row in ROWS.iter() {
+        assert!(rt; ends_where_it_ends(rt.alloc(), row.bytes)?, "at {}", row.name);
+        assert!(rt; ends_where_it_ends(rt.alloc(), row.listed)?, "at {}", row.name);
     }
-    let longer = longer(rt.alloc(), bytes)?;
-    assert!(rt; refusal(rt.alloc(), &longer) == Some(Fault::StateTrailing));
     Ok(())
 }
 
 #[test]
 fn other_bytes(rt: HostRuntime) -> Result<(), Fail> {
-    let bytes = OUT_OF_ORDER.bytes;
-    for (at, byte, fault) in [
-        (0, 0x47, Fault::StateBadMagic),
-        (20, 3, Fault::StateBadField),
-        (99, 7, Fault::StateBadField),
-        (139, 3, Fault::Impossible),
+    let both = OUT_OF_ORDER;
+    for (bytes, at, byte, fault) in [
+        (both.listed, 0, 0x47, Fault::StateBadMagic),
+        (both.bytes, 3, 0x33, Fault::StateBadMagic),
+        (both.listed, 20, 3, Fault::StateBadField),
+        (both.bytes, 20, 3, Fault::StateBadField),
+        (both.listed, 99, 7, Fault::StateBadField),
+        (both.listed, 139, 3, Fault::Impossible),
+        (IN_FLIGHT.bytes, 103, 1, Fault::Impossible),
+        (IN_FLIGHT.bytes, 111, 8, Fault::Impossible),
+        (IN_FLIGHT.bytes, 119, 1, Fault::Impossible),
     ] {
         let refusal = refusal_of_change(rt.alloc(), bytes, at, byte)?;
         assert!(rt; refusal == Some(fault), "at {at}");
+    }
+    Ok(())
+}
+
+/// Whether changed bytes are refused, or else say a state that is written as those very bytes, or, where
+/// they are of layout 1, is read again from what is written.
+fn says_or_refuses(alloc: Global, bytes: &[u8]) -> Result<bool, Fail> {
+    let Ok(state) = VerifyState::decode(bytes) else {
+        return Ok(true);
+    };
+    let written = state.encode(alloc)?;
+    if bytes.starts_with(b"FCV1") {
+        says(&written, &state)
+    } else {
+        Ok(written.as_slice() == bytes)
+    }
+}
+
+/// Whether that holds of each change of one byte of these.
+fn says_or_refuses_each(alloc: Global, bytes: &[u8]) -> Result<bool, Fail> {
+    for at in 0..bytes.len() {
+        for byte in [0, 1, 0x80, 0xff] {
+            if !says_or_refuses(alloc, &changed(alloc, bytes, at, byte)?)? {
+                return Ok(false);
+            }
+        }
+    }
+    Ok(true)
+}
+
+#[test]
+fn each_byte_changed(rt: HostRuntime) -> Result<(), Fail> {
+    for row in ROWS.iter() {
+        assert!(rt; says_or_refuses_each(rt.alloc(), row.bytes)?, "at {}", row.name);
+        assert!(rt; says_or_refuses_each(rt.alloc(), row.listed)?, "at {}", row.name);
     }
     Ok(())
 }
@@ -140,6 +190,6 @@ fn counted_writes(rt: HostRuntime) -> Result<(), Fail> {
 #[test]
 fn name_of_the_file(rt: HostRuntime) -> Result<(), Fail> {
     let state = state_of(rt.alloc(), &BEFORE_ANY_ISSUE)?;
-    assert!(rt; state.label("a")?.as_str() == "s0-a-0-verify.state");
+    assert!(rt; state.label(rt.alloc(), "a")?.as_str() == "s0-a-0-verify.state");
     Ok(())
 }

@@ -1,9 +1,9 @@
 //! Refusals: their frames, and frames that are refused.
 
-use super::vectors::{REFUSALS, REFUSED, WHOLE};
+use super::vectors::{LISTED, REFUSALS, REFUSED, WHOLE};
 use super::*;
 use fc_base::Attempt;
-use messages::{Asked, Reason};
+use messages::{Asked, Reason, Refusal};
 
 pub(super) fn refused(
     asked: Asked,
@@ -14,7 +14,7 @@ pub(super) fn refused(
     attempt: u64,
     value: u64,
 ) -> PacketParts {
-    let body = Body::Refused {
+    let refusal = Refusal {
         asked,
         reason,
         job: JobNo(job),
@@ -23,7 +23,7 @@ pub(super) fn refused(
         attempt: Attempt(attempt),
         value,
     };
-    from_server(0, body)
+    from_server(0, Body::Refused(refusal))
 }
 
 #[test]
@@ -51,4 +51,44 @@ fn fronts_of_frames_are_short(rt: HostRuntime) {
             assert!(rt; refusal(rt.alloc(), front) == 40, "at {len}");
         }
     }
+}
+
+/// The frame with another byte at this place.
+fn changed(alloc: Global, frame: &[u8], at: usize, byte: u8) -> Result<Vec<u8>, Fail> {
+    let mut changed = Vec::from_slice(alloc, frame)?;
+    *changed.get_mut(at).ok_or("a byte")? = byte;
+    Ok(changed)
+}
+
+/// Whether bytes are refused, or else say a packet whose frame they are, or, where they hold a state in
+/// layout 1, one whose frame is read and written again as it is.
+fn says_or_refuses(alloc: Global, frame: &[u8]) -> Result<bool, Fail> {
+    let Ok(packet) = decode(alloc, frame) else {
+        return Ok(true);
+    };
+    let again = written(alloc, &packet)?;
+    let same = again.as_slice() == frame;
+    Ok(same || written(alloc, &read(alloc, &again)?)? == again)
+}
+
+#[test]
+fn each_byte_changed(rt: HostRuntime) -> Result<(), Fail> {
+    for frame in WHOLE {
+        for at in 0..frame.len() {
+            for byte in [0, 1, 0x80, 0xff] {
+                let changed = changed(rt.alloc(), frame, at, byte)?;
+                assert!(rt; says_or_refuses(rt.alloc(), &changed)?, "at {at}");
+            }
+        }
+    }
+    Ok(())
+}
+
+#[test]
+fn states_in_layout_1(rt: HostRuntime) -> Result<(), Fail> {
+    for (listed, frame) in LISTED {
+        let packet = read(rt.alloc(), listed)?;
+        assert!(rt; written(rt.alloc(), &packet)?.as_slice() == frame);
+    }
+    Ok(())
 }

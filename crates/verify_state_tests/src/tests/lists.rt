@@ -1,7 +1,7 @@
 //! Which completions a state may have.
 
 use super::vectors::OUT_OF_ORDER;
-use super::{Fail, Global, JobParts, Row, Seq, VerifyState, list, record, refusal_of_change, says};
+use super::{Fail, Global, Row, VerifyState, list, read, record, refusal_of_change, says};
 use fc_base::Fault;
 use write_order::place_of;
 
@@ -40,26 +40,37 @@ fn possible_lists(rt: HostRuntime) -> Result<(), Fail> {
     Ok(())
 }
 
-/// The longest state: two of the widest windows of completions.
-fn longest(alloc: Global, row: &Row) -> Result<VerifyState, Fail> {
-    let job = JobParts {
-        total: 512,
-        depth: 64,
-        window: 256,
-        ..row.job
-    };
-    let job = record(job)?;
-    let all = (0..512).map(|number| Seq(number)).collect(alloc)?;
-    let state = VerifyState::make(row.key, &job, 512, place_of(&job, 512), all);
-    Ok(state.ok().ok_or("a state")?)
+/// Other bytes in the place of as many.
+fn put(bytes: &mut Vec<u8>, at: usize, number: &[u8]) -> Result<(), Fail> {
+    for (i, byte) in number.iter().enumerate() {
+        *bytes.get_mut(at + i).ok_or("a byte")? = *byte;
+    }
+    Ok(())
+}
+
+/// The longest state of layout 1: two of the widest windows of completions, one after the other.
+fn longest(alloc: Global, row: &Row) -> Result<Vec<u8>, Fail> {
+    let mut bytes = Vec::from_slice(alloc, row.listed)?;
+    bytes.truncate(100);
+    put(&mut bytes, 32, &512_u64.to_be_bytes())?;
+    put(&mut bytes, 48, &64_u32.to_be_bytes())?;
+    put(&mut bytes, 52, &256_u32.to_be_bytes())?;
+    put(&mut bytes, 56, &512_u64.to_be_bytes())?;
+    put(&mut bytes, 96, &512_u32.to_be_bytes())?;
+    for number in 0..512_u64 {
+        bytes.extend_from_slice(&number.to_be_bytes())?;
+    }
+    Ok(bytes)
 }
 
 #[test]
-fn longest_state(rt: HostRuntime) -> Result<(), Fail> {
-    let state = longest(rt.alloc(), &OUT_OF_ORDER)?;
-    let bytes = state.encode()?;
-    let fits = state.completed() == 512 && bytes.len() == 4_196;
-    assert!(rt; fits && says(rt.alloc(), &bytes, &state)?);
+fn longest_list(rt: HostRuntime) -> Result<(), Fail> {
+    let bytes = longest(rt.alloc(), &OUT_OF_ORDER)?;
+    let state = read(&bytes)?;
+    assert!(rt; bytes.len() == 4_196 && state.completed() == 512);
+    assert!(rt; state.floor() == 256 && state.marks() == [u64::MAX; 4]);
+    let written = state.encode(rt.alloc())?;
+    assert!(rt; written.len() == 136 && says(&written, &state)?);
     let refusal = refusal_of_change(rt.alloc(), &bytes, 99, 1)?;
     assert!(rt; refusal == Some(Fault::StateBadField));
     Ok(())
