@@ -114,7 +114,7 @@ sum_places : (from to : Node) (tag : Tag) (b : List ℕ) (n at : ℕ)
 sum_places from to tag b zero at = omega arith
 sum_places from to tag b (suc n) at = sum_from from to tag b n at (nat_lt at (length b)) refl (sum_places from to tag b n (at + 1024))
 
-length-spelling : (p : PacketParts) → length (spelling p) ≡ 16 + length_of p.body
+pub length-spelling : (p : PacketParts) → length (spelling p) ≡ 16 + length_of p.body
 length-spelling p = omega (arith, length-append (header_of p.from p.to p.body (length_of p.body)) (spelled_body p.body), length-header_of p.from p.to p.body (length_of p.body), length-spelled_body p.body)
 
 few_whole : (p : PacketParts) → length_of p.body ≤ 1024 → AreFew p (spelling p ∷ [])

@@ -18,3 +18,4 @@ pub mod TagLemmas
 pub mod Cutting
 pub mod Assembled
 pub mod AnyOrder
+pub mod FrameLawLemmas

@@ -15,3 +15,4 @@ pub mod Laws
 pub mod Tags
 pub mod Assemblies
 pub mod PieceLaws
+pub mod FrameLaws
