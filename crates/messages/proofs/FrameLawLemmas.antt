@@ -123,7 +123,7 @@ whole_read law p h short =
     let len = length-spelled_body p.body in
     let enough : nat_le (length (spelled_body p.body)) 1024 ≡ true = grind (arith, nat_tests) in
     let said : frame_said p.from p.to (drop 16 (spelling p)) (sorts.Packet (kind_of p.body)) ≡ Some (Whole p) =
-        ap (λ (bs : List ℕ). frame_said p.from p.to bs (sorts.Packet (kind_of p.body))) behind ∙ rw (enough, body_at-spelled law p.body last.1 h.state) refl in
+    ap (λ (bs : List ℕ). frame_said p.from p.to bs (sorts.Packet (kind_of p.body))) behind ∙ rw (enough, body_at-spelled law p.body last.1 h.state) refl in
     headed_read (spelling p) (number_of (kind_of p.body)) p.from p.to (length_of p.body) (sorts.Packet (kind_of p.body)) (Whole p) told (sort_of_kind (kind_of p.body)) nodes.0 nodes.1 said
 
 -- The numbers of a piece fit their widths.
@@ -238,7 +238,7 @@ piece_read q h =
     } in
     let behind : drop 16 (piece_spelling q) ≡ body = drop-spelled header ns body refl in
     let said : frame_said q.from q.to (drop 16 (piece_spelling q)) sorts.Piece ≡ Some (Piece q) =
-        ap (λ (bs : List ℕ). frame_said q.from q.to bs sorts.Piece) behind ∙ ap (λ (o : Option PieceParts). option_map Piece o) (piece_again q h r) in
+    ap (λ (bs : List ℕ). frame_said q.from q.to bs sorts.Piece) behind ∙ ap (λ (o : Option PieceParts). option_map Piece o) (piece_again q h r) in
     headed_read (piece_spelling q) 17 q.from q.to (33 + length q.bytes) sorts.Piece (Piece q) told refl r.from r.to said
 
 pub frames_are_read : ReadsBack → FramesAreRead
