@@ -1,14 +1,13 @@
 -- The laws of frames that hold packets or pieces.
-use Rattle.std.proofs.Common.{◌≡◌, ℕ, ◌+◌, ◌-◌, ◌%◌, ◌<◌, ◌≤◌, Bool, true, false, ◌&&◌, Option, Some, None, List, [], ◌∷◌, ◌++◌, length, drop, refl, sym, ap, ◌∙◌, arith}
+use Rattle.std.proofs.Common.{◌≡◌, ℕ, ◌+◌, ◌-◌, ◌%◌, ◌<◌, ◌≤◌, Bool, true, false, ◌&&◌, Option, Some, None, List, [], ◌∷◌, ◌++◌, length, drop, refl, ap, ◌∙◌, arith}
 use Rattle.std.specs.Prelude.{if◌then◌else◌, ◌==◌, not, nat_lt, nat_le, is_none, is_some, slice_index, min}
 use Rattle.std.specs.Option.{option_map, option_and_then}
 use Rattle.std.proofs.lemmas.Bool.{eqb-true}
 use Rattle.std.proofs.lemmas.Bool.Decides.{nat_tests}
-use Rattle.std.proofs.lemmas.List.{drop_at, length-append}
+use Rattle.std.proofs.lemmas.List.{length-append}
 use Rattle.fc_base.specs.declared.fault.Fault.{Fault}
 use Rattle.fc_base.specs.declared.fault.Fault.TheVariants.{FrameShort, FrameBadMagic, BadKind, FrameBadField, FrameTooLong, FrameTrailing}
 use Rattle.fc_base.specs.Faults.{when}
-use Rattle.messages.specs.declared.body.Body.{Body}
 use Rattle.messages.specs.declared.kind.PacketKind.{PacketKind}
 use Rattle.messages.specs.declared.kind.PacketKind.TheVariants as kinds
 use Rattle.messages.specs.declared.node.Node.{Node}
@@ -22,12 +21,12 @@ use Rattle.messages.specs.Kinds.{number_of, kind_numbered}
 use Rattle.messages.specs.Nodes.{node_number, node_numbered, is_node}
 use Rattle.messages.specs.Ranges.{is_run, is_attempt, is_job, is_body}
 use Rattle.messages.specs.Layouts.{spelled, numbers}
-use Rattle.messages.specs.Bodies.{kind_of, length_of, spelled_body, body_at}
-use Rattle.messages.specs.Packets.{header, header_of, header_at, has_magic, header_faults, spelling}
+use Rattle.messages.specs.Bodies.{kind_of, length_of, spelled_body}
+use Rattle.messages.specs.Packets.{header, header_at, has_magic, header_faults, spelling}
 use Rattle.messages.specs.Laws.{IsPacket}
 use Rattle.messages.specs.PieceRanges.{is_long_kind, is_number, is_owner, is_cut_length, is_tag_in_range, is_place, is_piece}
-use Rattle.messages.specs.FrameBytes.{piece_layout, piece_numbers, piece_header, piece_spelling, frame_spelling, IsShort, sort_numbered, is_frame_kind, frame_limit, in_ranges, piece_with, piece_said, frame_said, frame_at, frame_faults}
-use Rattle.messages.specs.FrameLaws.{IsFrame, FramesAreRead}
+use Rattle.messages.specs.FrameBytes.{piece_layout, piece_numbers, piece_spelling, sort_numbered, is_frame_kind, frame_limit, in_ranges, piece_with, piece_said, frame_said, frame_at, frame_faults}
+use Rattle.messages.specs.FrameLaws.{FramesAreRead}
 use Rattle.verify_state.specs.Laws.{ReadsBack}
 use Rattle.messages.proofs.LayoutLemmas.{AreWide, Fit, wide8, wide32, wide64, length-spelled, numbers-spelled, drop-spelled}
 use Rattle.messages.proofs.ChoiceLemmas.{kind_again, kind_fits, node_again, node_fits}

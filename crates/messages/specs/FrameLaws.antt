@@ -1,11 +1,10 @@
 -- What the spelling of a frame promises.
-use Rattle.std.specs.Prelude.{◌≡◌, List, [], Some, IsTrue, ℕ}
-use Rattle.messages.specs.declared.piece.PieceParts.{PieceParts}
+use Rattle.std.specs.Prelude.{◌≡◌, [], Some, IsTrue}
 use Rattle.messages.specs.declared.frame.Frame.{Frame}
 use Rattle.messages.specs.declared.frame.Frame.TheVariants.{Whole, Piece}
 use Rattle.messages.specs.Laws.{IsPacket}
 use Rattle.messages.specs.PieceRanges.{is_piece}
-use Rattle.messages.specs.FrameBytes.{piece_spelling, frame_spelling, frame_at, frame_faults, IsShort}
+use Rattle.messages.specs.FrameBytes.{frame_spelling, frame_at, frame_faults, IsShort}
 
 -- Every frame is in its ranges.
 abbrev pub IsFrame : Frame → Type 0
