@@ -22,8 +22,8 @@ use write_order::Order;
 /// (fio's manual, "I/O depth") and the window of the job leave room, and where no write in flight
 /// goes to its block. Its state can be taken at any moment (manual, "Verification and triggers").
 ///
-/// Only making it takes memory. `issue` takes as many steps as there are open
-/// writes, and once a pass of a random order with a map as many as there are blocks.
+/// Only making it takes memory. `issue`, `done` and `failed` take as many steps as there are open
+/// writes, and taking a state constant time.
 #[derive(Debug, Drop)]
 pub struct Engine {
     boot: u64,

@@ -5,5 +5,6 @@ pub mod Fault
 pub mod Faults
 pub mod JobParts
 pub mod Keys
+pub mod Laws
 pub mod Marks
 pub mod Report

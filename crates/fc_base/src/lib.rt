@@ -4,6 +4,7 @@
 
 mod counted;
 mod fault;
+mod law;
 mod marks;
 mod numbers;
 mod record;
@@ -11,6 +12,7 @@ mod report;
 
 pub use counted::is_counted;
 pub use fault::{Fault, FaultSort};
+pub use law::numbers_law;
 pub use marks::Marks;
 pub use numbers::{Attempt, JobNo, Key, RunNo, Seq, ServerNo};
 pub use record::{JobParts, JobRecord, Kind, Verify};

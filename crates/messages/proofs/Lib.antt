@@ -10,3 +10,12 @@ pub mod ChoiceLemmas
 pub mod FitLemmas
 pub mod ToldLemmas
 pub mod LawLemmas
+pub mod FramesOfLemmas
+pub mod FrameReading
+pub mod Positions
+pub mod Joining
+pub mod TagLemmas
+pub mod Cutting
+pub mod Assembled
+pub mod AnyOrder
+pub mod FrameLawLemmas

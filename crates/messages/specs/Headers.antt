@@ -1,10 +1,39 @@
 -- What reading a header tells of the bytes.
-use Rattle.std.specs.Prelude.{◌≡◌, List, [], slice_get, Some, Result, Ok, Err, ℕ}
+use Rattle.std.specs.Prelude.{◌≡◌, ◌+◌, true, false, not, nat_lt, is_none, List, [], ◌∷◌, ◌++◌, length, slice_get, Some, Result, Ok, Err, ℕ}
 use Rattle.fc_base.specs.declared.fault.Fault.{Fault}
+use Rattle.fc_base.specs.declared.fault.Fault.TheVariants.{FrameShort, FrameBadMagic, FrameBadField, FrameTooLong, FrameTrailing}
+use Rattle.fc_base.specs.Faults.{when}
 use Rattle.messages.specs.declared.reading.Header.{Header}
+use Rattle.messages.specs.declared.reading.HeaderFields.{HeaderFields}
+use Rattle.messages.specs.declared.reading.Ends.{Ends}
 use Rattle.messages.specs.Kinds.{kind_numbered}
 use Rattle.messages.specs.Nodes.{node_numbered}
-use Rattle.messages.specs.Packets.{header_at, header_faults, is_packet_kind, body_limit}
+use Rattle.messages.specs.Layouts.{numbers}
+use Rattle.messages.specs.Packets.{header, header_at, has_magic, header_faults, is_packet_kind, body_limit}
+
+-- The numbers of a header.
+abbrev pub fields_list : HeaderFields → List ℕ
+fields_list f = f.first ∷ f.second ∷ f.version ∷ f.kind ∷ f.from ∷ f.to ∷ f.len ∷ []
+
+-- The header begins as headers do and says these numbers, or the first fault is this, whatever the others.
+abbrev pub FieldsAre : Result HeaderFields Fault → List ℕ → Type 0
+FieldsAre (Ok f) bytes = (nat_lt (length bytes) 16 ≡ false) × (has_magic bytes ≡ true) × (fields_list f ≡ numbers header bytes)
+FieldsAre (Err g) bytes =
+    (more : List Fault) → slice_get (when (nat_lt (length bytes) 16) FrameShort ++ (when (not (has_magic bytes)) FrameBadMagic ++ more)) 0 ≡ Some g
+
+-- The faults of the ends and of the length of a header.
+abbrev pub end_faults : ℕ → ℕ → ℕ → ℕ → ℕ → List Fault
+end_faults from to size limit len =
+    when (is_none (node_numbered from)) FrameBadField
+    ++ (when (is_none (node_numbered to)) FrameBadField
+    ++ (when (nat_lt limit size) FrameTooLong
+    ++ (when (nat_lt len (16 + size)) FrameShort
+    ++ when (nat_lt (16 + size) len) FrameTrailing)))
+
+-- There is no fault and the ends are these, or the first fault is this.
+abbrev pub EndsAre : Result Ends Fault → List Fault → ℕ → ℕ → Type 0
+EndsAre (Ok e) faults from to = (faults ≡ []) × (node_numbered from ≡ Some e.from) × (node_numbered to ≡ Some e.to)
+EndsAre (Err g) faults from to = slice_get faults 0 ≡ Some g
 
 -- The header has no fault and says this, or its first fault is this.
 abbrev pub HeaderIs : Result Header Fault → List ℕ → Type 0

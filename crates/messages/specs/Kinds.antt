@@ -1,5 +1,5 @@
--- The kinds of packets: the number that a frame has for each, and the name that is printed.
-use Rattle.std.specs.Prelude.{ℕ, ◌==◌, List, [], ◌∷◌, Option, find, codes}
+-- The kinds of packets: the number that a frame has for each, the name that is printed, and who sends it.
+use Rattle.std.specs.Prelude.{ℕ, Bool, true, false, not, ◌==◌, List, [], ◌∷◌, Option, find, codes}
 use Rattle.messages.specs.declared.kind.PacketKind.{PacketKind}
 use Rattle.messages.specs.declared.kind.PacketKind.TheVariants.{Jobs, JobsOk, Start, Started, Trigger, State, NoState, StateAck, Stop, Stopped, Verify, WantState, Saved, NoSaved, Report, Refused}
 
@@ -48,3 +48,19 @@ kinds = Jobs ∷ JobsOk ∷ Start ∷ Started ∷ Trigger ∷ State ∷ NoState 
 -- The kind with this number.
 unfoldable pub kind_numbered : ℕ → Option PacketKind
 kind_numbered n = find (λ kind. number_of kind == n) kinds
+
+-- The kinds that the client sends.
+abbrev pub is_of_client : PacketKind → Bool
+is_of_client Jobs = true
+is_of_client Start = true
+is_of_client Trigger = true
+is_of_client StateAck = true
+is_of_client Stop = true
+is_of_client Verify = true
+is_of_client Saved = true
+is_of_client NoSaved = true
+is_of_client _ = false
+
+-- The kinds that servers send are the others.
+abbrev pub is_of_server : PacketKind → Bool
+is_of_server kind = not (is_of_client kind)

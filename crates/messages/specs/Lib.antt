@@ -5,5 +5,14 @@ pub mod Ranges
 pub mod Layouts
 pub mod Bodies
 pub mod Packets
+pub mod PieceRanges
+pub mod Pieces
+pub mod FrameBytes
+pub mod FramesOf
 pub mod Headers
+pub mod FrameHeaders
 pub mod Laws
+pub mod Tags
+pub mod Assemblies
+pub mod PieceLaws
+pub mod FrameLaws

@@ -1,5 +1,5 @@
--- The numbers of nodes in frames: servers are 0 to 7, the client is 8.
-use Rattle.std.specs.Prelude.{ℕ, Bool, true, nat_lt, ◌==◌, if◌then◌else◌, Option, Some, None}
+-- Nodes, and their numbers in frames: servers are 0 to 7, the client is 8.
+use Rattle.std.specs.Prelude.{ℕ, Bool, true, false, nat_lt, ◌==◌, if◌then◌else◌, Option, Some, None}
 use Rattle.messages.specs.declared.node.Node.{Node}
 use Rattle.messages.specs.declared.node.Node.TheVariants.{Server, Client}
 
@@ -16,3 +16,13 @@ node_numbered n = if nat_lt n 8 then Some (Server n) else if n == 8 then Some Cl
 abbrev pub is_node : Node → Bool
 is_node (Server s) = nat_lt s 8
 is_node Client = true
+
+-- The node is the client.
+abbrev pub is_client : Node → Bool
+is_client (Server _) = false
+is_client Client = true
+
+-- The node is the server of this number.
+abbrev pub is_server : ℕ → Node → Bool
+is_server number (Server s) = s == number
+is_server number Client = false

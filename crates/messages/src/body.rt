@@ -3,10 +3,11 @@
 ghost use Rattle.std.specs.Prelude.{◌≡◌, Some, None, if◌then◌else◌};
 
 use crate::kind::PacketKind;
+use crate::piece::Tag;
 use crate::ranges::{is_attempt, is_job, is_job_of, is_jobs, is_refusal, is_run};
 use crate::refusal::{Act, Refusal};
 use crate::text::{TEXT_LIMIT, Text};
-use fc_base::{Attempt, CheckReport, JobNo, RunNo};
+use fc_base::{Attempt, CheckReport, JobNo, Key, RunNo, ServerNo};
 use verify_state::VerifyState;
 
 /// What a packet says, by kind, before its ranges are checked: a packet's own body keeps them. Runs
@@ -96,7 +97,19 @@ pub enum Body {
     Refused(Refusal),
 }
 
+/// The key of what has a run alone.
+fn key_of(run: RunNo) -> Key
+    ensures { result ≡ record { run = run; server = 0; job = 0 } }
+{
+    Key {
+        run,
+        server: ServerNo(0),
+        job: JobNo(0),
+    }
+}
+
 impl Body {
+    ghost use Rattle.messages.specs.Pieces.{tag_in};
     ghost use Rattle.messages.specs.Bodies.{kind_of};
     ghost use Rattle.messages.specs.Ranges.{is_body, KeepsState};
 
@@ -159,6 +172,27 @@ impl Body {
                     && report.parts().is_report()
             }
             Body::Refused(refusal) => is_refusal(refusal),
+        }
+    }
+
+    /// The tag of the pieces of this body, where it has so many bytes.
+    pub(crate) fn tag(&self, length: u32) -> Tag
+        ensures { result ≡ tag_in self.now length }
+    {
+        let (key, number) = match self {
+            Body::Jobs { run, .. } => (key_of(*run), 0),
+            Body::State { state, .. } => (state.key(), 0),
+            Body::Verify { run, attempt, .. } => (key_of(*run), attempt.0),
+            Body::Saved { attempt, state } => (state.key(), attempt.0),
+            _ => (key_of(RunNo(0)), 0),
+        };
+        Tag {
+            whole: self.kind(),
+            run: key.run,
+            number,
+            server: key.server,
+            job: key.job,
+            length,
         }
     }
 

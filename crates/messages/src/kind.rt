@@ -1,10 +1,10 @@
-//! The kinds of packets, and the number that a frame has for each.
+//! The kinds of packets, the number that a frame has for each, and who sends it.
 
 ghost use Rattle.std.specs.Prelude.{◌≡◌};
-ghost use Rattle.messages.specs.Kinds.{number_of, name_of, kind_numbered};
+ghost use Rattle.messages.specs.Kinds.{number_of, name_of, kind_numbered, is_of_client, is_of_server};
 
-/// What a packet says. The client sends Jobs, Start, Trigger, StateAck, Stop, Verify, Saved and
-/// NoSaved; servers send the others. The discriminants are the numbers in frames.
+/// What a packet says. The discriminants are the numbers in frames; [`PacketKind::is_of_client`] says who
+/// sends which.
 #[derive(Clone, Copy, Debug, PartialEq, Eq)]
 pub enum PacketKind {
     Jobs = 1,
@@ -59,6 +59,30 @@ impl PacketKind {
         ensures { result ≡ kind_numbered number }
     {
         KINDS.iter().copied().find(|kind| kind.number() == number)
+    }
+
+    /// Whether the client sends packets of this kind.
+    pub fn is_of_client(self) -> bool
+        ensures { result ≡ is_of_client self }
+    {
+        matches!(
+            self,
+            PacketKind::Jobs
+                | PacketKind::Start
+                | PacketKind::Trigger
+                | PacketKind::StateAck
+                | PacketKind::Stop
+                | PacketKind::Verify
+                | PacketKind::Saved
+                | PacketKind::NoSaved
+        )
+    }
+
+    /// Whether servers send packets of this kind. No kind is sent by both.
+    pub fn is_of_server(self) -> bool
+        ensures { result ≡ is_of_server self }
+    {
+        !self.is_of_client()
     }
 
     /// The kind's name, as it is printed.

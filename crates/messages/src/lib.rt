@@ -1,24 +1,40 @@
 //! What the client and the servers say to each other, and its bytes: packets and their frames.
 #![tactic(auto)]
 
+mod assembly;
 mod body;
 mod bytes;
+mod chunk;
+mod frame;
+mod frames;
 mod kind;
 mod law;
 mod node;
 mod packet;
+mod piece;
+mod piece_law;
+mod places;
 mod ranges;
 mod reading;
 mod refusal;
 mod text;
 mod writing;
 
+pub use assembly::Assembly;
 pub use body::Body;
+pub use chunk::{CHUNK_LIMIT, Chunk};
+pub use frame::Frame;
+pub use frames::{Frames, frames_of};
 pub use kind::PacketKind;
 pub use law::{lengths_are_bounded, no_spelling_begins_another, one_spelling};
 pub use node::Node;
 pub use packet::{Packet, PacketParts};
-pub use reading::decode;
+pub use piece::{Piece, PieceParts, Tag};
+pub use piece_law::{
+    frames_are_read_back, only_sent_comes_together, only_whole_bodies_are_given,
+    pieces_come_together,
+};
+pub use reading::{decode, decode_frame};
 pub use refusal::{Act, Asked, Reason, Refusal};
 pub use text::{TEXT_LIMIT, Text};
-pub use writing::encode;
+pub use writing::{encode, encode_frame};

@@ -1,7 +1,7 @@
 //! Who sends a packet, and to whom.
 
 ghost use Rattle.std.specs.Prelude.{◌≡◌};
-ghost use Rattle.messages.specs.Nodes.{node_number, node_numbered, is_node};
+ghost use Rattle.messages.specs.Nodes.{node_number, node_numbered, is_node, is_client, is_server};
 
 use fc_base::ServerNo;
 
@@ -46,6 +46,23 @@ impl Node {
         match self {
             Node::Server(server) => server.0 < CLIENT,
             Node::Client => true,
+        }
+    }
+
+    /// Whether this is the client.
+    pub fn is_client(self) -> bool
+        ensures { result ≡ is_client self }
+    {
+        matches!(self, Node::Client)
+    }
+
+    /// Whether this is the server of that number.
+    pub fn is_server(self, server: ServerNo) -> bool
+        ensures { result ≡ is_server server self }
+    {
+        match self {
+            Node::Server(own) => own.0 == server.0,
+            Node::Client => false,
         }
     }
 }

@@ -6,8 +6,9 @@ ghost use Rattle.messages.specs.Layouts.{numbers};
 ghost use Rattle.messages.specs.Bodies.{Reads, body_at};
 ghost use Rattle.messages.specs.Packets.{Answers, header};
 ghost use Rattle.messages.specs.Laws.{Says};
-ghost use Rattle.messages.specs.Headers.{HeaderIs};
+ghost use Rattle.messages.specs.Headers.{HeaderIs, FieldsAre, EndsAre, end_faults};
 
+mod frames;
 mod plain;
 mod report;
 mod states;
@@ -21,6 +22,7 @@ use crate::node::Node;
 use crate::packet::{Packet, PacketParts};
 use crate::writing::{HEADER, VERSION};
 use fc_base::Fault;
+pub use frames::decode_frame;
 use std::alloc::Global;
 
 /// How many bytes a body may have.
@@ -61,6 +63,13 @@ struct HeaderFields {
     len: u32,
 }
 
+/// Who sends a frame, and to whom.
+#[derive(Clone, Copy)]
+struct Ends {
+    from: Node,
+    to: Node,
+}
+
 /// What a header says of a frame that is as long as it says.
 #[derive(Clone, Copy)]
 struct Header {
@@ -91,8 +100,9 @@ fn header_fields(bytes: &[u8]) -> HeaderFields
     }
 }
 
-fn header_of(bytes: &[u8]) -> Result<Header, Fault>
-    ensures { HeaderIs result bytes.now }
+/// The numbers of a header that begins as headers do.
+fn fields_of(bytes: &[u8]) -> Result<HeaderFields, Fault>
+    ensures { FieldsAre result bytes.now }
 {
     if bytes.len() < HEADER {
         return Err(Fault::FrameShort);
@@ -101,20 +111,40 @@ fn header_of(bytes: &[u8]) -> Result<Header, Fault>
     if !(fields.first == b'F' && fields.second == b'C' && fields.version == VERSION) {
         return Err(Fault::FrameBadMagic);
     }
-    let kind = PacketKind::numbered(fields.kind).ok_or(Fault::BadKind)?;
+    Ok(fields)
+}
+
+/// The ends of a frame of so many bytes, which is as long as its header says, and at most `limit`
+/// behind it.
+fn ends_of(fields: HeaderFields, limit: u32, len: usize) -> Result<Ends, Fault>
+    ensures { EndsAre result (end_faults fields.from fields.to fields.len limit len) fields.from fields.to }
+{
     let from = Node::numbered(fields.from).ok_or(Fault::FrameBadField)?;
     let to = Node::numbered(fields.to).ok_or(Fault::FrameBadField)?;
-    if fields.len > BODY_LIMIT {
+    if fields.len > limit {
         return Err(Fault::FrameTooLong);
     }
     let end = HEADER + fields.len as usize;
-    if bytes.len() < end {
+    if len < end {
         return Err(Fault::FrameShort);
     }
-    if bytes.len() > end {
+    if len > end {
         return Err(Fault::FrameTrailing);
     }
-    Ok(Header { kind, from, to })
+    Ok(Ends { from, to })
+}
+
+fn header_of(bytes: &[u8]) -> Result<Header, Fault>
+    ensures { HeaderIs result bytes.now }
+{
+    let fields = fields_of(bytes)?;
+    let kind = PacketKind::numbered(fields.kind).ok_or(Fault::BadKind)?;
+    let ends = ends_of(fields, BODY_LIMIT, bytes.len())?;
+    Ok(Header {
+        kind,
+        from: ends.from,
+        to: ends.to,
+    })
 }
 
 /// A body whose ranges hold.
@@ -125,7 +155,7 @@ fn in_range(body: Body) -> Option<Body>
 }
 
 /// The body of a kind, all of the bytes.
-fn body_of(alloc: Global, kind: PacketKind, bytes: &[u8]) -> Result<Body, Fault>
+pub(crate) fn body_of(alloc: Global, kind: PacketKind, bytes: &[u8]) -> Result<Body, Fault>
     ensures { Reads result (body_at kind bytes.now) }
 {
     match kind {

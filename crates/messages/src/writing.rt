@@ -10,6 +10,8 @@ ghost use Rattle.messages.specs.Nodes.{node_number};
 ghost use Rattle.messages.specs.Bodies.{spelled_body, length_of, end_number, end_at};
 ghost use Rattle.messages.specs.Packets.{header, header_of, spelling};
 
+mod pieces;
+
 use crate::body::Body;
 use crate::bytes::{put_u8, put_u32, put_u64};
 use crate::kind::PacketKind;
@@ -18,6 +20,8 @@ use crate::packet::Packet;
 use crate::refusal::Refusal;
 use crate::text::Text;
 use fc_base::{Attempt, JobNo, ReportEnd, ReportParts, RunNo};
+pub use pieces::encode_frame;
+pub(crate) use pieces::{PIECE_HEAD, put_piece};
 use std::alloc::{AllocError, Global};
 use verify_state::VerifyState;
 

@@ -3,6 +3,7 @@
 
 mod frames;
 mod limits;
+mod pieces;
 mod refusals;
 mod reports;
 mod vectors;

@@ -1,4 +1,5 @@
 pub mod CountLemmas
+pub mod DistinctLemmas
 pub mod FaultLemmas
 pub mod LayoutLemmas
 pub mod LimitLemmas

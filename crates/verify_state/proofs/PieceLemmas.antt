@@ -1,7 +1,7 @@
 -- Bytes without a fault, piece by piece, are the spelling of what they say.
 use Rattle.std.proofs.Common.{Bool, ◌||◌, ◌≡◌, ℕ, ◌+◌, ◌*◌, ◌^◌, ◌<◌, ◌≤◌, zero, suc, true, ◌&&◌, ◌-◌, false, eqb, ltb, leb, List, [], ◌∷◌, ◌++◌, length, take, drop, get_or, sym, refl, ap, ◌∙◌, subst, inl, inr, arith}
-use Rattle.std.specs.Prelude.{codes, nat_eq, if◌then◌else◌}
-use Rattle.std.specs.List.{AllByRecursion, starts_with}
+use Rattle.std.specs.Prelude.{codes, if◌then◌else◌}
+use Rattle.std.specs.List.{AllByRecursion}
 use Rattle.std.specs.Cmp.Lexicographic.{pointwise}
 use Rattle.std.specs.Int.{w8, w32, w64, to_be_bytes, from_be_bytes}
 use Rattle.std.proofs.lemmas.Bool.{and_parts, and_from, cases_lt, cases_Bool, ltb-true, eqb-true, false≢true}

@@ -1,7 +1,10 @@
--- What holds of the spelling alone.
+-- What holds of states and of their spellings alone.
 use Rattle.std.specs.Prelude.{◌≡◌, ℕ, false, ◌<◌, List, [], ◌++◌, length, IsTrue}
 use Rattle.std.specs.List.{AllByRecursion}
-use Rattle.verify_state.specs.State.{State, IsState}
+use Rattle.fc_base.specs.declared.numbers.Key.{Key}
+use Rattle.fc_base.specs.declared.record.JobParts.{JobParts}
+use Rattle.verify_state.specs.State.{State, IsState, IsSame}
+use Rattle.verify_state.specs.Misfit.{misfit}
 use Rattle.verify_state.specs.Spelling.{spelling}
 use Rattle.verify_state.specs.Reading.{is_layout_1, is_layout_2, faults_of, state_in, state_listed}
 
@@ -36,3 +39,7 @@ SaysAState =
 abbrev pub IsNoPrefix : Type 0
 IsNoPrefix =
     (bytes rest : List ℕ) → faults_of bytes ≡ [] → faults_of (bytes ++ rest) ≡ [] → rest ≡ []
+
+-- Two states that are the same misfit a key and a job for the same reason, or both fit them.
+abbrev pub FitAlike : Type 0
+FitAlike = (a b : State) → IsSame a b → (key : Key) (job : JobParts) → misfit a key job ≡ misfit b key job

@@ -6,6 +6,7 @@ ghost use Rattle.fc_base.specs.Counted.{has, counted, uncounted, is_distinct, is
 ghost use Rattle.fc_base.specs.Marks.{floor_of, marks_of, ends_by, counted_by, is_possible_by};
 ghost use Rattle.verify_state.specs.State.{has_come, has_come_by};
 
+use crate::distinct::is_distinct;
 use fc_base::{JobRecord, Marks, Seq};
 
 /// The first number of the last window of those issued.
@@ -71,16 +72,6 @@ pub(crate) fn has_come_by(job: &JobRecord, issued: u64, marks: &Marks) -> bool
 
 // ---- by a list of completions
 
-/// Whether no write stands in the list twice.
-fn is_distinct(list: &[Seq]) -> bool
-    ensures { result ≡ is_distinct list.now }
-{
-    match list {
-        [] => true,
-        [first, rest @ ..] => !rest.contains(first) && is_distinct(rest),
-    }
-}
-
 fn all_below(list: &[Seq], end: u64) -> bool
     ensures { result ≡ list_all (λ k. nat_lt k end) list.now }
 {
@@ -104,9 +95,10 @@ fn listed(window: u32, issued: u64, list: &[Seq]) -> u64
     floor + count_from(list, floor)
 }
 
-/// Whether a job can have issued so many writes and have this list.
+/// Whether a job can have issued so many writes and have this list, of at most two of the widest windows.
 #[tactic(auto, unfolding(crate::specs::State::has_come))]
 pub(crate) fn has_come(job: &JobRecord, issued: u64, list: &[Seq]) -> bool
+    requires { length list.now ≤ 512 }
     ensures { result ≡ has_come job.now issued list.now }
 {
     if issued > job.total() || !is_distinct(list) || !all_below(list, issued) {

@@ -1,6 +1,6 @@
-//! What holds of the bytes of states. The functions have nothing to run.
+//! What holds of states and of their bytes. The functions have nothing to run.
 
-ghost use Rattle.verify_state.specs.Laws.{ReadsBack, IsSpelled, SaysItsList, SaysAState, IsNoPrefix};
+ghost use Rattle.verify_state.specs.Laws.{ReadsBack, IsSpelled, SaysItsList, SaysAState, IsNoPrefix, FitAlike};
 
 /// Each state has one spelling, which is of layout 2: it is read back from it, and bytes of that layout
 /// that are read without a fault are the spelling of the state that they say.
@@ -19,4 +19,9 @@ pub fn bytes_say_states()
 /// is seen in them.
 pub fn no_spelling_begins_another()
     ensures { IsNoPrefix }
+{}
+
+/// Two states that are the same fit the same keys and jobs, or are refused for the same reason.
+pub fn same_states_fit_alike()
+    ensures { FitAlike }
 {}

@@ -7,14 +7,12 @@ ghost use Rattle.verify_state.specs.Layouts.{GivesListed, GivesMarked, GivesMark
 ghost use Rattle.verify_state.specs.Reading.{words_at, has_ranges};
 
 use crate::counting::{floor_of, has_come, has_come_by, marks_of};
+use crate::distinct::MAX_COMPLETIONS;
 use crate::reading::{Front, is_layout_1, u32_at, u64_at, words_at};
 use fc_base::{Fault, Marks, Seq};
 
 /// Bytes before the completions of layout 1.
 const LIST_AT: usize = 100;
-
-/// The most completions that a list has: two of the widest windows.
-const MAX_LISTED: usize = 512;
 
 /// Bytes of layout 2.
 pub(crate) const LENGTH: usize = 136;
@@ -51,7 +49,7 @@ fn listed(front: &Front, bytes: &[u8]) -> Result<Marks, Fault>
     if bytes.len() > length {
         return Err(Fault::StateTrailing);
     }
-    let mut room = [Seq(0); MAX_LISTED];
+    let mut room = [Seq(0); MAX_COMPLETIONS];
     let completions = &mut room[..count];
     read_completions(bytes, completions);
     if !has_come(&front.rec, front.issued, completions) {

@@ -2,6 +2,7 @@
 #![tactic(auto)]
 
 mod counting;
+mod distinct;
 mod label;
 mod laws;
 mod layouts;
@@ -12,5 +13,5 @@ mod same;
 mod state;
 mod writing;
 
-pub use laws::{bytes_say_states, no_spelling_begins_another, one_spelling};
+pub use laws::{bytes_say_states, no_spelling_begins_another, one_spelling, same_states_fit_alike};
 pub use state::VerifyState;

@@ -8,12 +8,7 @@ fn report_of(parts: ReportParts) -> Result<CheckReport, Fail> {
     Ok(CheckReport::make(parts).ok().ok_or("a report")?)
 }
 
-fn report(
-    checked: u32,
-    faults: u32,
-    first: &[u32],
-    end: ReportEnd,
-) -> Result<CheckReport, Fail> {
+fn report(checked: u32, faults: u32, first: &[u32], end: ReportEnd) -> Result<CheckReport, Fail> {
     let mut blocks = Blocks::new();
     for block in first {
         if blocks.len() == MAX_LISTED {

@@ -1,12 +1,9 @@
 //! A job from its first write to the check after the restart, by the engine, a disk and a check.
 
-ghost use Rattle.std.specs.Prelude.{IsTrue};
-ghost use Rattle.verify_state.specs.State.{is_key};
-
 use super::{Given, JOB, tells};
 use disk_model::MemDisk;
 use engine::{Engine, Issue, Ticket};
-use fc_base::{CheckReport, JobParts, Key, Kind, ReportEnd};
+use fc_base::{CheckReport, JobParts, Kind, ReportEnd};
 use std::alloc::Global;
 use std::process::Abort;
 use std::test::Fail;
@@ -21,7 +18,7 @@ struct History {
 
 impl History {
     fn new(alloc: Global, given: Given) -> Result<History, Fail> {
-        if !is_key(&given.key) {
+        if !given.key.is_key() {
             return Err("a key that a state can have".into());
         }
         Ok(History {
@@ -75,7 +72,7 @@ impl History {
     /// Stops the job, takes its state and cuts the power, and after the restart checks the disk.
     fn cut_and_check(&mut self, alloc: Global) -> Result<CheckReport, Fail> {
         self.engine.stop();
-        let state = self.engine.take()?;
+        let state = self.engine.take();
         self.disk.cut();
         self.disk.power_on(3);
         Ok(
@@ -83,13 +80,6 @@ impl History {
                 .check(alloc, Some(&state), false, &mut self.disk)?,
         )
     }
-}
-
-/// Whether a state can have this key.
-fn is_key(key: &Key) -> bool
-    ensures { IsTrue result → IsTrue (is_key key.now) }
-{
-    1 <= key.run.0 && key.server.0 < 8 && key.job.0 < 16
 }
 
 /// What is found after a cut at which each of four blocks was written once, and its second write was

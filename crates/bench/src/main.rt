@@ -1,0 +1,42 @@
+//! Measures the check of a disk and the issue of writes, but only when it is given a word: what it
+//! then prints differs from run to run.
+//!
+//! `bench checks` times a check beside a copy of as many bytes, `bench issues` the slowest of a
+//! million calls of `issue`, and `bench rot` rots 60,000 sectors, for a reader of the process's memory.
+#![tactic(auto)]
+
+mod checks;
+mod issues;
+mod rot;
+mod trouble;
+
+use std::env;
+use std::fmt::Write;
+use std::process::ExitCode;
+use std::rt::Env;
+use std::time::CpuClock;
+use trouble::Trouble;
+
+fn main(rt: HostRuntime) -> ExitCode {
+    match run(&rt) {
+        Ok(()) => ExitCode::SUCCESS,
+        Err(trouble) => {
+            let _ = println!(rt; "{trouble}");
+            ExitCode::FAILURE
+        }
+    }
+}
+
+/// Measures what the first word asks for.
+fn run<R: Env + AllocGlobal + Print + CpuClock>(rt: &R) -> Result<(), Trouble> {
+    let words = env::args(rt)?.collect::<Vec<String>>(rt.alloc())?;
+    match words.get(1).map(String::as_str) {
+        Some("checks") => checks::measure(rt),
+        Some("issues") => issues::measure(rt),
+        Some("rot") => rot::measure(rt),
+        _ => {
+            println!(rt; "give a word: checks, issues or rot")?;
+            Ok(())
+        }
+    }
+}

@@ -1,0 +1,59 @@
+//! Why nothing was measured.
+
+use fc_base::Fault;
+use std::alloc::AllocError;
+use std::{fmt, io};
+
+#[derive(Drop)]
+pub enum Trouble {
+    Io(io::Error),
+    NoMemory,
+    /// A call of the crates that are measured was refused.
+    Refused(Fault),
+    /// The settings make no job.
+    NoJob,
+    /// No job has the key.
+    NoKey,
+    /// The disk has no such block.
+    NoBlock,
+    /// The engine issued no write.
+    NoWrite,
+    /// The check found a fault in what was written.
+    FaultFound,
+    /// A copy differs from what was copied.
+    Differs,
+}
+
+impl fmt::Display for Trouble {
+    fn fmt<W: fmt::Write>(&self, f: &mut fmt::Formatter<W>) -> fmt::Result {
+        match self {
+            Trouble::Io(error) => write!(f, "{error}"),
+            Trouble::NoMemory => f.write_str("no memory"),
+            Trouble::Refused(fault) => write!(f, "refused {fault}"),
+            Trouble::NoJob => f.write_str("the settings make no job"),
+            Trouble::NoKey => f.write_str("no job has the key"),
+            Trouble::NoBlock => f.write_str("the disk has no such block"),
+            Trouble::NoWrite => f.write_str("no write was issued"),
+            Trouble::FaultFound => f.write_str("the check found a fault"),
+            Trouble::Differs => f.write_str("the copy differs"),
+        }
+    }
+}
+
+impl From<io::Error> for Trouble {
+    fn from(error: io::Error) -> Trouble {
+        Trouble::Io(error)
+    }
+}
+
+impl From<AllocError> for Trouble {
+    fn from(_error: AllocError) -> Trouble {
+        Trouble::NoMemory
+    }
+}
+
+impl From<Fault> for Trouble {
+    fn from(fault: Fault) -> Trouble {
+        Trouble::Refused(fault)
+    }
+}

@@ -1,0 +1,245 @@
+-- The laws of frames that hold packets or pieces.
+use Rattle.std.proofs.Common.{◌≡◌, ℕ, ◌+◌, ◌-◌, ◌%◌, ◌<◌, ◌≤◌, Bool, true, false, ◌&&◌, Option, Some, None, List, [], ◌∷◌, ◌++◌, length, drop, refl, ap, ◌∙◌, arith}
+use Rattle.std.specs.Prelude.{if◌then◌else◌, ◌==◌, not, nat_lt, nat_le, is_none, is_some, slice_index, min}
+use Rattle.std.specs.Option.{option_map, option_and_then}
+use Rattle.std.proofs.lemmas.Bool.{eqb-true}
+use Rattle.std.proofs.lemmas.Bool.Decides.{nat_tests}
+use Rattle.std.proofs.lemmas.List.{length-append}
+use Rattle.fc_base.specs.declared.fault.Fault.{Fault}
+use Rattle.fc_base.specs.declared.fault.Fault.TheVariants.{FrameShort, FrameBadMagic, BadKind, FrameBadField, FrameTooLong, FrameTrailing}
+use Rattle.fc_base.specs.Faults.{when}
+use Rattle.messages.specs.declared.kind.PacketKind.{PacketKind}
+use Rattle.messages.specs.declared.kind.PacketKind.TheVariants as kinds
+use Rattle.messages.specs.declared.node.Node.{Node}
+use Rattle.messages.specs.declared.packet.PacketParts.{PacketParts}
+use Rattle.messages.specs.declared.piece.PieceParts.{PieceParts}
+use Rattle.messages.specs.declared.frame.Frame.{Frame}
+use Rattle.messages.specs.declared.frame.Frame.TheVariants.{Whole, Piece}
+use Rattle.messages.specs.declared.frame.FrameKind.{FrameKind}
+use Rattle.messages.specs.declared.frame.FrameKind.TheVariants as sorts
+use Rattle.messages.specs.Kinds.{number_of, kind_numbered}
+use Rattle.messages.specs.Nodes.{node_number, node_numbered, is_node}
+use Rattle.messages.specs.Ranges.{is_run, is_attempt, is_job, is_body}
+use Rattle.messages.specs.Layouts.{spelled, numbers}
+use Rattle.messages.specs.Bodies.{kind_of, length_of, spelled_body}
+use Rattle.messages.specs.Packets.{header, header_at, has_magic, header_faults, spelling}
+use Rattle.messages.specs.Laws.{IsPacket}
+use Rattle.messages.specs.PieceRanges.{is_long_kind, is_number, is_owner, is_cut_length, is_tag_in_range, is_place, is_piece}
+use Rattle.messages.specs.FrameBytes.{piece_layout, piece_numbers, piece_spelling, sort_numbered, is_frame_kind, frame_limit, in_ranges, piece_with, piece_said, frame_said, frame_at, frame_faults}
+use Rattle.messages.specs.FrameLaws.{FramesAreRead}
+use Rattle.verify_state.specs.Laws.{ReadsBack}
+use Rattle.messages.proofs.LayoutLemmas.{AreWide, Fit, wide8, wide32, wide64, length-spelled, numbers-spelled, drop-spelled}
+use Rattle.messages.proofs.ChoiceLemmas.{kind_again, kind_fits, node_again, node_fits}
+use Rattle.messages.proofs.TestLemmas.{both, le_of, lt_of}
+use Rattle.messages.proofs.BodyLemmas.{length-spelled_body}
+use Rattle.messages.proofs.FitLemmas.{body_at-spelled}
+use Rattle.messages.proofs.FramesOfLemmas.{length-piece_spelling, length-spelling}
+
+header_wide : AreWide header
+header_wide = (wide8, (wide8, (wide8, (wide8, (wide32, (wide32, (wide32, tt)))))))
+
+layout_wide : AreWide piece_layout
+layout_wide = (wide8, (wide64, (wide64, (wide32, (wide32, (wide32, (wide32, tt)))))))
+
+-- Bytes with this header, and as many behind it as it says.
+record Headed (bytes : List ℕ) (kind : ℕ) (from to : Node) (len : ℕ) : Type 0 where
+  pub numbers : numbers header bytes ≡ 70 ∷ 67 ∷ 1 ∷ kind ∷ node_number from ∷ node_number to ∷ len ∷ []
+  pub long : length bytes ≡ 16 + len
+  pub limit : len ≤ 1057
+
+passes : (t : Bool) (f : Fault) → t ≡ false → when t f ≡ []
+passes true f e = absurd cc
+passes false f e = refl
+
+none_left : (xs ys : List Fault) → xs ≡ [] → ys ≡ [] → xs ++ ys ≡ []
+none_left xs ys ex ey = rw (ex, ey) refl
+
+headed_clean : (bytes : List ℕ) (kind : ℕ) (from to : Node) (len : ℕ) → Headed bytes kind from to len → is_frame_kind kind ≡ true → is_node from ≡ true → is_node to ≡ true → header_faults is_frame_kind frame_limit bytes ≡ []
+headed_clean bytes kind from to len told known hf ht =
+    let number = λ (i : ℕ). ap (λ (ns : List ℕ). slice_index ns i) told.numbers in
+    let from_is = ap node_numbered (number 4) ∙ node_again from hf in
+    let to_is = ap node_numbered (number 5) ∙ node_again to ht in
+    let size_is : header_at 6 bytes ≡ len = number 6 in
+    let most = told.limit in
+    let all = told.long in
+    let short : nat_lt (length bytes) 16 ≡ false = grind (arith, nat_tests) in
+    let magic : not (has_magic bytes) ≡ false = rw (number 0, number 1, number 2) refl in
+    let kind_is : not (is_frame_kind (header_at 3 bytes)) ≡ false = ap (λ (n : ℕ). not (is_frame_kind n)) (number 3) ∙ ap not known in
+    let long : nat_lt frame_limit (header_at 6 bytes) ≡ false = grind (arith, nat_tests) in
+    let less : nat_lt (length bytes) (16 + header_at 6 bytes) ≡ false = grind (arith, nat_tests) in
+    let more : nat_lt (16 + header_at 6 bytes) (length bytes) ≡ false = grind (arith, nat_tests) in
+    none_left _ _ (passes (nat_lt (length bytes) 16) FrameShort short)
+    (none_left _ _ (passes (not (has_magic bytes)) FrameBadMagic magic)
+    (none_left _ _ (passes (not (is_frame_kind (header_at 3 bytes))) BadKind kind_is)
+    (none_left _ _ (passes (is_none (node_numbered (header_at 4 bytes))) FrameBadField (ap is_none from_is))
+    (none_left _ _ (passes (is_none (node_numbered (header_at 5 bytes))) FrameBadField (ap is_none to_is))
+    (none_left _ _ (passes (nat_lt frame_limit (header_at 6 bytes)) FrameTooLong long)
+    (none_left _ _ (passes (nat_lt (length bytes) (16 + header_at 6 bytes)) FrameShort less)
+    (passes (nat_lt (16 + header_at 6 bytes) (length bytes)) FrameTrailing more)))))))
+
+headed_read : (bytes : List ℕ) (kind : ℕ) (from to : Node) (len : ℕ) (sort : FrameKind) (f : Frame) → Headed bytes kind from to len → sort_numbered kind ≡ Some sort → is_node from ≡ true → is_node to ≡ true
+    → frame_said from to (drop 16 bytes) sort ≡ Some f → (frame_faults bytes ≡ []) × (frame_at bytes ≡ Some f)
+headed_read bytes kind from to len sort f told sort_is hf ht said =
+    let number = λ (i : ℕ). ap (λ (ns : List ℕ). slice_index ns i) told.numbers in
+    let kind_is = ap sort_numbered (number 3) ∙ sort_is in
+    let from_is = ap node_numbered (number 4) ∙ node_again from hf in
+    let to_is = ap node_numbered (number 5) ∙ node_again to ht in
+    let read : frame_at bytes ≡ Some f = rw (kind_is, from_is, to_is, said) refl in
+    let clean = headed_clean bytes kind from to len told (ap (λ (o : Option FrameKind). is_some o) sort_is) hf ht in
+    (none_left (header_faults is_frame_kind frame_limit bytes) (when (is_none (frame_at bytes)) FrameBadField) clean (passes (is_none (frame_at bytes)) FrameBadField (ap is_none read)), read)
+
+-- A kind of packets isn't that of pieces.
+sort_of_kind : (k : PacketKind) → sort_numbered (number_of k) ≡ Some (sorts.Packet k)
+sort_of_kind kinds.Jobs = ap (λ (o : Option PacketKind). option_map sorts.Packet o) (kind_again kinds.Jobs)
+sort_of_kind kinds.JobsOk = ap (λ (o : Option PacketKind). option_map sorts.Packet o) (kind_again kinds.JobsOk)
+sort_of_kind kinds.Start = ap (λ (o : Option PacketKind). option_map sorts.Packet o) (kind_again kinds.Start)
+sort_of_kind kinds.Started = ap (λ (o : Option PacketKind). option_map sorts.Packet o) (kind_again kinds.Started)
+sort_of_kind kinds.Trigger = ap (λ (o : Option PacketKind). option_map sorts.Packet o) (kind_again kinds.Trigger)
+sort_of_kind kinds.State = ap (λ (o : Option PacketKind). option_map sorts.Packet o) (kind_again kinds.State)
+sort_of_kind kinds.NoState = ap (λ (o : Option PacketKind). option_map sorts.Packet o) (kind_again kinds.NoState)
+sort_of_kind kinds.StateAck = ap (λ (o : Option PacketKind). option_map sorts.Packet o) (kind_again kinds.StateAck)
+sort_of_kind kinds.Stop = ap (λ (o : Option PacketKind). option_map sorts.Packet o) (kind_again kinds.Stop)
+sort_of_kind kinds.Stopped = ap (λ (o : Option PacketKind). option_map sorts.Packet o) (kind_again kinds.Stopped)
+sort_of_kind kinds.Verify = ap (λ (o : Option PacketKind). option_map sorts.Packet o) (kind_again kinds.Verify)
+sort_of_kind kinds.WantState = ap (λ (o : Option PacketKind). option_map sorts.Packet o) (kind_again kinds.WantState)
+sort_of_kind kinds.Saved = ap (λ (o : Option PacketKind). option_map sorts.Packet o) (kind_again kinds.Saved)
+sort_of_kind kinds.NoSaved = ap (λ (o : Option PacketKind). option_map sorts.Packet o) (kind_again kinds.NoSaved)
+sort_of_kind kinds.Report = ap (λ (o : Option PacketKind). option_map sorts.Packet o) (kind_again kinds.Report)
+sort_of_kind kinds.Refused = ap (λ (o : Option PacketKind). option_map sorts.Packet o) (kind_again kinds.Refused)
+
+whole_read : ReadsBack → (p : PacketParts) → IsPacket p → length_of p.body ≤ 1024 → (frame_faults (spelling p) ≡ []) × (frame_at (spelling p) ≡ Some (Whole p))
+whole_read law p h short =
+    let last = both (is_node p.from && is_node p.to) (is_body p.body) h.in_range in
+    let nodes = both (is_node p.from) (is_node p.to) last.0 in
+    let ns = 70 ∷ 67 ∷ 1 ∷ number_of (kind_of p.body) ∷ node_number p.from ∷ node_number p.to ∷ length_of p.body ∷ [] in
+    let fits : Fit header ns = (omega arith, (omega arith, (omega arith, (kind_fits (kind_of p.body), (node_fits p.from nodes.0, (node_fits p.to nodes.1, (omega arith, tt))))))) in
+    let told : Headed (spelling p) (number_of (kind_of p.body)) p.from p.to (length_of p.body) = record {
+      numbers = numbers-spelled header ns (spelled_body p.body) header_wide fits;
+      long = length-spelling p;
+      limit = omega arith;
+    } in
+    let behind : drop 16 (spelling p) ≡ spelled_body p.body = drop-spelled header ns (spelled_body p.body) refl in
+    let len = length-spelled_body p.body in
+    let enough : nat_le (length (spelled_body p.body)) 1024 ≡ true = grind (arith, nat_tests) in
+    let said : frame_said p.from p.to (drop 16 (spelling p)) (sorts.Packet (kind_of p.body)) ≡ Some (Whole p) =
+    ap (λ (bs : List ℕ). frame_said p.from p.to bs (sorts.Packet (kind_of p.body))) behind ∙ rw (enough, body_at-spelled law p.body last.1 h.state) refl in
+    headed_read (spelling p) (number_of (kind_of p.body)) p.from p.to (length_of p.body) (sorts.Packet (kind_of p.body)) (Whole p) told (sort_of_kind (kind_of p.body)) nodes.0 nodes.1 said
+
+-- The numbers of a piece fit their widths.
+
+word_of : (n : ℕ) → is_attempt n ≡ true → n < 18446744073709551616
+word_of n h = lt_of n 18446744073709551616 (both (nat_le 1 n) (nat_lt n 18446744073709551616) h).1
+
+no_number : (n : ℕ) → (n == 0) ≡ true → n < 18446744073709551616
+no_number n h = grind (arith, nat_tests)
+
+number_fits : (k : PacketKind) (n : ℕ) → is_long_kind k ≡ true → is_number k n ≡ true → n < 18446744073709551616
+number_fits kinds.Jobs n l h = no_number n h
+number_fits kinds.JobsOk n l h = absurd cc
+number_fits kinds.Start n l h = absurd cc
+number_fits kinds.Started n l h = absurd cc
+number_fits kinds.Trigger n l h = absurd cc
+number_fits kinds.State n l h = no_number n h
+number_fits kinds.NoState n l h = absurd cc
+number_fits kinds.StateAck n l h = absurd cc
+number_fits kinds.Stop n l h = absurd cc
+number_fits kinds.Stopped n l h = absurd cc
+number_fits kinds.Verify n l h = word_of n h
+number_fits kinds.WantState n l h = absurd cc
+number_fits kinds.Saved n l h = word_of n h
+number_fits kinds.NoSaved n l h = absurd cc
+number_fits kinds.Report n l h = absurd cc
+number_fits kinds.Refused n l h = absurd cc
+
+small_owner : (s j : ℕ) → (nat_lt s 8 && is_job j) ≡ true → (s < 4294967296) × (j < 4294967296)
+small_owner s j h =
+    let parts = both (nat_lt s 8) (is_job j) h in
+    let one = lt_of s 8 parts.0 in
+    let two = lt_of j 16 parts.1 in
+    (omega (arith, one), omega (arith, two))
+
+no_owner : (s j : ℕ) → ((s == 0) && (j == 0)) ≡ true → (s < 4294967296) × (j < 4294967296)
+no_owner s j h =
+    let parts = both (s == 0) (j == 0) h in
+    let one = parts.0 in
+    let two = parts.1 in
+    (grind (arith, nat_tests), grind (arith, nat_tests))
+
+owner_fits : (k : PacketKind) (s j : ℕ) → is_long_kind k ≡ true → is_owner k s j ≡ true → (s < 4294967296) × (j < 4294967296)
+owner_fits kinds.Jobs s j l h = no_owner s j h
+owner_fits kinds.JobsOk s j l h = absurd cc
+owner_fits kinds.Start s j l h = absurd cc
+owner_fits kinds.Started s j l h = absurd cc
+owner_fits kinds.Trigger s j l h = absurd cc
+owner_fits kinds.State s j l h = small_owner s j h
+owner_fits kinds.NoState s j l h = absurd cc
+owner_fits kinds.StateAck s j l h = absurd cc
+owner_fits kinds.Stop s j l h = absurd cc
+owner_fits kinds.Stopped s j l h = absurd cc
+owner_fits kinds.Verify s j l h = no_owner s j h
+owner_fits kinds.WantState s j l h = absurd cc
+owner_fits kinds.Saved s j l h = small_owner s j h
+owner_fits kinds.NoSaved s j l h = absurd cc
+owner_fits kinds.Report s j l h = absurd cc
+owner_fits kinds.Refused s j l h = absurd cc
+
+record Ranged (q : PieceParts) : Type 0 where
+  pub from : is_node q.from ≡ true
+  pub to : is_node q.to ≡ true
+  pub numbers : Fit piece_layout (piece_numbers q)
+  pub short : length q.bytes ≤ 1024
+
+ranged : (q : PieceParts) → is_piece q ≡ true → Ranged q
+ranged q h =
+    let t = q.tag in
+    let place = both (is_node q.from && is_node q.to && is_tag_in_range t) (is_place t.length q.at (length q.bytes)) h in
+    let tag = both (is_node q.from && is_node q.to) (is_tag_in_range t) place.0 in
+    let nodes = both (is_node q.from) (is_node q.to) tag.0 in
+    let len = both (is_long_kind t.whole && is_run t.run && is_number t.whole t.number && is_owner t.whole t.server t.job) (is_cut_length t.length) tag.1 in
+    let owner = both (is_long_kind t.whole && is_run t.run && is_number t.whole t.number) (is_owner t.whole t.server t.job) len.0 in
+    let number = both (is_long_kind t.whole && is_run t.run) (is_number t.whole t.number) owner.0 in
+    let run = both (is_long_kind t.whole) (is_run t.run) number.0 in
+    let most = le_of t.length 16400 (both (nat_le 1025 t.length) (nat_le t.length 16400) len.1).1 in
+    let count = both ((q.at % 1024 == 0) && nat_lt q.at t.length) (length q.bytes == min 1024 (t.length - q.at)) place.1 in
+    let before = lt_of q.at t.length (both (q.at % 1024 == 0) (nat_lt q.at t.length) count.0).1 in
+    let part = eqb-true (length q.bytes) (min 1024 (t.length - q.at)) count.1 in
+    let owners = owner_fits t.whole t.server t.job run.0 owner.1 in
+    record {
+      from = nodes.0;
+      to = nodes.1;
+      numbers = (kind_fits t.whole, (word_of t.run run.1, (number_fits t.whole t.number run.0 number.1, (owners.0, (owners.1, (omega (arith, most), (omega (arith, before, most), tt)))))));
+      short = omega (arith, part);
+    }
+
+piece_again : (q : PieceParts) → is_piece q ≡ true → Ranged q → piece_said q.from q.to (spelled piece_layout (piece_numbers q) ++ q.bytes) ≡ Some q
+piece_again q h r =
+    let bytes = spelled piece_layout (piece_numbers q) ++ q.bytes in
+    let len : 33 ≤ length bytes = omega (arith, length-append (spelled piece_layout (piece_numbers q)) q.bytes, length-spelled piece_layout (piece_numbers q) refl) in
+    let enough : nat_le 33 (length bytes) ≡ true = grind (arith, nat_tests) in
+    let by : List ℕ → Option PieceParts = λ ns. option_and_then (λ (k : PacketKind). in_ranges (piece_with q.from q.to ns (drop 33 bytes) k)) (kind_numbered (slice_index ns 0)) in
+    ap (λ (b : Bool). if b then by (numbers piece_layout bytes) else None) enough
+    ∙ ap by (numbers-spelled piece_layout (piece_numbers q) q.bytes layout_wide r.numbers)
+    ∙ ap (λ (o : Option PacketKind). option_and_then (λ (k : PacketKind). in_ranges (piece_with q.from q.to (piece_numbers q) (drop 33 bytes) k)) o) (kind_again q.tag.whole)
+    ∙ ap (λ (bs : List ℕ). in_ranges (piece_with q.from q.to (piece_numbers q) bs q.tag.whole)) (drop-spelled piece_layout (piece_numbers q) q.bytes refl)
+    ∙ rw h refl
+
+piece_read : (q : PieceParts) → is_piece q ≡ true → (frame_faults (piece_spelling q) ≡ []) × (frame_at (piece_spelling q) ≡ Some (Piece q))
+piece_read q h =
+    let r = ranged q h in
+    let short = r.short in
+    let ns = 70 ∷ 67 ∷ 1 ∷ 17 ∷ node_number q.from ∷ node_number q.to ∷ (33 + length q.bytes) ∷ [] in
+    let body = spelled piece_layout (piece_numbers q) ++ q.bytes in
+    let fits : Fit header ns = (omega arith, (omega arith, (omega arith, (omega arith, (node_fits q.from r.from, (node_fits q.to r.to, (omega (arith, short), tt))))))) in
+    let told : Headed (piece_spelling q) 17 q.from q.to (33 + length q.bytes) = record {
+      numbers = numbers-spelled header ns body header_wide fits;
+      long = omega (arith, length-piece_spelling q);
+      limit = omega (arith, short);
+    } in
+    let behind : drop 16 (piece_spelling q) ≡ body = drop-spelled header ns body refl in
+    let said : frame_said q.from q.to (drop 16 (piece_spelling q)) sorts.Piece ≡ Some (Piece q) =
+    ap (λ (bs : List ℕ). frame_said q.from q.to bs sorts.Piece) behind ∙ ap (λ (o : Option PieceParts). option_map Piece o) (piece_again q h r) in
+    headed_read (piece_spelling q) 17 q.from q.to (33 + length q.bytes) sorts.Piece (Piece q) told refl r.from r.to said
+
+pub frames_are_read : ReadsBack → FramesAreRead
+frames_are_read law (Whole p) h short = whole_read law p h short
+frames_are_read law (Piece q) h short = piece_read q h

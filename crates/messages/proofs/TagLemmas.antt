@@ -1,0 +1,40 @@
+-- Tags that pass the test are the same.
+use Rattle.std.proofs.Common.{◌≡◌, refl, sym, ◌∙◌, ap, ℕ, arith, true, ◌==◌, Some}
+use Rattle.std.proofs.lemmas.Bool.{eqb-true}
+use Rattle.std.proofs.lemmas.Bool.Decides.{nat_tests}
+use Rattle.messages.specs.declared.kind.PacketKind.{PacketKind}
+use Rattle.messages.specs.Kinds.{number_of, kind_numbered}
+use Rattle.messages.proofs.ChoiceLemmas.{kind_again}
+use Rattle.messages.proofs.TestLemmas.{both}
+use Rattle.messages.specs.declared.piece.Tag.{Tag}
+use Rattle.messages.specs.Tags.{is_tag}
+
+same_number : (x : ℕ) → (x == x) ≡ true
+same_number x = grind (arith, nat_tests)
+
+pub is_tag_self : (t : Tag) → is_tag t t ≡ true
+is_tag_self t = rw (same_number (number_of t.whole), same_number t.run, same_number t.number, same_number t.server, same_number t.job, same_number t.length) refl
+
+some_kind : (a b : PacketKind) → Some a ≡ Some b → a ≡ b
+some_kind a b h = cc
+
+same_kind : (a b : PacketKind) → number_of a ≡ number_of b → a ≡ b
+same_kind a b h = some_kind a b (sym (kind_again a) ∙ ap kind_numbered h ∙ kind_again b)
+
+make_tag : PacketKind → ℕ → ℕ → ℕ → ℕ → ℕ → Tag
+make_tag w r n s j l = record { whole = w; run = r; number = n; server = s; job = j; length = l }
+
+pub same_tag : (a b : Tag) → is_tag a b ≡ true → a ≡ b
+unfolding make_tag
+same_tag a b h =
+    let p = both _ (a.length == b.length) h in
+    let q = both _ (a.job == b.job) p.0 in
+    let r = both _ (a.server == b.server) q.0 in
+    let s = both _ (a.number == b.number) r.0 in
+    let t = both (number_of a.whole == number_of b.whole) (a.run == b.run) s.0 in
+    ap (λ w. make_tag w a.run a.number a.server a.job a.length) (same_kind a.whole b.whole (eqb-true (number_of a.whole) (number_of b.whole) t.0))
+    ∙ ap (λ r. make_tag b.whole r a.number a.server a.job a.length) (eqb-true a.run b.run t.1)
+    ∙ ap (λ n. make_tag b.whole b.run n a.server a.job a.length) (eqb-true a.number b.number s.1)
+    ∙ ap (λ n. make_tag b.whole b.run b.number n a.job a.length) (eqb-true a.server b.server r.1)
+    ∙ ap (λ n. make_tag b.whole b.run b.number b.server n a.length) (eqb-true a.job b.job q.1)
+    ∙ ap (λ n. make_tag b.whole b.run b.number b.server b.job n) (eqb-true a.length b.length p.1)

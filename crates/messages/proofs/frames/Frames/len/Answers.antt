@@ -1,0 +1,6 @@
+use Rattle.std.proofs.Common.{List, ℕ, length, ap, ◌∙◌, sym}
+use Rattle.messages.proofs.FramesOfLemmas.{length-parted}
+use Rattle.messages.proofs.frames.Frames.len.Goals as goal
+
+pub returns : goal.returns
+returns c = rw (← c.self.view_is) (ap (λ (xs : List ℕ). length xs) c.as_slice.ensures.value ∙ sym (length-parted c.self.inside.lens.items c.self.inside.bytes.items))

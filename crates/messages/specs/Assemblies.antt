@@ -1,0 +1,118 @@
+-- What comes together of the pieces that a node takes.
+use Rattle.std.specs.Prelude.{◌≡◌, ◌⊎◌, ℕ, ◌-◌, Bool, true, false, ◌==◌, if◌then◌else◌, List, [], ◌∷◌, ◌++◌, length, drop, Option, Some, None, Result, Ok, Err}
+use Rattle.fc_base.specs.declared.fault.Fault.{Fault}
+use Rattle.fc_base.specs.declared.fault.Fault.TheVariants.{FrameBadField, FrameNoMemory}
+use Rattle.messages.specs.declared.body.Body.{Body}
+use Rattle.messages.specs.declared.packet.PacketParts.{PacketParts}
+use Rattle.messages.specs.declared.piece.Tag.{Tag}
+use Rattle.messages.specs.declared.piece.PieceParts.{PieceParts}
+use Rattle.messages.specs.declared.places.Filled.{Filled}
+use Rattle.messages.specs.declared.places.Row.{Row}
+use Rattle.messages.specs.declared.frame.Frame.{Frame}
+use Rattle.messages.specs.declared.frame.Frame.TheVariants.{Whole, Piece}
+use Rattle.messages.specs.Bodies.{body_at}
+use Rattle.messages.specs.Tags.{is_tag}
+use Rattle.messages.specs.Pieces.{tag_in, places}
+
+-- The bytes at a place, where it is filled.
+abbrev pub filled_at : List Filled → ℕ → Option (List ℕ)
+filled_at [] at = None
+filled_at (f ∷ fs) at = if f.at == at then Some f.bytes else filled_at fs at
+
+-- A piece fills its place, and a filled place stays as it is.
+abbrev pub unless_filled : Option (List ℕ) → PieceParts → List Filled → List Filled
+unless_filled None q fs = fs ++ record { at = q.at; bytes = q.bytes } ∷ []
+unless_filled (Some bytes) q fs = fs
+
+abbrev pub fill : PieceParts → List Filled → List Filled
+fill q fs = unless_filled (filled_at fs q.at) q fs
+
+-- The bytes at these places one after another, where all are filled.
+abbrev pub after_these : Option (List ℕ) → Option (List ℕ) → Option (List ℕ)
+after_these None rest = None
+after_these (Some bytes) None = None
+after_these (Some bytes) (Some rest) = Some (bytes ++ rest)
+
+abbrev pub joined : List Filled → List ℕ → Option (List ℕ)
+joined fs [] = Some []
+joined fs (at ∷ ats) = after_these (filled_at fs at) (joined fs ats)
+
+-- The filled places of a tag.
+abbrev pub filled_of : Tag → List Row → List Filled
+filled_of tag [] = []
+filled_of tag (row ∷ rows) = if is_tag row.tag tag then row.filled else filled_of tag rows
+
+-- The filled places of a piece's tag, once it is there too.
+abbrev pub with_piece : List Row → PieceParts → List Filled
+with_piece rows q = fill q (filled_of q.tag rows)
+
+-- The whole body that a piece completes.
+abbrev pub completed : List Row → PieceParts → Option (List ℕ)
+completed rows q = joined (with_piece rows q) (places q.tag.length)
+
+-- What a piece gives: nothing yet, a packet, or bytes that aren't a packet with the tag.
+pub data Look : Type 0 where
+  Waits : Look
+  Gives : PacketParts → Look
+  NoPacket : Look
+
+-- The ends of a packet are those of the piece that completes it.
+abbrev pub packet_of : PieceParts → Body → PacketParts
+packet_of q b = record { from = q.from; to = q.to; body = b }
+
+abbrev pub of_tag : PieceParts → Option Body → Look
+of_tag q None = NoPacket
+of_tag q (Some b) = if is_tag (tag_in b q.tag.length) q.tag then Gives (packet_of q b) else NoPacket
+
+abbrev pub look_at : PieceParts → Option (List ℕ) → Look
+look_at q None = Waits
+look_at q (Some bytes) = of_tag q (body_at q.tag.whole bytes)
+
+abbrev pub look : List Row → PieceParts → Look
+look rows q = look_at q (completed rows q)
+
+-- Without a tag.
+abbrev pub without : Tag → List Row → List Row
+without tag [] = []
+without tag (row ∷ rows) = if is_tag row.tag tag then rows else row ∷ without tag rows
+
+-- A tag's row is there.
+abbrev pub has_tag : Tag → List Row → Bool
+has_tag tag [] = false
+has_tag tag (row ∷ rows) = if is_tag row.tag tag then true else has_tag tag rows
+
+-- A tag has these places filled.
+abbrev pub replaced : Tag → List Filled → List Row → List Row
+replaced tag fs [] = []
+replaced tag fs (row ∷ rows) = if is_tag row.tag tag then record { tag = row.tag; filled = fs } ∷ rows else row ∷ replaced tag fs rows
+
+-- The newest 128 rows, and no older ones.
+abbrev pub newest : List Row → List Row
+newest rows = drop (length rows - 128) rows
+
+abbrev pub put : Bool → Tag → List Filled → List Row → List Row
+put true tag fs rows = replaced tag fs rows
+put false tag fs rows = newest (rows ++ record { tag = tag; filled = fs } ∷ [])
+
+-- What taking a piece leaves: a completed tag goes, else the piece has filled its place.
+abbrev pub taken_at : Option (List ℕ) → PieceParts → List Filled → List Row → List Row
+taken_at None q fs rows = put (has_tag q.tag rows) q.tag fs rows
+taken_at (Some bytes) q fs rows = without q.tag rows
+
+abbrev pub taken : List Row → PieceParts → List Row
+taken rows q = taken_at (completed rows q) q (with_piece rows q) rows
+
+-- What a frame gives to a node at which this has come together.
+abbrev pub given : List Row → Frame → Look
+given rows (Whole p) = Gives p
+given rows (Piece q) = look rows q
+
+-- What looking answers: the packet or that there is none yet, unless memory ran out, or that the bytes
+-- are no packet with the tag.
+abbrev pub LookAnswers : Result (Option PacketParts) Fault → Look → Type 0
+LookAnswers (Ok o) Waits = o ≡ None
+LookAnswers (Ok o) (Gives p) = o ≡ Some p
+LookAnswers (Ok o) NoPacket = ⊥
+LookAnswers (Err f) Waits = ⊥
+LookAnswers (Err f) (Gives p) = f ≡ FrameNoMemory
+LookAnswers (Err f) NoPacket = (f ≡ FrameBadField) ⊎ (f ≡ FrameNoMemory)

@@ -1,0 +1,27 @@
+-- The bytes of the frames of a packet, and how many they are.
+use Rattle.std.specs.Prelude.{ℕ, ◌+◌, ◌*◌, ◌≤◌, List, [], ◌∷◌, length, take, drop, map, All, sum_by}
+use Rattle.messages.specs.declared.packet.PacketParts.{PacketParts}
+use Rattle.messages.specs.declared.node.Node.{Node}
+use Rattle.messages.specs.declared.piece.Tag.{Tag}
+use Rattle.messages.specs.Bodies.{length_of}
+use Rattle.messages.specs.Pieces.{cut_at, frames_of}
+use Rattle.messages.specs.FrameBytes.{piece_spelling, frame_spelling}
+
+-- Bytes parted into lists of these lengths.
+abbrev pub parted : List ℕ → List ℕ → List (List ℕ)
+parted [] bytes = []
+parted (n ∷ ns) bytes = take n bytes ∷ parted ns (drop n bytes)
+
+-- The bytes of the piece at a place.
+abbrev pub spelled_piece : Node → Node → Tag → List ℕ → ℕ → List ℕ
+spelled_piece from to tag bytes at = piece_spelling (cut_at from to tag bytes at)
+
+-- The bytes of a packet's frames.
+abbrev pub spelled_frames : PacketParts → List (List ℕ)
+spelled_frames p = map frame_spelling (frames_of p)
+
+-- At most 17 frames, of at most 1,073 bytes each, which together have at most 49 bytes each beyond the body.
+pub record AreFew (p : PacketParts) (frames : List (List ℕ)) : Type 0 where
+  pub few : length frames ≤ 17
+  pub short : All (λ frame. length frame ≤ 1073) frames
+  pub total : sum_by (λ frame. length frame) frames ≤ length_of p.body + 49 * length frames

@@ -1,0 +1,97 @@
+-- What is promised of pieces.
+use Rattle.std.specs.Prelude.{◌≡◌, ◌⊎◌, ℕ, Bool, true, false, ◌==◌, ◌&&◌, if◌then◌else◌, List, [], ◌∷◌, length, Some, Contains}
+use Rattle.messages.specs.declared.packet.PacketParts.{PacketParts}
+use Rattle.messages.specs.declared.piece.Tag.{Tag}
+use Rattle.messages.specs.declared.piece.PieceParts.{PieceParts}
+use Rattle.messages.specs.declared.places.Filled.{Filled}
+use Rattle.messages.specs.declared.places.Row.{Row}
+use Rattle.messages.specs.Bodies.{spelled_body, length_of, body_at}
+use Rattle.messages.specs.Laws.{IsPacket}
+use Rattle.messages.specs.Pieces.{is_cut, tag_in, tag_of, places, bytes_at, pieces_of}
+use Rattle.messages.specs.Assemblies.{Waits, Gives, completed, packet_of, look_at, look, taken, has_tag}
+
+-- A piece of a body of these bytes, whoever sends it.
+pub record IsPartOf (tag : Tag) (bytes : List ℕ) (q : PieceParts) : Type 0 where
+  pub tag_is : q.tag ≡ tag
+  pub bytes_are : q.bytes ≡ bytes_at bytes q.at
+
+-- Some piece is of this place, and so of each of these places.
+abbrev pub has_place : List PieceParts → ℕ → Bool
+has_place [] at = false
+has_place (q ∷ qs) at = if q.at == at then true else has_place qs at
+
+abbrev pub has_places : List PieceParts → List ℕ → Bool
+has_places qs [] = true
+has_places qs (at ∷ ats) = has_place qs at && has_places qs ats
+
+-- What taking these leaves, the newest first.
+abbrev pub all_taken : List Row → List PieceParts → List Row
+all_taken rows [] = rows
+all_taken rows (q ∷ qs) = taken (all_taken rows qs) q
+
+-- The pieces of any bytes, in any order and with repeats, give what the bytes say at the last place
+-- that lacked one, and nothing before.
+abbrev pub PiecesGiveTheBytes : Type 0
+PiecesGiveTheBytes =
+    (tag : Tag) (bytes : List ℕ) → length bytes ≡ tag.length → (rows : List Row) → has_tag tag rows ≡ false
+    → (qs : List PieceParts) → ((x : PieceParts) → Contains qs x → IsPartOf tag bytes x) → has_places qs (places tag.length) ≡ false
+    → (q : PieceParts) → IsPartOf tag bytes q
+    → look (all_taken rows qs) q ≡ (if has_places (q ∷ qs) (places tag.length) then look_at q (Some bytes) else Waits)
+
+-- The pieces of a packet, in any order and with repeats, give it at the last place that lacked one.
+abbrev pub PiecesGiveThePacket : Type 0
+PiecesGiveThePacket =
+    (p : PacketParts) → IsPacket p → is_cut p.body ≡ true → (rows : List Row) → has_tag (tag_of p.body) rows ≡ false
+    → (qs : List PieceParts) → ((x : PieceParts) → Contains qs x → Contains (pieces_of p) x) → has_places qs (places (length_of p.body)) ≡ false
+    → (q : PieceParts) → Contains (pieces_of p) q
+    → look (all_taken rows qs) q ≡ (if has_places (q ∷ qs) (places (length_of p.body)) then Gives p else Waits)
+
+-- A piece gives this packet: it fills the last place of its tag, and the bytes in order are a body
+-- with that tag, which the packet has, with the ends of the piece.
+pub record GivesThis (rows : List Row) (q : PieceParts) (p : PacketParts) : Type 0 where
+  pub bytes : List ℕ
+  pub whole : completed rows q ≡ Some bytes
+  pub body : body_at q.tag.whole bytes ≡ Some p.body
+  pub tag_is : tag_in p.body q.tag.length ≡ q.tag
+  pub packet : p ≡ packet_of q p.body
+
+-- That is so exactly where looking gives the packet.
+abbrev pub OnlyWholeBodiesAreGiven : Type 0
+OnlyWholeBodiesAreGiven =
+    (rows : List Row) (q : PieceParts) (p : PacketParts) → (look rows q ≡ Gives p → GivesThis rows q p) × (GivesThis rows q p → look rows q ≡ Gives p)
+
+-- Among these packets, a tag names one body.
+abbrev pub OneBodyOfEachTag : List PacketParts → Type 0
+OneBodyOfEachTag sent =
+    (p q : PacketParts) → Contains sent p → Contains sent q → is_cut p.body ≡ true → is_cut q.body ≡ true → tag_of p.body ≡ tag_of q.body → p.body ≡ q.body
+
+abbrev pub ArePackets : List PacketParts → Type 0
+ArePackets sent = (p : PacketParts) → Contains sent p → IsPacket p
+
+-- A place is filled with bytes of one of these packets, which was cut.
+pub record WasCut (sent : List PacketParts) (tag : Tag) (at : ℕ) (bytes : List ℕ) : Type 0 where
+  pub packet : PacketParts
+  pub was_sent : Contains sent packet
+  pub cut : is_cut packet.body ≡ true
+  pub tag_is : tag_of packet.body ≡ tag
+  pub bytes_are : bytes_at (spelled_body packet.body) at ≡ bytes
+
+abbrev pub AreCut : List PacketParts → Tag → List Filled → Type 0
+AreCut sent tag [] = Unit {0}
+AreCut sent tag (f ∷ fs) = WasCut sent tag f.at f.bytes × AreCut sent tag fs
+
+-- What has come together is of these packets alone, as it is of a node to which nothing came.
+abbrev pub WasSent : List PacketParts → List Row → Type 0
+WasSent sent [] = Unit {0}
+WasSent sent (row ∷ rows) = AreCut sent row.tag row.filled × WasSent sent rows
+
+-- A piece of a packet that was cut.
+abbrev pub IsPieceOf : PacketParts → PieceParts → Type 0
+IsPieceOf p q = (is_cut p.body ≡ true) × Contains (pieces_of p) q
+
+-- A piece of one of these packets gives nothing yet or that packet, and what it leaves is of these packets again.
+abbrev pub OnlySentComesTogether : Type 0
+OnlySentComesTogether =
+    (sent : List PacketParts) → ArePackets sent → OneBodyOfEachTag sent → (rows : List Row) → WasSent sent rows
+    → (p : PacketParts) → Contains sent p → (q : PieceParts) → IsPieceOf p q
+    → ((look rows q ≡ Waits) ⊎ (look rows q ≡ Gives p)) × WasSent sent (taken rows q)

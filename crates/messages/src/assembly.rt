@@ -1,0 +1,139 @@
+//! What comes together of the pieces that a node takes.
+
+ghost use Rattle.std.specs.Prelude.{◌≡◌, position, OnOk, OnErr, [], ◌∷◌, ◌++◌};
+ghost use Rattle.messages.specs.Bodies.{body_at};
+ghost use Rattle.messages.specs.Tags.{is_tag};
+ghost use Rattle.messages.specs.Assemblies.{filled_of, look, of_tag, taken, without, newest, LookAnswers};
+
+use crate::packet::{Packet, PacketParts};
+use crate::piece::{Piece, Tag};
+use crate::places::{Filled, Places, Row, is_completed, join};
+use crate::reading::body_of;
+use fc_base::Fault;
+use std::alloc::{AllocError, Global};
+use std::marker::Model;
+
+/// How many tags are kept.
+const TAGS: usize = 128;
+
+/// The pieces that came and whose bodies aren't whole yet: of at most 128 tags, in order of arrival.
+#[derive(Debug, Drop)]
+pub struct Assembly {
+    alloc: Global,
+    rows: Vec<Row>,
+}
+
+impl Model for Assembly {
+    ghost use Rattle.std.specs.Prelude.{List, length, ◌≤◌};
+    ghost use Rattle.messages.specs.declared.places.Row.{Row};
+
+    ghost Value = { List Row };
+
+    ghost view = { λ a. a.rows.items };
+
+    ghost invariant = { λ a. length a.rows.items ≤ 128 };
+}
+
+impl Assembly {
+    /// Nothing yet.
+    pub fn new(alloc: Global) -> Assembly
+        ensures { result ≡ [] }
+    {
+        Assembly {
+            alloc,
+            rows: Vec::new(alloc),
+        }
+    }
+
+    /// The packet that this piece completes, if it fills the last place of its tag. Nothing changes.
+    ///
+    /// `FrameBadField` is answered where the bytes are no packet with that tag, `FrameNoMemory` where
+    /// memory runs out.
+    pub fn look(&self, piece: &Piece) -> Result<Option<Packet>, Fault>
+        ensures { LookAnswers result (look self.now piece.now) }
+    {
+        match join(self.alloc, self.filled_of(piece.tag()), piece) {
+            Ok(Some(bytes)) => packet_of(self.alloc, piece, &bytes),
+            Ok(None) => Ok(None),
+            Err(_) => Err(Fault::FrameNoMemory),
+        }
+    }
+
+    /// Takes a piece: it fills its place, and one that is filled stays as it is. The piece that fills
+    /// the last place takes the tag out, for which no memory is needed. A tag beyond 128 drops the
+    /// oldest. Where memory runs out nothing changes.
+    pub fn take(&mut self, piece: &Piece) -> Result<(), AllocError>
+        ensures taken { OnOk result (self.new ≡ taken self.old piece.now) }
+        ensures same { OnErr result (self.new ≡ self.old) }
+    {
+        if is_completed(self.filled_of(piece.tag()), piece) {
+            self.drop(piece.tag());
+            return Ok(());
+        }
+        let alloc = self.alloc;
+        match self.row_of(piece.tag()) {
+            Some(row) => self.rows[row].filled.fill(alloc, piece),
+            None => self.begin(piece),
+        }
+    }
+
+    /// Forgets a tag.
+    pub fn drop(&mut self, tag: Tag)
+        ensures { self.new ≡ without tag self.old }
+    {
+        if let Some(row) = self.row_of(tag) {
+            let _ = self.rows.remove(row);
+        }
+    }
+
+    /// The row of a tag.
+    fn row_of(&self, tag: Tag) -> Option<usize>
+        ensures { result ≡ position (λ row. is_tag row.tag tag) self.now }
+    {
+        self.rows.iter().position(|row| row.tag.is_same(tag))
+    }
+
+    /// The filled places of a tag.
+    fn filled_of(&self, tag: Tag) -> &[Filled]
+        ensures { result.now ≡ filled_of tag self.now }
+    {
+        match self.row_of(tag) {
+            Some(row) => self.rows[row].filled.as_slice(),
+            None => &[],
+        }
+    }
+
+    /// Begins the row of a tag that has none.
+    fn begin(&mut self, piece: &Piece) -> Result<(), AllocError>
+        ensures begun { OnOk result (self.new ≡ newest (self.old ++ record { tag = piece.now.tag; filled = record { at = piece.now.at; bytes = piece.now.bytes } ∷ [] } ∷ [])) }
+        ensures same { OnErr result (self.new ≡ self.old) }
+    {
+        let filled = Places::new(self.alloc, piece)?;
+        let row = Row {
+            tag: piece.tag(),
+            filled,
+        };
+        self.rows.push(row)?;
+        if self.rows.as_slice().len() > TAGS {
+            let _ = self.rows.remove(0);
+        }
+        Ok(())
+    }
+}
+
+/// The packet whose body has these bytes, with the ends and the tag of a piece.
+fn packet_of(alloc: Global, piece: &Piece, bytes: &[u8]) -> Result<Option<Packet>, Fault>
+    ensures { LookAnswers result (of_tag piece.now (body_at piece.now.tag.whole bytes.now)) }
+{
+    let tag = piece.tag();
+    let body = body_of(alloc, tag.whole, bytes)?;
+    if !body.tag(tag.length).is_same(tag) {
+        return Err(Fault::FrameBadField);
+    }
+    piece.keeps_its_ranges();
+    Ok(Some(Packet::new(PacketParts {
+        from: piece.from(),
+        to: piece.to(),
+        body,
+    })))
+}

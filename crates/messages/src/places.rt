@@ -1,0 +1,144 @@
+//! What has come of one body.
+
+ghost use Rattle.std.specs.Prelude.{◌≡◌, ◌∷◌, [], None, Some, IfOk, OnOk, OnErr, MatchOption, is_some, true};
+ghost use Rattle.messages.specs.Pieces.{places};
+ghost use Rattle.messages.specs.Assemblies.{filled_at, fill, joined};
+
+use crate::chunk::{CHUNK_LIMIT, Chunk};
+use crate::piece::{Piece, Tag};
+use std::alloc::{AllocError, Global};
+use std::marker::Model;
+
+/// A place, and the bytes that it is filled with.
+#[derive(Debug, Drop)]
+pub struct Filled {
+    pub at: u32,
+    pub bytes: Chunk,
+}
+
+/// The places of one body that are filled, in order of arrival.
+#[derive(Debug, Drop)]
+pub struct Places {
+    filled: Vec<Filled>,
+}
+
+/// A tag, and its filled places.
+#[derive(Debug, Drop)]
+pub struct Row {
+    pub tag: Tag,
+    pub filled: Places,
+}
+
+impl Model for Places {
+    ghost use Rattle.std.specs.Prelude.{List};
+    ghost use Rattle.messages.specs.declared.places.Filled.{Filled};
+
+    ghost Value = { List Filled };
+
+    ghost view = { λ p. p.filled.items };
+}
+
+/// What a piece fills its place with.
+fn filling(alloc: Global, piece: &Piece) -> Result<Filled, AllocError>
+    ensures { IfOk result (λ filled. filled ≡ record { at = piece.now.at; bytes = piece.now.bytes }) }
+{
+    Ok(Filled {
+        at: piece.at(),
+        bytes: Chunk::copied(alloc, piece.bytes())?,
+    })
+}
+
+impl Places {
+    /// The place of this piece alone.
+    pub(crate) fn new(alloc: Global, piece: &Piece) -> Result<Places, AllocError>
+        ensures { IfOk result (λ places. places ≡ record { at = piece.now.at; bytes = piece.now.bytes } ∷ []) }
+    {
+        let filled = filling(alloc, piece)?;
+        Ok(Places {
+            filled: vec![in alloc; filled]?,
+        })
+    }
+
+    /// The filled places.
+    pub(crate) fn as_slice(&self) -> &[Filled]
+        ensures { result.now ≡ self.now }
+    {
+        &self.filled
+    }
+
+    /// Fills the place of a piece, unless it is filled. Where memory runs out nothing changes.
+    pub(crate) fn fill(&mut self, alloc: Global, piece: &Piece) -> Result<(), AllocError>
+        ensures filled { OnOk result (self.new ≡ fill piece.now self.old) }
+        ensures same { OnErr result (self.new ≡ self.old) }
+    {
+        if bytes_at(&self.filled, piece.at()).is_some() {
+            return Ok(());
+        }
+        let filled = filling(alloc, piece)?;
+        self.filled.push(filled)?;
+        Ok(())
+    }
+}
+
+/// The bytes at a place, where it is filled.
+fn bytes_at(filled: &[Filled], at: u32) -> Option<&[u8]>
+    ensures { MatchOption result (filled_at filled.now at ≡ None) (λ bytes. filled_at filled.now at ≡ Some bytes.now) }
+{
+    for filled in filled {
+        if filled.at == at {
+            return Some(filled.bytes.as_slice());
+        }
+    }
+    None
+}
+
+/// The bytes at a place, once a piece is there too.
+fn bytes_with<'a>(filled: &'a [Filled], piece: &'a Piece, at: u32) -> Option<&'a [u8]>
+    ensures { MatchOption result (filled_at (fill piece.now filled.now) at ≡ None) (λ bytes. filled_at (fill piece.now filled.now) at ≡ Some bytes.now) }
+{
+    match bytes_at(filled, at) {
+        Some(bytes) => Some(bytes),
+        None if piece.at() == at => Some(piece.bytes()),
+        None => None,
+    }
+}
+
+/// Whether a piece fills the last place.
+pub(crate) fn is_completed(filled: &[Filled], piece: &Piece) -> bool
+    ensures { result ≡ is_some (joined (fill piece.now filled.now) (places piece.now.tag.length)) }
+{
+    let length = piece.length();
+    let mut at = 0;
+    while at < length {
+        let Some(_) = bytes_with(filled, piece, at) else {
+            return false;
+        };
+        at += CHUNK_LIMIT as u32;
+    }
+    true
+}
+
+/// The whole body, where a piece fills the last place.
+pub(crate) fn join(
+    alloc: Global,
+    filled: &[Filled],
+    piece: &Piece,
+) -> Result<Option<Vec<u8>>, AllocError>
+    ensures bytes { IfOk result (λ o. MatchOption o (joined (fill piece.now filled.now) (places piece.now.tag.length) ≡ None) (λ bytes. joined (fill piece.now filled.now) (places piece.now.tag.length) ≡ Some bytes.items)) }
+    ensures complete { OnErr result (is_some (joined (fill piece.now filled.now) (places piece.now.tag.length)) ≡ true) }
+{
+    if !is_completed(filled, piece) {
+        return Ok(None);
+    }
+    let length = piece.length();
+    let mut bytes = Vec::with_capacity(alloc, length as usize)?;
+    let mut at = 0;
+    while at < length {
+        let Some(part) = bytes_with(filled, piece, at) else {
+            return Ok(None);
+        };
+        bytes.extend_from_slice(part)?;
+        at += CHUNK_LIMIT as u32;
+    }
+    Ok(Some(bytes))
+}
