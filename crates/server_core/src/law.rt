@@ -1,7 +1,7 @@
 //! What holds of every list of what came to a server. The functions have nothing to run.
 
 ghost use Rattle.server_core.specs.Laws.{TakenAtMostOnce, NumbersGrow, StartsOnce, PresentIsLast, LooksAtAll, HoldsTheTaken, SendsTheTaken, StatesTellJobs, NoStateIsUntaken, TakingsStay, TextsGiveSets, StagingsHaveSets, RunsHaveSets, ChecksHaveSets, HistoriesAreLegal, CountsTheDone, QuietWhileLast, QuietUntilChecked, WithWasHeard, CutsWhenKept, PacketsAreFew, PacketsAreInRange};
-ghost use Rattle.server_core.specs.Examples.{StartsAndIssues, TakesOnce, ForgetsByACut, SavesBeforeItStarts, StopsForGood, ChecksTheLastRun};
+ghost use Rattle.server_core.specs.Examples.{StartsAndIssues, TakesOnce, ForgetsByACut, SavesBeforeItStarts, StopsForGood, ChecksTheLastRun, RefusesAMisfit};
 
 use engine::{legal_law, taken_law};
 use job_file::{jobs_are_within_limits, jobs_fit};
@@ -107,4 +107,5 @@ pub fn examples()
     ensures saves { SavesBeforeItStarts }
     ensures stops { StopsForGood }
     ensures checks { ChecksTheLastRun }
+    ensures misfits { RefusesAMisfit }
 {}

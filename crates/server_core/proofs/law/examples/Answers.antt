@@ -1,4 +1,4 @@
-use Rattle.server_core.proofs.ExampleLemmas.{starts_and_issues, takes_once, forgets_by_a_cut, saves_before_it_starts, stops_for_good, checks_the_last_run}
+use Rattle.server_core.proofs.ExampleLemmas.{starts_and_issues, takes_once, forgets_by_a_cut, saves_before_it_starts, stops_for_good, checks_the_last_run, refuses_a_misfit}
 use Rattle.server_core.proofs.law.examples.Goals as goal
 
 pub returns-clause-starts : goal.returns-clause-starts
@@ -18,3 +18,6 @@ returns-clause-stops c = stops_for_good
 
 pub returns-clause-checks : goal.returns-clause-checks
 returns-clause-checks c = checks_the_last_run
+
+pub returns-clause-misfits : goal.returns-clause-misfits
+returns-clause-misfits c = refuses_a_misfit
