@@ -113,8 +113,16 @@ fn ends_where_it_ends(alloc: Global, bytes: &[u8]) -> Result<bool, Fail> {
 #[test]
 fn other_lengths(rt: HostRuntime) -> Result<(), Fail> {
     for row in ROWS.iter() {
-        assert!(rt; ends_where_it_ends(rt.alloc(), row.bytes)?, "at {}", row.name);
-        assert!(rt; ends_where_it_ends(rt.alloc(), row.listed)?, "at {}", row.name);
+        assert!(rt;
+            ends_where_it_ends(rt.alloc(), row.bytes)?,
+            "at {}",
+            row.name
+        );
+        assert!(rt;
+            ends_where_it_ends(rt.alloc(), row.listed)?,
+            "at {}",
+            row.name
+        );
     }
     Ok(())
 }
@@ -168,8 +176,16 @@ fn says_or_refuses_each(alloc: Global, bytes: &[u8]) -> Result<bool, Fail> {
 #[test]
 fn each_byte_changed(rt: HostRuntime) -> Result<(), Fail> {
     for row in ROWS.iter() {
-        assert!(rt; says_or_refuses_each(rt.alloc(), row.bytes)?, "at {}", row.name);
-        assert!(rt; says_or_refuses_each(rt.alloc(), row.listed)?, "at {}", row.name);
+        assert!(rt;
+            says_or_refuses_each(rt.alloc(), row.bytes)?,
+            "at {}",
+            row.name
+        );
+        assert!(rt;
+            says_or_refuses_each(rt.alloc(), row.listed)?,
+            "at {}",
+            row.name
+        );
     }
     Ok(())
 }

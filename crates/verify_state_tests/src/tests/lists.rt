@@ -43,7 +43,7 @@ fn possible_lists(rt: HostRuntime) -> Result<(), Fail> {
 /// Other bytes in the place of as many.
 fn put(bytes: &mut Vec<u8>, at: usize, number: &[u8]) -> Result<(), Fail> {
     for (i, byte) in number.iter().enumerate() {
-        *bytes.get_mut(at + i).ok_or("a byte")? = *byte;
+        *bytes.get_mut(at.saturating_add(i)).ok_or("a byte")? = *byte;
     }
     Ok(())
 }
