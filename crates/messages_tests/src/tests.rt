@@ -5,6 +5,7 @@ mod frames;
 mod limits;
 mod pieces;
 mod refusals;
+mod refused;
 mod reports;
 mod vectors;
 

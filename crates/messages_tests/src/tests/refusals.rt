@@ -1,6 +1,7 @@
 //! Refusals: their frames, and frames that are refused.
 
-use super::vectors::{LISTED, REFUSALS, REFUSED, WHOLE};
+use super::refused::REFUSED;
+use super::vectors::{LISTED, REFUSALS, WHOLE};
 use super::*;
 use fc_base::Attempt;
 use messages::{Asked, Reason, Refusal};
