@@ -26,3 +26,5 @@ pub mod StayLemmas
 pub mod TakenLemmas
 pub mod Takings
 pub mod WorkLemmas
+pub mod RunLemmas
+pub mod RowLemmas

@@ -13,3 +13,5 @@ pub mod Run
 pub mod Taken
 pub mod Texts
 pub mod Words
+pub mod Kept
+pub mod Inside

@@ -3,15 +3,19 @@
 #![tactic(auto)]
 
 mod event;
+mod job_run;
 mod law;
 mod note;
+mod run;
 mod status;
 
+pub use job_run::{End, JobRun};
 pub use event::{Event, WriteEnd};
 pub use law::{
     counts_the_done, cuts_when_kept, examples, few_packets, legal_histories, looks_at_all,
     numbers_grow, one_taking, packets_are_in_range, quiet, starts, the_taken, the_untaken,
     with_was_heard,
 };
+pub use run::Run;
 pub use note::{Noted, one_note};
 pub use status::{Stage, Status};

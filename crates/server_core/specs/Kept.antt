@@ -1,0 +1,85 @@
+-- What a server keeps of its present run, and of its open check.
+use Rattle.std.specs.Prelude.{◌≡◌, ℕ, ◌+◌, ◌<◌, ◌≤◌, Bool, List, [], ◌∷◌, Option, Some, None, is_some, if◌then◌else◌}
+use Rattle.std.specs.Option.{option_map}
+use Rattle.fc_base.specs.Counted.{has}
+use Rattle.job_file.specs.declared.job.Job.{Job}
+use Rattle.verify_state.specs.State.{State}
+use Rattle.engine.specs.Running.{Origin, Running, running_of}
+use Rattle.engine.specs.Taken.{state_now}
+use Rattle.server_core.specs.declared.job_run.JobRun.{JobRun}
+use Rattle.server_core.specs.declared.job_run.End.{End}
+use Rattle.server_core.specs.declared.job_run.End.TheVariants as ends
+use Rattle.server_core.specs.Request.{Request}
+use Rattle.server_core.specs.Run.{Work, Halt, Triggered, Stopped, halted, is_halted, origin_of, history}
+use Rattle.server_core.specs.Taken.{taken_by_halt}
+use Rattle.server_core.specs.Answers.{marks}
+use Rattle.server_core.specs.Laws.{IsSet}
+
+-- A run as it is kept: its number, how it came to its end, its jobs, and what is kept of each.
+pub record Kept : Type 0 where
+  pub number : ℕ
+  pub end : Option End
+  pub jobs : List Job
+  pub kept : List JobRun
+
+-- What is kept of how a run came to its end: of a Trigger its act.
+abbrev pub end_kept : Option Halt → Option End
+end_kept None = None
+end_kept (Some (Triggered act before)) = Some (ends.Taken act)
+end_kept (Some Stopped) = Some ends.Stopped
+
+-- What is kept of job j: an engine at the end of its history, whether its state is saved, the state that
+-- was taken, and whether the client has told that it is kept.
+abbrev pub job_kept : Work → ℕ → Job → JobRun
+job_kept w j job =
+    let origin = origin_of w j job in
+    record {
+      engine = running_of origin (is_halted w) (history origin w.since);
+      save = job.save;
+      taken = taken_by_halt w j (halted w.run w.since);
+      marked = has (marks w.run w.since) j;
+    }
+
+-- The same of jobs, numbered on from j.
+abbrev pub jobs_kept : Work → ℕ → List Job → List JobRun
+jobs_kept w j [] = []
+jobs_kept w j (job ∷ jobs) = job_kept w j job ∷ jobs_kept w (j + 1) jobs
+
+-- All that is kept of a run.
+abbrev pub kept_of : Work → Kept
+kept_of w = record {
+  number = w.run;
+  end = end_kept (halted w.run w.since);
+  jobs = w.jobs;
+  kept = jobs_kept w 0 w.jobs;
+}
+
+-- A run is kept: just that of it, and it is one that a server can have.
+pub record RunIs (kept : Kept) (w : Work) : Type 0 where
+  pub is : kept ≡ kept_of w
+  pub jobs : IsSet w.jobs
+  pub run : 1 ≤ w.run
+  pub server : w.server < 8
+
+-- The state of a job: the one that was taken, else that of now, where it saves one.
+abbrev pub state_kept : JobRun → Option State
+state_kept k = state_or k.taken k.save (state_now k.engine)
+  where
+    state_or : Option State → Bool → State → Option State
+    state_or (Some state) save now = Some state
+    state_or None save now = if save then Some now else None
+
+-- A job whose state is taken, and which issues no more writes.
+abbrev pub taken_kept : JobRun → JobRun
+taken_kept k = record k {
+  engine = record k.engine { stopped = Bool.true };
+  taken = state_kept k;
+}
+
+-- P holds of each run of which this is kept.
+abbrev pub EachRun : Kept → (Work → Type 0) → Type 0
+EachRun kept P = (w : Work) → RunIs kept w → P w
+
+-- A request goes on with each run of which this was kept.
+abbrev pub GoesOn : Kept → Kept → Request → Type 0
+GoesOn old new x = EachRun old (λ w. RunIs new (record w { since = x ∷ w.since }))
