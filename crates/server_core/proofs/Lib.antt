@@ -28,3 +28,5 @@ pub mod Takings
 pub mod WorkLemmas
 pub mod RunLemmas
 pub mod RowLemmas
+pub mod EndLemmas
+pub mod HaltLemmas

@@ -1,7 +1,9 @@
 -- What is kept of a run's jobs, behind one more request.
 use Rattle.std.proofs.Common.{◌≡◌, ◌≢◌, refl, sym, ap, subst, ◌∙◌, ℕ, zero, suc, ◌+◌, ◌<◌, ◌≤◌, arith, Bool, true, false, ◌==◌, List, [], ◌∷◌, ◌++◌, length, Option, None, Some}
-use Rattle.std.specs.Prelude.{if◌then◌else◌, set, slice_get, is_some, map}
+use Rattle.std.specs.Prelude.{if◌then◌else◌, set, slice_get, is_some, map, take, drop, get_or}
 use Rattle.std.specs.Option.{option_or}
+use Rattle.std.proofs.lemmas.List.{map-id}
+use Rattle.std.proofs.lemmas.Option.{slice_get_read}
 use Rattle.fc_base.specs.Counted.{has}
 use Rattle.job_file.specs.declared.job.Job.{Job}
 use Rattle.verify_state.specs.State.{State}
@@ -19,7 +21,7 @@ use Rattle.server_core.specs.Kept.{Kept, end_kept, job_kept, jobs_kept, kept_of,
 abbrev pub and_then : Work → Request → Work
 and_then w x = record w { since = x ∷ w.since }
 
-abbrev row : Work → ℕ → Job → Option Halt → List window.Event → Bool → JobRun
+abbrev pub row : Work → ℕ → Job → Option Halt → List window.Event → Bool → JobRun
 row w j job b h m = record {
   engine = running_of (origin_of w j job) (is_some b) h;
   save = job.save;
@@ -39,9 +41,16 @@ pub same_row : (w : Work) (x : Request) (j : ℕ) (job : Job) → halted w.run (
     → has (marks w.run (x ∷ w.since)) j ≡ has (marks w.run w.since) j → job_kept (and_then w x) j job ≡ job_kept w j job
 same_row w x j job e f g = row_by w x j job (halted w.run w.since) (history (origin_of w j job) w.since) (has (marks w.run w.since) j) e f g
 
-pub rows_by : (f : JobRun → JobRun) (w v : Work) (j : ℕ) (jobs : List Job) → ((i : ℕ) (job : Job) → job_kept v i job ≡ f (job_kept w i job)) → map f (jobs_kept w j jobs) ≡ jobs_kept v j jobs
-rows_by f w v j [] same = refl
-rows_by f w v j (job ∷ jobs) same = ap (λ k. k ∷ map f (jobs_kept w (j + 1) jobs)) (sym (same j job)) ∙ ap (λ ks. job_kept v j job ∷ ks) (rows_by f w v (j + 1) jobs same)
+pub rows_by : (f : JobRun → JobRun) (w v : Work) (k : ℕ) (jobs : List Job) → ((i : ℕ) (job : Job) → slice_get jobs i ≡ Some job → job_kept v (k + i) job ≡ f (job_kept w (k + i) job)) → map f (jobs_kept w k jobs) ≡ jobs_kept v k jobs
+rows_by f w v k [] same = refl
+rows_by f w v k (job ∷ jobs) same =
+    ap (λ r. r ∷ map f (jobs_kept w (k + 1) jobs)) (ap (λ n. f (job_kept w n job)) (sym at) ∙ sym (same 0 job refl) ∙ ap (λ n. job_kept v n job) at)
+    ∙ ap (λ ks. job_kept v k job ∷ ks) (rows_by f w v (k + 1) jobs (λ i other is. ap (λ n. job_kept v n other) (next i) ∙ same (suc i) other is ∙ ap (λ n. f (job_kept w n other)) (sym (next i))))
+  where
+    at : k + 0 ≡ k
+    at = omega arith
+    next : (i : ℕ) → k + 1 + i ≡ k + suc i
+    next i = omega arith
 
 pub rows_from : (w v : Work) (j : ℕ) (jobs : List Job) → ((i : ℕ) (job : Job) → j ≤ i → job_kept v i job ≡ job_kept w i job) → jobs_kept w j jobs ≡ jobs_kept v j jobs
 rows_from w v j [] same = refl
@@ -81,37 +90,33 @@ get_row w k (first ∷ jobs) (suc i) job is = get_row w (k + 1) jobs i job is �
     next : k + 1 + i ≡ k + suc i
     next = omega arith
 
-abbrev kept_by : ℕ → Option End → List Job → List JobRun → Kept
+abbrev pub kept_by : ℕ → Option End → List Job → List JobRun → Kept
 kept_by n e js ks = record { number = n; end = e; jobs = js; kept = ks }
 
-same_kept : (n m : ℕ) (e f : Option End) (js gs : List Job) (ks ls : List JobRun) → n ≡ m → e ≡ f → js ≡ gs → ks ≡ ls → kept_by n e js ks ≡ kept_by m f gs ls
+pub same_kept : (n m : ℕ) (e f : Option End) (js gs : List Job) (ks ls : List JobRun) → n ≡ m → e ≡ f → js ≡ gs → ks ≡ ls → kept_by n e js ks ≡ kept_by m f gs ls
 same_kept n m e f js gs ks ls a b c d = cc
 
 plus_zero : (i : ℕ) → 0 + i ≡ i
 plus_zero i = omega arith
 
-rows_in : (w v : Work) (k : ℕ) (jobs : List Job) → ((i : ℕ) (job : Job) → slice_get jobs i ≡ Some job → job_kept v (k + i) job ≡ job_kept w (k + i) job) → jobs_kept w k jobs ≡ jobs_kept v k jobs
-rows_in w v k [] same = refl
-rows_in w v k (job ∷ jobs) same =
-    ap (λ r. r ∷ jobs_kept w (k + 1) jobs) (ap (λ n. job_kept w n job) (sym at) ∙ sym (same 0 job refl) ∙ ap (λ n. job_kept v n job) at)
-    ∙ ap (λ ks. job_kept v k job ∷ ks) (rows_in w v (k + 1) jobs (λ i other is. ap (λ n. job_kept v n other) (next i) ∙ same (suc i) other is ∙ ap (λ n. job_kept w n other) (sym (next i))))
-  where
-    at : k + 0 ≡ k
-    at = omega arith
-    next : (i : ℕ) → k + 1 + i ≡ k + suc i
-    next i = omega arith
+-- A request that changes what is kept of each job alike.
+pub each_row : (kept : Kept) (w : Work) (x : Request) (f : JobRun → JobRun) (b : Option Halt) → RunIs kept w → halted w.run (x ∷ w.since) ≡ b
+    → ((j : ℕ) (job : Job) → slice_get w.jobs j ≡ Some job → job_kept (and_then w x) j job ≡ f (job_kept w j job)) → RunIs (record kept { end = end_kept b; kept = map f kept.kept }) (and_then w x)
+each_row kept w x f b h now same = record {
+  is = same_kept _ _ _ _ _ _ _ _ (ap (λ (k : Kept). k.number) h.is) (sym (ap end_kept now)) (ap (λ (k : Kept). k.jobs) h.is)
+      (ap (λ (k : Kept). map f k.kept) h.is ∙ rows_by f w (and_then w x) 0 w.jobs (λ j job is. ap (λ n. job_kept (and_then w x) n job) (plus_zero j) ∙ same j job is ∙ ap (λ n. f (job_kept w n job)) (sym (plus_zero j))));
+  jobs = h.jobs;
+  run = h.run;
+  server = h.server;
+}
 
 -- A request that changes nothing of any job leaves what is kept.
 pub idle : (kept : Kept) (w : Work) (x : Request) → RunIs kept w → halted w.run (x ∷ w.since) ≡ halted w.run w.since
     → ((j : ℕ) (job : Job) → slice_get w.jobs j ≡ Some job → history (origin_of w j job) (x ∷ w.since) ≡ history (origin_of w j job) w.since)
     → ((j : ℕ) → has (marks w.run (x ∷ w.since)) j ≡ has (marks w.run w.since) j) → RunIs kept (and_then w x)
-idle kept w x h b s m = record {
-  is = h.is ∙ same_kept _ _ _ _ _ _ _ _ refl (sym (ap end_kept b)) refl
-      (rows_in w (and_then w x) 0 w.jobs (λ j job is. ap (λ n. job_kept (and_then w x) n job) (plus_zero j) ∙ same_row w x j job b (s j job is) (m j) ∙ ap (λ n. job_kept w n job) (sym (plus_zero j))));
-  jobs = h.jobs;
-  run = h.run;
-  server = h.server;
-}
+idle kept w x h b s m =
+    subst (λ k. RunIs k (and_then w x)) (same_kept _ _ _ _ _ _ _ _ refl (sym (ap (λ (k : Kept). k.end) h.is)) refl (map-id kept.kept))
+    (each_row kept w x (λ k. k) (halted w.run w.since) h b (λ j job is. same_row w x j job b (s j job is) (m j)))
 
 pub row_at : (w : Work) (k : ℕ) (jobs : List Job) (i : ℕ) (old : JobRun) → slice_get (jobs_kept w k jobs) i ≡ Some old → (job : Job) × (slice_get jobs i ≡ Some job) × (old ≡ job_kept w (k + i) job)
 row_at w k [] i old is = cc
@@ -156,3 +161,26 @@ pub engine_row : (w : Work) (x : Request) (i : ℕ) (job : Job) (old : JobRun) (
 engine_row w x i job old engine h is e b s m =
     same_job_run _ _ _ _ _ _ _ _ e (ap (λ (k : JobRun). k.save) is) (ap (λ (k : JobRun). k.taken) is) (ap (λ (k : JobRun). k.marked) is)
     ∙ sym (row_by w x i job (halted w.run w.since) h (has (marks w.run w.since) i) b s m)
+
+-- ---- a loop over all jobs
+
+-- The first i are changed.
+abbrev pub partly : {A : Type 0} → (A → A) → ℕ → List A → List A
+partly f i xs = map f (take i xs) ++ drop i xs
+
+pub part_more : {A : Type 0} (f : A → A) (xs : List A) (i : ℕ) (x : A) → slice_get (partly f i xs) i ≡ Some x → set (partly f i xs) i (f x) ≡ partly f (i + 1) xs
+part_more f [] zero x is = cc
+part_more f [] (suc i) x is = cc
+part_more f (y ∷ ys) zero x is = ap (λ z. f z ∷ ys) (first is)
+  where
+    first : Some y ≡ Some x → x ≡ y
+    first e = cc
+part_more f (y ∷ ys) (suc i) x is = ap (λ zs. f y ∷ zs) (part_more f ys i x is) ∙ ap (λ n. partly f n (y ∷ ys)) next
+  where
+    next : suc (i + 1) ≡ suc i + 1
+    next = omega arith
+
+pub part_step : {A : Type 0} (f : A → A) (xs ys : List A) (i : ℕ) (x new : A) → ys ≡ partly f i xs → length ys ≡ length xs → i < length xs → x ≡ get_or ys i x → new ≡ f (get_or ys i x) → set ys i new ≡ partly f (i + 1) xs
+part_step f xs ys i x new is len lt read e =
+    let at : slice_get (partly f i xs) i ≡ Some x = ap (λ zs. slice_get zs i) (sym is) ∙ slice_get_read ys (length ys) i x refl (omega (arith, len, lt)) read in
+    ap (λ zs. set zs i new) is ∙ ap (set (partly f i xs) i) (e ∙ ap f (sym read)) ∙ part_more f xs i x at

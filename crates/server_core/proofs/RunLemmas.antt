@@ -59,7 +59,7 @@ answer_added origin stopped h old new issues.Overlap is s left added = left ∙ 
 answer_added origin stopped h old new issues.Finished is s left added = left ∙ is
 answer_added origin stopped h old new issues.Stopped is s left added = left ∙ is
 
-stands : (origin : Origin) (stopped : Bool) (h : List window.Event) (old : Running) → old ≡ running_of origin stopped h → IsLegal origin.job h → StandsFor old h
+pub stands : (origin : Origin) (stopped : Bool) (h : List window.Event) (old : Running) → old ≡ running_of origin stopped h → IsLegal origin.job h → StandsFor old h
 stands origin stopped h old is legal = subst (λ r. StandsFor r h) (sym is) (record { legal = legal; running_is = refl })
 
 no_marks : (b : Option Halt) (run i : ℕ) → marks_by b run (ToIssue i) ≡ []

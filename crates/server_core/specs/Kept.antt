@@ -1,5 +1,7 @@
 -- What a server keeps of its present run, and of its open check.
-use Rattle.std.specs.Prelude.{◌≡◌, ℕ, ◌+◌, ◌<◌, ◌≤◌, Bool, List, [], ◌∷◌, Option, Some, None, is_some, if◌then◌else◌}
+use Rattle.std.specs.Prelude.{◌≡◌, ℕ, ◌+◌, ◌<◌, ◌≤◌, Bool, true, List, [], ◌∷◌, Option, Some, None, is_some, if◌then◌else◌, Result, Ok, Err}
+use Rattle.fc_base.specs.declared.fault.Fault.{Fault}
+use Rattle.fc_base.specs.declared.fault.Fault.TheVariants.{NotInFlight}
 use Rattle.std.specs.Option.{option_map}
 use Rattle.fc_base.specs.Counted.{has}
 use Rattle.job_file.specs.declared.job.Job.{Job}
@@ -69,12 +71,13 @@ state_kept k = state_or k.taken k.save (state_now k.engine)
     state_or (Some state) save now = Some state
     state_or None save now = if save then Some now else None
 
+-- A job that issues no more writes.
+abbrev pub stopped_kept : JobRun → JobRun
+stopped_kept k = record k { engine = record k.engine { stopped = true } }
+
 -- A job whose state is taken, and which issues no more writes.
 abbrev pub taken_kept : JobRun → JobRun
-taken_kept k = record k {
-  engine = record k.engine { stopped = Bool.true };
-  taken = state_kept k;
-}
+taken_kept k = stopped_kept (record k { taken = state_kept k })
 
 -- P holds of each run of which this is kept.
 abbrev pub EachRun : Kept → (Work → Type 0) → Type 0
@@ -83,3 +86,7 @@ EachRun kept P = (w : Work) → RunIs kept w → P w
 -- A request goes on with each run of which this was kept.
 abbrev pub GoesOn : Kept → Kept → Request → Type 0
 GoesOn old new x = EachRun old (λ w. RunIs new (record w { since = x ∷ w.since }))
+
+-- A ticket that names an open write is accepted.
+abbrev pub open_answer : Bool → Result (Unit {0}) Fault
+open_answer names = if names then Ok tt else Err NotInFlight

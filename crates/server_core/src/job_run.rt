@@ -1,9 +1,14 @@
 //! A job of the present run.
 
-ghost use Rattle.std.specs.Prelude.{◌≡◌};
-ghost use Rattle.server_core.specs.Kept.{state_kept, taken_kept};
+ghost use Rattle.std.specs.Prelude.{◌≡◌, OnErr};
+ghost use Rattle.engine.specs.Running.{EachHistory, StandsFor};
+ghost use Rattle.engine.specs.Answers.{ticket_answer};
+ghost use Rattle.server_core.specs.Run.{with_ticket};
+ghost use Rattle.server_core.specs.Kept.{state_kept, taken_kept, stopped_kept};
 
-use engine::Engine;
+use crate::event::WriteEnd;
+use engine::{Engine, Ticket};
+use fc_base::{Fault, JobNo};
 use messages::Act;
 use verify_state::VerifyState;
 
@@ -40,11 +45,49 @@ impl JobRun {
         }
     }
 
+    /// Notes how a write ended, where the ticket names an open write of the job.
+    pub fn end(&mut self, ticket: Ticket, end: WriteEnd) -> Result<(), Fault>
+        ensures answer { result
+            ≡ ticket_answer self.old.engine.origin self.old.engine.kept.open_writes ticket }
+        ensures history { EachHistory self.old.engine
+            (λ h. StandsFor self.new.engine (with_ticket result end ticket.seq h)) }
+        ensures origin { self.new.engine.origin ≡ self.old.engine.origin }
+        ensures stopped { self.new.engine.stopped ≡ self.old.engine.stopped }
+        ensures rest { self.new ≡ record self.old { engine = self.new.engine } }
+        ensures same { OnErr result (self.new ≡ self.old) }
+    {
+        match end {
+            WriteEnd::Done => self.engine.done(ticket),
+            WriteEnd::Failed => self.engine.failed(ticket),
+        }
+    }
+
+    /// Stops the job.
+    pub fn stop(&mut self)
+        ensures { self.new ≡ stopped_kept self.old }
+    {
+        self.engine.stop();
+    }
+
     /// Takes the state, and stops the job.
     pub fn take(&mut self)
         ensures { self.new ≡ taken_kept self.old }
     {
         self.taken = self.state();
-        self.engine.stop();
+        self.stop();
     }
+}
+
+/// The index of a job in a list of all jobs.
+pub fn index_of(job: JobNo) -> usize
+    ensures { result ≡ job }
+{
+    job.0 as usize
+}
+
+/// The index of the job of a ticket.
+pub fn index_in(ticket: &Ticket) -> usize
+    ensures { result ≡ ticket.now.key.job }
+{
+    ticket.key.job.0 as usize
 }

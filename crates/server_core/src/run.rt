@@ -1,12 +1,13 @@
 //! The present run: its jobs, and how far it is.
 
-ghost use Rattle.std.specs.Prelude.{◌≡◌, ◌<◌, ◌≤◌, ◌==◌, ℕ, true, false, length, Some, None, Ok, Err, slice_get, nat_lt};
+ghost use Rattle.std.specs.Prelude.{◌≡◌, ◌<◌, ◌≤◌, ◌==◌, ℕ, ◌∷◌, map, length, Some, None, slice_get, nat_lt, OnErr};
 ghost use Rattle.std.specs.List.{list_all, list_any};
 ghost use Rattle.engine.specs.Answers.{ended_of};
 ghost use Rattle.server_core.specs.declared.job_run.JobRun.{JobRun};
+ghost use Rattle.server_core.specs.Kept.{taken_kept, stopped_kept};
 
 use crate::event::WriteEnd;
-use crate::job_run::{End, JobRun};
+use crate::job_run::{End, JobRun, index_in, index_of};
 use engine::{Issue, Ticket};
 use fc_base::{Fault, JobNo, RunNo};
 use job_file::Jobs;
@@ -36,9 +37,23 @@ impl Model for Run {
 
 impl Run {
     ghost use Rattle.server_core.specs.Run.{Work, has_open, have_ended, is_halted, halted};
-    ghost use Rattle.server_core.specs.Answers.{issue_of_job};
+    ghost use Rattle.server_core.specs.Answers.{issue_of_job, names_open_of, act_of};
     ghost use Rattle.server_core.specs.Request.{Request, ToIssue, ToEnd, ToTrigger, ToMark, ToStop};
-    ghost use Rattle.server_core.specs.Kept.{RunIs, EachRun, GoesOn};
+    ghost use Rattle.server_core.specs.Kept.{RunIs, EachRun, GoesOn, open_answer};
+
+    /// The number of the run.
+    pub fn number(&self) -> RunNo
+        ensures { result ≡ self.now.number }
+    {
+        self.number
+    }
+
+    /// How it came to its end, `None` while it writes.
+    pub fn end(&self) -> Option<End>
+        ensures { result ≡ self.now.end }
+    {
+        self.end
+    }
 
     /// Whether some write is open.
     pub fn has_open(&self) -> bool
@@ -60,13 +75,96 @@ impl Run {
         ensures left { GoesOn self.old self.new (ToIssue job) }
     {
         crate::law::legal_histories();
-        let index = job.0 as usize;
+        let index = index_of(job);
         if index < self.kept.as_slice().len() {
             self.kept[index].engine.issue()
         } else {
             Issue::Stopped
         }
     }
+
+    /// Notes how a write ended. A ticket that names no open write is refused, and nothing changes.
+    pub fn end_write(&mut self, ticket: Ticket, end: WriteEnd) -> Result<(), Fault>
+        ensures answer { EachRun self.old (λ w. w.boot ≡ ticket.boot →
+            result ≡ open_answer (names_open_of w ticket (slice_get w.jobs ticket.key.job))) }
+        ensures left { GoesOn self.old self.new (ToEnd ticket end) }
+        ensures same { OnErr result (self.new ≡ self.old) }
+    {
+        crate::law::legal_histories();
+        let index = index_in(&ticket);
+        if index < self.kept.as_slice().len() {
+            self.kept[index].end(ticket, end)
+        } else {
+            Err(Fault::NotInFlight)
+        }
+    }
+
+    /// Takes the states of all jobs, and stops them.
+    pub fn take(&mut self, act: Act)
+        requires { self.old.end ≡ None }
+        ensures { EachRun self.old
+            (λ w. RunIs self.new (record w { since = ToTrigger w.run act ∷ w.since })) }
+    {
+        take_all(&mut self.kept);
+        self.end = Some(End::Taken(act));
+    }
+
+    /// Stops all jobs.
+    pub fn stop(&mut self)
+        requires { self.old.end ≡ None }
+        ensures { EachRun self.old
+            (λ w. RunIs self.new (record w { since = ToStop w.run ∷ w.since })) }
+    {
+        stop_all(&mut self.kept);
+        self.end = Some(End::Stopped);
+    }
+
+    /// Marks a job of a run that was taken: the client has told that its state is kept. The mark of
+    /// the last job asks for the cut, where the Trigger did.
+    pub fn mark(&mut self, job: JobNo) -> Act
+        ensures answer { EachRun self.old (λ w. result ≡ act_of (Some w) (ToMark w.run job)) }
+        ensures left { EachRun self.old (λ w.
+            RunIs self.new (record w { since = ToMark w.run job ∷ w.since })) }
+    {
+        let Some(End::Taken(act)) = self.end else {
+            return Act::None;
+        };
+        let index = index_of(job);
+        if index >= self.kept.as_slice().len() || self.kept[index].marked {
+            return Act::None;
+        }
+        self.kept[index].marked = true;
+        if all_marked(&self.kept) {
+            act
+        } else {
+            Act::None
+        }
+    }
+}
+
+/// Takes the state of each of these jobs, and stops it.
+fn take_all(jobs: &mut [JobRun])
+    ensures { jobs.new ≡ map taken_kept jobs.old }
+{
+    for job in jobs.iter_mut() {
+        job.take();
+    }
+}
+
+/// Stops each of these jobs.
+fn stop_all(jobs: &mut [JobRun])
+    ensures { jobs.new ≡ map stopped_kept jobs.old }
+{
+    for job in jobs.iter_mut() {
+        job.stop();
+    }
+}
+
+/// Whether all of these jobs are marked.
+fn all_marked(jobs: &[JobRun]) -> bool
+    ensures { result ≡ list_all (λ (k : JobRun). k.marked) jobs.now }
+{
+    jobs.iter().all(|job| job.marked)
 }
 
 /// Whether some write of these jobs is open.
