@@ -92,7 +92,7 @@ no_end kept w ticket end h past =
     let none = no_job kept w ticket.key.job h past in
     (
       sym (ap (λ x. open_answer (names_open_of w ticket x)) none),
-      idle kept w (ToEnd ticket end) h (or_none (halted w.run w.since)) (λ j job is. other_job w ticket end j job (other j job none is)) (unmarked w ticket end)
+      idle kept w (ToEnd ticket end) h (or_none (halted w.run w.since)) (λ j job is. other_job w ticket end j job (other j job none is)) (λ j job is. unmarked w ticket end j)
     )
   where
     other : (j : ℕ) (job : Job) → slice_get w.jobs ticket.key.job ≡ None → slice_get w.jobs j ≡ Some job → j ≢ ticket.key.job

@@ -30,3 +30,4 @@ pub mod RunLemmas
 pub mod RowLemmas
 pub mod EndLemmas
 pub mod HaltLemmas
+pub mod MarkLemmas

@@ -113,10 +113,10 @@ each_row kept w x f b h now same = record {
 -- A request that changes nothing of any job leaves what is kept.
 pub idle : (kept : Kept) (w : Work) (x : Request) → RunIs kept w → halted w.run (x ∷ w.since) ≡ halted w.run w.since
     → ((j : ℕ) (job : Job) → slice_get w.jobs j ≡ Some job → history (origin_of w j job) (x ∷ w.since) ≡ history (origin_of w j job) w.since)
-    → ((j : ℕ) → has (marks w.run (x ∷ w.since)) j ≡ has (marks w.run w.since) j) → RunIs kept (and_then w x)
+    → ((j : ℕ) (job : Job) → slice_get w.jobs j ≡ Some job → has (marks w.run (x ∷ w.since)) j ≡ has (marks w.run w.since) j) → RunIs kept (and_then w x)
 idle kept w x h b s m =
     subst (λ k. RunIs k (and_then w x)) (same_kept _ _ _ _ _ _ _ _ refl (sym (ap (λ (k : Kept). k.end) h.is)) refl (map-id kept.kept))
-    (each_row kept w x (λ k. k) (halted w.run w.since) h b (λ j job is. same_row w x j job b (s j job is) (m j)))
+    (each_row kept w x (λ k. k) (halted w.run w.since) h b (λ j job is. same_row w x j job b (s j job is) (m j job is)))
 
 pub row_at : (w : Work) (k : ℕ) (jobs : List Job) (i : ℕ) (old : JobRun) → slice_get (jobs_kept w k jobs) i ≡ Some old → (job : Job) × (slice_get jobs i ≡ Some job) × (old ≡ job_kept w (k + i) job)
 row_at w k [] i old is = cc

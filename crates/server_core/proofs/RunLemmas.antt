@@ -120,7 +120,7 @@ no_issue kept w i h past =
     let none = no_job kept w i h past in
     (
       sym (ap (issue_of_job w i) none),
-      idle kept w (ToIssue i) h (or_none (halted w.run w.since)) (λ j job is. unasked w i j job (other j job none is)) (unmarked w i)
+      idle kept w (ToIssue i) h (or_none (halted w.run w.since)) (λ j job is. unasked w i j job (other j job none is)) (λ j job is. unmarked w i j)
     )
   where
     other : (j : ℕ) (job : Job) → slice_get w.jobs i ≡ None → slice_get w.jobs j ≡ Some job → j ≢ i

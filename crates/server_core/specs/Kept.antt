@@ -6,6 +6,7 @@ use Rattle.std.specs.Option.{option_map}
 use Rattle.fc_base.specs.Counted.{has}
 use Rattle.job_file.specs.declared.job.Job.{Job}
 use Rattle.verify_state.specs.State.{State}
+use Rattle.messages.specs.declared.refusal.Act.{Act}
 use Rattle.engine.specs.Running.{Origin, Running, running_of}
 use Rattle.engine.specs.Taken.{state_now}
 use Rattle.server_core.specs.declared.job_run.JobRun.{JobRun}
@@ -90,3 +91,9 @@ GoesOn old new x = EachRun old (λ w. RunIs new (record w { since = x ∷ w.sinc
 -- A ticket that names an open write is accepted.
 abbrev pub open_answer : Bool → Result (Unit {0}) Fault
 open_answer names = if names then Ok tt else Err NotInFlight
+
+-- The act of the Trigger that has taken the run, if one has.
+abbrev pub act_in : Option End → Option Act
+act_in (Some (ends.Taken act)) = Some act
+act_in (Some ends.Stopped) = None
+act_in None = None

@@ -1,10 +1,11 @@
 //! The present run: its jobs, and how far it is.
 
-ghost use Rattle.std.specs.Prelude.{◌≡◌, ◌<◌, ◌≤◌, ◌==◌, ℕ, ◌∷◌, map, length, Some, None, slice_get, nat_lt, OnErr};
+ghost use Rattle.std.specs.Prelude.{◌≡◌, ◌<◌, ◌≤◌, ◌==◌, ℕ, true, ◌∷◌, map, length, Some, None, slice_get, nat_lt, OnErr, is_some, not, ◌&&◌, if◌then◌else◌};
+ghost use Rattle.messages.specs.declared.refusal.Act.TheVariants as acts;
 ghost use Rattle.std.specs.List.{list_all, list_any};
 ghost use Rattle.engine.specs.Answers.{ended_of};
 ghost use Rattle.server_core.specs.declared.job_run.JobRun.{JobRun};
-ghost use Rattle.server_core.specs.Kept.{taken_kept, stopped_kept};
+ghost use Rattle.server_core.specs.Kept.{taken_kept, stopped_kept, act_in};
 
 use crate::event::WriteEnd;
 use crate::job_run::{End, JobRun, index_in, index_of};
@@ -126,20 +127,43 @@ impl Run {
         ensures left { EachRun self.old (λ w.
             RunIs self.new (record w { since = ToMark w.run job ∷ w.since })) }
     {
-        let Some(End::Taken(act)) = self.end else {
+        let Some(act) = act_in(self.end) else {
             return Act::None;
         };
-        let index = index_of(job);
-        if index >= self.kept.as_slice().len() || self.kept[index].marked {
-            return Act::None;
-        }
-        self.kept[index].marked = true;
-        if all_marked(&self.kept) {
-            act
-        } else {
-            Act::None
+        let before = all_marked(&self.kept);
+        self.set_mark(index_of(job));
+        let after = all_marked(&self.kept);
+        act_by(act, before, after)
+    }
+
+    /// Marks the job at an index of a run that was taken, where there is one.
+    fn set_mark(&mut self, index: usize)
+        requires { is_some (act_in self.old.end) ≡ true }
+        ensures left { EachRun self.old
+            (λ w. RunIs self.new (record w { since = ToMark w.run index ∷ w.since })) }
+        ensures end { self.new.end ≡ self.old.end }
+    {
+        if index < self.kept.as_slice().len() {
+            self.kept[index].marked = true;
         }
     }
+}
+
+/// The act of the Trigger that took a run, if one did.
+fn act_in(end: Option<End>) -> Option<Act>
+    ensures { result ≡ act_in end }
+{
+    match end {
+        Some(End::Taken(act)) => Some(act),
+        Some(End::Stopped) | None => None,
+    }
+}
+
+/// The act of a Trigger, where the last job was marked by now.
+fn act_by(act: Act, before: bool, after: bool) -> Act
+    ensures { result ≡ (if not before && after then act else acts.None) }
+{
+    if !before && after { act } else { Act::None }
 }
 
 /// Takes the state of each of these jobs, and stops it.
