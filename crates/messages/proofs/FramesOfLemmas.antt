@@ -1,6 +1,6 @@
 -- The frames of a packet: their bytes one behind the other, and how many they are.
 use Rattle.std.proofs.Common.{◌≡◌, refl, sym, ◌∙◌, ap, subst, ℕ, zero, suc, ◌+◌, ◌-◌, ◌*◌, ◌<◌, ◌≤◌, arith, Bool, true, false, List, [], ◌∷◌, ◌++◌, length, take, drop, Some, append_assoc}
-use Rattle.std.specs.Prelude.{if◌then◌else◌, nat_lt, sum, sum_by, map, All, slice_get, slice_index, Result, Ok, Err, IfOk}
+use Rattle.std.specs.Prelude.{if◌then◌else◌, nat_lt, sum, sum_by, map, All, slice_get, slice_index, Result, Ok, Err, IfOk, OnOk, is_ok}
 use Rattle.std.proofs.lemmas.Bool.Decides.{nat_tests}
 use Rattle.std.proofs.lemmas.List.{drop_at, length-append, length-take, length-drop, length-map, drop-drop, take-append-le, drop-append-le, append-nil}
 use Rattle.std.proofs.lemmas.List.Elements.{All-nil, All-cons}
@@ -210,3 +210,17 @@ cut_frames p body is h =
 pub ok_few : {E : Type 0} (p : PacketParts) (r : Result (List (List ℕ)) E) → IfOk r (λ frames. frames ≡ spelled_frames p) → length_of p.body ≤ 16400 → IfOk r (AreFew p)
 ok_few p (Ok frames) e h = rw e (frames_few p h)
 ok_few p (Err x) e h = tt
+
+-- Frames behind frames.
+pub parted_append : (ns ms b c : List ℕ) → sum ns ≡ length b → parted (ns ++ ms) (b ++ c) ≡ parted ns b ++ parted ms c
+parted_append [] ms [] c h = refl
+parted_append [] ms (x ∷ b) c h = absurd (omega (arith, h))
+parted_append (n ∷ ns) ms b c h =
+    let fits : n ≤ length b = omega (arith, h, sum_by-cons (λ (k : ℕ). k) n ns) in
+    let rest : sum ns ≡ length (drop n b) = omega (arith, h, sum_by-cons (λ (k : ℕ). k) n ns, length-drop n b) in
+    rw (take-append-le n b c fits, drop-append-le n b c fits) (ap (λ (xs : List (List ℕ)). take n b ∷ xs) (parted_append ns ms (drop n b) c rest))
+
+pub appended : {E : Type 0} (r : Result (Unit {0}) E) (ns ms ks b c bytes : List ℕ) (old other : List (List ℕ)) → ks ≡ (if is_ok r then ns ++ ms else ns) → bytes ≡ b ++ c → sum ns ≡ length b
+    → parted ns b ≡ old → parted ms c ≡ other → OnOk r (parted ks bytes ≡ old ++ other)
+appended (Ok u) ns ms ks b c bytes old other lens is sums o p = ap (λ (xs : List ℕ). parted xs bytes) lens ∙ ap (parted (ns ++ ms)) is ∙ parted_append ns ms b c sums ∙ ap (λ (x : List (List ℕ)). x ++ parted ms c) o ∙ ap (λ (x : List (List ℕ)). old ++ x) p
+appended (Err e) ns ms ks b c bytes old other lens is sums o p = tt

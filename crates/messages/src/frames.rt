@@ -1,6 +1,6 @@
 //! The frames of a packet.
 
-ghost use Rattle.std.specs.Prelude.{◌≡◌, ℕ, ◌+◌, ◌≤◌, ◌∷◌, [], length, map, take, sum, ◌<◌, ◌^◌, slice_get, Some, MatchOption, OnOk, IfOk, ◌++◌};
+ghost use Rattle.std.specs.Prelude.{◌≡◌, ℕ, ◌+◌, ◌≤◌, ◌∷◌, [], length, map, take, sum, ◌<◌, ◌^◌, slice_get, Some, MatchOption, OnOk, OnErr, IfOk, ◌++◌};
 ghost use Rattle.messages.specs.Pieces.{bytes_at, tag_in, places};
 ghost use Rattle.messages.specs.FramesOf.{spelled_piece, spelled_frames, AreFew};
 
@@ -29,6 +29,26 @@ impl Model for Frames {
 }
 
 impl Frames {
+    /// None yet.
+    pub fn new(alloc: Global) -> Frames
+        ensures { result ≡ [] }
+    {
+        Frames {
+            bytes: Vec::new(alloc),
+            lens: Vec::new(alloc),
+        }
+    }
+
+    /// Appends other frames. Where memory runs out nothing changes.
+    pub fn append(&mut self, other: &Frames) -> Result<(), AllocError>
+        ensures appended { OnOk result (self.new ≡ self.old ++ other.now) }
+        ensures same { OnErr result (self.new ≡ self.old) }
+    {
+        self.lens.reserve(other.lens.as_slice().len())?;
+        self.bytes.extend_from_slice(&other.bytes)?;
+        self.lens.extend_from_slice(&other.lens)
+    }
+
     /// How many there are.
     pub fn len(&self) -> usize
         ensures { result ≡ length self.now }
