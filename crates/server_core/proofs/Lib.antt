@@ -31,3 +31,4 @@ pub mod RowLemmas
 pub mod EndLemmas
 pub mod HaltLemmas
 pub mod MarkLemmas
+pub mod BegunLemmas

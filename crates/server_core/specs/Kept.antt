@@ -14,6 +14,7 @@ use Rattle.server_core.specs.declared.job_run.End.{End}
 use Rattle.server_core.specs.declared.job_run.End.TheVariants as ends
 use Rattle.server_core.specs.Request.{Request}
 use Rattle.server_core.specs.Run.{Work, Halt, Triggered, Stopped, halted, is_halted, origin_of, history}
+use Rattle.server_core.specs.Words.{Staged}
 use Rattle.server_core.specs.Taken.{taken_by_halt}
 use Rattle.server_core.specs.Answers.{marks}
 use Rattle.server_core.specs.Laws.{IsSet}
@@ -97,3 +98,31 @@ abbrev pub act_in : Option End → Option Act
 act_in (Some (ends.Taken act)) = Some act
 act_in (Some ends.Stopped) = None
 act_in None = None
+
+-- The run that begins with a staged set.
+abbrev pub started : ℕ → ℕ → Staged → Work
+started me now_boot s = record {
+  server = me;
+  boot = now_boot;
+  run = s.run;
+  jobs = s.jobs;
+  since = [];
+}
+
+-- Of this run, with no request yet, this is kept.
+pub record Begins (number : ℕ) (jobs : List Job) (kept : List JobRun) (w : Work) : Type 0 where
+  pub run_is : w.run ≡ number
+  pub jobs_are : w.jobs ≡ jobs
+  pub since : w.since ≡ []
+  pub kept_is : kept ≡ jobs_kept w 0 jobs
+  pub set : IsSet jobs
+  pub run : 1 ≤ number
+  pub server : w.server < 8
+
+-- There is a run with no request yet of which this is kept.
+abbrev pub IsBegun : ℕ → List Job → List JobRun → Type 0
+IsBegun number jobs kept = ∥ ((w : Work) × Begins number jobs kept w) ∥₁
+
+-- P holds of each such run.
+abbrev pub EachBegun : ℕ → List Job → List JobRun → (Work → Type 0) → Type 0
+EachBegun number jobs kept P = (w : Work) → Begins number jobs kept w → P w

@@ -1,6 +1,6 @@
 //! A job of the present run.
 
-ghost use Rattle.std.specs.Prelude.{◌≡◌, OnErr};
+ghost use Rattle.std.specs.Prelude.{◌≡◌, None, false, OnErr};
 ghost use Rattle.engine.specs.Running.{EachHistory, StandsFor};
 ghost use Rattle.engine.specs.Answers.{ticket_answer};
 ghost use Rattle.server_core.specs.Run.{with_ticket};
@@ -34,6 +34,18 @@ pub struct JobRun {
 }
 
 impl JobRun {
+    /// A job that begins.
+    pub fn new(engine: Engine, save: bool) -> JobRun
+        ensures { result ≡ record { engine = engine; save = save; taken = None; marked = false } }
+    {
+        JobRun {
+            engine,
+            save,
+            taken: None,
+            marked: false,
+        }
+    }
+
     /// The state that was taken, else that of now; `None` where the job saves none.
     pub fn state(&self) -> Option<VerifyState>
         ensures { result ≡ state_kept self.now }

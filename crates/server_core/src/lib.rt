@@ -7,6 +7,7 @@ mod job_run;
 mod law;
 mod note;
 mod run;
+mod staged;
 mod status;
 
 pub use job_run::{End, JobRun};
@@ -18,4 +19,5 @@ pub use law::{
 };
 pub use run::Run;
 pub use note::{Noted, one_note};
+pub use staged::StagedSet;
 pub use status::{Stage, Status};

@@ -40,7 +40,20 @@ impl Run {
     ghost use Rattle.server_core.specs.Run.{Work, has_open, have_ended, is_halted, halted};
     ghost use Rattle.server_core.specs.Answers.{issue_of_job, names_open_of, act_of};
     ghost use Rattle.server_core.specs.Request.{Request, ToIssue, ToEnd, ToTrigger, ToMark, ToStop};
-    ghost use Rattle.server_core.specs.Kept.{RunIs, EachRun, GoesOn, open_answer};
+    ghost use Rattle.server_core.specs.Kept.{RunIs, EachRun, GoesOn, open_answer, IsBegun, EachBegun};
+
+    /// A run that begins: what is kept of its jobs is that of some run with no request yet.
+    pub(crate) fn new(number: RunNo, jobs: Jobs, kept: Vec<JobRun>) -> Run
+        requires { IsBegun number jobs kept.items }
+        ensures { EachBegun number jobs kept.items (RunIs result) }
+    {
+        Run {
+            number,
+            end: None,
+            jobs,
+            kept,
+        }
+    }
 
     /// The number of the run.
     pub fn number(&self) -> RunNo

@@ -1,0 +1,2 @@
+use Rattle.server_core.proofs.staged.StagedSet.start.Goals as goal
+

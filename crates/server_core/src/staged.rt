@@ -1,0 +1,101 @@
+//! Jobs that are staged for a run.
+
+ghost use Rattle.std.specs.Prelude.{◌≡◌, ◌<◌, ◌≤◌, length, IfOk};
+ghost use Rattle.server_core.specs.Laws.{IsSet};
+ghost use Rattle.server_core.specs.Kept.{started, jobs_kept, RunIs};
+
+use crate::job_run::JobRun;
+use crate::run::Run;
+use engine::Engine;
+use fc_base::{JobNo, Key, RunNo, ServerNo};
+use job_file::Jobs;
+use std::alloc::{AllocError, Global};
+use std::marker::Model;
+
+/// A set of writing jobs that is staged for a run: 1 to 16, each within its limits.
+#[derive(Debug, Drop)]
+pub struct StagedSet {
+    run: RunNo,
+    jobs: Jobs,
+}
+
+impl Model for StagedSet {
+    ghost use Rattle.std.specs.Prelude.{◌≤◌};
+    ghost use Rattle.server_core.specs.Words.{Staged};
+    ghost use Rattle.server_core.specs.Laws.{IsSet};
+
+    ghost Value = { Staged };
+
+    ghost view = { λ s. record { run = s.run; jobs = s.jobs } };
+
+    ghost invariant = { λ s. (1 ≤ s.run) × IsSet s.jobs };
+}
+
+impl StagedSet {
+    /// These jobs, staged for a run.
+    pub fn new(run: RunNo, jobs: Jobs) -> StagedSet
+        requires run { 1 ≤ run }
+        requires jobs { IsSet jobs }
+        ensures { result ≡ record { run = run; jobs = jobs } }
+    {
+        StagedSet { run, jobs }
+    }
+
+    /// The run.
+    pub fn run(&self) -> RunNo
+        ensures value { result ≡ self.now.run }
+        ensures range { 1 ≤ result }
+    {
+        self.run
+    }
+
+    /// How many jobs there are.
+    pub fn len(&self) -> u32
+        ensures value { result ≡ length self.now.jobs }
+        ensures some { 1 ≤ result }
+        ensures few { result ≤ 16 }
+    {
+        self.jobs.as_slice().len() as u32
+    }
+
+    /// What is kept of each job once the run begins: an engine that has issued nothing. All memory
+    /// that the run needs is taken here.
+    pub fn engines(
+        &self,
+        alloc: Global,
+        me: ServerNo,
+        boot: u64,
+    ) -> Result<Vec<JobRun>, AllocError>
+        requires { me < 8 }
+        ensures { IfOk result (λ kept. kept.items
+            ≡ jobs_kept (started me boot self.now) 0 self.now.jobs) }
+    {
+        let jobs = self.jobs.as_slice();
+        let mut kept = Vec::with_capacity(alloc, jobs.len())?;
+        let mut index = 0;
+        while index < jobs.len() {
+            let key = Key {
+                run: self.run,
+                server: me,
+                job: JobNo(index as u32),
+            };
+            let job = &jobs[index];
+            kept.push(JobRun::new(
+                Engine::new(alloc, boot, key, &job.rec)?,
+                job.save,
+            ))?;
+            index += 1;
+        }
+        Ok(kept)
+    }
+
+    /// The run, which begins with these engines. The jobs are moved.
+    pub fn start(self, me: ServerNo, boot: u64, kept: Vec<JobRun>) -> Run
+        requires me { me < 8 }
+        requires kept { kept.items ≡ jobs_kept (started me boot self) 0 self.jobs }
+        ensures { RunIs result (started me boot self) }
+    {
+        let StagedSet { run, jobs } = self;
+        Run::new(run, jobs, kept)
+    }
+}
