@@ -32,3 +32,4 @@ pub mod EndLemmas
 pub mod HaltLemmas
 pub mod MarkLemmas
 pub mod BegunLemmas
+pub mod StateFrameLemmas

@@ -1,10 +1,13 @@
 -- What a server keeps of its present run, and of its open check.
-use Rattle.std.specs.Prelude.{◌≡◌, ℕ, ◌+◌, ◌<◌, ◌≤◌, Bool, true, List, [], ◌∷◌, Option, Some, None, is_some, if◌then◌else◌, Result, Ok, Err}
+use Rattle.std.specs.Prelude.{◌≡◌, ℕ, ◌+◌, ◌<◌, IsTrue, Bool, true, List, [], ◌∷◌, Option, Some, None, is_some, if◌then◌else◌, Result, Ok, Err}
 use Rattle.fc_base.specs.declared.fault.Fault.{Fault}
 use Rattle.fc_base.specs.declared.fault.Fault.TheVariants.{NotInFlight}
 use Rattle.std.specs.Option.{option_map}
 use Rattle.fc_base.specs.Counted.{has}
 use Rattle.job_file.specs.declared.job.Job.{Job}
+use Rattle.messages.specs.declared.body.Body.{Body}
+use Rattle.messages.specs.declared.body.Body.TheVariants as bodies
+use Rattle.messages.specs.Ranges.{is_run}
 use Rattle.verify_state.specs.State.{State}
 use Rattle.messages.specs.declared.refusal.Act.{Act}
 use Rattle.engine.specs.Running.{Origin, Running, running_of}
@@ -62,16 +65,17 @@ kept_of w = record {
 pub record RunIs (kept : Kept) (w : Work) : Type 0 where
   pub is : kept ≡ kept_of w
   pub jobs : IsSet w.jobs
-  pub run : 1 ≤ w.run
+  pub run : IsTrue (is_run w.run)
   pub server : w.server < 8
 
--- The state of a job: the one that was taken, else that of now, where it saves one.
+-- The state that was taken, else that of now, where the job saves one.
+abbrev pub state_or : Option State → Bool → State → Option State
+state_or (Some state) save now = Some state
+state_or None save now = if save then Some now else None
+
+-- The state of a job.
 abbrev pub state_kept : JobRun → Option State
 state_kept k = state_or k.taken k.save (state_now k.engine)
-  where
-    state_or : Option State → Bool → State → Option State
-    state_or (Some state) save now = Some state
-    state_or None save now = if save then Some now else None
 
 -- A job that issues no more writes.
 abbrev pub stopped_kept : JobRun → JobRun
@@ -116,7 +120,7 @@ pub record Begins (number : ℕ) (jobs : List Job) (kept : List JobRun) (w : Wor
   pub since : w.since ≡ []
   pub kept_is : kept ≡ jobs_kept w 0 jobs
   pub set : IsSet jobs
-  pub run : 1 ≤ number
+  pub run : IsTrue (is_run number)
   pub server : w.server < 8
 
 -- There is a run with no request yet of which this is kept.
@@ -126,3 +130,18 @@ IsBegun number jobs kept = ∥ ((w : Work) × Begins number jobs kept w) ∥₁
 -- P holds of each such run.
 abbrev pub EachBegun : ℕ → List Job → List JobRun → (Work → Type 0) → Type 0
 EachBegun number jobs kept P = (w : Work) → Begins number jobs kept w → P w
+
+-- What was asked of a run before the Trigger that took it; all, where none did.
+abbrev pub before_halt : Option Halt → List Request → List Request
+before_halt (Some (Triggered act before)) since = before
+before_halt (Some Stopped) since = since
+before_halt None since = since
+
+-- What was asked of a run before its states were taken; all, where they were not.
+abbrev pub asked_before : Work → List Request
+asked_before w = before_halt (halted w.run w.since) w.since
+
+-- What is said of a job with this state, or with none.
+abbrev pub said : ℕ → ℕ → ℕ → Option State → Body
+said run jobs j (Some state) = bodies.State jobs state
+said run jobs j None = bodies.NoState run j jobs

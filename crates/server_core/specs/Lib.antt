@@ -15,3 +15,4 @@ pub mod Texts
 pub mod Words
 pub mod Kept
 pub mod Inside
+pub mod Framed

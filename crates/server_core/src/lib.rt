@@ -6,6 +6,7 @@ mod event;
 mod job_run;
 mod law;
 mod note;
+mod replies;
 mod run;
 mod staged;
 mod status;

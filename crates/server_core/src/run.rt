@@ -7,6 +7,8 @@ ghost use Rattle.engine.specs.Answers.{ended_of};
 ghost use Rattle.server_core.specs.declared.job_run.JobRun.{JobRun};
 ghost use Rattle.server_core.specs.Kept.{taken_kept, stopped_kept, act_in};
 
+mod replies;
+
 use crate::event::WriteEnd;
 use crate::job_run::{End, JobRun, index_in, index_of};
 use engine::{Issue, Ticket};

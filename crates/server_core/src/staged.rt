@@ -1,6 +1,7 @@
 //! Jobs that are staged for a run.
 
-ghost use Rattle.std.specs.Prelude.{◌≡◌, ◌<◌, ◌≤◌, length, IfOk};
+ghost use Rattle.std.specs.Prelude.{◌≡◌, ◌<◌, ◌≤◌, length, IfOk, IsTrue};
+ghost use Rattle.messages.specs.Ranges.{is_run};
 ghost use Rattle.server_core.specs.Laws.{IsSet};
 ghost use Rattle.server_core.specs.Kept.{started, jobs_kept, RunIs};
 
@@ -20,7 +21,8 @@ pub struct StagedSet {
 }
 
 impl Model for StagedSet {
-    ghost use Rattle.std.specs.Prelude.{◌≤◌};
+    ghost use Rattle.std.specs.Prelude.{IsTrue};
+    ghost use Rattle.messages.specs.Ranges.{is_run};
     ghost use Rattle.server_core.specs.Words.{Staged};
     ghost use Rattle.server_core.specs.Laws.{IsSet};
 
@@ -28,13 +30,13 @@ impl Model for StagedSet {
 
     ghost view = { λ s. record { run = s.run; jobs = s.jobs } };
 
-    ghost invariant = { λ s. (1 ≤ s.run) × IsSet s.jobs };
+    ghost invariant = { λ s. IsTrue (is_run s.run) × IsSet s.jobs };
 }
 
 impl StagedSet {
     /// These jobs, staged for a run.
     pub fn new(run: RunNo, jobs: Jobs) -> StagedSet
-        requires run { 1 ≤ run }
+        requires run { IsTrue (is_run run) }
         requires jobs { IsSet jobs }
         ensures { result ≡ record { run = run; jobs = jobs } }
     {
@@ -44,7 +46,7 @@ impl StagedSet {
     /// The run.
     pub fn run(&self) -> RunNo
         ensures value { result ≡ self.now.run }
-        ensures range { 1 ≤ result }
+        ensures range { IsTrue (is_run result) }
     {
         self.run
     }

@@ -1,0 +1,10 @@
+-- The frames of what a server says.
+use Rattle.std.specs.Prelude.{ℕ, List}
+use Rattle.std.specs.List.{flat_map}
+use Rattle.messages.specs.declared.body.Body.{Body}
+use Rattle.messages.specs.FramesOf.{spelled_frames}
+use Rattle.server_core.specs.Answers.{to_client}
+
+-- The bytes of the frames that carry these bodies to the client, in their order.
+abbrev pub framed : ℕ → List Body → List (List ℕ)
+framed me bodies = flat_map spelled_frames (to_client me bodies)

@@ -1,0 +1,39 @@
+//! What a server says to the client, as frames.
+
+ghost use Rattle.std.specs.Prelude.{◌≡◌, ◌<◌, ◌∷◌, [], ◌++◌, IsTrue, OnOk, IfOk};
+ghost use Rattle.messages.specs.Ranges.{is_body};
+ghost use Rattle.server_core.specs.Framed.{framed};
+
+use fc_base::ServerNo;
+use messages::{Body, Frames, Node, Packet, PacketParts, frames_of};
+use std::alloc::{AllocError, Global};
+
+/// Appends the frames of a packet with this body.
+pub(crate) fn say(
+    alloc: Global,
+    me: ServerNo,
+    body: Body,
+    frames: &mut Frames,
+) -> Result<(), AllocError>
+    requires me { me < 8 }
+    requires range { IsTrue (is_body body) }
+    ensures { OnOk result (frames.new ≡ frames.old ++ framed me (body ∷ [])) }
+{
+    let packet = Packet::new(PacketParts {
+        from: Node::Server(me),
+        to: Node::Client,
+        body,
+    });
+    frames.append(&frames_of(alloc, &packet)?)
+}
+
+/// The frames of one packet with this body.
+pub(crate) fn only(alloc: Global, me: ServerNo, body: Body) -> Result<Frames, AllocError>
+    requires me { me < 8 }
+    requires range { IsTrue (is_body body) }
+    ensures { IfOk result (λ frames. frames ≡ framed me (body ∷ [])) }
+{
+    let mut frames = Frames::new(alloc);
+    say(alloc, me, body, &mut frames)?;
+    Ok(frames)
+}
