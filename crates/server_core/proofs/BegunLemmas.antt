@@ -7,6 +7,7 @@ use Rattle.server_core.specs.declared.job_run.JobRun.{JobRun}
 use Rattle.server_core.specs.Request.{Request}
 use Rattle.server_core.specs.Run.{Work, halted}
 use Rattle.server_core.specs.Kept.{end_kept, job_kept, jobs_kept, RunIs, Begins}
+use Rattle.server_core.proofs.NumberedLemmas.{take_numbered}
 use Rattle.server_core.proofs.RowLemmas.{kept_by, same_kept}
 
 pub begun : (number : ℕ) (jobs : List Job) (kept : List JobRun) (w : Work) → Begins number jobs kept w → RunIs (kept_by number None jobs kept) w
@@ -17,20 +18,7 @@ begun number jobs kept w b = record {
   server = b.server;
 }
 
-one_more : (w : Work) (k : ℕ) (jobs : List Job) (job : Job) → jobs_kept w k (jobs ++ job ∷ []) ≡ jobs_kept w k jobs ++ job_kept w (k + length jobs) job ∷ []
-one_more w k [] job = let e : k + 0 ≡ k = omega arith in rw e refl
-one_more w k (first ∷ jobs) job = ap (λ ks. job_kept w k first ∷ ks) (one_more w (k + 1) jobs job ∙ ap (λ n. jobs_kept w (k + 1) jobs ++ job_kept w n job ∷ []) next)
-  where
-    next : k + 1 + length jobs ≡ k + suc (length jobs)
-    next = omega arith
-
 pub begun_more : (w : Work) (jobs : List Job) (i : ℕ) (job : Job) (old new : List JobRun) (row : JobRun) → i < length jobs → job ≡ get_or jobs i job → old ≡ jobs_kept w 0 (take i jobs) → new ≡ old ++ row ∷ [] → row ≡ job_kept w i job
     → new ≡ jobs_kept w 0 (take (i + 1) jobs)
 begun_more w jobs i job old new row lt at before push is =
-    push ∙ ap (λ k. old ++ k ∷ []) is ∙ ap (λ ks. ks ++ job_kept w i job ∷ []) before
-    ∙ ap (λ n. jobs_kept w 0 (take i jobs) ++ job_kept w n job ∷ []) place
-    ∙ sym (one_more w 0 (take i jobs) job)
-    ∙ ap (jobs_kept w 0) (sym (take_more jobs i job lt ∙ ap (λ j. take i jobs ++ j ∷ []) (sym at)))
-  where
-    place : i ≡ 0 + length (take i jobs)
-    place = omega (arith, length-take-le i jobs (omega (arith, lt)))
+    push ∙ ap (λ k. old ++ k ∷ []) is ∙ ap (λ ks. ks ++ job_kept w i job ∷ []) before ∙ sym (take_numbered (job_kept w) jobs i job lt at)

@@ -33,3 +33,4 @@ pub mod HaltLemmas
 pub mod MarkLemmas
 pub mod BegunLemmas
 pub mod StateFrameLemmas
+pub mod NumberedLemmas

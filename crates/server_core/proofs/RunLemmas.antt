@@ -8,6 +8,7 @@ use Rattle.server_core.specs.Answers.{marks_by, marks, issue_of_job}
 use Rattle.server_core.specs.Laws.{HistoriesAreLegal}
 use Rattle.server_core.proofs.RowLemmas.{and_then, or_none, idle, job_here, one_row, engine_row}
 use Rattle.server_core.proofs.SetLemmas.{job_at}
+use Rattle.server_core.proofs.NumberedLemmas.{length-numbered}
 use Rattle.std.proofs.lemmas.Option.{slice_get_past}
 use Rattle.fc_base.specs.Counted.{has}
 use Rattle.job_file.specs.declared.job.Job.{Job}
@@ -41,10 +42,6 @@ pub ended_is : (kept : Kept) (w : Work) (jobs : List JobRun) (b : Bool) → RunI
 unfolding have_ended
 ended_is kept w jobs b h is e =
     e ∙ ap (λ ks. list_all (λ (k : JobRun). ended_of k.engine) ks) (is ∙ ap (λ (k : Kept). k.kept) h.is) ∙ all_ended w 0 w.jobs
-
-pub length-jobs_kept : (w : Work) (j : ℕ) (jobs : List Job) → length (jobs_kept w j jobs) ≡ length jobs
-length-jobs_kept w j [] = refl
-length-jobs_kept w j (job ∷ jobs) = ap suc (length-jobs_kept w (j + 1) jobs)
 
 -- ---- a write is issued
 
@@ -113,7 +110,7 @@ issue_step legal kept w i old new answer h at e left added =
     same_some a b e = cc
 
 pub no_job : (kept : Kept) (w : Work) (i : ℕ) → RunIs kept w → length kept.kept ≤ i → slice_get w.jobs i ≡ None
-no_job kept w i h past = slice_get_past w.jobs i (subst (λ n. n ≤ i) (ap (λ (k : Kept). length k.kept) h.is ∙ length-jobs_kept w 0 w.jobs) past)
+no_job kept w i h past = slice_get_past w.jobs i (subst (λ n. n ≤ i) (ap (λ (k : Kept). length k.kept) h.is ∙ length-numbered (job_kept w) 0 w.jobs) past)
 
 pub no_issue : (kept : Kept) (w : Work) (i : ℕ) → RunIs kept w → length kept.kept ≤ i → (issues.Stopped ≡ issue_of_job w i (slice_get w.jobs i)) × RunIs kept (and_then w (ToIssue i))
 no_issue kept w i h past =

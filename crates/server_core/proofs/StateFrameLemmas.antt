@@ -25,7 +25,7 @@ use Rattle.server_core.specs.Replies.{state_frame, state_frames}
 use Rattle.server_core.specs.Framed.{framed}
 use Rattle.server_core.specs.Kept.{Kept, job_kept, jobs_kept, RunIs, state_kept, asked_before, before_halt, state_or, said}
 use Rattle.server_core.proofs.RowLemmas.{row, job_here}
-use Rattle.server_core.proofs.RunLemmas.{length-jobs_kept}
+use Rattle.server_core.proofs.NumberedLemmas.{length-numbered}
 
 -- ---- one job
 
@@ -113,7 +113,7 @@ some_at (x ∷ xs) zero lt = (x, refl)
 some_at (x ∷ xs) (suc i) lt = some_at xs i (omega (arith, lt))
 
 pub lengths : (kept : Kept) (w : Work) → RunIs kept w → (length kept.kept ≡ length w.jobs) × (length kept.jobs ≡ length w.jobs)
-lengths kept w h = (ap (λ (k : Kept). length k.kept) h.is ∙ length-jobs_kept w 0 w.jobs, ap (λ (k : Kept). length k.jobs) h.is)
+lengths kept w h = (ap (λ (k : Kept). length k.kept) h.is ∙ length-numbered (job_kept w) 0 w.jobs, ap (λ (k : Kept). length k.jobs) h.is)
 
 pub job_below : (kept : Kept) (w : Work) (i : ℕ) → RunIs kept w → i < length kept.kept → (job : Job) × (slice_get w.jobs i ≡ Some job)
 job_below kept w i h lt = some_at w.jobs i (omega (arith, lt, (lengths kept w h).0))

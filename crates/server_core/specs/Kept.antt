@@ -47,10 +47,14 @@ job_kept w j job =
       marked = has (marks w.run w.since) j;
     }
 
--- The same of jobs, numbered on from j.
+-- What f gives for jobs, numbered on from j.
+abbrev pub numbered : {A : Type 0} → (ℕ → Job → A) → ℕ → List Job → List A
+numbered f j [] = []
+numbered f j (job ∷ jobs) = f j job ∷ numbered f (j + 1) jobs
+
+-- What is kept of jobs, numbered on from j.
 abbrev pub jobs_kept : Work → ℕ → List Job → List JobRun
-jobs_kept w j [] = []
-jobs_kept w j (job ∷ jobs) = job_kept w j job ∷ jobs_kept w (j + 1) jobs
+jobs_kept w j jobs = numbered (job_kept w) j jobs
 
 -- All that is kept of a run.
 abbrev pub kept_of : Work → Kept

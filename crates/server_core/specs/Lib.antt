@@ -16,3 +16,5 @@ pub mod Words
 pub mod Kept
 pub mod Inside
 pub mod Framed
+pub mod KeptCheck
+pub mod InsideCheck

@@ -6,6 +6,8 @@ mod event;
 mod job_run;
 mod law;
 mod note;
+mod open_check;
+mod progress;
 mod replies;
 mod run;
 mod staged;
@@ -18,6 +20,8 @@ pub use law::{
     numbers_grow, one_taking, packets_are_in_range, quiet, starts, the_taken, the_untaken,
     with_was_heard,
 };
+pub use open_check::{OpenCheck, progress_of_jobs};
+pub use progress::Progress;
 pub use run::Run;
 pub use note::{Noted, one_note};
 pub use staged::StagedSet;

@@ -1,0 +1,70 @@
+-- What a server keeps of its open check.
+use Rattle.std.specs.Prelude.{◌≡◌, ℕ, ◌==◌, Bool, true, false, List, ◌∷◌, Option, Some, None, slice_get, if◌then◌else◌}
+use Rattle.fc_base.specs.Fault.{number_of}
+use Rattle.job_file.specs.declared.job.Job.{Job}
+use Rattle.verify_state.specs.State.{State}
+use Rattle.verify_state.specs.Misfit.{misfit}
+use Rattle.server_core.specs.declared.progress.Progress as kept
+use Rattle.server_core.specs.declared.progress.Progress.TheVariants as kept_as
+use Rattle.server_core.specs.Request.{Request}
+use Rattle.server_core.specs.Check.{Check, Progress, Wanting, Full, With, Refused, Done, held, begun, progress_after}
+use Rattle.server_core.specs.Kept.{numbered}
+
+-- How far the check of a job is, as it is kept.
+abbrev pub progress_of : kept.Progress → Progress
+progress_of kept_as.Wanting = Wanting
+progress_of kept_as.Full = Full
+progress_of (kept_as.With state) = With state
+progress_of (kept_as.Refused fault) = Refused (number_of fault)
+progress_of (kept_as.Done report) = Done report
+
+-- How far it is at first.
+abbrev pub progress_begun : Job → Progress
+progress_begun job = begun job.load
+
+-- The job waits for its state.
+abbrev pub is_wanting : Option Progress → Bool
+is_wanting (Some Wanting) = true
+is_wanting _ = false
+
+-- A check as it is kept.
+pub record CheckKept : Type 0 where
+  pub run : ℕ
+  pub attempt : ℕ
+  pub jobs : List Job
+  pub progress : List Progress
+
+-- How far the check of job j is.
+abbrev pub job_progress : Check → ℕ → Job → Progress
+job_progress c j job = progress_after c j job c.since
+
+-- All that is kept of a check.
+abbrev pub check_kept : Check → CheckKept
+check_kept c = record {
+  run = c.run;
+  attempt = c.attempt;
+  jobs = c.jobs;
+  progress = numbered (job_progress c) 0 c.jobs;
+}
+
+-- P holds of each check of which this is kept.
+abbrev pub EachCheck : CheckKept → (Check → Type 0) → Type 0
+EachCheck kept P = (c : Check) → kept ≡ check_kept c → P c
+
+-- A request goes on with each check of which this was kept.
+abbrev pub GoesOn : CheckKept → CheckKept → Request → Type 0
+GoesOn old new x = EachCheck old (λ c. new ≡ check_kept (record c { since = x ∷ c.since }))
+
+-- What a state makes of its job, where that waits for one.
+abbrev pub judged_at : ℕ → ℕ → State → Option Job → Option Progress → Option Progress
+judged_at me run state (Some job) (Some Wanting) =
+    Some (held (misfit state (record { run = run; server = me; job = state.key.job }) job.rec) state Wanting)
+judged_at me run state _ _ = None
+
+-- What a state that comes in an attempt makes of its job, where that is the attempt of the check and
+-- the job waits for one.
+abbrev pub judged : ℕ → CheckKept → ℕ → State → Option Progress
+judged me kept attempt state =
+    if attempt == kept.attempt
+    then judged_at me kept.run state (slice_get kept.jobs state.key.job) (slice_get kept.progress state.key.job)
+    else None
