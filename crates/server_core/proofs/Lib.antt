@@ -34,3 +34,4 @@ pub mod MarkLemmas
 pub mod BegunLemmas
 pub mod StateFrameLemmas
 pub mod NumberedLemmas
+pub mod CheckedLemmas

@@ -69,6 +69,17 @@ at_numbered f k (job ∷ jobs) (suc i) old is = let p = at_numbered f (k + 1) jo
 pub job_of : {A : Type 0} (f : ℕ → Job → A) (jobs : List Job) (i : ℕ) (old : A) → slice_get (numbered f 0 jobs) i ≡ Some old → (job : Job) × (slice_get jobs i ≡ Some job) × (old ≡ f i job)
 job_of f jobs i old is = let p = at_numbered f 0 jobs i old is in (p.0, p.1, p.2 ∙ ap (λ n. f n p.0) (plus_zero i))
 
+get_numbered : {A : Type 0} (f : ℕ → Job → A) (k : ℕ) (jobs : List Job) (i : ℕ) (job : Job) → slice_get jobs i ≡ Some job → slice_get (numbered f k jobs) i ≡ Some (f (k + i) job)
+get_numbered f k [] i job is = cc
+get_numbered f k (first ∷ jobs) zero job is = ap (λ j. Some (f k j)) (same is) ∙ ap (λ n. Some (f n job)) (sym (zero_more k))
+  where
+    same : Some first ≡ Some job → first ≡ job
+    same e = cc
+get_numbered f k (first ∷ jobs) (suc i) job is = get_numbered f (k + 1) jobs i job is ∙ ap (λ n. Some (f n job)) (next k i)
+
+pub get_at : {A : Type 0} (f : ℕ → Job → A) (jobs : List Job) (i : ℕ) (job : Job) → slice_get jobs i ≡ Some job → slice_get (numbered f 0 jobs) i ≡ Some (f i job)
+get_at f jobs i job is = get_numbered f 0 jobs i job is ∙ ap (λ n. Some (f n job)) (plus_zero i)
+
 -- One more.
 more_numbered : {A : Type 0} (f : ℕ → Job → A) (k : ℕ) (jobs : List Job) (job : Job) → numbered f k (jobs ++ job ∷ []) ≡ numbered f k jobs ++ f (k + length jobs) job ∷ []
 more_numbered f k [] job = let e : k + 0 ≡ k = omega arith in rw e refl

@@ -1,5 +1,5 @@
 -- What a server keeps of its open check.
-use Rattle.std.specs.Prelude.{◌≡◌, ℕ, ◌==◌, Bool, true, false, List, ◌∷◌, Option, Some, None, slice_get, if◌then◌else◌}
+use Rattle.std.specs.Prelude.{◌≡◌, ℕ, ◌==◌, ◌&&◌, Bool, true, false, List, ◌∷◌, Option, Some, None, slice_get, if◌then◌else◌}
 use Rattle.fc_base.specs.Fault.{number_of}
 use Rattle.job_file.specs.declared.job.Job.{Job}
 use Rattle.verify_state.specs.State.{State}
@@ -55,16 +55,17 @@ EachCheck kept P = (c : Check) → kept ≡ check_kept c → P c
 abbrev pub GoesOn : CheckKept → CheckKept → Request → Type 0
 GoesOn old new x = EachCheck old (λ c. new ≡ check_kept (record c { since = x ∷ c.since }))
 
--- What a state makes of its job, where that waits for one.
-abbrev pub judged_at : ℕ → ℕ → State → Option Job → Option Progress → Option Progress
-judged_at me run state (Some job) (Some Wanting) =
-    Some (held (misfit state (record { run = run; server = me; job = state.key.job }) job.rec) state Wanting)
-judged_at me run state _ _ = None
+-- The job waits for its state, in this attempt.
+abbrev pub wants_in : CheckKept → ℕ → ℕ → Bool
+wants_in kept attempt job = (attempt == kept.attempt) && is_wanting (slice_get kept.progress job)
 
--- What a state that comes in an attempt makes of its job, where that is the attempt of the check and
--- the job waits for one.
+-- What a state makes of its job.
+abbrev pub judged_of : ℕ → ℕ → State → Option Job → Option Progress
+judged_of me run state None = None
+judged_of me run state (Some job) =
+    Some (held (misfit state (record { run = run; server = me; job = state.key.job }) job.rec) state Wanting)
+
+-- What a state that comes in an attempt makes of its job, where that waits for one.
 abbrev pub judged : ℕ → CheckKept → ℕ → State → Option Progress
 judged me kept attempt state =
-    if attempt == kept.attempt
-    then judged_at me kept.run state (slice_get kept.jobs state.key.job) (slice_get kept.progress state.key.job)
-    else None
+    if wants_in kept attempt state.key.job then judged_of me kept.run state (slice_get kept.jobs state.key.job) else None

@@ -3,7 +3,7 @@
 ghost use Rattle.std.specs.Prelude.{◌≡◌, ◌<◌, ◌≤◌, ◌==◌, ◌&&◌, ◌∷◌, length, map, set, slice_get, IsTrue, IfOk};
 ghost use Rattle.std.specs.Option.{option_copied, option_map};
 ghost use Rattle.messages.specs.Ranges.{is_attempt as in_range, is_run};
-ghost use Rattle.server_core.specs.KeptCheck.{progress_of, progress_begun, is_wanting};
+ghost use Rattle.server_core.specs.KeptCheck.{progress_of, progress_begun};
 
 use crate::job_run::index_of;
 use crate::progress::Progress;
@@ -37,7 +37,7 @@ impl Model for OpenCheck {
 
 impl OpenCheck {
     ghost use Rattle.server_core.specs.Request.{ToPassFully};
-    ghost use Rattle.server_core.specs.KeptCheck.{CheckKept, GoesOn, judged};
+    ghost use Rattle.server_core.specs.KeptCheck.{CheckKept, GoesOn, judged, wants_in};
     ghost use Rattle.server_core.specs.Answers.{is_ready};
 
     /// A check that is opened.
@@ -72,11 +72,11 @@ impl OpenCheck {
         self.progress.get(index_of(job))
     }
 
-    /// Whether a job waits for its state.
-    fn wants(&self, job: JobNo) -> bool
-        ensures { result ≡ is_wanting (slice_get self.now.progress job) }
+    /// Whether a job waits for its state, in this attempt.
+    fn wants(&self, attempt: Attempt, job: JobNo) -> bool
+        ensures { result ≡ wants_in self.now attempt job }
     {
-        matches!(self.progress(job), Some(Progress::Wanting))
+        attempt == self.attempt && matches!(self.progress(job), Some(Progress::Wanting))
     }
 
     /// What a state makes of the job that it is for, where that waits for one in this attempt.
@@ -84,7 +84,7 @@ impl OpenCheck {
         ensures { option_map progress_of result ≡ judged me self.now attempt state.now }
     {
         let job = state.key().job;
-        if attempt != self.attempt || !self.wants(job) {
+        if !self.wants(attempt, job) {
             return None;
         }
         let key = Key {
@@ -112,7 +112,7 @@ impl OpenCheck {
     pub fn pass(&mut self, attempt: Attempt, job: JobNo)
         ensures { GoesOn self.old self.new (ToPassFully attempt job) }
     {
-        if attempt == self.attempt && self.wants(job) {
+        if self.wants(attempt, job) {
             self.set(job, Progress::Full);
         }
     }
