@@ -35,3 +35,4 @@ pub mod BegunLemmas
 pub mod StateFrameLemmas
 pub mod NumberedLemmas
 pub mod CheckedLemmas
+pub mod CheckFrameLemmas

@@ -1,5 +1,5 @@
 -- The frames of what a server says.
-use Rattle.std.specs.Prelude.{ℕ, List}
+use Rattle.std.specs.Prelude.{ℕ, List, [], ◌∷◌, Option, Some, None}
 use Rattle.std.specs.List.{flat_map}
 use Rattle.messages.specs.declared.body.Body.{Body}
 use Rattle.messages.specs.FramesOf.{spelled_frames}
@@ -8,3 +8,8 @@ use Rattle.server_core.specs.Answers.{to_client}
 -- The bytes of the frames that carry these bodies to the client, in their order.
 abbrev pub framed : ℕ → List Body → List (List ℕ)
 framed me bodies = flat_map spelled_frames (to_client me bodies)
+
+-- A body, if there is one.
+abbrev pub listed : Option Body → List Body
+listed None = []
+listed (Some body) = body ∷ []

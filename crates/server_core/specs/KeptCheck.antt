@@ -1,7 +1,10 @@
 -- What a server keeps of its open check.
-use Rattle.std.specs.Prelude.{◌≡◌, ℕ, ◌==◌, ◌&&◌, Bool, true, false, List, ◌∷◌, Option, Some, None, slice_get, if◌then◌else◌}
+use Rattle.std.specs.Prelude.{◌≡◌, ℕ, ◌==◌, ◌&&◌, Bool, true, false, List, ◌∷◌, Option, Some, None, length, slice_get, if◌then◌else◌}
 use Rattle.fc_base.specs.Fault.{number_of}
 use Rattle.job_file.specs.declared.job.Job.{Job}
+use Rattle.messages.specs.declared.refusal.Refusal.{Refusal}
+use Rattle.messages.specs.declared.refusal.Asked.TheVariants.{Verify}
+use Rattle.messages.specs.declared.refusal.Reason.TheVariants.{Misfit}
 use Rattle.verify_state.specs.State.{State}
 use Rattle.verify_state.specs.Misfit.{misfit}
 use Rattle.server_core.specs.declared.progress.Progress as kept
@@ -69,3 +72,15 @@ judged_of me run state (Some job) =
 abbrev pub judged : ℕ → CheckKept → ℕ → State → Option Progress
 judged me kept attempt state =
     if wants_in kept attempt state.key.job then judged_of me kept.run state (slice_get kept.jobs state.key.job) else None
+
+-- The refusal of a state that doesn't fit job j, for this reason.
+abbrev pub misfit_of : CheckKept → ℕ → ℕ → Refusal
+misfit_of kept j value = record {
+  asked = Verify;
+  reason = Misfit;
+  job = j;
+  jobs = length kept.jobs;
+  run = kept.run;
+  attempt = kept.attempt;
+  value = value;
+}

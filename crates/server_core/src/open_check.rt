@@ -5,6 +5,8 @@ ghost use Rattle.std.specs.Option.{option_copied, option_map};
 ghost use Rattle.messages.specs.Ranges.{is_attempt as in_range, is_run};
 ghost use Rattle.server_core.specs.KeptCheck.{progress_of, progress_begun};
 
+mod replies;
+
 use crate::job_run::index_of;
 use crate::progress::Progress;
 use fc_base::{Attempt, JobNo, Key, RunNo, ServerNo};

@@ -1,8 +1,8 @@
 //! What a server says to the client, as frames.
 
-ghost use Rattle.std.specs.Prelude.{◌≡◌, ◌<◌, ◌∷◌, [], ◌++◌, IsTrue, OnOk, IfOk};
+ghost use Rattle.std.specs.Prelude.{◌≡◌, ◌<◌, ◌∷◌, [], ◌++◌, IsTrue, OnOk, IfOk, MatchOption};
 ghost use Rattle.messages.specs.Ranges.{is_body};
-ghost use Rattle.server_core.specs.Framed.{framed};
+ghost use Rattle.server_core.specs.Framed.{framed, listed};
 
 use fc_base::ServerNo;
 use messages::{Body, Frames, Node, Packet, PacketParts, frames_of};
@@ -36,4 +36,21 @@ pub(crate) fn only(alloc: Global, me: ServerNo, body: Body) -> Result<Frames, Al
     let mut frames = Frames::new(alloc);
     say(alloc, me, body, &mut frames)?;
     Ok(frames)
+}
+
+/// Appends the frames of a packet with this body, if there is one.
+pub(crate) fn say_if(
+    alloc: Global,
+    me: ServerNo,
+    body: Option<Body>,
+    frames: &mut Frames,
+) -> Result<(), AllocError>
+    requires me { me < 8 }
+    requires range { MatchOption body (Unit {0}) (λ b. IsTrue (is_body b)) }
+    ensures { OnOk result (frames.new ≡ frames.old ++ framed me (listed body)) }
+{
+    match body {
+        Some(body) => say(alloc, me, body, frames),
+        None => Ok(()),
+    }
 }
