@@ -18,3 +18,4 @@ pub mod Inside
 pub mod Framed
 pub mod KeptCheck
 pub mod InsideCheck
+pub mod Stands

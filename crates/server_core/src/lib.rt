@@ -2,6 +2,7 @@
 //! laws that hold of every list.
 #![tactic(auto)]
 
+mod core;
 mod event;
 mod job_run;
 mod law;
@@ -12,6 +13,7 @@ mod replies;
 mod run;
 mod staged;
 mod status;
+mod work;
 
 pub use job_run::{End, JobRun};
 pub use event::{Event, WriteEnd};
