@@ -36,3 +36,4 @@ pub mod StateFrameLemmas
 pub mod NumberedLemmas
 pub mod CheckedLemmas
 pub mod CheckFrameLemmas
+pub mod IdleLemmas

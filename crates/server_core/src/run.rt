@@ -1,6 +1,6 @@
 //! The present run: its jobs, and how far it is.
 
-ghost use Rattle.std.specs.Prelude.{◌≡◌, ◌<◌, ◌≤◌, ◌==◌, ℕ, true, ◌∷◌, map, length, Some, None, slice_get, nat_lt, OnErr, is_some, not, ◌&&◌, if◌then◌else◌};
+ghost use Rattle.std.specs.Prelude.{◌≡◌, ◌<◌, ◌≤◌, ◌==◌, ℕ, true, ◌∷◌, map, length, Some, None, slice_get, nat_lt, OnErr, is_none, is_some, not, ◌&&◌, if◌then◌else◌};
 ghost use Rattle.messages.specs.declared.refusal.Act.TheVariants as acts;
 ghost use Rattle.std.specs.List.{list_all, list_any};
 ghost use Rattle.engine.specs.Answers.{ended_of};
@@ -69,6 +69,20 @@ impl Run {
         ensures { result ≡ self.now.end }
     {
         self.end
+    }
+
+    /// Whether it is this run.
+    pub fn is(&self, number: RunNo) -> bool
+        ensures { result ≡ (self.now.number == number) }
+    {
+        self.number == number
+    }
+
+    /// Whether it is this run, and writes.
+    pub fn is_writing(&self, number: RunNo) -> bool
+        ensures { result ≡ ((self.now.number == number) && is_none self.now.end) }
+    {
+        self.number == number && self.end.is_none()
     }
 
     /// Whether some write is open.

@@ -62,3 +62,38 @@ pub(crate) fn end_write(
         None => Err(Fault::NotInFlight),
     }
 }
+
+/// Takes the states of this run, where it is the present one and writes.
+pub(crate) fn trigger(run: &mut Option<Run>, number: RunNo, act: Act)
+    ensures { EachWork run.old
+        (λ me now_boot w. WorkIs me now_boot run.new (goes_on (ToTrigger number act) w)) }
+{
+    match run {
+        Some(run) if run.is_writing(number) => run.take(act),
+        _ => {}
+    }
+}
+
+/// Stops this run, where it is the present one and writes.
+pub(crate) fn stop(run: &mut Option<Run>, number: RunNo)
+    ensures { EachWork run.old
+        (λ me now_boot w. WorkIs me now_boot run.new (goes_on (ToStop number) w)) }
+{
+    match run {
+        Some(run) if run.is_writing(number) => run.stop(),
+        _ => {}
+    }
+}
+
+/// Marks a job of this run, where it is the present one and was taken. The mark of the last job asks
+/// for the cut, where the Trigger did.
+pub(crate) fn mark(run: &mut Option<Run>, number: RunNo, job: JobNo) -> Act
+    ensures answer { EachWork run.old (λ me now_boot w. result ≡ act_of w (ToMark number job)) }
+    ensures left { EachWork run.old
+        (λ me now_boot w. WorkIs me now_boot run.new (goes_on (ToMark number job) w)) }
+{
+    match run {
+        Some(run) if run.is(number) => run.mark(job),
+        _ => Act::None,
+    }
+}
