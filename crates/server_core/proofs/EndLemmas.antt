@@ -13,10 +13,13 @@ use Rattle.engine.specs.Answers.{ticket_answer, names_one_of}
 use Rattle.server_core.specs.declared.event.WriteEnd.{WriteEnd}
 use Rattle.server_core.specs.declared.job_run.JobRun.{JobRun}
 use Rattle.server_core.specs.Request.{Request, ToEnd}
-use Rattle.server_core.specs.Run.{Work, Halt, Triggered, Stopped, with_ticket, halted, is_halted, origin_of, history}
+use Rattle.server_core.specs.Run.{Work, Halt, Triggered, Stopped, with_ticket, halted, is_halted, origin_of, history, goes_on}
 use Rattle.server_core.specs.Answers.{marks_by, marks, names_open_of}
 use Rattle.server_core.specs.Laws.{HistoriesAreLegal}
 use Rattle.server_core.specs.Kept.{Kept, job_kept, RunIs, open_answer}
+use Rattle.server_core.specs.Check.{Check, check_goes_on}
+use Rattle.server_core.specs.KeptCheck.{CheckKept}
+use Rattle.server_core.specs.Stands.{WorkIs, OpenIs}
 use Rattle.server_core.proofs.RowLemmas.{and_then, or_none, idle, job_here, one_row, engine_row}
 use Rattle.server_core.proofs.RunLemmas.{stands, within, no_job}
 
@@ -100,3 +103,25 @@ no_end kept w ticket end h past =
       where
         no : None ≡ Some job → ⊥
         no e = cc
+
+-- ---- a ticket of another boot
+
+other_boot : (kept : Kept) (w : Work) (ticket : Ticket) (end : WriteEnd) → RunIs kept w → (ticket.boot == w.boot) ≡ false → RunIs kept (and_then w (ToEnd ticket end))
+other_boot kept w ticket end h e =
+    idle kept w (ToEnd ticket end) h (or_none (halted w.run w.since))
+    (λ j job is.
+        ap (λ t. with_ticket (if not t then Err OldBoot else (if names_one_of (origin_of w j job) (window.open_writes (history (origin_of w j job) w.since)) ticket then Ok tt else Err NotInFlight)) end ticket.seq (history (origin_of w j job) w.since))
+        e)
+    (λ j job is. unmarked w ticket end j)
+
+pub end_of_other_boot : (me now_boot : ℕ) (kept : Option Kept) (w : Option Work) (ticket : Ticket) (end : WriteEnd) → WorkIs me now_boot kept w → ticket.boot ≢ now_boot → WorkIs me now_boot kept (goes_on (ToEnd ticket end) w)
+end_of_other_boot me now_boot None None ticket end h ne = tt
+end_of_other_boot me now_boot (Some kept) (Some w) ticket end h ne = record { run = other_boot kept w ticket end h.run (ne_eqb ticket.boot w.boot (λ e. ne (e ∙ h.boot_is))); server = h.server; boot_is = h.boot_is }
+end_of_other_boot me now_boot None (Some w) ticket end h ne = absurd h
+end_of_other_boot me now_boot (Some kept) None ticket end h ne = absurd h
+
+pub check_of_other_boot : (me now_boot : ℕ) (kept : Option CheckKept) (c : Option Check) (ticket : Ticket) (end : WriteEnd) → OpenIs me now_boot kept c → OpenIs me now_boot kept (check_goes_on (ToEnd ticket end) c)
+check_of_other_boot me now_boot None None ticket end h = tt
+check_of_other_boot me now_boot (Some kept) (Some c) ticket end h = record { is = h.is; server = h.server; boot_is = h.boot_is }
+check_of_other_boot me now_boot None (Some c) ticket end h = absurd h
+check_of_other_boot me now_boot (Some kept) None ticket end h = absurd h

@@ -12,7 +12,9 @@ use Rattle.server_core.specs.Request.{Request, ToStage, ToStart, ToTrigger, ToMa
 use Rattle.server_core.specs.Run.{Work, Halt, Triggered, Stopped, halts, halted, goes_on}
 use Rattle.server_core.specs.Answers.{marks_by, marks, is_marked, wants_cut, act_of}
 use Rattle.server_core.specs.Kept.{Kept, end_kept, RunIs}
-use Rattle.server_core.specs.Stands.{WorkIs}
+use Rattle.server_core.specs.Check.{Check, check_goes_on}
+use Rattle.server_core.specs.KeptCheck.{CheckKept, check_kept}
+use Rattle.server_core.specs.Stands.{WorkIs, OpenIs}
 use Rattle.server_core.proofs.RowLemmas.{and_then, or_none, idle}
 
 swapped : (a b : ℕ) → (a == b) ≡ (b == a)
@@ -143,3 +145,32 @@ work_elsewhere me now_boot None None x h e = tt
 work_elsewhere me now_boot (Some kept) (Some w) x h e = record { run = elsewhere kept w x h.run e; server = h.server; boot_is = h.boot_is }
 work_elsewhere me now_boot None (Some w) x h e = absurd h
 work_elsewhere me now_boot (Some kept) None x h e = absurd h
+
+-- ---- the open check
+
+-- Requests that are of no check.
+abbrev pub IsUnchecked : Request → Type 0
+IsUnchecked (ToStage r text) = Unit {0}
+IsUnchecked (ToStart r) = Unit {0}
+IsUnchecked (ToVerify r a text) = Unit {0}
+IsUnchecked _ = ⊥
+
+unchecked : (kept : CheckKept) (c : Check) (x : Request) → kept ≡ check_kept c → IsUnchecked x → kept ≡ check_kept (record c { since = x ∷ c.since })
+unchecked kept c (ToStage r text) h e = h
+unchecked kept c (ToStart r) h e = h
+unchecked kept c (ToVerify r a text) h e = h
+unchecked kept c (ToTrigger r act) h e = absurd e
+unchecked kept c (ToMark r j) h e = absurd e
+unchecked kept c (ToStop r) h e = absurd e
+unchecked kept c (ToHold a state) h e = absurd e
+unchecked kept c (ToPassFully a j) h e = absurd e
+unchecked kept c (ToIssue j) h e = absurd e
+unchecked kept c (ToEnd ticket end) h e = absurd e
+unchecked kept c (ToReport b a j report) h e = absurd e
+unchecked kept c ToNobody h e = absurd e
+
+pub check_elsewhere : (me now_boot : ℕ) (kept : Option CheckKept) (c : Option Check) (x : Request) → OpenIs me now_boot kept c → IsUnchecked x → OpenIs me now_boot kept (check_goes_on x c)
+check_elsewhere me now_boot None None x h e = tt
+check_elsewhere me now_boot (Some kept) (Some c) x h e = record { is = unchecked kept c x h.is e; server = h.server; boot_is = h.boot_is }
+check_elsewhere me now_boot None (Some c) x h e = absurd h
+check_elsewhere me now_boot (Some kept) None x h e = absurd h

@@ -37,3 +37,4 @@ pub mod NumberedLemmas
 pub mod CheckedLemmas
 pub mod CheckFrameLemmas
 pub mod IdleLemmas
+pub mod TextLemmas

@@ -1,9 +1,23 @@
 -- What a server keeps of its words.
-use Rattle.std.specs.Prelude.{◌≡◌, ℕ, Bool, true, List, ◌∷◌, Option, Some, None, Result, Ok, Err}
+use Rattle.std.specs.Prelude.{◌≡◌, ◌⊎◌, ℕ, Bool, true, List, ◌∷◌, Option, Some, None, Result, Ok, Err}
+use Rattle.std.specs.declared.alloc.AllocError.{AllocError}
 use Rattle.fc_base.specs.declared.fault.Fault.{Fault}
 use Rattle.fc_base.specs.declared.fault.Fault.TheVariants.{NoMemory}
 use Rattle.messages.specs.declared.body.Body.{Body}
-use Rattle.server_core.specs.declared.core.Core.{Core}
+use Rattle.messages.specs.declared.refusal.Asked.{Asked}
+use Rattle.messages.specs.declared.refusal.Asked.TheVariants as asks
+use Rattle.messages.specs.declared.refusal.Reason.{Reason}
+use Rattle.messages.specs.declared.refusal.Reason.TheVariants as reasons
+use Rattle.server_core.specs.declared.machine.Machine.{Machine}
+use Rattle.server_core.specs.declared.machine.stage.Staging.{Staging}
+use Rattle.fc_base.specs.Fault.{number_of}
+use Rattle.job_file.specs.declared.fault.JobFault.{JobFault}
+use Rattle.job_file.specs.declared.fault.JobFault.TheVariants as job_faults
+use Rattle.job_file.specs.Fault.{fault_of}
+use Rattle.job_file.specs.declared.job.Job.{Job}
+use Rattle.job_file.specs.declared.job.Phase.{Phase}
+use Rattle.server_core.specs.Texts.{jobs_for}
+use Rattle.server_core.specs.Laws.{IsSet}
 use Rattle.server_core.specs.Request.{Request}
 use Rattle.server_core.specs.Run.{Work, goes_on}
 use Rattle.server_core.specs.Words.{Staged, stages, greater}
@@ -42,3 +56,74 @@ OpenIs me now_boot (Some kept) None = ⊥
 -- P holds of each present run that is kept so.
 abbrev pub EachWork : Option Kept → (ℕ → ℕ → Option Work → Type 0) → Type 0
 EachWork kept P = (me now_boot : ℕ) (w : Option Work) → WorkIs me now_boot kept w → P me now_boot w
+
+-- All that a server keeps of its words.
+pub record MachineIs (machine : Machine) (now : Now) : Type 0 where
+  pub me : machine.me ≡ now.server
+  pub boot_is : machine.boot ≡ now.boot
+  pub last_is : machine.last_run ≡ now.last
+  pub staged_is : machine.staged ≡ now.staged
+  pub run_is : WorkIs now.server now.boot machine.run now.run
+  pub check_is : OpenIs now.server now.boot machine.check now.check
+
+-- P holds of the words of which this is kept.
+abbrev pub EachNow : Machine → (Now → Type 0) → Type 0
+EachNow machine P = (now : Now) → MachineIs machine now → P now
+
+-- What is staged, with one more.
+abbrev pub with_staged : ℕ → Option Staged → Option Staged → Option Staged
+with_staged last None older = older
+with_staged last (Some new) older = greater last new older
+
+-- The words of a server that is on, behind a request that records no run.
+abbrev pub after : Now → Request → Now
+after now x = record {
+  server = now.server;
+  boot = now.boot;
+  last = now.last;
+  staged = with_staged now.last (stages true now.last now.run x) now.staged;
+  run = goes_on x now.run;
+  check = or_opened (opens true now.server now.boot now.last now.run now.check x) (check_goes_on x now.check);
+}
+
+-- A request that is refused for a reason, if there is one.
+abbrev pub unless : Option Fault → Result (Unit {0}) Fault
+unless None = Ok tt
+unless (Some fault) = Err fault
+
+-- These bodies are sent.
+abbrev pub Sends : Now → List Body → List (List ℕ) → Type 0
+Sends now bodies frames = frames ≡ framed now.server bodies
+
+-- The request is of a run, and names no attempt.
+abbrev pub IsOfRun : Asked → Type 0
+IsOfRun asks.Verify = ⊥
+IsOfRun _ = Unit {0}
+
+-- The reason is of a request, and names no job.
+abbrev pub IsOfText : Reason → Type 0
+IsOfText reasons.Misfit = ⊥
+IsOfText _ = Unit {0}
+
+-- The text gives these jobs to the phase, and they are a set.
+abbrev pub GivesJobs : Phase → List ℕ → List Job → Type 0
+GivesJobs phase text jobs = (jobs_for phase text ≡ Ok jobs) × IsSet jobs
+
+-- Memory ran out, or this is the number of what is wrong with the text.
+abbrev pub LacksJobs : Phase → List ℕ → Result (List Job) Fault → Type 0
+LacksJobs phase text (Ok jobs) = Unit {0}
+LacksJobs phase text (Err fault) = (fault ≡ NoMemory) ⊎ (jobs_for phase text ≡ Err (number_of fault))
+
+-- These frames are sent, and nothing is staged.
+abbrev pub unstaged : Result (List (List ℕ)) AllocError → Result Staging Fault
+unstaged (Ok frames) = Ok (record { frames = frames; new = None })
+unstaged (Err _) = Err NoMemory
+
+-- What is wrong with a text, as a server tells it: its own want of memory is no fault of the text.
+abbrev pub told : JobFault → Fault
+told job_faults.NoMemory = NoMemory
+told fault = fault_of fault
+
+-- P holds of each open check that is kept so.
+abbrev pub EachOpen : Option CheckKept → (ℕ → ℕ → Option Check → Type 0) → Type 0
+EachOpen kept P = (me now_boot : ℕ) (c : Option Check) → OpenIs me now_boot kept c → P me now_boot c

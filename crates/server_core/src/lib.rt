@@ -1,11 +1,11 @@
 //! What a server answers, read from the list of all that came to it: the words of a server, and the
-//! laws that hold of every list.
+//! laws that hold of every list; and what a server keeps of these words.
 #![tactic(auto)]
 
-mod core;
 mod event;
 mod job_run;
 mod law;
+mod machine;
 mod note;
 mod open_check;
 mod progress;
@@ -13,18 +13,20 @@ mod replies;
 mod run;
 mod staged;
 mod status;
+mod texts;
 mod work;
 
-pub use job_run::{End, JobRun};
 pub use event::{Event, WriteEnd};
+pub use job_run::{End, JobRun};
 pub use law::{
     counts_the_done, cuts_when_kept, examples, few_packets, legal_histories, looks_at_all,
     numbers_grow, one_taking, packets_are_in_range, quiet, starts, the_taken, the_untaken,
     with_was_heard,
 };
+pub use machine::Machine;
+pub use note::{Noted, one_note};
 pub use open_check::{OpenCheck, progress_of_jobs};
 pub use progress::Progress;
 pub use run::Run;
-pub use note::{Noted, one_note};
 pub use staged::StagedSet;
 pub use status::{Stage, Status};

@@ -1,0 +1,160 @@
+//! What a server keeps of what came to it since it was restarted, and what each request makes of it.
+
+ghost use Rattle.std.specs.Prelude.{◌≡◌, ◌<◌, IsTrue, IfOk, OnErr};
+ghost use Rattle.messages.specs.Ranges.{is_run};
+
+mod check;
+mod stage;
+
+use crate::event::WriteEnd;
+use crate::job_run::End;
+use crate::open_check::OpenCheck;
+use crate::replies::only;
+use crate::run::Run;
+use crate::staged::StagedSet;
+use crate::work;
+use engine::{Issue, Ticket};
+use fc_base::{Attempt, Fault, JobNo, RunNo, ServerNo};
+use messages::{Act, Asked, Body, Frames, Reason, Refusal};
+use std::alloc::{AllocError, Global};
+
+/// The words of a server, but for its note.
+#[derive(Debug, Drop)]
+pub struct Machine {
+    pub alloc: Global,
+    pub me: ServerNo,
+    pub boot: u64,
+    pub last_run: RunNo,
+    pub staged: Option<StagedSet>,
+    pub run: Option<Run>,
+    pub check: Option<OpenCheck>,
+    ghost few: { me < 8 },
+}
+
+impl Machine {
+    ghost use Rattle.server_core.specs.Request.{ToIssue, ToEnd, ToTrigger, ToMark, ToStop};
+    ghost use Rattle.server_core.specs.Answers.{issue_of, act_of, refusal_of};
+    ghost use Rattle.server_core.specs.Replies.{replies, refuse, gone_or_unknown};
+    ghost use Rattle.server_core.specs.Framed.{framed};
+    ghost use Rattle.server_core.specs.Stands.{MachineIs, EachNow, after, unless, IsOfRun, IsOfText};
+    ghost use Rattle.messages.specs.declared.refusal.Act.{Act};
+
+    /// Issues the next write of a job, or says why none is issued.
+    pub(crate) fn issue(&mut self, job: JobNo) -> Issue
+        ensures answer { EachNow self.old (λ now. result ≡ issue_of job now.run) }
+        ensures left { EachNow self.old (λ now. MachineIs self.new (after now (ToIssue job))) }
+    {
+        work::issue(&mut self.run, job)
+    }
+
+    /// Notes how a write ended. A ticket of another boot is refused, and then one that names no open
+    /// write.
+    pub(crate) fn end_write(&mut self, ticket: Ticket, end: WriteEnd) -> Result<(), Fault>
+        ensures answer { EachNow self.old
+            (λ now. result ≡ unless (refusal_of now (ToEnd ticket end))) }
+        ensures left { EachNow self.old (λ now. MachineIs self.new (after now (ToEnd ticket end))) }
+        ensures same { OnErr result (self.new ≡ self.old) }
+    {
+        if ticket.boot != self.boot {
+            return Err(Fault::OldBoot);
+        }
+        work::end_write(&mut self.run, ticket, end)
+    }
+
+    /// Takes the states of this run, where it is the present one and writes. Taken states are sent
+    /// again. Where memory runs out nothing changes.
+    pub(crate) fn trigger(&mut self, run: RunNo, act: Act) -> Result<Frames, AllocError>
+        requires { IsTrue (is_run run) }
+        ensures sent { EachNow self.old (λ now. IfOk result
+            (λ frames. frames ≡ framed now.server (replies now (ToTrigger run act)))) }
+        ensures left { EachNow self.old
+            (λ now. IfOk result (λ frames. MachineIs self.new (after now (ToTrigger run act)))) }
+        ensures same { OnErr result (self.new ≡ self.old) }
+    {
+        let frames = self.trigger_frames(run)?;
+        work::trigger(&mut self.run, run, act);
+        Ok(frames)
+    }
+
+    /// Stops this run, where it is the present one and writes. Where memory runs out nothing changes.
+    pub(crate) fn stop(&mut self, run: RunNo) -> Result<Frames, AllocError>
+        requires { IsTrue (is_run run) }
+        ensures sent { EachNow self.old (λ now. IfOk result
+            (λ frames. frames ≡ framed now.server (replies now (ToStop run)))) }
+        ensures left { EachNow self.old
+            (λ now. IfOk result (λ frames. MachineIs self.new (after now (ToStop run)))) }
+        ensures same { OnErr result (self.new ≡ self.old) }
+    {
+        let frames = match &self.run {
+            Some(now) if now.is(run) => only(self.alloc, self.me, Body::Stopped { run })?,
+            _ => self.gone_or_unknown(Asked::Stop, run)?,
+        };
+        work::stop(&mut self.run, run);
+        Ok(frames)
+    }
+
+    /// Marks a job of this run, where it is the present one and was taken. The mark of the last job
+    /// asks for the cut, where the Trigger did.
+    pub(crate) fn mark(&mut self, run: RunNo, job: JobNo) -> Act
+        ensures answer { EachNow self.old (λ now. result ≡ act_of now.run (ToMark run job)) }
+        ensures left { EachNow self.old (λ now. MachineIs self.new (after now (ToMark run job))) }
+    {
+        work::mark(&mut self.run, run, job)
+    }
+
+    /// What is sent in answer to a Trigger.
+    fn trigger_frames(&self, run: RunNo) -> Result<Frames, AllocError>
+        requires { IsTrue (is_run run) }
+        ensures { EachNow self.now (λ now. (act : Act) → IfOk result
+            (λ frames. frames ≡ framed now.server (replies now (ToTrigger run act)))) }
+    {
+        match &self.run {
+            Some(now) if now.is(run) => match now.end() {
+                Some(End::Stopped) => self.refuse(Asked::Trigger, Reason::Gone, run, self.last_run.0),
+                Some(End::Taken(_)) | None => now.state_frames(self.alloc, self.me),
+            },
+            _ => self.gone_or_unknown(Asked::Trigger, run),
+        }
+    }
+
+    /// A request for a run that isn't the present one: it is gone, or was never there.
+    fn gone_or_unknown(&self, asked: Asked, run: RunNo) -> Result<Frames, AllocError>
+        requires run { IsTrue (is_run run) }
+        requires asked { IsOfRun asked }
+        ensures { IfOk result
+            (λ frames. frames ≡ framed self.now.me (gone_or_unknown asked run self.now.last_run)) }
+    {
+        let reason = if run <= self.last_run {
+            Reason::Gone
+        } else {
+            Reason::Unknown
+        };
+        self.refuse(asked, reason, run, self.last_run.0)
+    }
+
+    /// A refusal of a request for a run, with a value.
+    fn refuse(
+        &self,
+        asked: Asked,
+        reason: Reason,
+        run: RunNo,
+        value: u64,
+    ) -> Result<Frames, AllocError>
+        requires run { IsTrue (is_run run) }
+        requires asked { IsOfRun asked }
+        requires reason { IsOfText reason }
+        ensures { IfOk result
+            (λ frames. frames ≡ framed self.now.me (refuse asked reason run 0 value)) }
+    {
+        let refusal = Refusal {
+            asked,
+            reason,
+            job: JobNo(0),
+            jobs: 0,
+            run,
+            attempt: Attempt(0),
+            value,
+        };
+        only(self.alloc, self.me, Body::Refused(refusal))
+    }
+}
