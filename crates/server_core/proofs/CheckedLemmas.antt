@@ -2,12 +2,15 @@
 use Rattle.std.proofs.Common.{◌≡◌, ◌≢◌, refl, sym, ap, ◌∙◌, ℕ, Bool, true, false, ◌&&◌, ◌==◌, List, [], ◌∷◌, length, Option, None, Some}
 use Rattle.std.specs.Prelude.{if◌then◌else◌, set, slice_get}
 use Rattle.std.proofs.lemmas.Bool.{and_parts, eqb-true, ne_eqb, eq-eqb}
+use Rattle.fc_base.specs.declared.fault.Fault.{Fault}
+use Rattle.fc_base.specs.declared.report.ReportParts.{ReportParts}
 use Rattle.job_file.specs.declared.job.Job.{Job}
 use Rattle.verify_state.specs.State.{State}
 use Rattle.verify_state.specs.Misfit.{misfit}
 use Rattle.server_core.specs.Request.{Request, ToHold, ToPassFully, ToReport}
-use Rattle.server_core.specs.Check.{Check, Progress, Wanting, Full, With, Refused, Done, held, passed, progress_after}
-use Rattle.server_core.specs.KeptCheck.{CheckKept, check_kept, job_progress, is_wanting, wants_in}
+use Rattle.server_core.specs.Check.{Check, Progress, Wanting, Full, With, Refused, Done, held, passed, reported, progress_after}
+use Rattle.server_core.specs.KeptCheck.{CheckKept, check_kept, job_progress, is_wanting, wants_in, ready_in, judged, judged_of}
+use Rattle.server_core.specs.Answers.{is_ready}
 use Rattle.server_core.specs.Kept.{numbered}
 use Rattle.server_core.proofs.NumberedLemmas.{same_numbered, set_one, get_at}
 
@@ -88,3 +91,75 @@ passes (Done r) e = refl
 
 pub no_pass : (kept : CheckKept) (c : Check) (a j : ℕ) → kept ≡ check_kept c → wants_in kept a j ≡ false → kept ≡ check_kept (and_then c (ToPassFully a j))
 no_pass kept c a j is wants = idle kept c (ToPassFully a j) is (λ i job at. unchanged kept c a j i job (passed (job_progress c i job)) is wants at (passes (job_progress c i job)))
+
+-- ---- a report
+
+ready : (r : ReportParts) (p : Progress) → is_ready (Some p) ≡ true → reported r p ≡ Done r
+ready r Wanting e = cc
+ready r Full e = refl
+ready r (With s) e = refl
+ready r (Refused v) e = cc
+ready r (Done q) e = cc
+
+unready : (r : ReportParts) (p : Progress) → is_ready (Some p) ≡ false → reported r p ≡ p
+unready r Wanting e = refl
+unready r Full e = cc
+unready r (With s) e = cc
+unready r (Refused v) e = refl
+unready r (Done q) e = refl
+
+pub report_step : (kept : CheckKept) (c : Check) (b a j : ℕ) (r : ReportParts) → kept ≡ check_kept c → c.boot ≡ b → ready_in kept a j ≡ true → record kept { progress = set kept.progress j (Done r) } ≡ check_kept (and_then c (ToReport b a j r))
+report_step kept c b a j r is boot ok =
+    let p = and_parts (a == kept.attempt) (is_ready (slice_get kept.progress j)) ok in
+    let at : (a == c.attempt) ≡ true = ap (λ (k : CheckKept). a == k.attempt) (sym is) ∙ p.0 in
+    one kept c (ToReport b a j r) j (Done r) is (λ i job ne. if_far (b == c.boot) (a == c.attempt) (j == i) (reported r (job_progress c i job)) (job_progress c i job) (not_same j i ne))
+    (λ job has_it. sym (if_near (b == c.boot) (a == c.attempt) (j == j) (reported r (job_progress c j job)) (job_progress c j job) (eq-eqb b c.boot (sym boot)) at (eq-eqb j j refl)
+        ∙ ready r (job_progress c j job) (ap is_ready (sym (kept_at kept c j job is has_it)) ∙ p.1)))
+  where
+    if_far : (s t u : Bool) (x y : Progress) → u ≡ false → (if s && (t && u) then x else y) ≡ y
+    if_far true t u x y e = if_out t u x y e
+    if_far false t u x y e = refl
+    if_near : (s t u : Bool) (x y : Progress) → s ≡ true → t ≡ true → u ≡ true → (if s && (t && u) then x else y) ≡ x
+    if_near s t u x y e f g = rw (e, f, g) refl
+
+pub no_report : (kept : CheckKept) (c : Check) (b a j : ℕ) (r : ReportParts) → kept ≡ check_kept c → ((b == c.boot) && ready_in kept a j) ≡ false → kept ≡ check_kept (and_then c (ToReport b a j r))
+no_report kept c b a j r is no_one =
+    idle kept c (ToReport b a j r) is (λ i job at. still (b == c.boot) (a == c.attempt) (j == i) (is_ready (slice_get kept.progress j)) (job_progress c i job)
+    (ap (λ (k : CheckKept). (b == c.boot) && ((a == k.attempt) && is_ready (slice_get kept.progress j))) (sym is) ∙ no_one)
+    (λ e. ap (λ n. is_ready (slice_get kept.progress n)) (eqb-true j i e) ∙ ap is_ready (kept_at kept c i job is at)))
+  where
+    still : (s t u v : Bool) (p : Progress) → (s && (t && v)) ≡ false → (u ≡ true → v ≡ is_ready (Some p)) → (if s && (t && u) then reported r p else p) ≡ p
+    still false t u v p e f = refl
+    still true false u v p e f = refl
+    still true true false v p e f = refl
+    still true true true v p e f = unready r p (sym (f refl) ∙ e)
+
+-- ---- a state
+
+pub hold_step : (kept : CheckKept) (c : Check) (a : ℕ) (state : State) (p : Progress) → kept ≡ check_kept c → judged c.server kept a state ≡ Some p → record kept { progress = set kept.progress state.key.job p } ≡ check_kept (and_then c (ToHold a state))
+hold_step kept c a state p is h =
+    let wants = first (wants_in kept a state.key.job) (judged_of c.server kept.run state (slice_get kept.jobs state.key.job)) h in
+    let q = and_parts (a == kept.attempt) (is_wanting (slice_get kept.progress state.key.job)) wants.0 in
+    let at : (a == c.attempt) ≡ true = ap (λ (k : CheckKept). a == k.attempt) (sym is) ∙ q.0 in
+    one kept c (ToHold a state) state.key.job p is
+    (λ i job ne. if_out (a == c.attempt) (state.key.job == i) (held (misfit state (record { run = c.run; server = c.server; job = i }) job.rec) state (job_progress c i job)) (job_progress c i job) (not_same state.key.job i ne))
+    (λ job has_it. sym (if_in (a == c.attempt) (state.key.job == state.key.job) (held (misfit state (record { run = c.run; server = c.server; job = state.key.job }) job.rec) state (job_progress c state.key.job job)) (job_progress c state.key.job job) at (eq-eqb state.key.job state.key.job refl)
+        ∙ ap (held (misfit state (record { run = c.run; server = c.server; job = state.key.job }) job.rec) state) (waits kept c state.key.job job is q.1 has_it)
+        ∙ judged_is job (ap (λ (k : CheckKept). judged_of c.server k.run state (slice_get k.jobs state.key.job)) (sym is) ∙ wants.1) has_it))
+  where
+    first : (t : Bool) (o : Option Progress) → (if t then o else None) ≡ Some p → (t ≡ true) × (o ≡ Some p)
+    first true o e = (refl, e)
+    first false o e = cc
+    judged_is : (job : Job) → judged_of c.server c.run state (slice_get c.jobs state.key.job) ≡ Some p → slice_get c.jobs state.key.job ≡ Some job
+        → held (misfit state (record { run = c.run; server = c.server; job = state.key.job }) job.rec) state Wanting ≡ p
+    judged_is job e has_it = some_is (sym (ap (judged_of c.server c.run state) has_it) ∙ e)
+      where
+        some_is : {x : Progress} → Some x ≡ Some p → x ≡ p
+        some_is e = cc
+
+held_stays : (m : Option Fault) (state : State) (p : Progress) → is_wanting (Some p) ≡ false → held m state p ≡ p
+held_stays m state Wanting e = cc
+held_stays m state Full e = refl
+held_stays m state (With s) e = refl
+held_stays m state (Refused v) e = refl
+held_stays m state (Done q) e = refl

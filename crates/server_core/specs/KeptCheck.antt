@@ -11,6 +11,7 @@ use Rattle.server_core.specs.declared.progress.Progress as kept
 use Rattle.server_core.specs.declared.progress.Progress.TheVariants as kept_as
 use Rattle.server_core.specs.Request.{Request}
 use Rattle.server_core.specs.Check.{Check, Progress, Wanting, Full, With, Refused, Done, held, begun, progress_after}
+use Rattle.server_core.specs.Answers.{is_ready}
 use Rattle.server_core.specs.Kept.{numbered}
 
 -- How far the check of a job is, as it is kept.
@@ -61,6 +62,10 @@ GoesOn old new x = EachCheck old (λ c. new ≡ check_kept (record c { since = x
 -- The job waits for its state, in this attempt.
 abbrev pub wants_in : CheckKept → ℕ → ℕ → Bool
 wants_in kept attempt job = (attempt == kept.attempt) && is_wanting (slice_get kept.progress job)
+
+-- The check of the job may be made, in this attempt.
+abbrev pub ready_in : CheckKept → ℕ → ℕ → Bool
+ready_in kept attempt job = (attempt == kept.attempt) && is_ready (slice_get kept.progress job)
 
 -- What a state makes of its job.
 abbrev pub judged_of : ℕ → ℕ → State → Option Job → Option Progress

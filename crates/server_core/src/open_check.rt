@@ -39,8 +39,7 @@ impl Model for OpenCheck {
 
 impl OpenCheck {
     ghost use Rattle.server_core.specs.Request.{ToPassFully};
-    ghost use Rattle.server_core.specs.KeptCheck.{CheckKept, GoesOn, judged, wants_in};
-    ghost use Rattle.server_core.specs.Answers.{is_ready};
+    ghost use Rattle.server_core.specs.KeptCheck.{CheckKept, GoesOn, judged, ready_in, wants_in};
 
     /// A check that is opened.
     pub fn new(run: RunNo, attempt: Attempt, jobs: Jobs, progress: Vec<Progress>) -> OpenCheck
@@ -79,6 +78,17 @@ impl OpenCheck {
         ensures { result ≡ wants_in self.now attempt job }
     {
         attempt == self.attempt && matches!(self.progress(job), Some(Progress::Wanting))
+    }
+
+    /// Whether the check of a job may be made, in this attempt: it is a full pass, or has its state.
+    pub fn is_ready(&self, attempt: Attempt, job: JobNo) -> bool
+        ensures { result ≡ ready_in self.now attempt job }
+    {
+        attempt == self.attempt
+            && matches!(
+                self.progress(job),
+                Some(Progress::Full | Progress::With(_))
+            )
     }
 
     /// What a state makes of the job that it is for, where that waits for one in this attempt.
