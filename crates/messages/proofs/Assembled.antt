@@ -27,7 +27,7 @@ use Rattle.messages.proofs.TagLemmas.{is_tag_self, same_tag}
 none_in : {X : Type 0} (x : X) → Contains [] x → ⊥
 none_in x h = omega (arith, h.1)
 
-only_in : {X : Type 0} (y x : X) → Contains (y ∷ []) x → y ≡ x
+pub only_in : {X : Type 0} (y x : X) → Contains (y ∷ []) x → y ≡ x
 only_in y x h = elim (Contains-push_cases [] y x h) [ inl i ↦ absurd (none_in x i) | inr e ↦ e ]
 
 -- An element of a mapped list.

@@ -7,6 +7,7 @@ pub mod FrameLemmas
 pub mod ReportLemmas
 pub mod DecodeLemmas
 pub mod ChoiceLemmas
+pub mod HeaderLemmas
 pub mod FitLemmas
 pub mod ToldLemmas
 pub mod LawLemmas
@@ -18,4 +19,6 @@ pub mod TagLemmas
 pub mod Cutting
 pub mod Assembled
 pub mod AnyOrder
+pub mod OnlySent
 pub mod FrameLawLemmas
+pub mod FrameSaid

@@ -1,25 +1,11 @@
--- What reading the header of a frame, and the numbers of a piece, tells of the bytes.
-use Rattle.std.specs.Prelude.{◌≡◌, ℕ, if◌then◌else◌, List, [], ◌∷◌, slice_get, Option, Some, None, Result, Ok, Err}
+-- What reading the numbers of a piece tells of the bytes.
+use Rattle.std.specs.Prelude.{ℕ, if◌then◌else◌, List, [], ◌∷◌, Option, Some, None}
 use Rattle.std.specs.Option.{option_and_then}
-use Rattle.fc_base.specs.declared.fault.Fault.{Fault}
 use Rattle.messages.specs.declared.kind.PacketKind.{PacketKind}
 use Rattle.messages.specs.declared.piece.Tag.{Tag}
-use Rattle.messages.specs.declared.reading.frames.FrameHeader.{FrameHeader}
 use Rattle.messages.specs.declared.reading.frames.PieceFields.{PieceFields}
 use Rattle.messages.specs.Kinds.{kind_numbered}
-use Rattle.messages.specs.Nodes.{node_numbered}
-use Rattle.messages.specs.Packets.{header_at, header_faults}
 use Rattle.messages.specs.PieceRanges.{is_tag_in_range}
-use Rattle.messages.specs.FrameBytes.{sort_numbered, is_frame_kind, frame_limit}
-
--- The header has no fault and says this, or its first fault is this.
-abbrev pub FrameHeaderIs : Result FrameHeader Fault → List ℕ → Type 0
-FrameHeaderIs (Ok h) bytes =
-    (header_faults is_frame_kind frame_limit bytes ≡ [])
-    × (sort_numbered (header_at 3 bytes) ≡ Some h.kind)
-    × (node_numbered (header_at 4 bytes) ≡ Some h.from)
-    × (node_numbered (header_at 5 bytes) ≡ Some h.to)
-FrameHeaderIs (Err f) bytes = slice_get (header_faults is_frame_kind frame_limit bytes) 0 ≡ Some f
 
 -- The numbers of a piece.
 abbrev pub fields_numbers : PieceFields → List ℕ
