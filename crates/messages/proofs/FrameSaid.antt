@@ -31,6 +31,7 @@ use Rattle.messages.proofs.LayoutLemmas.{IsBytes-drop, spelled-numbers}
 use Rattle.messages.proofs.ChoiceLemmas.{kind_is}
 use Rattle.messages.proofs.BodyLemmas.{length-spelled_body, length_of-limit}
 use Rattle.messages.proofs.ToldLemmas.{some_of, some_then, is_old, read_body}
+use Rattle.messages.proofs.TestLemmas.{le_of}
 use Rattle.messages.proofs.HeaderLemmas.{passes, passed, none_left, left_none, Passes, clean, tested, head_numbers, passed_headed, headed_spelled}
 use Rattle.messages.proofs.FrameLawLemmas.{layout_wide}
 
@@ -84,12 +85,6 @@ frame_fields bytes f e =
 
 -- A number that is a kind's of packets, or that of pieces.
 
-some_sort : (a b : FrameKind) → Some a ≡ Some b → a ≡ b
-some_sort a b e = cc
-
-packet_sort : (j k : PacketKind) → sorts.Packet j ≡ sorts.Packet k → j ≡ k
-packet_sort j k e = cc
-
 kind_of_sort : (t : Bool) (o : Option PacketKind) (k : PacketKind) → (if t then Some sorts.Piece else option_map sorts.Packet o) ≡ Some (sorts.Packet k) → o ≡ Some k
 kind_of_sort true o k e = absurd cc
 kind_of_sort false None k e = absurd cc
@@ -100,12 +95,10 @@ piece_of_sort n true o is e = eqb-true n 17 is
 piece_of_sort n false None is e = absurd cc
 piece_of_sort n false (Some j) is e = absurd cc
 
+-- A test that holds.
 where_true : {A : Type 0} (t : Bool) (o : Option A) (x : A) → (if t then o else None) ≡ Some x → (t ≡ true) × (o ≡ Some x)
 where_true true o x e = (refl, e)
 where_true false o x e = absurd cc
-
-le_of : (a b : ℕ) → nat_le a b ≡ true → a ≤ b
-le_of a b h = grind (arith, nat_tests)
 
 -- A whole packet is what the bytes say as a packet.
 

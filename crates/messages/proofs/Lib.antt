@@ -13,7 +13,8 @@ pub mod ToldLemmas
 pub mod LawLemmas
 pub mod FramesOfLemmas
 pub mod FrameReading
-pub mod Positions
+pub mod RowLemmas
+pub mod LookLemmas
 pub mod Joining
 pub mod TagLemmas
 pub mod Cutting

@@ -7,7 +7,7 @@ use Rattle.messages.specs.declared.packet.PacketParts.{PacketParts}
 use Rattle.messages.specs.declared.piece.PieceParts.{PieceParts}
 use Rattle.messages.specs.declared.frame.Frame.{Frame}
 use Rattle.messages.specs.declared.frame.Frame.TheVariants.{Whole, Piece}
-use Rattle.messages.specs.declared.places.Row.{Row}
+use Rattle.messages.specs.Assemblies.{Row}
 use Rattle.messages.specs.Pieces.{is_cut, pieces_of, frames_of}
 use Rattle.messages.specs.Assemblies.{Waits, Gives, look, given}
 use Rattle.messages.specs.PieceLaws.{OneBodyOfEachTag, ArePackets, WasSent, IsPieceOf, left_by, together, AreFramesOf, GivesOneOf, OnlySentIsGiven}

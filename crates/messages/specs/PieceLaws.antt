@@ -6,7 +6,7 @@ use Rattle.messages.specs.declared.piece.PieceParts.{PieceParts}
 use Rattle.messages.specs.declared.frame.Frame.{Frame}
 use Rattle.messages.specs.declared.frame.Frame.TheVariants.{Whole, Piece}
 use Rattle.messages.specs.declared.places.Filled.{Filled}
-use Rattle.messages.specs.declared.places.Row.{Row}
+use Rattle.messages.specs.Assemblies.{Row}
 use Rattle.messages.specs.Bodies.{spelled_body, length_of, body_at}
 use Rattle.messages.specs.Laws.{IsPacket}
 use Rattle.messages.specs.Pieces.{is_cut, tag_in, tag_of, places, bytes_at, pieces_of, frames_of}

@@ -5,7 +5,7 @@ ghost use Rattle.messages.specs.Pieces.{places};
 ghost use Rattle.messages.specs.Assemblies.{filled_at, fill, joined};
 
 use crate::chunk::{CHUNK_LIMIT, Chunk};
-use crate::piece::{Piece, Tag};
+use crate::piece::Piece;
 use std::alloc::{AllocError, Global};
 use std::marker::Model;
 
@@ -20,13 +20,6 @@ pub struct Filled {
 #[derive(Debug, Drop)]
 pub struct Places {
     filled: Vec<Filled>,
-}
-
-/// A tag, and its filled places.
-#[derive(Debug, Drop)]
-pub struct Row {
-    pub tag: Tag,
-    pub filled: Places,
 }
 
 impl Model for Places {
