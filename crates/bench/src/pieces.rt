@@ -12,7 +12,7 @@ use std::alloc::Global;
 use std::time::CpuClock;
 
 /// How often a round does what it measures.
-const TIMES: u32 = 1_000;
+const TIMES: u32 = 20_000;
 
 /// What is measured.
 #[derive(Clone, Copy)]

@@ -13,8 +13,9 @@ use Rattle.messages.specs.contracts.piece.TagPartialEq.TheImpl.{eq-value}
 use Rattle.messages.specs.declared.piece.Tag.{Tag}
 use Rattle.messages.specs.declared.piece.PieceParts.{PieceParts}
 use Rattle.messages.specs.declared.places.Filled.{Filled}
-use Rattle.messages.specs.Assemblies.{Row}
+use Rattle.messages.specs.Assemblies.{joined, Row}
 use Rattle.messages.specs.Kinds.{number_of}
+use Rattle.messages.specs.Pieces.{places}
 use Rattle.messages.specs.Tags.{is_tag}
 use Rattle.messages.specs.Assemblies.{rows_of}
 use Rattle.messages.specs.Assemblies.{fill, filled_of, with_piece, completed, without, has_tag, replaced, newest, put, taken_at, taken}
@@ -124,10 +125,16 @@ none_of : (o : Option (List ℕ)) → is_some o ≡ false → o ≡ None
 none_of None e = refl
 none_of (Some x) e = absurd cc
 
-taken_waiting : (rows : List Row) (q : PieceParts) → is_some (completed rows q) ≡ false → taken rows q ≡ put (has_tag q.tag rows) q.tag (with_piece rows q) rows
-taken_waiting rows q e = ap (λ (o : Option (List ℕ)). taken_at o q (with_piece rows q) rows) (none_of (completed rows q) e)
+-- A piece that completes nothing, by what was looked up for it.
+pub still_waits : (rows : List Row) (q : PieceParts) (fs : List Filled) (t : Tag) (all : Bool) → fs ≡ filled_of t rows → t ≡ q.tag → all ≡ is_some (joined (fill q fs) (places q.tag.length)) → all ≡ false → completed rows q ≡ None
+still_waits rows q fs t all is tag_is told lacks =
+    let filled = is ∙ ap (λ (u : Tag). filled_of u rows) tag_is in
+    none_of (completed rows q) (ap (λ (gs : List Filled). is_some (joined (fill q gs) (places q.tag.length))) (sym filled) ∙ sym told ∙ lacks)
 
-pub taken_more : (test : Tag → Bool) (q : PieceParts) → AsksFor test q.tag → (es : List (Tag × List Filled)) (fs : List Filled) → lookup test es ≡ Some fs → is_some (completed (rows_of es) q) ≡ false
+taken_waiting : (rows : List Row) (q : PieceParts) → completed rows q ≡ None → taken rows q ≡ put (has_tag q.tag rows) q.tag (with_piece rows q) rows
+taken_waiting rows q e = ap (λ (o : Option (List ℕ)). taken_at o q (with_piece rows q) rows) e
+
+pub taken_more : (test : Tag → Bool) (q : PieceParts) → AsksFor test q.tag → (es : List (Tag × List Filled)) (fs : List Filled) → lookup test es ≡ Some fs → completed (rows_of es) q ≡ None
     → rows_of (set_value test es (fill q fs)) ≡ taken (rows_of es) q
 taken_more test q asks es fs found waits =
     let filled : filled_of q.tag (rows_of es) ≡ fs = filled_found test q.tag asks es ∙ ap or_none found in
@@ -137,7 +144,7 @@ taken_more test q asks es fs found waits =
     ∙ ap (λ (t : Bool). put t q.tag (with_piece (rows_of es) q) (rows_of es)) (sym there)
     ∙ sym (taken_waiting (rows_of es) q waits)
 
-pub taken_first : (rows : List Row) (q : PieceParts) → has_tag q.tag rows ≡ false → filled_of q.tag rows ≡ [] → is_some (completed rows q) ≡ false
+pub taken_first : (rows : List Row) (q : PieceParts) → has_tag q.tag rows ≡ false → filled_of q.tag rows ≡ [] → completed rows q ≡ None
     → newest (rows ++ record { tag = q.tag; filled = record { at = q.at; bytes = q.bytes } ∷ [] } ∷ []) ≡ taken rows q
 taken_first rows q absent none waits =
     ap (λ (fs : List Filled). newest (rows ++ record { tag = q.tag; filled = fill q fs } ∷ [])) (sym none)

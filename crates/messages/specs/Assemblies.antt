@@ -106,6 +106,11 @@ taken_at (Some bytes) q fs rows = without q.tag rows
 abbrev pub taken : List Row → PieceParts → List Row
 taken rows q = taken_at (completed rows q) q (with_piece rows q) rows
 
+-- A piece is kept: it fills a place that was empty, and not the last one.
+pub record IsKept (rows : List Row) (q : PieceParts) : Type 0 where
+  pub empty : filled_at (filled_of q.tag rows) q.at ≡ None
+  pub waits : completed rows q ≡ None
+
 -- The rows of a map by tag, in its order.
 abbrev pub rows_of : List (Tag × List Filled) → List Row
 rows_of entries = map (λ (e : Tag × List Filled). record { tag = e.0; filled = e.1 }) entries

@@ -2,7 +2,7 @@
 
 ghost use Rattle.std.specs.Prelude.{◌≡◌, false, OnOk, OnErr, [], ◌∷◌, ◌++◌};
 ghost use Rattle.messages.specs.Bodies.{body_at};
-ghost use Rattle.messages.specs.Assemblies.{filled_of, has_tag, look, of_tag, taken, without, newest, LookAnswers};
+ghost use Rattle.messages.specs.Assemblies.{filled_of, has_tag, look, of_tag, taken, without, newest, IsKept, LookAnswers};
 
 use crate::packet::{Packet, PacketParts};
 use crate::piece::{Piece, Tag};
@@ -60,11 +60,12 @@ impl Assembly {
     }
 
     /// Takes a piece: it fills its place, and one that is filled stays as it is. The piece that fills
-    /// the last place takes the tag out, for which no memory is needed. A tag beyond 128 drops the
-    /// oldest. Where memory runs out nothing changes.
+    /// the last place takes the tag out. A tag beyond 128 drops the oldest. Memory is needed only for
+    /// a piece that is kept, and where it runs out nothing changes.
     pub fn take(&mut self, piece: &Piece) -> Result<(), AllocError>
         ensures taken { OnOk result (self.new ≡ taken self.old piece.now) }
         ensures same { OnErr result (self.new ≡ self.old) }
+        ensures kept { OnErr result (IsKept self.old piece.now) }
     {
         if is_completed(self.filled_of(piece.tag()), piece) {
             self.drop(piece.tag());

@@ -63,6 +63,7 @@ impl Places {
     pub(crate) fn fill(&mut self, alloc: Global, piece: &Piece) -> Result<(), AllocError>
         ensures filled { OnOk result (self.new ≡ fill piece.now self.old) }
         ensures same { OnErr result (self.new ≡ self.old) }
+        ensures empty { OnErr result (filled_at self.old piece.now.at ≡ None) }
     {
         if bytes_at(&self.filled, piece.at()).is_some() {
             return Ok(());
