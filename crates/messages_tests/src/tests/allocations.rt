@@ -30,30 +30,39 @@ fn look_again(kept: &Assembly, piece: &Piece) -> Result<Option<Packet>, Fail> {
     }
 }
 
+/// Both pieces of a packet, likewise.
+fn both_again(alloc: Global, packet: &Packet) -> Result<(Piece, Piece), Fail> {
+    let frames = frames_again(alloc, packet)?;
+    let first = piece_again(alloc, frames.get(0).ok_or("a frame")?)?;
+    let last = piece_again(alloc, frames.get(1).ok_or("a frame")?)?;
+    Ok((first, last))
+}
+
 /// Takes the first of two pieces, likewise. A try that is refused leaves the last one to give nothing.
 fn take_again(kept: &mut Assembly, first: &Piece, last: &Piece) -> Result<(), Fail> {
     if kept.take(first).is_ok() {
         return Ok(());
     }
-    if kept.look(last)?.is_some() {
-        Err("it was refused memory")?;
-    }
+    gives_nothing(kept, last)?;
     Ok(kept.take(first)?)
 }
 
-/// Whether the pieces of a packet give it, though one allocation of the calls is refused.
-fn comes_together(alloc: Global, packet: &Packet) -> Result<bool, Fail> {
-    let frames = frames_again(alloc, packet)?;
-    let first = piece_again(alloc, frames.get(0).ok_or("a frame")?)?;
-    let last = piece_again(alloc, frames.get(1).ok_or("a frame")?)?;
+fn gives_nothing(kept: &Assembly, piece: &Piece) -> Result<(), Fail> {
+    match look_again(kept, piece)? {
+        Some(_) => Err("nothing yet")?,
+        None => Ok(()),
+    }
+}
+
+/// What two pieces give that are taken one after the other, though one allocation of the calls is refused.
+fn given_again(alloc: Global, first: &Piece, last: &Piece) -> Result<Packet, Fail> {
     let mut kept = Assembly::new(alloc);
-    let before = look_again(&kept, &last)?.is_none();
-    take_again(&mut kept, &first, &last)?;
-    let given = look_again(&kept, &last)?.ok_or("a packet")?;
-    kept.take(&last)?;
-    let after = look_again(&kept, &last)?.is_none();
-    let same = frame_again(alloc, &given)? == frame_again(alloc, packet)?;
-    Ok(before && after && same)
+    gives_nothing(&kept, last)?;
+    take_again(&mut kept, first, last)?;
+    let given = look_again(&kept, last)?.ok_or("a packet")?;
+    kept.take(last)?;
+    gives_nothing(&kept, last)?;
+    Ok(given)
 }
 
 /// The frame of a packet, likewise.
@@ -62,6 +71,14 @@ fn frame_again(alloc: Global, packet: &Packet) -> Result<Vec<u8>, Fail> {
         Ok(frame) => Ok(frame),
         Err(_) => Ok(encode(alloc, packet)?),
     }
+}
+
+/// Whether the pieces of a packet give one with its frame.
+fn comes_together(alloc: Global, packet: &Packet) -> Result<bool, Fail> {
+    let (first, last) = both_again(alloc, packet)?;
+    let given = given_again(alloc, &first, &last)?;
+    let frame = frame_again(alloc, &given)?;
+    Ok(frame == frame_again(alloc, packet)?)
 }
 
 /// A packet in two pieces.
