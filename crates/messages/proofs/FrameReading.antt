@@ -23,7 +23,7 @@ use Rattle.messages.specs.FrameLaws.{SaysFrame, OnlyFramesAreRead}
 use Rattle.messages.specs.Laws.{IsBytes}
 use Rattle.messages.specs.declared.frame.Frame.TheVariants.{Whole, Piece}
 use Rattle.messages.specs.Headers.{HeaderIs, are_nodes}
-use Rattle.messages.specs.FrameHeaders.{fields_numbers, tag_with, tag_in_range, tag_said}
+use Rattle.messages.specs.PieceNumbers.{fields_numbers, tag_with, tag_in_range, tag_said}
 use Rattle.messages.proofs.ToldLemmas.{some_then}
 
 -- The piece that the numbers and the bytes behind them make.

@@ -7,7 +7,7 @@ ghost use Rattle.messages.specs.Bodies.{Reads};
 ghost use Rattle.messages.specs.FrameBytes.{piece_layout, sort_numbered, frame_limit, frame_said, FrameAnswers, IsShort};
 ghost use Rattle.messages.specs.FrameLaws.{SaysFrame};
 ghost use Rattle.messages.specs.Headers.{HeaderIs, are_nodes};
-ghost use Rattle.messages.specs.FrameHeaders.{fields_numbers, tag_said};
+ghost use Rattle.messages.specs.PieceNumbers.{fields_numbers, tag_said};
 
 use crate::bytes::{split_u8, split_u32, split_u64};
 use crate::chunk::{CHUNK_LIMIT, Chunk};
