@@ -1,5 +1,6 @@
 //! A check of a whole disk, beside a copy of as many bytes: medians of five, in processor time.
 
+use crate::rounds::{ROUNDS, median};
 use crate::trouble::Trouble;
 use disk_model::{Disk, MemDisk, is_block};
 use fc_base::{JobNo, JobParts, JobRecord, Key, Kind, RunNo, Seq, ServerNo, Verify};
@@ -10,8 +11,6 @@ use write_order::fill_block;
 
 /// How many bytes are checked and copied.
 const BYTES: u64 = 64 << 20;
-
-const ROUNDS: usize = 5;
 
 const KEY: Key = Key {
     run: RunNo(1),
@@ -92,11 +91,6 @@ fn copy(target: &mut [u8], source: &[u8]) {
     if target.len() == source.len() {
         target.copy_from_slice(source);
     }
-}
-
-fn median(mut times: [u128; ROUNDS]) -> u128 {
-    times.sort_unstable();
-    times[ROUNDS / 2]
 }
 
 fn job_of(verify: Verify, bs: u64) -> Result<JobRecord, Trouble> {

@@ -1,13 +1,16 @@
-//! Measures the check of a disk and the issue of writes, but only when it is given a word: what it
-//! then prints differs from run to run.
+//! Measures the check of a disk, the issue of writes and frames in pieces, but only when it is given a
+//! word: what it then prints differs from run to run.
 //!
 //! `bench checks` times a check beside a copy of as many bytes, `bench issues` the slowest of a
-//! million calls of `issue`, and `bench rot` rots 60,000 sectors, for a reader of the process's memory.
+//! million calls of `issue`, `bench pieces` a text that is cut and comes together again beside a copy,
+//! and `bench rot` rots 60,000 sectors, for a reader of the process's memory.
 #![tactic(auto)]
 
 mod checks;
 mod issues;
+mod pieces;
 mod rot;
+mod rounds;
 mod trouble;
 
 use std::env;
@@ -33,9 +36,10 @@ fn run<R: Env + AllocGlobal + Print + CpuClock>(rt: &R) -> Result<(), Trouble> {
     match words.get(1).map(String::as_str) {
         Some("checks") => checks::measure(rt),
         Some("issues") => issues::measure(rt),
+        Some("pieces") => pieces::measure(rt),
         Some("rot") => rot::measure(rt),
         _ => {
-            println!(rt; "give a word: checks, issues or rot")?;
+            println!(rt; "give a word: checks, issues, pieces or rot")?;
             Ok(())
         }
     }

@@ -20,6 +20,10 @@ pub enum Trouble {
     NoWrite,
     /// The check found a fault in what was written.
     FaultFound,
+    /// The bytes are no packet.
+    NoPacket,
+    /// A frame of the packet isn't a piece.
+    NoPiece,
     /// A copy differs from what was copied.
     Differs,
 }
@@ -35,6 +39,8 @@ impl fmt::Display for Trouble {
             Trouble::NoBlock => f.write_str("the disk has no such block"),
             Trouble::NoWrite => f.write_str("no write was issued"),
             Trouble::FaultFound => f.write_str("the check found a fault"),
+            Trouble::NoPacket => f.write_str("no packet was given"),
+            Trouble::NoPiece => f.write_str("no piece was given"),
             Trouble::Differs => f.write_str("the copy differs"),
         }
     }

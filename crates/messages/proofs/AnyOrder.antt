@@ -11,7 +11,7 @@ use Rattle.messages.proofs.BodyLemmas.{length-spelled_body}
 use Rattle.messages.specs.declared.piece.Tag.{Tag}
 use Rattle.messages.specs.declared.piece.PieceParts.{PieceParts}
 use Rattle.messages.specs.declared.places.Filled.{Filled}
-use Rattle.messages.specs.declared.places.Row.{Row}
+use Rattle.messages.specs.Assemblies.{Row}
 use Rattle.messages.specs.Tags.{is_tag}
 use Rattle.messages.specs.Pieces.{tag_of, places, bytes_at, pieces_of}
 use Rattle.messages.specs.Assemblies.{filled_at, unless_filled, fill, after_these, joined, filled_of, with_piece, completed, Look, Waits, Gives, look_at, has_tag, replaced, put, taken_at, taken}
@@ -111,11 +111,6 @@ joined_these b qs fs are (at ∷ ats) =
     ∙ both_parts (has_place qs at) (has_places qs ats) (bytes_at b at) (slices b ats)
 
 -- Fewer pieces have fewer places.
-and_one : (t u v : Bool) → (t && u) ≡ false → (v && u) ≡ true → t ≡ true → ⊥
-and_one true true v h g e = cc
-and_one true false true h g e = cc
-and_one true false false h g e = cc
-and_one false u v h g e = cc
 
 grows : (c t : Bool) → t ≡ true → (if c then true else t) ≡ true
 grows true t h = refl

@@ -17,7 +17,7 @@ use Rattle.messages.specs.declared.piece.Tag.{Tag}
 use Rattle.messages.specs.declared.piece.PieceParts.{PieceParts}
 use Rattle.messages.specs.Pieces.{is_cut, tag_in, tag_of, places, bytes_at, piece_at, pieces_of}
 use Rattle.messages.specs.declared.places.Filled.{Filled}
-use Rattle.messages.specs.declared.places.Row.{Row}
+use Rattle.messages.specs.Assemblies.{Row}
 use Rattle.messages.specs.Tags.{is_tag}
 use Rattle.messages.specs.Assemblies.{filled_at, unless_filled, joined, filled_of, with_piece, completed, Look, Waits, Gives, NoPacket, packet_of, of_tag, look_at, look, without, has_tag, replaced, put, taken_at, taken}
 use Rattle.messages.specs.PieceLaws.{OneBodyOfEachTag, ArePackets, WasCut, AreCut, WasSent, OnlySentComesTogether, GivesThis, OnlyWholeBodiesAreGiven}
@@ -27,7 +27,7 @@ use Rattle.messages.proofs.TagLemmas.{is_tag_self, same_tag}
 none_in : {X : Type 0} (x : X) → Contains [] x → ⊥
 none_in x h = omega (arith, h.1)
 
-only_in : {X : Type 0} (y x : X) → Contains (y ∷ []) x → y ≡ x
+pub only_in : {X : Type 0} (y x : X) → Contains (y ∷ []) x → y ≡ x
 only_in y x h = elim (Contains-push_cases [] y x h) [ inl i ↦ absurd (none_in x i) | inr e ↦ e ]
 
 -- An element of a mapped list.

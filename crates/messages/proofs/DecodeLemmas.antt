@@ -1,24 +1,24 @@
 -- What a header and a body together say of a frame.
-use Rattle.std.proofs.Common.{◌≡◌, inl, inr, ℕ, Bool, true, false, Option, Some, None, Ok, Err, if◌then◌else◌, List, [], ◌∷◌, ◌++◌, drop, refl, sym, subst, ap, ◌∙◌}
-use Rattle.std.specs.Prelude.{is_none, slice_get, ◌==◌, nat_lt}
+use Rattle.std.proofs.Common.{◌≡◌, inl, inr, ℕ, Bool, true, false, Option, Some, None, Ok, Err, if◌then◌else◌, List, drop, refl, sym, subst, ap, ◌∙◌}
+use Rattle.std.specs.Prelude.{◌==◌, nat_lt}
 use Rattle.std.specs.Option.{option_map}
 use Rattle.fc_base.specs.declared.fault.Fault.{Fault}
-use Rattle.fc_base.specs.declared.fault.Fault.TheVariants.{FrameBadField}
-use Rattle.fc_base.specs.Faults.{when}
 use Rattle.messages.specs.declared.body.Body.{Body}
+use Rattle.messages.specs.declared.kind.PacketKind.{PacketKind}
 use Rattle.messages.specs.declared.node.Node.{Node}
 use Rattle.messages.specs.declared.node.Node.TheVariants.{Server, Client}
 use Rattle.messages.specs.declared.packet.PacketParts.{PacketParts}
 use Rattle.messages.specs.declared.reading.Header.{Header}
+use Rattle.messages.specs.Kinds.{kind_numbered}
 use Rattle.messages.specs.Nodes.{node_numbered, is_node}
 use Rattle.messages.specs.Bodies.{body_at, Reads}
-use Rattle.messages.specs.Packets.{header_at, header_faults, is_packet_kind, body_limit, packet_at, is_packet, Answers}
+use Rattle.messages.specs.Packets.{header_at, body_limit, packet_at, is_packet, Answers}
 use Rattle.messages.specs.Headers.{HeaderIs}
 use Rattle.messages.specs.Laws.{IsBytes, Says, OnlyPacketsAreRead}
 use Rattle.messages.proofs.BodyLemmas.{body_at-in_range}
 
-abbrev pub packet_of : Header → Body → PacketParts
-packet_of h b = record { from = h.from; to = h.to; body = b }
+abbrev pub packet_of : Header PacketKind → Body → PacketParts
+packet_of h b = record { from = h.ends.from; to = h.ends.to; body = b }
 
 some_node : (x y : Node) → Some x ≡ Some y → x ≡ y
 some_node x y e = cc
@@ -31,33 +31,26 @@ node_in_range n node e = pick (nat_lt n 8) refl (n == 8) refl e
     pick false b true l same = rw (← some_node Client node same) refl
     pick false b false l same = absurd cc
 
-pub packet_in_range : (h : Header) (bytes : List ℕ) (b : Body) → HeaderIs (Ok h) bytes → body_at h.kind (drop 16 bytes) ≡ Some b → is_packet (packet_of h b) ≡ true
+pub packet_in_range : (h : Header PacketKind) (bytes : List ℕ) (b : Body) → HeaderIs kind_numbered body_limit (Ok h) bytes → body_at h.kind (drop 16 bytes) ≡ Some b → is_packet (packet_of h b) ≡ true
 packet_in_range h bytes b told e =
-    rw (node_in_range (header_at 4 bytes) h.from told.2, node_in_range (header_at 5 bytes) h.to told.3, body_at-in_range h.kind (drop 16 bytes) b e) refl
+    rw (node_in_range (header_at 4 bytes) h.ends.from told.2, node_in_range (header_at 5 bytes) h.ends.to told.3, body_at-in_range h.kind (drop 16 bytes) b e) refl
 
-pub packet_at-told : (h : Header) (bytes : List ℕ) → HeaderIs (Ok h) bytes → packet_at bytes ≡ option_map (packet_of h) (body_at h.kind (drop 16 bytes))
+pub packet_at-told : (h : Header PacketKind) (bytes : List ℕ) → HeaderIs kind_numbered body_limit (Ok h) bytes → packet_at bytes ≡ option_map (packet_of h) (body_at h.kind (drop 16 bytes))
 packet_at-told h bytes told = rw (told.1, told.2, told.3) refl
 
-pub answers_ok : (h : Header) (bytes : List ℕ) (b : Body) → HeaderIs (Ok h) bytes → body_at h.kind (drop 16 bytes) ≡ Some b → Answers (Ok (packet_of h b)) bytes
+pub answers_ok : (h : Header PacketKind) (bytes : List ℕ) (b : Body) → HeaderIs kind_numbered body_limit (Ok h) bytes → body_at h.kind (drop 16 bytes) ≡ Some b → Answers (Ok (packet_of h b)) bytes
 answers_ok h bytes b told e =
     let is : packet_at bytes ≡ Some (packet_of h b) = packet_at-told h bytes told ∙ ap (option_map (packet_of h)) e in
     (rw (told.0, is) refl, is)
 
-first_of : (xs ys : List Fault) (f : Fault) → slice_get xs 0 ≡ Some f → slice_get (xs ++ ys) 0 ≡ Some f
-first_of [] ys f e = absurd cc
-first_of (x ∷ xs) ys f e = e
-
-pub answers_header : (f : Fault) (bytes : List ℕ) → HeaderIs (Err f) bytes → Answers (Err f) bytes
-answers_header f bytes first = inr (first_of (header_faults is_packet_kind body_limit bytes) (when (is_none (packet_at bytes)) FrameBadField) f first)
-
-no_body : (h : Header) (f : Fault) (bytes : List ℕ) → HeaderIs (Ok h) bytes → (o : Option Body) → body_at h.kind (drop 16 bytes) ≡ o → Reads (Err f) o → Answers (Err f) bytes
+no_body : (h : Header PacketKind) (f : Fault) (bytes : List ℕ) → HeaderIs kind_numbered body_limit (Ok h) bytes → (o : Option Body) → body_at h.kind (drop 16 bytes) ≡ o → Reads (Err f) o → Answers (Err f) bytes
 no_body h f bytes told None none field =
     let is : packet_at bytes ≡ None = packet_at-told h bytes told ∙ ap (option_map (packet_of h)) none in
     inr (rw (told.0, is, field) refl)
 no_body h f bytes told (Some b) some memory =
     inl (memory, (answers_ok h bytes b told some).0)
 
-pub answers_body : (h : Header) (f : Fault) (bytes : List ℕ) → HeaderIs (Ok h) bytes → Reads (Err f) (body_at h.kind (drop 16 bytes)) → Answers (Err f) bytes
+pub answers_body : (h : Header PacketKind) (f : Fault) (bytes : List ℕ) → HeaderIs kind_numbered body_limit (Ok h) bytes → Reads (Err f) (body_at h.kind (drop 16 bytes)) → Answers (Err f) bytes
 answers_body h f bytes told reads = no_body h f bytes told (body_at h.kind (drop 16 bytes)) refl reads
 
 same_packet : (p q : PacketParts) → Some p ≡ Some q → p ≡ q

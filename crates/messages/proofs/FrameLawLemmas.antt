@@ -1,12 +1,11 @@
 -- The laws of frames that hold packets or pieces.
-use Rattle.std.proofs.Common.{◌≡◌, ℕ, ◌+◌, ◌-◌, ◌%◌, ◌<◌, ◌≤◌, Bool, true, false, ◌&&◌, Option, Some, None, List, [], ◌∷◌, ◌++◌, length, drop, refl, ap, ◌∙◌, arith}
-use Rattle.std.specs.Prelude.{if◌then◌else◌, ◌==◌, not, nat_lt, nat_le, is_none, is_some, slice_index, min}
+use Rattle.std.proofs.Common.{◌≡◌, ℕ, ◌+◌, ◌-◌, ◌%◌, ◌<◌, ◌≤◌, Bool, true, ◌&&◌, Option, Some, None, List, [], ◌++◌, length, drop, refl, ap, ◌∙◌, arith}
+use Rattle.std.specs.Prelude.{if◌then◌else◌, ◌==◌, nat_lt, nat_le, is_none, is_some, slice_index, min}
 use Rattle.std.specs.Option.{option_map, option_and_then}
 use Rattle.std.proofs.lemmas.Bool.{eqb-true}
 use Rattle.std.proofs.lemmas.Bool.Decides.{nat_tests}
 use Rattle.std.proofs.lemmas.List.{length-append}
-use Rattle.fc_base.specs.declared.fault.Fault.{Fault}
-use Rattle.fc_base.specs.declared.fault.Fault.TheVariants.{FrameShort, FrameBadMagic, BadKind, FrameBadField, FrameTooLong, FrameTrailing}
+use Rattle.fc_base.specs.declared.fault.Fault.TheVariants.{FrameBadField}
 use Rattle.fc_base.specs.Faults.{when}
 use Rattle.messages.specs.declared.kind.PacketKind.{PacketKind}
 use Rattle.messages.specs.declared.kind.PacketKind.TheVariants as kinds
@@ -18,11 +17,11 @@ use Rattle.messages.specs.declared.frame.Frame.TheVariants.{Whole, Piece}
 use Rattle.messages.specs.declared.frame.FrameKind.{FrameKind}
 use Rattle.messages.specs.declared.frame.FrameKind.TheVariants as sorts
 use Rattle.messages.specs.Kinds.{number_of, kind_numbered}
-use Rattle.messages.specs.Nodes.{node_number, node_numbered, is_node}
-use Rattle.messages.specs.Ranges.{is_run, is_attempt, is_job, is_body}
+use Rattle.messages.specs.Nodes.{node_numbered, is_node}
+use Rattle.messages.specs.Ranges.{is_run, is_attempt, is_job}
 use Rattle.messages.specs.Layouts.{spelled, numbers}
 use Rattle.messages.specs.Bodies.{kind_of, length_of, spelled_body}
-use Rattle.messages.specs.Packets.{header, header_at, has_magic, header_faults, spelling}
+use Rattle.messages.specs.Packets.{header, header_faults, spelling}
 use Rattle.messages.specs.Laws.{IsPacket}
 use Rattle.messages.specs.PieceRanges.{is_long_kind, is_number, is_owner, is_cut_length, is_tag_in_range, is_place, is_piece}
 use Rattle.messages.specs.FrameBytes.{piece_layout, piece_numbers, piece_spelling, sort_numbered, is_frame_kind, frame_limit, in_ranges, piece_with, piece_said, frame_said, frame_at, frame_faults}
@@ -31,62 +30,25 @@ use Rattle.verify_state.specs.Laws.{ReadsBack}
 use Rattle.messages.proofs.LayoutLemmas.{AreWide, Fit, wide8, wide32, wide64, length-spelled, numbers-spelled, drop-spelled}
 use Rattle.messages.proofs.ChoiceLemmas.{kind_again, kind_fits, node_again, node_fits}
 use Rattle.messages.proofs.TestLemmas.{both, le_of, lt_of}
+use Rattle.messages.proofs.HeaderLemmas.{header_wide, passes, none_left, clean, head_numbers, Headed, headed_passes}
+use Rattle.messages.proofs.LawLemmas.{parts_of, numbers_of_header, spelling_headed}
 use Rattle.messages.proofs.BodyLemmas.{length-spelled_body}
 use Rattle.messages.proofs.FitLemmas.{body_at-spelled}
-use Rattle.messages.proofs.FramesOfLemmas.{length-piece_spelling, length-spelling}
+use Rattle.messages.proofs.FramesOfLemmas.{length-piece_spelling}
 
-header_wide : AreWide header
-header_wide = (wide8, (wide8, (wide8, (wide8, (wide32, (wide32, (wide32, tt)))))))
-
-layout_wide : AreWide piece_layout
+pub layout_wide : AreWide piece_layout
 layout_wide = (wide8, (wide64, (wide64, (wide32, (wide32, (wide32, (wide32, tt)))))))
 
--- Bytes with this header, and as many behind it as it says.
-record Headed (bytes : List ℕ) (kind : ℕ) (from to : Node) (len : ℕ) : Type 0 where
-  pub numbers : numbers header bytes ≡ 70 ∷ 67 ∷ 1 ∷ kind ∷ node_number from ∷ node_number to ∷ len ∷ []
-  pub long : length bytes ≡ 16 + len
-  pub limit : len ≤ 1057
-
-passes : (t : Bool) (f : Fault) → t ≡ false → when t f ≡ []
-passes true f e = absurd cc
-passes false f e = refl
-
-none_left : (xs ys : List Fault) → xs ≡ [] → ys ≡ [] → xs ++ ys ≡ []
-none_left xs ys ex ey = rw (ex, ey) refl
-
-headed_clean : (bytes : List ℕ) (kind : ℕ) (from to : Node) (len : ℕ) → Headed bytes kind from to len → is_frame_kind kind ≡ true → is_node from ≡ true → is_node to ≡ true → header_faults is_frame_kind frame_limit bytes ≡ []
-headed_clean bytes kind from to len told known hf ht =
-    let number = λ (i : ℕ). ap (λ (ns : List ℕ). slice_index ns i) told.numbers in
-    let from_is = ap node_numbered (number 4) ∙ node_again from hf in
-    let to_is = ap node_numbered (number 5) ∙ node_again to ht in
-    let size_is : header_at 6 bytes ≡ len = number 6 in
-    let most = told.limit in
-    let all = told.long in
-    let short : nat_lt (length bytes) 16 ≡ false = grind (arith, nat_tests) in
-    let magic : not (has_magic bytes) ≡ false = rw (number 0, number 1, number 2) refl in
-    let kind_is : not (is_frame_kind (header_at 3 bytes)) ≡ false = ap (λ (n : ℕ). not (is_frame_kind n)) (number 3) ∙ ap not known in
-    let long : nat_lt frame_limit (header_at 6 bytes) ≡ false = grind (arith, nat_tests) in
-    let less : nat_lt (length bytes) (16 + header_at 6 bytes) ≡ false = grind (arith, nat_tests) in
-    let more : nat_lt (16 + header_at 6 bytes) (length bytes) ≡ false = grind (arith, nat_tests) in
-    none_left _ _ (passes (nat_lt (length bytes) 16) FrameShort short)
-    (none_left _ _ (passes (not (has_magic bytes)) FrameBadMagic magic)
-    (none_left _ _ (passes (not (is_frame_kind (header_at 3 bytes))) BadKind kind_is)
-    (none_left _ _ (passes (is_none (node_numbered (header_at 4 bytes))) FrameBadField (ap is_none from_is))
-    (none_left _ _ (passes (is_none (node_numbered (header_at 5 bytes))) FrameBadField (ap is_none to_is))
-    (none_left _ _ (passes (nat_lt frame_limit (header_at 6 bytes)) FrameTooLong long)
-    (none_left _ _ (passes (nat_lt (length bytes) (16 + header_at 6 bytes)) FrameShort less)
-    (passes (nat_lt (16 + header_at 6 bytes) (length bytes)) FrameTrailing more)))))))
-
-headed_read : (bytes : List ℕ) (kind : ℕ) (from to : Node) (len : ℕ) (sort : FrameKind) (f : Frame) → Headed bytes kind from to len → sort_numbered kind ≡ Some sort → is_node from ≡ true → is_node to ≡ true
+headed_read : (bytes : List ℕ) (kind : ℕ) (from to : Node) (len : ℕ) (sort : FrameKind) (f : Frame) → Headed bytes kind from to len → len ≤ 1057 → sort_numbered kind ≡ Some sort → is_node from ≡ true → is_node to ≡ true
     → frame_said from to (drop 16 bytes) sort ≡ Some f → (frame_faults bytes ≡ []) × (frame_at bytes ≡ Some f)
-headed_read bytes kind from to len sort f told sort_is hf ht said =
+headed_read bytes kind from to len sort f told most sort_is hf ht said =
     let number = λ (i : ℕ). ap (λ (ns : List ℕ). slice_index ns i) told.numbers in
     let kind_is = ap sort_numbered (number 3) ∙ sort_is in
     let from_is = ap node_numbered (number 4) ∙ node_again from hf in
     let to_is = ap node_numbered (number 5) ∙ node_again to ht in
     let read : frame_at bytes ≡ Some f = rw (kind_is, from_is, to_is, said) refl in
-    let clean = headed_clean bytes kind from to len told (ap (λ (o : Option FrameKind). is_some o) sort_is) hf ht in
-    (none_left (header_faults is_frame_kind frame_limit bytes) (when (is_none (frame_at bytes)) FrameBadField) clean (passes (is_none (frame_at bytes)) FrameBadField (ap is_none read)), read)
+    let passes_all = headed_passes is_frame_kind frame_limit bytes kind from to len told (ap (λ (o : Option FrameKind). is_some o) sort_is) hf ht most in
+    (none_left (header_faults is_frame_kind frame_limit bytes) (when (is_none (frame_at bytes)) FrameBadField) (clean is_frame_kind frame_limit bytes passes_all) (passes (is_none (frame_at bytes)) FrameBadField (ap is_none read)), read)
 
 -- A kind of packets isn't that of pieces.
 sort_of_kind : (k : PacketKind) → sort_numbered (number_of k) ≡ Some (sorts.Packet k)
@@ -109,21 +71,13 @@ sort_of_kind kinds.Refused = ap (λ (o : Option PacketKind). option_map sorts.Pa
 
 whole_read : ReadsBack → (p : PacketParts) → IsPacket p → length_of p.body ≤ 1024 → (frame_faults (spelling p) ≡ []) × (frame_at (spelling p) ≡ Some (Whole p))
 whole_read law p h short =
-    let last = both (is_node p.from && is_node p.to) (is_body p.body) h.in_range in
-    let nodes = both (is_node p.from) (is_node p.to) last.0 in
-    let ns = 70 ∷ 67 ∷ 1 ∷ number_of (kind_of p.body) ∷ node_number p.from ∷ node_number p.to ∷ length_of p.body ∷ [] in
-    let fits : Fit header ns = (omega arith, (omega arith, (omega arith, (kind_fits (kind_of p.body), (node_fits p.from nodes.0, (node_fits p.to nodes.1, (omega arith, tt))))))) in
-    let told : Headed (spelling p) (number_of (kind_of p.body)) p.from p.to (length_of p.body) = record {
-      numbers = numbers-spelled header ns (spelled_body p.body) header_wide fits;
-      long = length-spelling p;
-      limit = omega arith;
-    } in
-    let behind : drop 16 (spelling p) ≡ spelled_body p.body = drop-spelled header ns (spelled_body p.body) refl in
+    let parts = parts_of p h in
+    let behind : drop 16 (spelling p) ≡ spelled_body p.body = drop-spelled header (numbers_of_header p) (spelled_body p.body) refl in
     let len = length-spelled_body p.body in
     let enough : nat_le (length (spelled_body p.body)) 1024 ≡ true = grind (arith, nat_tests) in
     let said : frame_said p.from p.to (drop 16 (spelling p)) (sorts.Packet (kind_of p.body)) ≡ Some (Whole p) =
-    ap (λ (bs : List ℕ). frame_said p.from p.to bs (sorts.Packet (kind_of p.body))) behind ∙ rw (enough, body_at-spelled law p.body last.1 h.state) refl in
-    headed_read (spelling p) (number_of (kind_of p.body)) p.from p.to (length_of p.body) (sorts.Packet (kind_of p.body)) (Whole p) told (sort_of_kind (kind_of p.body)) nodes.0 nodes.1 said
+    ap (λ (bs : List ℕ). frame_said p.from p.to bs (sorts.Packet (kind_of p.body))) behind ∙ rw (enough, body_at-spelled law p.body parts.body parts.keeps) refl in
+    headed_read (spelling p) (number_of (kind_of p.body)) p.from p.to (length_of p.body) (sorts.Packet (kind_of p.body)) (Whole p) (spelling_headed law p parts) (omega (arith, short)) (sort_of_kind (kind_of p.body)) parts.from parts.to said
 
 -- The numbers of a piece fit their widths.
 
@@ -227,18 +181,17 @@ piece_read : (q : PieceParts) → is_piece q ≡ true → (frame_faults (piece_s
 piece_read q h =
     let r = ranged q h in
     let short = r.short in
-    let ns = 70 ∷ 67 ∷ 1 ∷ 17 ∷ node_number q.from ∷ node_number q.to ∷ (33 + length q.bytes) ∷ [] in
+    let ns = head_numbers 17 q.from q.to (33 + length q.bytes) in
     let body = spelled piece_layout (piece_numbers q) ++ q.bytes in
     let fits : Fit header ns = (omega arith, (omega arith, (omega arith, (omega arith, (node_fits q.from r.from, (node_fits q.to r.to, (omega (arith, short), tt))))))) in
     let told : Headed (piece_spelling q) 17 q.from q.to (33 + length q.bytes) = record {
       numbers = numbers-spelled header ns body header_wide fits;
       long = omega (arith, length-piece_spelling q);
-      limit = omega (arith, short);
     } in
     let behind : drop 16 (piece_spelling q) ≡ body = drop-spelled header ns body refl in
     let said : frame_said q.from q.to (drop 16 (piece_spelling q)) sorts.Piece ≡ Some (Piece q) =
     ap (λ (bs : List ℕ). frame_said q.from q.to bs sorts.Piece) behind ∙ ap (λ (o : Option PieceParts). option_map Piece o) (piece_again q h r) in
-    headed_read (piece_spelling q) 17 q.from q.to (33 + length q.bytes) sorts.Piece (Piece q) told refl r.from r.to said
+    headed_read (piece_spelling q) 17 q.from q.to (33 + length q.bytes) sorts.Piece (Piece q) told (omega (arith, short)) refl r.from r.to said
 
 pub frames_are_read : ReadsBack → FramesAreRead
 frames_are_read law (Whole p) h short = whole_read law p h short

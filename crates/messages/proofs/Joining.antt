@@ -3,7 +3,6 @@ use Rattle.std.proofs.Common.{◌≡◌, refl, sym, ◌∙◌, ap, inl, inr, ℕ
 use Rattle.std.specs.Prelude.{if◌then◌else◌, is_some, nat_le, ◌&&◌, Err}
 use Rattle.fc_base.specs.declared.fault.Fault.{Fault}
 use Rattle.fc_base.specs.declared.fault.Fault.TheVariants.{FrameNoMemory}
-use Rattle.std.proofs.lemmas.List.{append-nil}
 use Rattle.std.proofs.lemmas.Bool.{eqb-true, cases_Bool}
 use Rattle.messages.specs.declared.piece.PieceParts.{PieceParts}
 use Rattle.messages.specs.declared.places.Filled.{Filled}
@@ -16,7 +15,7 @@ use Rattle.messages.specs.Bodies.{body_at, Reads}
 use Rattle.messages.specs.PieceRanges.{is_long_kind, is_number, is_owner, is_cut_length, is_tag_in_range, is_place, is_piece}
 use Rattle.messages.specs.Tags.{is_tag}
 use Rattle.messages.proofs.TestLemmas.{both, le_of}
-use Rattle.messages.proofs.FramesOfLemmas.{one_place, no_place}
+use Rattle.messages.proofs.FramesOfLemmas.{one_place}
 
 -- Once the piece is there too.
 
@@ -91,12 +90,6 @@ lacks_here fs len at zero lt enough e = absurd (omega (arith, lt, enough))
 lacks_here fs len at (suc left) lt enough e =
     ap (joined fs) (one_place left at len lt) ∙ ap (λ (o : Option (List ℕ)). after_these o (joined fs (places_from left (at + 1024) len))) e
 
-pub look_lacks : (fs : List Filled) (len at : ℕ) → IsLooking fs len at → at < len → filled_at fs at ≡ None → false ≡ is_some (joined fs (places len))
-look_lacks fs len at so_far lt e = ap (λ (o : Option (List ℕ)). is_some o) (sym (lacks_here fs len at so_far.left lt so_far.enough e)) ∙ so_far.same
-
-pub look_all : (fs : List Filled) (len at : ℕ) → IsLooking fs len at → len ≤ at → true ≡ is_some (joined fs (places len))
-look_all fs len at so_far h = ap (λ (ats : List ℕ). is_some (joined fs ats)) (sym (no_place so_far.left at len h)) ∙ so_far.same
-
 -- The bytes so far, and those that are still to come.
 pub record IsJoining (fs : List Filled) (len at : ℕ) (out : List ℕ) : Type 0 where
   pub left : ℕ
@@ -106,13 +99,6 @@ pub record IsJoining (fs : List Filled) (len at : ℕ) (out : List ℕ) : Type 0
 after_nothing : (o : Option (List ℕ)) → after_these (Some []) o ≡ o
 after_nothing None = refl
 after_nothing (Some x) = refl
-
-pub join_none : (fs : List Filled) (len : ℕ) (out : List ℕ) → out ≡ [] → IsJoining fs len 0 out
-join_none fs len out e = record {
-  left = len;
-  enough = omega arith;
-  same = ap (λ (x : List ℕ). after_these (Some x) (joined fs (places len))) e ∙ after_nothing (joined fs (places len));
-}
 
 after_both : (out x : List ℕ) (o : Option (List ℕ)) → after_these (Some (out ++ x)) o ≡ after_these (Some out) (after_these (Some x) o)
 after_both out x None = refl
@@ -133,13 +119,6 @@ join_step fs len at (suc left) out x lt enough same e = record {
 
 pub join_one : (fs : List Filled) (len at : ℕ) (out x new : List ℕ) → IsJoining fs len at out → at < len → filled_at fs at ≡ Some x → new ≡ out ++ x → IsJoining fs len (at + 1024) new
 join_one fs len at out x new so_far lt e is = rw is (join_step fs len at so_far.left out x lt so_far.enough so_far.same e)
-
-pub join_lacks : (fs : List Filled) (len at : ℕ) (out : List ℕ) → IsJoining fs len at out → at < len → filled_at fs at ≡ None → joined fs (places len) ≡ None
-join_lacks fs len at out so_far lt e = sym so_far.same ∙ ap (λ (o : Option (List ℕ)). after_these (Some out) o) (lacks_here fs len at so_far.left lt so_far.enough e)
-
-pub join_all : (fs : List Filled) (len at : ℕ) (out : List ℕ) → IsJoining fs len at out → len ≤ at → joined fs (places len) ≡ Some out
-join_all fs len at out so_far h =
-    sym so_far.same ∙ ap (λ (ats : List ℕ). after_these (Some out) (joined fs ats)) (no_place so_far.left at len h) ∙ ap (λ (x : List ℕ). Some x) (append-nil out)
 
 -- What a piece keeps.
 

@@ -32,10 +32,6 @@ report_at bytes f e = ap (λ (ns : List ℕ). whole bytes (body_of kinds.Report 
 abbrev fields_in : List ℕ → ReportFields
 fields_in ns = record { run = slice_index ns 0; attempt = slice_index ns 1; job = slice_index ns 2; jobs = slice_index ns 3; end = slice_index ns 4; at = slice_index ns 5; checked = slice_index ns 6; faults = slice_index ns 7; count = slice_index ns 8 }
 
--- Where the end is none.
-pub report_endless : (bytes : List ℕ) (f : ReportFields) → listed f ≡ numbers (layout kinds.Report) bytes → end_numbered f.end f.at ≡ None → body_at kinds.Report bytes ≡ None
-report_endless bytes f e known = report_at bytes f e ∙ rw known refl
-
 whole_short : (bytes : List ℕ) (g : ReportEnd → Body) (o : Option ReportEnd) → ((end : ReportEnd) → whole bytes (Some (g end)) ≡ None) → whole bytes (option_map g o) ≡ None
 whole_short bytes g None none = refl
 whole_short bytes g (Some end) none = none end

@@ -18,7 +18,7 @@ is_tag_self t = rw (same_number (number_of t.whole), same_number t.run, same_num
 some_kind : (a b : PacketKind) → Some a ≡ Some b → a ≡ b
 some_kind a b h = cc
 
-same_kind : (a b : PacketKind) → number_of a ≡ number_of b → a ≡ b
+pub same_kind : (a b : PacketKind) → number_of a ≡ number_of b → a ≡ b
 same_kind a b h = some_kind a b (sym (kind_again a) ∙ ap kind_numbered h ∙ kind_again b)
 
 make_tag : PacketKind → ℕ → ℕ → ℕ → ℕ → ℕ → Tag

@@ -1,5 +1,5 @@
 -- What comes together of the pieces that a node takes.
-use Rattle.std.specs.Prelude.{◌≡◌, ◌⊎◌, ℕ, ◌-◌, Bool, true, false, ◌==◌, if◌then◌else◌, List, [], ◌∷◌, ◌++◌, length, drop, Option, Some, None, Result, Ok, Err}
+use Rattle.std.specs.Prelude.{◌≡◌, ◌⊎◌, ℕ, ◌-◌, Bool, true, false, ◌==◌, if◌then◌else◌, List, [], ◌∷◌, ◌++◌, length, drop, map, Option, Some, None, Result, Ok, Err}
 use Rattle.fc_base.specs.declared.fault.Fault.{Fault}
 use Rattle.fc_base.specs.declared.fault.Fault.TheVariants.{FrameBadField, FrameNoMemory}
 use Rattle.messages.specs.declared.body.Body.{Body}
@@ -7,12 +7,16 @@ use Rattle.messages.specs.declared.packet.PacketParts.{PacketParts}
 use Rattle.messages.specs.declared.piece.Tag.{Tag}
 use Rattle.messages.specs.declared.piece.PieceParts.{PieceParts}
 use Rattle.messages.specs.declared.places.Filled.{Filled}
-use Rattle.messages.specs.declared.places.Row.{Row}
 use Rattle.messages.specs.declared.frame.Frame.{Frame}
 use Rattle.messages.specs.declared.frame.Frame.TheVariants.{Whole, Piece}
 use Rattle.messages.specs.Bodies.{body_at}
 use Rattle.messages.specs.Tags.{is_tag}
 use Rattle.messages.specs.Pieces.{tag_in, places}
+
+-- A tag, and its filled places in order of arrival.
+pub record Row : Type 0 where
+  pub tag : Tag
+  pub filled : List Filled
 
 -- The bytes at a place, where it is filled.
 abbrev pub filled_at : List Filled → ℕ → Option (List ℕ)
@@ -101,6 +105,15 @@ taken_at (Some bytes) q fs rows = without q.tag rows
 
 abbrev pub taken : List Row → PieceParts → List Row
 taken rows q = taken_at (completed rows q) q (with_piece rows q) rows
+
+-- A piece is kept: it fills a place that was empty, and not the last one.
+pub record IsKept (rows : List Row) (q : PieceParts) : Type 0 where
+  pub empty : filled_at (filled_of q.tag rows) q.at ≡ None
+  pub waits : completed rows q ≡ None
+
+-- The rows of a map by tag, in its order.
+abbrev pub rows_of : List (Tag × List Filled) → List Row
+rows_of entries = map (λ (e : Tag × List Filled). record { tag = e.0; filled = e.1 }) entries
 
 -- What a frame gives to a node at which this has come together.
 abbrev pub given : List Row → Frame → Look

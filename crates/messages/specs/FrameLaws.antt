@@ -1,10 +1,11 @@
--- What the spelling of a frame promises.
-use Rattle.std.specs.Prelude.{◌≡◌, [], Some, IsTrue}
+-- What the bytes of frames promise.
+use Rattle.std.specs.Prelude.{◌≡◌, ◌≤◌, ℕ, List, [], Some, IsTrue}
 use Rattle.messages.specs.declared.frame.Frame.{Frame}
 use Rattle.messages.specs.declared.frame.Frame.TheVariants.{Whole, Piece}
-use Rattle.messages.specs.Laws.{IsPacket}
+use Rattle.messages.specs.Bodies.{length_of}
+use Rattle.messages.specs.Laws.{IsPacket, IsBytes, Says}
 use Rattle.messages.specs.PieceRanges.{is_piece}
-use Rattle.messages.specs.FrameBytes.{frame_spelling, frame_at, frame_faults, IsShort}
+use Rattle.messages.specs.FrameBytes.{piece_spelling, frame_spelling, frame_at, frame_faults, IsShort}
 
 -- Every frame is in its ranges.
 abbrev pub IsFrame : Frame → Type 0
@@ -14,3 +15,12 @@ IsFrame (Piece q) = IsTrue (is_piece q)
 -- A frame's spelling has no fault and says that frame.
 abbrev pub FramesAreRead : Type 0
 FramesAreRead = (f : Frame) → IsFrame f → IsShort f → (frame_faults (frame_spelling f) ≡ []) × (frame_at (frame_spelling f) ≡ Some f)
+
+-- The bytes say this frame: as they say a packet that goes whole, or as the spelling of a piece in its ranges.
+abbrev pub SaysFrame : List ℕ → Frame → Type 0
+SaysFrame bytes (Whole p) = Says bytes p × (length_of p.body ≤ 1024)
+SaysFrame bytes (Piece q) = IsTrue (is_piece q) × (piece_spelling q ≡ bytes)
+
+-- Bytes without a fault say a frame.
+abbrev pub OnlyFramesAreRead : Type 0
+OnlyFramesAreRead = (bytes : List ℕ) → IsBytes bytes → frame_faults bytes ≡ [] → (f : Frame) × (frame_at bytes ≡ Some f) × SaysFrame bytes f

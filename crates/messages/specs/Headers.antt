@@ -1,15 +1,14 @@
 -- What reading a header tells of the bytes.
-use Rattle.std.specs.Prelude.{◌≡◌, ◌+◌, true, false, not, nat_lt, is_none, List, [], ◌∷◌, ◌++◌, length, slice_get, Some, Result, Ok, Err, ℕ}
+use Rattle.std.specs.Prelude.{◌≡◌, ◌+◌, true, false, not, ◌&&◌, Bool, nat_lt, is_none, is_some, List, [], ◌∷◌, ◌++◌, length, slice_get, Option, Some, Result, Ok, Err, ℕ}
 use Rattle.fc_base.specs.declared.fault.Fault.{Fault}
 use Rattle.fc_base.specs.declared.fault.Fault.TheVariants.{FrameShort, FrameBadMagic, FrameBadField, FrameTooLong, FrameTrailing}
 use Rattle.fc_base.specs.Faults.{when}
 use Rattle.messages.specs.declared.reading.Header.{Header}
 use Rattle.messages.specs.declared.reading.HeaderFields.{HeaderFields}
 use Rattle.messages.specs.declared.reading.Ends.{Ends}
-use Rattle.messages.specs.Kinds.{kind_numbered}
-use Rattle.messages.specs.Nodes.{node_numbered}
+use Rattle.messages.specs.Nodes.{node_numbered, is_node}
 use Rattle.messages.specs.Layouts.{numbers}
-use Rattle.messages.specs.Packets.{header, header_at, has_magic, header_faults, is_packet_kind, body_limit}
+use Rattle.messages.specs.Packets.{header, header_at, has_magic, header_faults}
 
 -- The numbers of a header.
 abbrev pub fields_list : HeaderFields → List ℕ
@@ -35,11 +34,15 @@ abbrev pub EndsAre : Result Ends Fault → List Fault → ℕ → ℕ → Type 0
 EndsAre (Ok e) faults from to = (faults ≡ []) × (node_numbered from ≡ Some e.from) × (node_numbered to ≡ Some e.to)
 EndsAre (Err g) faults from to = slice_get faults 0 ≡ Some g
 
--- The header has no fault and says this, or its first fault is this.
-abbrev pub HeaderIs : Result Header Fault → List ℕ → Type 0
-HeaderIs (Ok h) bytes =
-    (header_faults is_packet_kind body_limit bytes ≡ [])
-    × (kind_numbered (header_at 3 bytes) ≡ Some h.kind)
-    × (node_numbered (header_at 4 bytes) ≡ Some h.from)
-    × (node_numbered (header_at 5 bytes) ≡ Some h.to)
-HeaderIs (Err f) bytes = slice_get (header_faults is_packet_kind body_limit bytes) 0 ≡ Some f
+-- The header of kinds with these numbers has no fault and says this, or its first fault is this.
+abbrev pub HeaderIs : {K : Type 0} → (ℕ → Option K) → ℕ → Result (Header K) Fault → List ℕ → Type 0
+HeaderIs kind_in limit (Ok h) bytes =
+    (header_faults (λ n. is_some (kind_in n)) limit bytes ≡ [])
+    × (kind_in (header_at 3 bytes) ≡ Some h.kind)
+    × (node_numbered (header_at 4 bytes) ≡ Some h.ends.from)
+    × (node_numbered (header_at 5 bytes) ≡ Some h.ends.to)
+HeaderIs kind_in limit (Err f) bytes = slice_get (header_faults (λ n. is_some (kind_in n)) limit bytes) 0 ≡ Some f
+
+-- Both ends are nodes.
+abbrev pub are_nodes : Ends → Bool
+are_nodes e = is_node e.from && is_node e.to

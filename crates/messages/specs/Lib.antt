@@ -10,7 +10,7 @@ pub mod Pieces
 pub mod FrameBytes
 pub mod FramesOf
 pub mod Headers
-pub mod FrameHeaders
+pub mod PieceNumbers
 pub mod Laws
 pub mod Tags
 pub mod Assemblies

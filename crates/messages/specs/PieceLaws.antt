@@ -3,12 +3,14 @@ use Rattle.std.specs.Prelude.{◌≡◌, ◌⊎◌, ℕ, Bool, true, false, ◌=
 use Rattle.messages.specs.declared.packet.PacketParts.{PacketParts}
 use Rattle.messages.specs.declared.piece.Tag.{Tag}
 use Rattle.messages.specs.declared.piece.PieceParts.{PieceParts}
+use Rattle.messages.specs.declared.frame.Frame.{Frame}
+use Rattle.messages.specs.declared.frame.Frame.TheVariants.{Whole, Piece}
 use Rattle.messages.specs.declared.places.Filled.{Filled}
-use Rattle.messages.specs.declared.places.Row.{Row}
+use Rattle.messages.specs.Assemblies.{Row}
 use Rattle.messages.specs.Bodies.{spelled_body, length_of, body_at}
 use Rattle.messages.specs.Laws.{IsPacket}
-use Rattle.messages.specs.Pieces.{is_cut, tag_in, tag_of, places, bytes_at, pieces_of}
-use Rattle.messages.specs.Assemblies.{Waits, Gives, completed, packet_of, look_at, look, taken, has_tag}
+use Rattle.messages.specs.Pieces.{is_cut, tag_in, tag_of, places, bytes_at, pieces_of, frames_of}
+use Rattle.messages.specs.Assemblies.{Waits, Gives, completed, packet_of, look_at, look, taken, has_tag, given}
 
 -- A piece of a body of these bytes, whoever sends it.
 pub record IsPartOf (tag : Tag) (bytes : List ℕ) (q : PieceParts) : Type 0 where
@@ -95,3 +97,31 @@ OnlySentComesTogether =
     (sent : List PacketParts) → ArePackets sent → OneBodyOfEachTag sent → (rows : List Row) → WasSent sent rows
     → (p : PacketParts) → Contains sent p → (q : PieceParts) → IsPieceOf p q
     → ((look rows q ≡ Waits) ⊎ (look rows q ≡ Gives p)) × WasSent sent (taken rows q)
+
+-- What a frame leaves: a piece is taken, and a whole packet leaves what has come together as it was.
+abbrev pub left_by : List Row → Frame → List Row
+left_by rows (Whole p) = rows
+left_by rows (Piece q) = taken rows q
+
+-- What has come together of these frames, the newest first, where nothing had.
+abbrev pub together : List Frame → List Row
+together [] = []
+together (f ∷ fs) = left_by (together fs) f
+
+-- Each is a frame of one of these packets.
+abbrev pub AreFramesOf : List PacketParts → List Frame → Type 0
+AreFramesOf sent fs = (f : Frame) → Contains fs f → (p : PacketParts) × Contains sent p × Contains (frames_of p) f
+
+-- A frame gives one of these packets, of which it is a frame: the ends are its own.
+pub record GivesOneOf (sent : List PacketParts) (rows : List Row) (f : Frame) : Type 0 where
+  pub packet : PacketParts
+  pub was_sent : Contains sent packet
+  pub is_frame : Contains (frames_of packet) f
+  pub gives : given rows f ≡ Gives packet
+
+-- Whatever frames of some packets came before, in any order and with any repeats and losses, a frame of one of them
+-- gives nothing yet, or one of them.
+abbrev pub OnlySentIsGiven : Type 0
+OnlySentIsGiven =
+    (sent : List PacketParts) → ArePackets sent → OneBodyOfEachTag sent → (f : Frame) (fs : List Frame) → AreFramesOf sent (f ∷ fs)
+    → (given (together fs) f ≡ Waits) ⊎ GivesOneOf sent (together fs) f

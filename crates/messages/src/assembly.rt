@@ -1,15 +1,15 @@
 //! What comes together of the pieces that a node takes.
 
-ghost use Rattle.std.specs.Prelude.{◌≡◌, position, OnOk, OnErr, [], ◌∷◌, ◌++◌};
+ghost use Rattle.std.specs.Prelude.{◌≡◌, false, OnOk, OnErr, [], ◌∷◌, ◌++◌};
 ghost use Rattle.messages.specs.Bodies.{body_at};
-ghost use Rattle.messages.specs.Tags.{is_tag};
-ghost use Rattle.messages.specs.Assemblies.{filled_of, look, of_tag, taken, without, newest, LookAnswers};
+ghost use Rattle.messages.specs.Assemblies.{filled_of, has_tag, look, of_tag, taken, without, newest, IsKept, LookAnswers};
 
 use crate::packet::{Packet, PacketParts};
 use crate::piece::{Piece, Tag};
-use crate::places::{Filled, Places, Row, is_completed, join};
+use crate::places::{Filled, Places, is_completed, join};
 use crate::reading::body_of;
 use fc_base::Fault;
+use indexmap::IndexMap;
 use std::alloc::{AllocError, Global};
 use std::marker::Model;
 
@@ -20,18 +20,18 @@ const TAGS: usize = 128;
 #[derive(Debug, Drop)]
 pub struct Assembly {
     alloc: Global,
-    rows: Vec<Row>,
+    rows: IndexMap<Tag, Places>,
 }
 
 impl Model for Assembly {
     ghost use Rattle.std.specs.Prelude.{List, length, ◌≤◌};
-    ghost use Rattle.messages.specs.declared.places.Row.{Row};
+    ghost use Rattle.messages.specs.Assemblies.{Row, rows_of};
 
     ghost Value = { List Row };
 
-    ghost view = { λ a. a.rows.items };
+    ghost view = { λ a. rows_of a.rows.entries };
 
-    ghost invariant = { λ a. length a.rows.items ≤ 128 };
+    ghost invariant = { λ a. length a.rows.entries ≤ 128 };
 }
 
 impl Assembly {
@@ -41,7 +41,7 @@ impl Assembly {
     {
         Assembly {
             alloc,
-            rows: Vec::new(alloc),
+            rows: IndexMap::new(alloc),
         }
     }
 
@@ -60,19 +60,20 @@ impl Assembly {
     }
 
     /// Takes a piece: it fills its place, and one that is filled stays as it is. The piece that fills
-    /// the last place takes the tag out, for which no memory is needed. A tag beyond 128 drops the
-    /// oldest. Where memory runs out nothing changes.
+    /// the last place takes the tag out. A tag beyond 128 drops the oldest. Memory is needed only for
+    /// a piece that is kept, and where it runs out nothing changes.
     pub fn take(&mut self, piece: &Piece) -> Result<(), AllocError>
         ensures taken { OnOk result (self.new ≡ taken self.old piece.now) }
         ensures same { OnErr result (self.new ≡ self.old) }
+        ensures kept { OnErr result (IsKept self.old piece.now) }
     {
         if is_completed(self.filled_of(piece.tag()), piece) {
             self.drop(piece.tag());
             return Ok(());
         }
         let alloc = self.alloc;
-        match self.row_of(piece.tag()) {
-            Some(row) => self.rows[row].filled.fill(alloc, piece),
+        match self.rows.get_mut(&piece.tag()) {
+            Some(places) => places.fill(alloc, piece),
             None => self.begin(piece),
         }
     }
@@ -81,41 +82,29 @@ impl Assembly {
     pub fn drop(&mut self, tag: Tag)
         ensures { self.new ≡ without tag self.old }
     {
-        if let Some(row) = self.row_of(tag) {
-            let _ = self.rows.remove(row);
-        }
-    }
-
-    /// The row of a tag.
-    fn row_of(&self, tag: Tag) -> Option<usize>
-        ensures { result ≡ position (λ row. is_tag row.tag tag) self.now }
-    {
-        self.rows.iter().position(|row| row.tag.is_same(tag))
+        let _ = self.rows.shift_remove(&tag);
     }
 
     /// The filled places of a tag.
     fn filled_of(&self, tag: Tag) -> &[Filled]
         ensures { result.now ≡ filled_of tag self.now }
     {
-        match self.row_of(tag) {
-            Some(row) => self.rows[row].filled.as_slice(),
+        match self.rows.get(&tag) {
+            Some(places) => places.as_slice(),
             None => &[],
         }
     }
 
     /// Begins the row of a tag that has none.
     fn begin(&mut self, piece: &Piece) -> Result<(), AllocError>
+        requires { has_tag piece.now.tag self.old ≡ false }
         ensures begun { OnOk result (self.new ≡ newest (self.old ++ record { tag = piece.now.tag; filled = record { at = piece.now.at; bytes = piece.now.bytes } ∷ [] } ∷ [])) }
         ensures same { OnErr result (self.new ≡ self.old) }
     {
         let filled = Places::new(self.alloc, piece)?;
-        let row = Row {
-            tag: piece.tag(),
-            filled,
-        };
-        self.rows.push(row)?;
-        if self.rows.as_slice().len() > TAGS {
-            let _ = self.rows.remove(0);
+        self.rows.insert(piece.tag(), filled)?;
+        if self.rows.len() > TAGS {
+            let _ = self.rows.shift_remove_index(0);
         }
         Ok(())
     }
@@ -127,7 +116,7 @@ fn packet_of(alloc: Global, piece: &Piece, bytes: &[u8]) -> Result<Option<Packet
 {
     let tag = piece.tag();
     let body = body_of(alloc, tag.whole, bytes)?;
-    if !body.tag(tag.length).is_same(tag) {
+    if body.tag(tag.length) != tag {
         return Err(Fault::FrameBadField);
     }
     piece.keeps_its_ranges();

@@ -5,7 +5,7 @@ ghost use Rattle.messages.specs.Kinds.{number_of, name_of, kind_numbered, is_of_
 
 /// What a packet says. The discriminants are the numbers in frames; [`PacketKind::is_of_client`] says who
 /// sends which.
-#[derive(Clone, Copy, Debug, PartialEq, Eq)]
+#[derive(Clone, Copy, Debug, PartialEq, Eq, Hash)]
 pub enum PacketKind {
     Jobs = 1,
     JobsOk = 2,

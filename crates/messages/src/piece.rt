@@ -19,7 +19,7 @@ const BODY_LIMIT: u32 = 16_400;
 /// What the pieces of one body have in common. The number is the attempt of a Verify or a Saved, else
 /// 0; server and job are those of the state in a State or a Saved, else 0; the length is that of the
 /// whole body, 1,025 to 16,400 bytes.
-#[derive(Clone, Copy, Debug)]
+#[derive(Clone, Copy, Debug, PartialEq, Eq, Hash)]
 pub struct Tag {
     pub whole: PacketKind,
     pub run: RunNo,
@@ -101,19 +101,6 @@ pub(crate) fn is_place(length: u32, at: u32, count: usize) -> bool
 
 impl Tag {
     ghost use Rattle.messages.specs.PieceRanges.{is_tag_in_range};
-    ghost use Rattle.messages.specs.Tags.{is_tag};
-
-    /// Whether the tags are the same.
-    pub(crate) fn is_same(self, other: Tag) -> bool
-        ensures { result ≡ is_tag self other }
-    {
-        self.whole.number() == other.whole.number()
-            && self.run.0 == other.run.0
-            && self.number == other.number
-            && self.server.0 == other.server.0
-            && self.job.0 == other.job.0
-            && self.length == other.length
-    }
 
     /// Whether the numbers are in their ranges.
     pub fn is_in_range(self) -> bool

@@ -1,7 +1,9 @@
 //! The laws of pieces.
 
-ghost use Rattle.messages.specs.FrameLaws.{FramesAreRead};
-ghost use Rattle.messages.specs.PieceLaws.{PiecesGiveTheBytes, PiecesGiveThePacket, OnlyWholeBodiesAreGiven, OnlySentComesTogether};
+ghost use Rattle.messages.specs.FrameLaws.{FramesAreRead, OnlyFramesAreRead};
+ghost use Rattle.messages.specs.PieceLaws.{PiecesGiveTheBytes, PiecesGiveThePacket, OnlyWholeBodiesAreGiven, OnlySentComesTogether, OnlySentIsGiven};
+
+use crate::law::one_spelling;
 
 /// The pieces of a body come together in any order, and however often they come.
 pub fn pieces_come_together()
@@ -16,9 +18,11 @@ pub fn only_whole_bodies_are_given()
     ensures { OnlyWholeBodiesAreGiven }
 {}
 
-/// Of pieces of some packets, among which a tag names one body, only those packets come together.
+/// Of frames of some packets, among which a tag names one body, only those packets come together: from what such frames
+/// left, by the next piece, and from nothing, by whatever came.
 pub fn only_sent_comes_together()
-    ensures { OnlySentComesTogether }
+    ensures step { OnlySentComesTogether }
+    ensures all { OnlySentIsGiven }
 {
     verify_state::one_spelling();
 }
@@ -28,4 +32,14 @@ pub fn frames_are_read_back()
     ensures { FramesAreRead }
 {
     verify_state::one_spelling();
+}
+
+/// What bytes without a fault say is a frame that `encode_frame` takes, and they are its bytes but where a whole packet
+/// holds a verify state in layout 1.
+pub fn only_frames_are_read()
+    ensures { OnlyFramesAreRead }
+{
+    verify_state::one_spelling();
+    verify_state::bytes_say_states();
+    one_spelling();
 }

@@ -5,7 +5,7 @@ ghost use Rattle.messages.specs.Pieces.{places};
 ghost use Rattle.messages.specs.Assemblies.{filled_at, fill, joined};
 
 use crate::chunk::{CHUNK_LIMIT, Chunk};
-use crate::piece::{Piece, Tag};
+use crate::piece::Piece;
 use std::alloc::{AllocError, Global};
 use std::marker::Model;
 
@@ -20,13 +20,6 @@ pub struct Filled {
 #[derive(Debug, Drop)]
 pub struct Places {
     filled: Vec<Filled>,
-}
-
-/// A tag, and its filled places.
-#[derive(Debug, Drop)]
-pub struct Row {
-    pub tag: Tag,
-    pub filled: Places,
 }
 
 impl Model for Places {
@@ -70,6 +63,7 @@ impl Places {
     pub(crate) fn fill(&mut self, alloc: Global, piece: &Piece) -> Result<(), AllocError>
         ensures filled { OnOk result (self.new ≡ fill piece.now self.old) }
         ensures same { OnErr result (self.new ≡ self.old) }
+        ensures empty { OnErr result (filled_at self.old piece.now.at ≡ None) }
     {
         if bytes_at(&self.filled, piece.at()).is_some() {
             return Ok(());

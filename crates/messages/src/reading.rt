@@ -4,7 +4,8 @@ ghost use Rattle.std.specs.Prelude.{◌≡◌, ◌≤◌, ◌∷◌, [], length,
 ghost use Rattle.messages.specs.Ranges.{is_body};
 ghost use Rattle.messages.specs.Layouts.{numbers};
 ghost use Rattle.messages.specs.Bodies.{Reads, body_at};
-ghost use Rattle.messages.specs.Packets.{Answers, header};
+ghost use Rattle.messages.specs.Kinds.{kind_numbered};
+ghost use Rattle.messages.specs.Packets.{Answers, header, body_limit};
 ghost use Rattle.messages.specs.Laws.{Says};
 ghost use Rattle.messages.specs.Headers.{HeaderIs, FieldsAre, EndsAre, end_faults};
 
@@ -45,8 +46,8 @@ pub fn decode(alloc: Global, bytes: &[u8]) -> Result<Packet, Fault>
     let (_, body) = bytes.split_at(HEADER);
     let body = body_of(alloc, header.kind, body)?;
     Ok(Packet::new(PacketParts {
-        from: header.from,
-        to: header.to,
+        from: header.ends.from,
+        to: header.ends.to,
         body,
     }))
 }
@@ -72,10 +73,9 @@ struct Ends {
 
 /// What a header says of a frame that is as long as it says.
 #[derive(Clone, Copy)]
-struct Header {
-    kind: PacketKind,
-    from: Node,
-    to: Node,
+struct Header<K> {
+    kind: K,
+    ends: Ends,
 }
 
 fn header_fields(bytes: &[u8]) -> HeaderFields
@@ -134,17 +134,13 @@ fn ends_of(fields: HeaderFields, limit: u32, len: usize) -> Result<Ends, Fault>
     Ok(Ends { from, to })
 }
 
-fn header_of(bytes: &[u8]) -> Result<Header, Fault>
-    ensures { HeaderIs result bytes.now }
+fn header_of(bytes: &[u8]) -> Result<Header<PacketKind>, Fault>
+    ensures { HeaderIs kind_numbered body_limit result bytes.now }
 {
     let fields = fields_of(bytes)?;
     let kind = PacketKind::numbered(fields.kind).ok_or(Fault::BadKind)?;
     let ends = ends_of(fields, BODY_LIMIT, bytes.len())?;
-    Ok(Header {
-        kind,
-        from: ends.from,
-        to: ends.to,
-    })
+    Ok(Header { kind, ends })
 }
 
 /// A body whose ranges hold.

@@ -1,6 +1,8 @@
 //! What no clause shows: that frames are those that others computed, and that each call answers with
 //! ample memory.
 
+mod allocations;
+mod changed_pieces;
 mod frames;
 mod limits;
 mod pieces;

@@ -1,21 +1,22 @@
 //! Reading frames: whole packets and pieces.
 
-ghost use Rattle.std.specs.Prelude.{◌≡◌, ◌≤◌, length, drop, IsTrue};
+ghost use Rattle.std.specs.Prelude.{◌≡◌, ◌≤◌, length, drop, IsTrue, IfOk};
 ghost use Rattle.messages.specs.declared.frame.FrameKind.TheVariants.{Packet as PacketSort, Piece as PieceSort};
-ghost use Rattle.messages.specs.Nodes.{is_node};
 ghost use Rattle.messages.specs.Layouts.{numbers};
 ghost use Rattle.messages.specs.Bodies.{Reads};
-ghost use Rattle.messages.specs.FrameBytes.{piece_layout, frame_said, FrameAnswers};
-ghost use Rattle.messages.specs.FrameHeaders.{FrameHeaderIs, fields_numbers, tag_said};
+ghost use Rattle.messages.specs.FrameBytes.{piece_layout, sort_numbered, frame_limit, frame_said, FrameAnswers, IsShort};
+ghost use Rattle.messages.specs.FrameLaws.{SaysFrame};
+ghost use Rattle.messages.specs.Headers.{HeaderIs, are_nodes};
+ghost use Rattle.messages.specs.PieceNumbers.{fields_numbers, tag_said};
 
 use crate::bytes::{split_u8, split_u32, split_u64};
 use crate::chunk::{CHUNK_LIMIT, Chunk};
 use crate::frame::{Frame, FrameKind};
 use crate::kind::PacketKind;
-use crate::node::Node;
 use crate::packet::{Packet, PacketParts};
 use crate::piece::{Piece, PieceParts, Tag, is_place};
-use crate::reading::{body_of, ends_of, fields_of};
+use crate::piece_law::only_frames_are_read;
+use crate::reading::{Ends, Header, body_of, ends_of, fields_of};
 use crate::writing::HEADER;
 use fc_base::{Fault, JobNo, RunNo, ServerNo};
 use std::alloc::Global;
@@ -32,68 +33,49 @@ const NUMBERS: usize = 33;
 /// `FrameTooLong` is answered from 1,058 bytes on behind the header, and `FrameBadField` for a packet
 /// whose body has more than 1,024 bytes, and for a piece with a number out of its range.
 pub fn decode_frame(alloc: Global, bytes: &[u8]) -> Result<Frame, Fault>
-    ensures { FrameAnswers result bytes.now }
+    ensures answer { FrameAnswers result bytes.now }
+    ensures said { IfOk result (SaysFrame bytes.now) }
+    ensures short { IfOk result IsShort }
 {
+    only_frames_are_read();
     let header = frame_header_of(bytes)?;
     let (_, body) = bytes.split_at(HEADER);
-    frame_of(alloc, header.from, header.to, header.kind, body)
+    frame_of(alloc, header.ends, header.kind, body)
 }
 
-/// What a header says of a frame that is as long as it says.
-#[derive(Clone, Copy)]
-struct FrameHeader {
-    kind: FrameKind,
-    from: Node,
-    to: Node,
-}
-
-fn frame_header_of(bytes: &[u8]) -> Result<FrameHeader, Fault>
-    ensures { FrameHeaderIs result bytes.now }
+fn frame_header_of(bytes: &[u8]) -> Result<Header<FrameKind>, Fault>
+    ensures { HeaderIs sort_numbered frame_limit result bytes.now }
 {
     let fields = fields_of(bytes)?;
     let kind = FrameKind::numbered(fields.kind).ok_or(Fault::BadKind)?;
     let ends = ends_of(fields, FRAME_LIMIT, bytes.len())?;
-    Ok(FrameHeader {
-        kind,
-        from: ends.from,
-        to: ends.to,
-    })
+    Ok(Header { kind, ends })
 }
 
 /// What the bytes behind a header say.
-fn frame_of(
-    alloc: Global,
-    from: Node,
-    to: Node,
-    kind: FrameKind,
-    bytes: &[u8],
-) -> Result<Frame, Fault>
-    requires from_node { IsTrue (is_node from) }
-    requires to_node { IsTrue (is_node to) }
-    ensures { Reads result (frame_said from to bytes.now kind) }
+fn frame_of(alloc: Global, ends: Ends, kind: FrameKind, bytes: &[u8]) -> Result<Frame, Fault>
+    requires { IsTrue (are_nodes ends) }
+    ensures { Reads result (frame_said ends.from ends.to bytes.now kind) }
 {
     match kind {
-        FrameKind::Packet(kind) => whole(alloc, from, to, kind, bytes),
-        FrameKind::Piece => piece(alloc, from, to, bytes),
+        FrameKind::Packet(kind) => whole(alloc, ends, kind, bytes),
+        FrameKind::Piece => piece(alloc, ends, bytes),
     }
 }
 
-fn whole(
-    alloc: Global,
-    from: Node,
-    to: Node,
-    kind: PacketKind,
-    bytes: &[u8],
-) -> Result<Frame, Fault>
-    requires from_node { IsTrue (is_node from) }
-    requires to_node { IsTrue (is_node to) }
-    ensures { Reads result (frame_said from to bytes.now (PacketSort kind)) }
+fn whole(alloc: Global, ends: Ends, kind: PacketKind, bytes: &[u8]) -> Result<Frame, Fault>
+    requires { IsTrue (are_nodes ends) }
+    ensures { Reads result (frame_said ends.from ends.to bytes.now (PacketSort kind)) }
 {
     if bytes.len() > CHUNK_LIMIT {
         return Err(Fault::FrameBadField);
     }
     let body = body_of(alloc, kind, bytes)?;
-    Ok(Frame::Whole(Packet::new(PacketParts { from, to, body })))
+    Ok(Frame::Whole(Packet::new(PacketParts {
+        from: ends.from,
+        to: ends.to,
+        body,
+    })))
 }
 
 /// The numbers of a piece, as they stand.
@@ -147,10 +129,9 @@ fn tag_of(fields: PieceFields) -> Option<Tag>
     if tag.is_in_range() { Some(tag) } else { None }
 }
 
-fn piece(alloc: Global, from: Node, to: Node, bytes: &[u8]) -> Result<Frame, Fault>
-    requires from_node { IsTrue (is_node from) }
-    requires to_node { IsTrue (is_node to) }
-    ensures { Reads result (frame_said from to bytes.now PieceSort) }
+fn piece(alloc: Global, ends: Ends, bytes: &[u8]) -> Result<Frame, Fault>
+    requires { IsTrue (are_nodes ends) }
+    ensures { Reads result (frame_said ends.from ends.to bytes.now PieceSort) }
 {
     if bytes.len() < NUMBERS {
         return Err(Fault::FrameBadField);
@@ -164,8 +145,8 @@ fn piece(alloc: Global, from: Node, to: Node, bytes: &[u8]) -> Result<Frame, Fau
     }
     match Chunk::copied(alloc, rest) {
         Ok(bytes) => Ok(Frame::Piece(Piece::new(PieceParts {
-            from,
-            to,
+            from: ends.from,
+            to: ends.to,
             tag,
             at: fields.at,
             bytes,

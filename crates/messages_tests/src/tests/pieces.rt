@@ -7,7 +7,7 @@ use messages::{Assembly, Frame, Frames, Piece, decode_frame, frames_of};
 const PART: usize = 1_024;
 
 /// The frames of a text of so many letters, in a run.
-fn frames_of_letters(alloc: Global, run: u64, count: usize) -> Result<Frames, Fail> {
+pub(super) fn frames_of_letters(alloc: Global, run: u64, count: usize) -> Result<Frames, Fail> {
     let letters = vec![in alloc; b'a'; count]?;
     let text = text(alloc, &letters)?;
     let run = RunNo(run);
@@ -40,7 +40,7 @@ fn long_texts_go_out_in_pieces(rt: HostRuntime) -> Result<(), Fail> {
 }
 
 /// The piece that these bytes are.
-fn piece_in(alloc: Global, bytes: &[u8]) -> Result<Piece, Fail> {
+pub(super) fn piece_in(alloc: Global, bytes: &[u8]) -> Result<Piece, Fail> {
     match decode_frame(alloc, bytes)? {
         Frame::Piece(piece) => Ok(piece),
         Frame::Whole(_) => Err("a piece")?,

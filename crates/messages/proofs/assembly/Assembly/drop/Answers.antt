@@ -1,11 +1,9 @@
-use Rattle.std.proofs.Common.{◌∙◌, sym}
-use Rattle.messages.proofs.Positions.{row_is, row_missing}
+use Rattle.std.proofs.Common.{◌∙◌, ap}
+use Rattle.messages.specs.Assemblies.{without}
+use Rattle.messages.specs.Assemblies.{rows_of}
+use Rattle.messages.proofs.RowLemmas.{eq_asks, without_rows}
 use Rattle.messages.proofs.assembly.Assembly.drop.Goals as goal
 
-pub returns-in-Some : goal.returns-in-Some
-returns-in-Some c =
-    let row = row_is c.args.tag c.args.self.now c.in-Some.row c.remove.result c.in-Some.ensures in
-    rw (← c.self.view_is) (c.remove.ensures.items ∙ sym (rw c.self.view_is row.gone))
-
-pub returns-in_default : goal.returns-in_default
-returns-in_default c = sym (row_missing c.args.tag c.args.self.now c.in_default.ensures).same
+pub returns : goal.returns
+returns c =
+    ap rows_of c.shift_remove.ensures.entries ∙ without_rows _ c.args.tag (eq_asks c.args.tag) c.self.inside.rows.entries ∙ ap (without c.args.tag) c.self.view_is

@@ -1,10 +1,12 @@
-use Rattle.std.proofs.Common.{◌∙◌, sym}
-use Rattle.messages.proofs.Positions.{row_filled, row_missing}
+use Rattle.std.proofs.Common.{◌∙◌, ap, sym}
+use Rattle.messages.specs.Assemblies.{filled_of}
+use Rattle.messages.proofs.RowLemmas.{or_none, eq_asks, filled_found}
 use Rattle.messages.proofs.assembly.Assembly.filled_of.Goals as goal
 
 pub returns-in-Some : goal.returns-in-Some
 returns-in-Some c =
-    c.as_slice.ensures ∙ row_filled c.args.tag c.args.self.now c.self.inside.rows.items c.in-Some.row c.index.result.now c.self.view_is c.in-Some.ensures c.index.ensures
+    c.as_slice.ensures ∙ ap or_none c.in-Some.ensures.value ∙ sym (filled_found _ c.args.tag (eq_asks c.args.tag) c.self.inside.rows.entries) ∙ ap (filled_of c.args.tag) c.self.view_is
 
 pub returns-in-None : goal.returns-in-None
-returns-in-None c = sym (row_missing c.args.tag c.args.self.now c.in-None.ensures).filled
+returns-in-None c =
+    ap or_none c.in-None.ensures.value ∙ sym (filled_found _ c.args.tag (eq_asks c.args.tag) c.self.inside.rows.entries) ∙ ap (filled_of c.args.tag) c.self.view_is

@@ -4,4 +4,4 @@ use Rattle.messages.proofs.reading.frames.whole.Goals as goal
 
 pub new-requires : goal.new-requires
 new-requires c =
-    rw (c.requires.from_node, c.requires.to_node, body_at-in_range c.args.kind c.args.bytes.now c.in_ok-body.body c.in_ok-body.ensures) refl
+    rw (c.requires, body_at-in_range c.args.kind c.args.bytes.now c.in_ok-body.body c.in_ok-body.ensures) refl
