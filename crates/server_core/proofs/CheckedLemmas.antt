@@ -1,18 +1,21 @@
 -- What is kept of a check, behind one more request.
-use Rattle.std.proofs.Common.{◌≡◌, ◌≢◌, refl, sym, ap, ◌∙◌, ℕ, Bool, true, false, ◌&&◌, ◌==◌, List, [], ◌∷◌, length, Option, None, Some}
+use Rattle.std.proofs.Common.{◌≡◌, ◌≢◌, refl, sym, ap, subst, ◌∙◌, ℕ, zero, suc, ◌≤◌, arith, Bool, true, false, ◌&&◌, ◌==◌, List, [], ◌∷◌, length, Option, None, Some}
 use Rattle.std.specs.Prelude.{if◌then◌else◌, set, slice_get}
+use Rattle.std.proofs.lemmas.Option.{slice_get_past, slice_get_within}
 use Rattle.std.proofs.lemmas.Bool.{and_parts, eqb-true, ne_eqb, eq-eqb}
 use Rattle.fc_base.specs.declared.fault.Fault.{Fault}
+use Rattle.fc_base.specs.declared.fault.Fault.TheVariants.{NotInFlight}
 use Rattle.fc_base.specs.declared.report.ReportParts.{ReportParts}
 use Rattle.job_file.specs.declared.job.Job.{Job}
 use Rattle.verify_state.specs.State.{State}
 use Rattle.verify_state.specs.Misfit.{misfit}
 use Rattle.server_core.specs.Request.{Request, ToHold, ToPassFully, ToReport}
-use Rattle.server_core.specs.Check.{Check, Progress, Wanting, Full, With, Refused, Done, held, passed, reported, progress_after}
-use Rattle.server_core.specs.KeptCheck.{CheckKept, check_kept, job_progress, is_wanting, wants_in, ready_in, judged, judged_of}
-use Rattle.server_core.specs.Answers.{is_ready}
+use Rattle.server_core.specs.Check.{Check, Progress, Wanting, Full, With, Refused, Done, held, passed, reported, progress_after, progress_at, progress_in, check_goes_on}
+use Rattle.server_core.specs.KeptCheck.{CheckKept, check_kept, job_progress, is_wanting, wants_in, ready_in, ready_now, judged, judged_of}
+use Rattle.server_core.specs.Stands.{OpenIs}
+use Rattle.server_core.specs.Answers.{is_ready, is_attempt, refused_by}
 use Rattle.server_core.specs.Kept.{numbered}
-use Rattle.server_core.proofs.NumberedLemmas.{same_numbered, set_one, get_at}
+use Rattle.server_core.proofs.NumberedLemmas.{same_numbered, set_one, get_at, length-numbered}
 
 -- A check behind one more request.
 abbrev pub and_then : Check → Request → Check
@@ -110,8 +113,8 @@ unready r (Done q) e = refl
 
 pub report_step : (kept : CheckKept) (c : Check) (b a j : ℕ) (r : ReportParts) → kept ≡ check_kept c → c.boot ≡ b → ready_in kept a j ≡ true → record kept { progress = set kept.progress j (Done r) } ≡ check_kept (and_then c (ToReport b a j r))
 report_step kept c b a j r is boot ok =
-    let p = and_parts (a == kept.attempt) (is_ready (slice_get kept.progress j)) ok in
-    let at : (a == c.attempt) ≡ true = ap (λ (k : CheckKept). a == k.attempt) (sym is) ∙ p.0 in
+    let p = and_parts (kept.attempt == a) (is_ready (slice_get kept.progress j)) ok in
+    let at : (a == c.attempt) ≡ true = eq-eqb a c.attempt (sym (eqb-true c.attempt a (ap (λ (k : CheckKept). k.attempt == a) (sym is) ∙ p.0))) in
     one kept c (ToReport b a j r) j (Done r) is (λ i job ne. if_far (b == c.boot) (a == c.attempt) (j == i) (reported r (job_progress c i job)) (job_progress c i job) (not_same j i ne))
     (λ job has_it. sym (if_near (b == c.boot) (a == c.attempt) (j == j) (reported r (job_progress c j job)) (job_progress c j job) (eq-eqb b c.boot (sym boot)) at (eq-eqb j j refl)
         ∙ ready r (job_progress c j job) (ap is_ready (sym (kept_at kept c j job is has_it)) ∙ p.1)))
@@ -122,17 +125,31 @@ report_step kept c b a j r is boot ok =
     if_near : (s t u : Bool) (x y : Progress) → s ≡ true → t ≡ true → u ≡ true → (if s && (t && u) then x else y) ≡ x
     if_near s t u x y e f g = rw (e, f, g) refl
 
-pub no_report : (kept : CheckKept) (c : Check) (b a j : ℕ) (r : ReportParts) → kept ≡ check_kept c → ((b == c.boot) && ready_in kept a j) ≡ false → kept ≡ check_kept (and_then c (ToReport b a j r))
-no_report kept c b a j r is no_one =
-    idle kept c (ToReport b a j r) is (λ i job at. still (b == c.boot) (a == c.attempt) (j == i) (is_ready (slice_get kept.progress j)) (job_progress c i job)
-    (ap (λ (k : CheckKept). (b == c.boot) && ((a == k.attempt) && is_ready (slice_get kept.progress j))) (sym is) ∙ no_one)
-    (λ e. ap (λ n. is_ready (slice_get kept.progress n)) (eqb-true j i e) ∙ ap is_ready (kept_at kept c i job is at)))
+none_at : (f : ℕ → Job → Progress) (jobs : List Job) (i : ℕ) → slice_get jobs i ≡ None → slice_get (numbered f 0 jobs) i ≡ None
+none_at f jobs i e = slice_get_past (numbered f 0 jobs) i (subst (λ n. n ≤ i) (sym (length-numbered f 0 jobs)) (past jobs i e))
   where
-    still : (s t u v : Bool) (p : Progress) → (s && (t && v)) ≡ false → (u ≡ true → v ≡ is_ready (Some p)) → (if s && (t && u) then reported r p else p) ≡ p
-    still false t u v p e f = refl
-    still true false u v p e f = refl
-    still true true false v p e f = refl
-    still true true true v p e f = unready r p (sym (f refl) ∙ e)
+    past : (js : List Job) (n : ℕ) → slice_get js n ≡ None → length js ≤ n
+    past [] n e = omega arith
+    past (job ∷ js) zero e = cc
+    past (job ∷ js) (suc n) e = let le = past js n e in omega (arith, le)
+
+progress_kept : (kept : CheckKept) (c : Check) (i : ℕ) (o : Option Job) → kept ≡ check_kept c → slice_get c.jobs i ≡ o → slice_get kept.progress i ≡ progress_at c i o
+progress_kept kept c i None is e = ap (λ (k : CheckKept). slice_get k.progress i) is ∙ none_at (job_progress c) c.jobs i e
+progress_kept kept c i (Some job) is e = kept_at kept c i job is e
+
+pub ready_is : (me now_boot : ℕ) (kept : Option CheckKept) (c : Option Check) (a j : ℕ) → OpenIs me now_boot kept c → ready_now kept a j ≡ (is_attempt a c && is_ready (progress_in c j))
+ready_is me now_boot None None a j h = refl
+ready_is me now_boot (Some kept) (Some c) a j h =
+    ap (λ p. (kept.attempt == a) && is_ready p) (progress_kept kept c j (slice_get c.jobs j) h.is refl) ∙ ap (λ (k : CheckKept). (k.attempt == a) && is_ready (progress_at c j (slice_get c.jobs j))) h.is
+ready_is me now_boot None (Some c) a j h = absurd h
+ready_is me now_boot (Some kept) None a j h = absurd h
+
+pub report_kept : (me now_boot : ℕ) (old : Option CheckKept) (kept : CheckKept) (c : Option Check) (a j : ℕ) (r : ReportParts) → old ≡ Some kept → OpenIs me now_boot old c → ready_in kept a j ≡ true
+    → OpenIs me now_boot (Some (record kept { progress = set kept.progress j (Done r) })) (check_goes_on (ToReport now_boot a j r) c)
+report_kept me now_boot None kept c a j r e h ok = cc
+report_kept me now_boot (Some old) kept None a j r e h ok = absurd h
+report_kept me now_boot (Some old) kept (Some c) a j r e h ok =
+    let same : old ≡ kept = cc in record { is = report_step kept c now_boot a j r (sym same ∙ h.is) h.boot_is ok; server = h.server; boot_is = h.boot_is }
 
 -- ---- a state
 
@@ -163,3 +180,22 @@ held_stays m state Full e = refl
 held_stays m state (With s) e = refl
 held_stays m state (Refused v) e = refl
 held_stays m state (Done q) e = refl
+
+-- ---- a report that comes
+
+pub report_refused : (s t : Bool) → s ≡ true → t ≡ false → refused_by s t ≡ Some NotInFlight
+report_refused s t e f = rw (e, f) refl
+
+pub report_taken : (s t : Bool) → s ≡ true → t ≡ true → refused_by s t ≡ None
+report_taken s t e f = rw (e, f) refl
+
+pub is_below : (kept : Option CheckKept) (one : CheckKept) (a j : ℕ) → kept ≡ Some one → ready_now kept a j ≡ true → (ready_in one a j ≡ true) × (suc j ≤ length one.progress)
+is_below None one a j e h = cc
+is_below (Some kept) one a j e h =
+    let same : kept ≡ one = cc in
+    let t : ready_in one a j ≡ true = ap (λ k. ready_in k a j) (sym same) ∙ h in
+    (t, within (slice_get one.progress j) refl (and_parts (one.attempt == a) (is_ready (slice_get one.progress j)) t).1)
+  where
+    within : (p : Option Progress) → slice_get one.progress j ≡ p → is_ready p ≡ true → suc j ≤ length one.progress
+    within None e t = cc
+    within (Some p) e t = slice_get_within one.progress j p e

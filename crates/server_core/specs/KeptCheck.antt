@@ -65,7 +65,12 @@ wants_in kept attempt job = (attempt == kept.attempt) && is_wanting (slice_get k
 
 -- The check of the job may be made, in this attempt.
 abbrev pub ready_in : CheckKept → ℕ → ℕ → Bool
-ready_in kept attempt job = (attempt == kept.attempt) && is_ready (slice_get kept.progress job)
+ready_in kept attempt job = (kept.attempt == attempt) && is_ready (slice_get kept.progress job)
+
+-- The same of the open check, if there is one.
+abbrev pub ready_now : Option CheckKept → ℕ → ℕ → Bool
+ready_now None attempt job = false
+ready_now (Some kept) attempt job = ready_in kept attempt job
 
 -- What a state makes of its job.
 abbrev pub judged_of : ℕ → ℕ → State → Option Job → Option Progress

@@ -22,8 +22,8 @@ use Rattle.server_core.specs.Request.{Request}
 use Rattle.server_core.specs.Run.{Work, goes_on}
 use Rattle.server_core.specs.Words.{Staged, stages, greater}
 use Rattle.server_core.specs.Check.{Check, opens, check_goes_on, or_opened}
-use Rattle.server_core.specs.Replies.{Now, replies}
-use Rattle.server_core.specs.Framed.{framed}
+use Rattle.server_core.specs.Replies.{Now}
+use Rattle.server_core.specs.Answers.{refusal_of}
 use Rattle.server_core.specs.Kept.{Kept, RunIs}
 use Rattle.server_core.specs.KeptCheck.{CheckKept, check_kept}
 
@@ -91,9 +91,10 @@ abbrev pub unless : Option Fault → Result (Unit {0}) Fault
 unless None = Ok tt
 unless (Some fault) = Err fault
 
--- These bodies are sent.
-abbrev pub Sends : Now → List Body → List (List ℕ) → Type 0
-Sends now bodies frames = frames ≡ framed now.server bodies
+-- An answer to a request: it isn't refused, or memory ran out, or it is refused for that reason.
+abbrev pub IsAnswer : {A : Type 0} → Now → Request → Result A Fault → Type 0
+IsAnswer now x (Ok _) = refusal_of now x ≡ None
+IsAnswer now x (Err fault) = (fault ≡ NoMemory) ⊎ (refusal_of now x ≡ Some fault)
 
 -- The request is of a run, and names no attempt.
 abbrev pub IsOfRun : Asked → Type 0
