@@ -1,7 +1,8 @@
 -- What is kept of a check, behind one more request.
 use Rattle.std.proofs.Common.{◌≡◌, ◌≢◌, refl, sym, ap, subst, ◌∙◌, ℕ, zero, suc, ◌≤◌, arith, Bool, true, false, ◌&&◌, ◌==◌, List, [], ◌∷◌, length, Option, None, Some}
 use Rattle.std.specs.Prelude.{if◌then◌else◌, set, slice_get}
-use Rattle.std.proofs.lemmas.Option.{slice_get_past, slice_get_within}
+use Rattle.std.specs.Option.{option_map}
+use Rattle.std.proofs.lemmas.Option.{slice_get_past}
 use Rattle.std.proofs.lemmas.Bool.{and_parts, eqb-true, ne_eqb, eq-eqb}
 use Rattle.fc_base.specs.declared.fault.Fault.{Fault}
 use Rattle.fc_base.specs.declared.fault.Fault.TheVariants.{NotInFlight}
@@ -11,7 +12,7 @@ use Rattle.verify_state.specs.State.{State}
 use Rattle.verify_state.specs.Misfit.{misfit}
 use Rattle.server_core.specs.Request.{Request, ToHold, ToPassFully, ToReport}
 use Rattle.server_core.specs.Check.{Check, Progress, Wanting, Full, With, Refused, Done, held, passed, reported, progress_after, progress_at, progress_in, check_goes_on}
-use Rattle.server_core.specs.KeptCheck.{CheckKept, check_kept, job_progress, is_wanting, wants_in, ready_in, ready_now, judged, judged_of}
+use Rattle.server_core.specs.KeptCheck.{CheckKept, check_kept, job_progress, is_wanting, wants_in, ready_in, ready_now, with_progress, judged, judged_of}
 use Rattle.server_core.specs.Stands.{OpenIs}
 use Rattle.server_core.specs.Answers.{is_ready, is_attempt, refused_by}
 use Rattle.server_core.specs.Kept.{numbered}
@@ -40,18 +41,18 @@ one kept c x i p is others here =
 
 -- ---- a job that waits for its state
 
-if_in : {A : Type 0} (s t : Bool) (x y : A) → s ≡ true → t ≡ true → (if s && t then x else y) ≡ x
+pub if_in : {A : Type 0} (s t : Bool) (x y : A) → s ≡ true → t ≡ true → (if s && t then x else y) ≡ x
 if_in s t x y e f = rw (e, f) refl
 
-if_out : {A : Type 0} (s t : Bool) (x y : A) → t ≡ false → (if s && t then x else y) ≡ y
+pub if_out : {A : Type 0} (s t : Bool) (x y : A) → t ≡ false → (if s && t then x else y) ≡ y
 if_out true t x y e = rw e refl
 if_out false t x y e = refl
 
-not_same : (i j : ℕ) → j ≢ i → (i == j) ≡ false
+pub not_same : (i j : ℕ) → j ≢ i → (i == j) ≡ false
 not_same i j ne = ne_eqb i j (λ e. ne (sym e))
 
 -- What is there where a job waits.
-kept_at : (kept : CheckKept) (c : Check) (i : ℕ) (job : Job) → kept ≡ check_kept c → slice_get c.jobs i ≡ Some job → slice_get kept.progress i ≡ Some (job_progress c i job)
+pub kept_at : (kept : CheckKept) (c : Check) (i : ℕ) (job : Job) → kept ≡ check_kept c → slice_get c.jobs i ≡ Some job → slice_get kept.progress i ≡ Some (job_progress c i job)
 kept_at kept c i job is at = ap (λ (k : CheckKept). slice_get k.progress i) is ∙ get_at (job_progress c) c.jobs i job at
 
 wanting : (p : Progress) → is_wanting (Some p) ≡ true → p ≡ Wanting
@@ -61,7 +62,7 @@ wanting (With s) e = cc
 wanting (Refused v) e = cc
 wanting (Done r) e = cc
 
-waits : (kept : CheckKept) (c : Check) (i : ℕ) (job : Job) → kept ≡ check_kept c → is_wanting (slice_get kept.progress i) ≡ true → slice_get c.jobs i ≡ Some job → job_progress c i job ≡ Wanting
+pub waits : (kept : CheckKept) (c : Check) (i : ℕ) (job : Job) → kept ≡ check_kept c → is_wanting (slice_get kept.progress i) ≡ true → slice_get c.jobs i ≡ Some job → job_progress c i job ≡ Wanting
 waits kept c i job is w at = wanting (job_progress c i job) (ap is_wanting (sym (kept_at kept c i job is at)) ∙ w)
 
 -- What doesn't wait stays, whatever is made of it.
@@ -71,7 +72,7 @@ stays_if true false w p q e here same = refl
 stays_if true true w p q e here same = same (sym (here refl) ∙ e)
 
 -- Where no job waits in this attempt, a request for one changes nothing.
-unchanged : (kept : CheckKept) (c : Check) (a j i : ℕ) (job : Job) (q : Progress) → kept ≡ check_kept c → wants_in kept a j ≡ false → slice_get c.jobs i ≡ Some job → (is_wanting (Some (job_progress c i job)) ≡ false → q ≡ job_progress c i job)
+pub unchanged : (kept : CheckKept) (c : Check) (a j i : ℕ) (job : Job) (q : Progress) → kept ≡ check_kept c → wants_in kept a j ≡ false → slice_get c.jobs i ≡ Some job → (is_wanting (Some (job_progress c i job)) ≡ false → q ≡ job_progress c i job)
     → (if (a == c.attempt) && (j == i) then q else job_progress c i job) ≡ job_progress c i job
 unchanged kept c a j i job q is wants at same =
     stays_if (a == c.attempt) (j == i) (is_wanting (slice_get kept.progress j)) (job_progress c i job) q (ap (λ (k : CheckKept). (a == k.attempt) && is_wanting (slice_get kept.progress j)) (sym is) ∙ wants)
@@ -133,7 +134,7 @@ none_at f jobs i e = slice_get_past (numbered f 0 jobs) i (subst (λ n. n ≤ i)
     past (job ∷ js) zero e = cc
     past (job ∷ js) (suc n) e = let le = past js n e in omega (arith, le)
 
-progress_kept : (kept : CheckKept) (c : Check) (i : ℕ) (o : Option Job) → kept ≡ check_kept c → slice_get c.jobs i ≡ o → slice_get kept.progress i ≡ progress_at c i o
+pub progress_kept : (kept : CheckKept) (c : Check) (i : ℕ) (o : Option Job) → kept ≡ check_kept c → slice_get c.jobs i ≡ o → slice_get kept.progress i ≡ progress_at c i o
 progress_kept kept c i None is e = ap (λ (k : CheckKept). slice_get k.progress i) is ∙ none_at (job_progress c) c.jobs i e
 progress_kept kept c i (Some job) is e = kept_at kept c i job is e
 
@@ -144,12 +145,12 @@ ready_is me now_boot (Some kept) (Some c) a j h =
 ready_is me now_boot None (Some c) a j h = absurd h
 ready_is me now_boot (Some kept) None a j h = absurd h
 
-pub report_kept : (me now_boot : ℕ) (old : Option CheckKept) (kept : CheckKept) (c : Option Check) (a j : ℕ) (r : ReportParts) → old ≡ Some kept → OpenIs me now_boot old c → ready_in kept a j ≡ true
-    → OpenIs me now_boot (Some (record kept { progress = set kept.progress j (Done r) })) (check_goes_on (ToReport now_boot a j r) c)
-report_kept me now_boot None kept c a j r e h ok = cc
-report_kept me now_boot (Some old) kept None a j r e h ok = absurd h
-report_kept me now_boot (Some old) kept (Some c) a j r e h ok =
-    let same : old ≡ kept = cc in record { is = report_step kept c now_boot a j r (sym same ∙ h.is) h.boot_is ok; server = h.server; boot_is = h.boot_is }
+pub report_kept : (me now_boot : ℕ) (kept : Option CheckKept) (c : Option Check) (a j : ℕ) (r : ReportParts) → OpenIs me now_boot kept c → ready_now kept a j ≡ true
+    → OpenIs me now_boot (option_map (with_progress j (Done r)) kept) (check_goes_on (ToReport now_boot a j r) c)
+report_kept me now_boot None None a j r h ok = tt
+report_kept me now_boot (Some kept) (Some c) a j r h ok = record { is = report_step kept c now_boot a j r h.is h.boot_is ok; server = h.server; boot_is = h.boot_is }
+report_kept me now_boot None (Some c) a j r h ok = absurd h
+report_kept me now_boot (Some kept) None a j r h ok = absurd h
 
 -- ---- a state
 
@@ -174,13 +175,6 @@ hold_step kept c a state p is h =
         some_is : {x : Progress} → Some x ≡ Some p → x ≡ p
         some_is e = cc
 
-held_stays : (m : Option Fault) (state : State) (p : Progress) → is_wanting (Some p) ≡ false → held m state p ≡ p
-held_stays m state Wanting e = cc
-held_stays m state Full e = refl
-held_stays m state (With s) e = refl
-held_stays m state (Refused v) e = refl
-held_stays m state (Done q) e = refl
-
 -- ---- a report that comes
 
 pub report_refused : (s t : Bool) → s ≡ true → t ≡ false → refused_by s t ≡ Some NotInFlight
@@ -188,14 +182,3 @@ report_refused s t e f = rw (e, f) refl
 
 pub report_taken : (s t : Bool) → s ≡ true → t ≡ true → refused_by s t ≡ None
 report_taken s t e f = rw (e, f) refl
-
-pub is_below : (kept : Option CheckKept) (one : CheckKept) (a j : ℕ) → kept ≡ Some one → ready_now kept a j ≡ true → (ready_in one a j ≡ true) × (suc j ≤ length one.progress)
-is_below None one a j e h = cc
-is_below (Some kept) one a j e h =
-    let same : kept ≡ one = cc in
-    let t : ready_in one a j ≡ true = ap (λ k. ready_in k a j) (sym same) ∙ h in
-    (t, within (slice_get one.progress j) refl (and_parts (one.attempt == a) (is_ready (slice_get one.progress j)) t).1)
-  where
-    within : (p : Option Progress) → slice_get one.progress j ≡ p → is_ready p ≡ true → suc j ≤ length one.progress
-    within None e t = cc
-    within (Some p) e t = slice_get_within one.progress j p e

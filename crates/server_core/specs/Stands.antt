@@ -1,5 +1,5 @@
 -- What a server keeps of its words.
-use Rattle.std.specs.Prelude.{◌≡◌, ◌⊎◌, ℕ, Bool, true, List, ◌∷◌, Option, Some, None, Result, Ok, Err}
+use Rattle.std.specs.Prelude.{◌≡◌, ◌⊎◌, ℕ, Bool, true, List, [], ◌∷◌, Option, Some, None, Result, Ok, Err}
 use Rattle.std.specs.declared.alloc.AllocError.{AllocError}
 use Rattle.fc_base.specs.declared.fault.Fault.{Fault}
 use Rattle.fc_base.specs.declared.fault.Fault.TheVariants.{NoMemory}
@@ -21,7 +21,8 @@ use Rattle.server_core.specs.Laws.{IsSet}
 use Rattle.server_core.specs.Request.{Request}
 use Rattle.server_core.specs.Run.{Work, goes_on}
 use Rattle.server_core.specs.Words.{Staged, stages, greater}
-use Rattle.server_core.specs.Check.{Check, opens, check_goes_on, or_opened}
+use Rattle.server_core.specs.Replies.{progress_frame}
+use Rattle.server_core.specs.Check.{Check, Progress, opens, check_goes_on, or_opened}
 use Rattle.server_core.specs.Replies.{Now}
 use Rattle.server_core.specs.Answers.{refusal_of}
 use Rattle.server_core.specs.Kept.{Kept, RunIs}
@@ -128,3 +129,8 @@ told fault = fault_of fault
 -- P holds of each open check that is kept so.
 abbrev pub EachOpen : Option CheckKept → (ℕ → ℕ → Option Check → Type 0) → Type 0
 EachOpen kept P = (me now_boot : ℕ) (c : Option Check) → OpenIs me now_boot kept c → P me now_boot c
+
+-- What is said of a job of the open check that is so far; nothing, where none is open.
+abbrev pub frame_now : ℕ → Progress → Option Check → List Body
+frame_now j p None = []
+frame_now j p (Some c) = progress_frame c j p

@@ -1,20 +1,22 @@
 //! A check is opened, and made.
 
-ghost use Rattle.std.specs.Prelude.{◌≡◌, IfOk, OnErr, Err, true};
+ghost use Rattle.std.specs.Prelude.{◌≡◌, IfOk, OnErr, MatchOption, Err, true};
 ghost use Rattle.fc_base.specs.declared.fault.Fault.TheVariants.{NoMemory};
-ghost use Rattle.server_core.specs.Request.{ToPassFully, ToReport};
-ghost use Rattle.server_core.specs.Replies.{replies, reply_to_report};
-ghost use Rattle.server_core.specs.KeptCheck.{ready_now};
+ghost use Rattle.server_core.specs.Request.{ToHold, ToPassFully, ToReport};
+ghost use Rattle.server_core.specs.Replies.{replies};
+ghost use Rattle.std.specs.Option.{option_map};
+ghost use Rattle.server_core.specs.KeptCheck.{progress_of, has_job, judged_now, ready_now, with_progress};
 ghost use Rattle.server_core.specs.Framed.{framed};
-ghost use Rattle.server_core.specs.Stands.{MachineIs, EachNow, EachOpen, IsAnswer, OpenIs, after};
+ghost use Rattle.server_core.specs.Stands.{MachineIs, EachNow, EachOpen, IsAnswer, OpenIs, after, frame_now};
 ghost use Rattle.server_core.specs.Check.{check_goes_on};
 
 use super::Machine;
 use crate::open_check::OpenCheck;
 use crate::progress::Progress;
 use crate::replies::say_if;
-use fc_base::{Attempt, CheckReport, Fault, JobNo};
+use fc_base::{Attempt, CheckReport, Fault, JobNo, ServerNo};
 use messages::Frames;
+use verify_state::VerifyState;
 
 impl Machine {
     /// Keeps the report of a check that was made, and tells the client. A report of another boot is
@@ -41,30 +43,45 @@ impl Machine {
         if !is_ready(&self.check, attempt, job) {
             return Err(Fault::NotInFlight);
         }
-        let frames = self.report_frames(attempt, job, report)?;
-        keep_report(&mut self.check, attempt, job, report);
+        let progress = Progress::Done(report);
+        let frames = self.frames_of(job, &progress)?;
+        note(&mut self.check, job, progress);
         Ok(frames)
     }
 
-    /// The frames of a report.
-    fn report_frames(
-        &self,
-        attempt: Attempt,
-        job: JobNo,
-        report: CheckReport,
-    ) -> Result<Frames, Fault>
-        requires { ready_now self.now.check attempt job ≡ true }
-        ensures sent { EachNow self.now (λ now. IfOk result
-            (λ frames. frames ≡ framed now.server (reply_to_report job report now.check))) }
+    /// The frames of what is said of a job of the open check that is so far.
+    fn frames_of(&self, job: JobNo, progress: &Progress) -> Result<Frames, Fault>
+        requires { has_job self.now.check job ≡ true }
+        ensures sent { EachNow self.now (λ now. IfOk result (λ frames.
+            frames ≡ framed now.server (frame_now job (progress_of progress.now) now.check))) }
         ensures memory { OnErr result (result ≡ Err NoMemory) }
     {
         let mut frames = Frames::new(self.alloc);
         if let Some(check) = &self.check {
-            let body = check.body_of(job, &Progress::Done(report));
+            let body = check.body_of(job, progress);
             if say_if(self.alloc, self.me, body, &mut frames).is_err() {
                 return Err(Fault::NoMemory);
             }
         }
+        Ok(frames)
+    }
+
+    /// Holds a state for the check of its job, where that waits for it in this attempt; where the state
+    /// doesn't fit, the client is told. Where memory runs out nothing changes.
+    pub(crate) fn hold(&mut self, attempt: Attempt, state: &VerifyState) -> Result<Frames, Fault>
+        ensures sent { EachNow self.old (λ now. IfOk result
+            (λ frames. frames ≡ framed now.server (replies now (ToHold attempt state.now)))) }
+        ensures left { EachNow self.old (λ now. IfOk result
+            (λ frames. MachineIs self.new (after now (ToHold attempt state.now)))) }
+        ensures same { OnErr result (self.new ≡ self.old) }
+        ensures memory { OnErr result (result ≡ Err NoMemory) }
+    {
+        let Some(progress) = judge(&self.check, self.me, attempt, state) else {
+            return Ok(Frames::new(self.alloc));
+        };
+        let job = state.key().job;
+        let frames = self.frames_of(job, &progress)?;
+        note(&mut self.check, job, progress);
         Ok(frames)
     }
 
@@ -89,7 +106,8 @@ fn pass(check: &mut Option<OpenCheck>, attempt: Attempt, job: JobNo)
 
 /// Whether the check of a job may be made, in this attempt.
 fn is_ready(check: &Option<OpenCheck>, attempt: Attempt, job: JobNo) -> bool
-    ensures { result ≡ ready_now check.now attempt job }
+    ensures value { result ≡ ready_now check.now attempt job }
+    ensures there { result ≡ true → has_job check.now job ≡ true }
 {
     match check {
         Some(check) => check.is_ready(attempt, job),
@@ -97,18 +115,29 @@ fn is_ready(check: &Option<OpenCheck>, attempt: Attempt, job: JobNo) -> bool
     }
 }
 
-/// Keeps the report of a check that was made.
-fn keep_report(
-    check: &mut Option<OpenCheck>,
+/// What a state makes of the job that it is for, where that waits for one in this attempt.
+fn judge(
+    check: &Option<OpenCheck>,
+    me: ServerNo,
     attempt: Attempt,
-    job: JobNo,
-    report: CheckReport,
-)
-    requires { ready_now check.old attempt job ≡ true }
-    ensures { EachOpen check.old (λ me now_boot c.
-        OpenIs me now_boot check.new (check_goes_on (ToReport now_boot attempt job report) c)) }
+    state: &VerifyState,
+) -> Option<Progress>
+    ensures value { option_map progress_of result ≡ judged_now me check.now attempt state.now }
+    ensures there { MatchOption result (Unit {0})
+        (λ progress. has_job check.now state.now.key.job ≡ true) }
+{
+    match check {
+        Some(check) => check.judge(me, attempt, state),
+        None => None,
+    }
+}
+
+/// Notes how far the check of a job is.
+fn note(check: &mut Option<OpenCheck>, job: JobNo, progress: Progress)
+    requires { has_job check.old job ≡ true }
+    ensures { check.new ≡ option_map (with_progress job (progress_of progress)) check.old }
 {
     if let Some(check) = check {
-        check.set(job, Progress::Done(report));
+        check.set(job, progress);
     }
 }
