@@ -1,0 +1,16 @@
+mod AskedLemmas
+mod ExampleLemmas
+mod FewLemmas
+mod FreshLemmas
+mod HeardLemmas
+mod KeptLemmas
+mod ListLemmas
+mod Looked
+mod NotedLemmas
+mod RangeLemmas
+mod ReasonLemmas
+mod ReportLemmas
+mod SentLemmas
+mod TableLemmas
+mod TextLemmas
+mod TriggerLemmas

@@ -1,0 +1,15 @@
+pub mod Begins
+pub mod Examples
+pub mod History
+pub mod Kept
+pub mod Laws
+pub mod Life
+pub mod Note
+pub mod Outcomes
+pub mod Packets
+pub mod Ranges
+pub mod Refusals
+pub mod Reports
+pub mod Requests
+pub mod Saves
+pub mod Words
