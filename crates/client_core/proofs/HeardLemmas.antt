@@ -17,7 +17,7 @@ use Rattle.disk_model.specs.declared.left.Left.TheVariants.{NoSave, Saved, LostN
 use Rattle.disk_model.specs.Left.{has_new}
 use Rattle.client_core.specs.declared.call.Call.TheVariants.{Deliver}
 use Rattle.client_core.specs.Kept.{kept_of}
-use Rattle.client_core.specs.Note.{Noted}
+use Rattle.client_core.specs.declared.noted.Noted.{Noted}
 use Rattle.client_core.specs.Refusals.{is_for_client, faults_of_body, refusal_by}
 use Rattle.client_core.specs.Saves.{unless_kept, noted_after, is_answer}
 use Rattle.client_core.specs.Laws.{from_server}

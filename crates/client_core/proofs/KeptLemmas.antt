@@ -16,7 +16,7 @@ use Rattle.disk_model.specs.Left.{has_new}
 use Rattle.client_core.specs.declared.call.Call.{Call}
 use Rattle.client_core.specs.declared.call.Call.TheVariants.{Begin, Trigger, Stop, Verify, Deliver, Tick}
 use Rattle.client_core.specs.Kept.{kept_of}
-use Rattle.client_core.specs.Note.{Noted}
+use Rattle.client_core.specs.declared.noted.Noted.{Noted}
 use Rattle.client_core.specs.History.{Opening, Entry, Met, Cut, Restart}
 use Rattle.client_core.specs.Refusals.{is_for_client, refusal_by}
 use Rattle.client_core.specs.Saves.{Addition, NextRun, NextAttempt, Keep, with_addition, unless_kept, addition_by, unless_refused, due_by, noted_after}

@@ -1,4 +1,5 @@
 mod AskedLemmas
+mod EntryLemmas
 mod ExampleLemmas
 mod FewLemmas
 mod FreshLemmas
@@ -6,8 +7,10 @@ mod HeardLemmas
 mod KeptLemmas
 mod ListLemmas
 mod Looked
+mod NoteLemmas
 mod NotedLemmas
 mod RangeLemmas
+mod ReadingLemmas
 mod ReasonLemmas
 mod ReportLemmas
 mod SentLemmas

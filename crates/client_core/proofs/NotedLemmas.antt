@@ -1,14 +1,12 @@
 -- A note stays within its ranges.
-use Rattle.std.proofs.Common.{◌≡◌, refl, sym, ◌∙◌, ℕ, ◌+◌, ◌<◌, ◌≤◌, arith, Bool, true, false, ◌==◌, List, [], ◌∷◌, ◌++◌, length, Option, None, Some, length-append}
-use Rattle.std.specs.Prelude.{if◌then◌else◌, not, is_none, nat_le, ◌^◌, slice_get}
+use Rattle.std.proofs.Common.{◌≡◌, refl, sym, ℕ, ◌+◌, ◌<◌, ◌≤◌, arith, Bool, true, false, List, [], ◌∷◌, ◌++◌, length, Option, None, Some, length-append}
+use Rattle.std.specs.Prelude.{not, nat_le, ◌^◌, slice_get}
 use Rattle.std.specs.List.{AllByRecursion}
-use Rattle.std.proofs.lemmas.Bool.{and_parts, ltb-true}
+use Rattle.std.proofs.lemmas.Bool.{ltb-true}
 use Rattle.std.proofs.lemmas.Bool.Decides.{nat_tests}
-use Rattle.fc_base.specs.declared.numbers.Key.{Key}
 use Rattle.fc_base.specs.declared.fault.Fault.{Fault}
 use Rattle.fc_base.specs.declared.fault.Fault.TheVariants.{Down, JobTooLong, NumbersSpent, NoSuchRun, Conflict, TableFull}
 use Rattle.fc_base.specs.Faults.{when}
-use Rattle.fc_base.specs.Keys.{is_same_key}
 use Rattle.verify_state.specs.State.{State, IsState}
 use Rattle.messages.specs.declared.body.Body.{Body}
 use Rattle.messages.specs.declared.body.Body.TheVariants as bodies
@@ -18,8 +16,9 @@ use Rattle.disk_model.specs.declared.left.Left.{Left}
 use Rattle.disk_model.specs.Left.{has_new}
 use Rattle.client_core.specs.declared.call.Call.{Call}
 use Rattle.client_core.specs.declared.call.Call.TheVariants.{Begin, Trigger, Stop, Verify, Deliver, Tick}
-use Rattle.client_core.specs.Kept.{kept_of, has_distinct_keys}
-use Rattle.client_core.specs.Note.{Noted, IsNoted}
+use Rattle.client_core.specs.Kept.{kept_of}
+use Rattle.client_core.specs.declared.noted.Noted.{Noted}
+use Rattle.client_core.specs.Note.{IsNoted}
 use Rattle.client_core.specs.History.{Entry, Met, Cut, Restart}
 use Rattle.client_core.specs.Refusals.{is_begun, has_next, differs, lacks_room, faults_of_body, refusal_by}
 use Rattle.client_core.specs.Saves.{NextRun, NextAttempt, unless_kept, addition_by, addition_of, unless_refused, noted_after}
@@ -28,6 +27,7 @@ use Rattle.client_core.specs.Ranges.{packet_in, came}
 use Rattle.client_core.specs.Laws.{NotesKeepRanges}
 use Rattle.client_core.proofs.HeardLemmas.{taken_in}
 use Rattle.client_core.proofs.ListLemmas.{all_append}
+use Rattle.client_core.proofs.TableLemmas.{distinct_push}
 
 pub next_left : (used : ℕ) → has_next used ≡ true → used + 1 < 2 ^ 64
 unfolding has_next
@@ -56,39 +56,6 @@ more_room kept s h =
     let e : length (kept ++ s ∷ []) ≡ length kept + 1 = length-append kept (s ∷ []) in
     let l : length kept < 1024 = grind (arith, nat_tests) in
     omega arith
-
--- keys are compared both ways alike
-turned : (a b : Key) → is_same_key a b ≡ is_same_key b a
-turned a b =
-    let r : (a.run == b.run) ≡ (b.run == a.run) = grind (arith, nat_tests) in
-    let s : (a.server == b.server) ≡ (b.server == a.server) = grind (arith, nat_tests) in
-    let j : (a.job == b.job) ≡ (b.job == a.job) = grind (arith, nat_tests) in
-    rw (r, s, j) refl
-
-not_here : (b : Bool) (here : State) (rest : Option State) → (if b then Some here else rest) ≡ None → (b ≡ false) × (rest ≡ None)
-not_here true here rest h = cc
-not_here false here rest h = (refl, h)
-
-none_of : (x : Option State) → is_none x ≡ true → x ≡ None
-none_of None h = refl
-none_of (Some s) h = cc
-
--- a key that isn't there stays absent beside another one
-still_absent : (key : Key) (kept : List State) (s : State) → is_same_key key s.key ≡ false → kept_of key kept ≡ None → kept_of key (kept ++ s ∷ []) ≡ None
-still_absent key [] s h e = rw h refl
-still_absent key (k ∷ kept) s h e =
-    let p = not_here (is_same_key key k.key) k (kept_of key kept) e in
-    let n : is_same_key key k.key ≡ false = p.0 in
-    rw n (still_absent key kept s h p.1)
-
-distinct_push : (kept : List State) (s : State) → kept_of s.key kept ≡ None → has_distinct_keys kept ≡ true → has_distinct_keys (kept ++ s ∷ []) ≡ true
-distinct_push [] s e h = refl
-distinct_push (k ∷ kept) s e h =
-    let p = not_here (is_same_key s.key k.key) k (kept_of s.key kept) e in
-    let q = and_parts (is_none (kept_of k.key kept)) (has_distinct_keys kept) h in
-    let other : is_same_key k.key s.key ≡ false = turned k.key s.key ∙ p.0 in
-    let gone : kept_of k.key (kept ++ s ∷ []) ≡ None = still_absent k.key kept s other (none_of (kept_of k.key kept) q.0) in
-    rw gone (distinct_push kept s p.1 q.1)
 
 one_run : (new : Bool) (n : Noted) → n.runs + 1 < 2 ^ 64 → IsNoted n → IsNoted (noted_after new (Some NextRun) n)
 one_run true n h k = record { runs = h; attempts = k.attempts; count = k.count; states = k.states; keys = k.keys }

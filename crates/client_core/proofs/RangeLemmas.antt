@@ -19,7 +19,8 @@ use Rattle.disk_model.specs.declared.left.Left.{Left}
 use Rattle.client_core.specs.declared.call.Call.{Call}
 use Rattle.client_core.specs.declared.call.Call.TheVariants.{Begin, Trigger, Stop, Verify, Deliver, Tick}
 use Rattle.client_core.specs.Kept.{kept_of}
-use Rattle.client_core.specs.Note.{Noted, IsNoted}
+use Rattle.client_core.specs.declared.noted.Noted.{Noted}
+use Rattle.client_core.specs.Note.{IsNoted}
 use Rattle.client_core.specs.History.{Opening, Entry, Met, Cut, Restart}
 use Rattle.client_core.specs.Refusals.{is_begun, has_next, refusal_by}
 use Rattle.client_core.specs.Saves.{is_answer}
@@ -32,7 +33,8 @@ use Rattle.client_core.proofs.AskedLemmas.{begun_was}
 use Rattle.client_core.proofs.HeardLemmas.{none_or}
 use Rattle.client_core.proofs.ListLemmas.{all_append, all_weaker, each_of}
 use Rattle.client_core.proofs.NotedLemmas.{begin_faults, in_entry, next_left, notes_keep_ranges, verify_faults}
-use Rattle.client_core.proofs.ReasonLemmas.{IsSent, Says, Why, all_sent}
+use Rattle.client_core.proofs.ReadingLemmas.{taken}
+use Rattle.client_core.proofs.ReasonLemmas.{IsSaid, IsSent, Why, all_sent}
 use Rattle.client_core.proofs.TextLemmas.{life_was_done, why_carries}
 
 run_within : (r last : ℕ) → 1 ≤ r → r ≤ last → last < 2 ^ 64 → is_run r ≡ true
@@ -96,7 +98,7 @@ done_in_range o (Restart ∷ past) k h = done_in_range o past k h
 abbrev Fits : Body → Type 0
 Fits body = (is_body body ≡ true) × KeepsState body
 
-said_fits : (c : Call) (left : Left) (s : ℕ) (body : Body) → Says c s body → AllByRecursion IsPacket (packet_in (Met c left)) → Fits body
+said_fits : (c : Call) (left : Left) (s : ℕ) (body : Body) → IsSaid c s body → AllByRecursion IsPacket (packet_in (Met c left)) → Fits body
 said_fits c left s body e h =
     let k : IsPacket (from_server body s) = (subst (λ d. AllByRecursion IsPacket (packet_in (Met d left))) e h).0 in
     ((and_parts (nat_lt s 8 && true) (is_body body) k.in_range).1, k.state)

@@ -12,7 +12,7 @@ use Rattle.disk_model.specs.declared.left.Left.{Left}
 use Rattle.client_core.specs.declared.call.Call.{Call}
 use Rattle.client_core.specs.declared.call.Call.TheVariants.{Begin, Trigger, Stop, Verify, Deliver, Tick}
 use Rattle.client_core.specs.Kept.{kept_of}
-use Rattle.client_core.specs.Note.{Noted}
+use Rattle.client_core.specs.declared.noted.Noted.{Noted}
 use Rattle.client_core.specs.History.{Opening, Entry, Met}
 use Rattle.client_core.specs.Refusals.{refusal_by}
 use Rattle.client_core.specs.Saves.{is_answer}
@@ -39,8 +39,8 @@ IsAsked (requests.Open ts) = Unit {0}
 IsAsked _ = ⊥
 
 -- the server says this
-abbrev pub Says : Call → ℕ → Body → Type 0
-Says c s body = c ≡ Deliver (from_server body s)
+abbrev pub IsSaid : Call → ℕ → Body → Type 0
+IsSaid c s body = c ≡ Deliver (from_server body s)
 
 -- why this goes to the server
 abbrev pub Why : Noted → List Deed → Call → ℕ → Body → Type 0
@@ -48,13 +48,13 @@ Why n deeds c s (bodies.Jobs run text) = ((c ≡ Begin text) × (run ≡ n.runs 
 Why n deeds c s (bodies.Start run) = IsBegun (begin_at run s deeds)
 Why n deeds c s (bodies.Trigger run act) = (c ≡ Trigger run act) ⊎ ((1 ≤ run) × (run ≤ n.runs))
 Why n deeds c s (bodies.StateAck run job) =
-    ((jobs : ℕ) × (state : State) × Says c s (bodies.State jobs state) × (run ≡ state.key.run) × (job ≡ state.key.job)) ⊎ ((jobs : ℕ) × Says c s (bodies.NoState run job jobs))
+    ((jobs : ℕ) × (state : State) × IsSaid c s (bodies.State jobs state) × (run ≡ state.key.run) × (job ≡ state.key.job)) ⊎ ((jobs : ℕ) × IsSaid c s (bodies.NoState run job jobs))
 Why n deeds c s (bodies.Stop run) = (c ≡ Stop run) ⊎ ((1 ≤ run) × (run ≤ n.runs))
 Why n deeds c s (bodies.Verify run attempt text) =
     ((c ≡ Verify run text) × (attempt ≡ n.attempts + 1)) ⊎ ((run ≡ run_of attempt deeds) × (text ≡ check_of attempt deeds) × IsAsked (verify_at attempt s deeds))
 Why n deeds c s (bodies.Saved attempt state) =
-    (run : ℕ) × (job : ℕ) × Says c s (bodies.WantState run attempt job) × (kept_of (record { run = run; server = s; job = job }) n.kept ≡ Some state)
-Why n deeds c s (bodies.NoSaved run attempt job) = Says c s (bodies.WantState run attempt job)
+    (run : ℕ) × (job : ℕ) × IsSaid c s (bodies.WantState run attempt job) × (kept_of (record { run = run; server = s; job = job }) n.kept ≡ Some state)
+Why n deeds c s (bodies.NoSaved run attempt job) = IsSaid c s (bodies.WantState run attempt job)
 Why n deeds c s _ = ⊥
 
 -- a packet that is sent
@@ -72,12 +72,12 @@ jobs_again : (servers : ℕ) (n : Noted) (deeds : List Deed) (c : Call) (run s :
 jobs_again servers n deeds c run s begins.Starting l e = ((s, l, refl, inr (refl, subst IsBegun (sym e) tt)), tt)
 jobs_again servers n deeds c run s _ l e = tt
 
-wanted : (servers : ℕ) (n : Noted) (deeds : List Deed) (c : Call) (run attempt job s : ℕ) (x : Option State) → s < servers → Says c s (bodies.WantState run attempt job) → kept_of (record { run = run; server = s; job = job }) n.kept ≡ x
+wanted : (servers : ℕ) (n : Noted) (deeds : List Deed) (c : Call) (run attempt job s : ℕ) (x : Option State) → s < servers → IsSaid c s (bodies.WantState run attempt job) → kept_of (record { run = run; server = s; job = job }) n.kept ≡ x
     → Sends servers n deeds c (state_for run attempt job s x)
 wanted servers n deeds c run attempt job s (Some state) l h e = (s, l, refl, (run, job, h, e))
 wanted servers n deeds c run attempt job s None l h e = (s, l, refl, h)
 
-replied : (servers : ℕ) (n : Noted) (deeds : List Deed) (c : Call) (s : ℕ) (body : Body) → s < servers → Says c s body → AllByRecursion (Sends servers n deeds c) (replies n deeds s body)
+replied : (servers : ℕ) (n : Noted) (deeds : List Deed) (c : Call) (s : ℕ) (body : Body) → s < servers → IsSaid c s body → AllByRecursion (Sends servers n deeds c) (replies n deeds s body)
 replied servers n deeds c s (bodies.JobsOk run jobs) l h = starting servers n deeds c run s (begin_at run s deeds) l refl
 replied servers n deeds c s (bodies.State jobs state) l h = ((s, l, refl, inl (jobs, state, h, refl, refl)), tt)
 replied servers n deeds c s (bodies.NoState run job jobs) l h = ((s, l, refl, inr (jobs, h)), tt)

@@ -15,7 +15,7 @@ use Rattle.disk_model.specs.Left.{has_new}
 use Rattle.client_core.specs.declared.call.Call.{Call}
 use Rattle.client_core.specs.declared.call.Call.TheVariants.{Deliver}
 use Rattle.client_core.specs.Kept.{kept_of}
-use Rattle.client_core.specs.Note.{Noted}
+use Rattle.client_core.specs.declared.noted.Noted.{Noted}
 use Rattle.client_core.specs.History.{Opening, Entry, Met, Cut, Restart}
 use Rattle.client_core.specs.Saves.{unless_kept, unless_refused, noted_after, is_answer}
 use Rattle.client_core.specs.Words.{is_on, noted, refusal, is_answered}
@@ -25,7 +25,7 @@ use Rattle.client_core.specs.Ranges.{packet_in}
 use Rattle.client_core.specs.Laws.{from_server, SavedIsKept, AcksAreFor, PacketsGoToServers}
 use Rattle.client_core.proofs.HeardLemmas.{has_one, own_state, taken_in}
 use Rattle.client_core.proofs.ListLemmas.{first_of, none_in}
-use Rattle.client_core.proofs.ReasonLemmas.{Says, Why, sent_why}
+use Rattle.client_core.proofs.ReasonLemmas.{IsSaid, Why, sent_why}
 use Rattle.client_core.proofs.TableLemmas.{key_of_found}
 
 client_kind : (n : Noted) (deeds : List Deed) (c : Call) (s : ℕ) (body : Body) → Why n deeds c s body → is_of_client (kind_of body) ≡ true
@@ -62,7 +62,7 @@ answered_one : (n : Noted) (left : Left) (state : State) (r : Option Fault) → 
 answered_one n left state None a = has_one n left (kept_of state.key n.kept) state refl a
 answered_one n left state (Some f) a = cc
 
-kept_by : (o : Opening) (past : List Entry) (c : Call) (left : Left) (jobs s : ℕ) (state : State) → Says c s (bodies.State jobs state) → is_answered o past c left ≡ true → refusal o past c ≡ None
+kept_by : (o : Opening) (past : List Entry) (c : Call) (left : Left) (jobs s : ℕ) (state : State) → IsSaid c s (bodies.State jobs state) → is_answered o past c left ≡ true → refusal o past c ≡ None
     → (state.key.server ≡ s) × ((x : State) × (kept_of state.key (noted o (Met c left ∷ past)).kept ≡ Some x))
 kept_by o past c left jobs s state e a r =
     let p = from_server (bodies.State jobs state) s in

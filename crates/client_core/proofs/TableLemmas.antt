@@ -1,12 +1,12 @@
 -- Look-ups in a table of states.
 use Rattle.std.proofs.Common.{◌≡◌, refl, sym, ◌∙◌, ap, ◌⊎◌, inl, inr, arith, Bool, true, false, ◌&&◌, ◌==◌, List, [], ◌∷◌, ◌++◌, Option, None, Some}
-use Rattle.std.specs.Prelude.{if◌then◌else◌}
+use Rattle.std.specs.Prelude.{if◌then◌else◌, is_none}
 use Rattle.std.proofs.lemmas.Bool.{and_parts, eqb-true}
 use Rattle.std.proofs.lemmas.Bool.Decides.{nat_tests}
 use Rattle.fc_base.specs.declared.numbers.Key.{Key}
 use Rattle.fc_base.specs.Keys.{is_same_key}
 use Rattle.verify_state.specs.State.{State}
-use Rattle.client_core.specs.Kept.{kept_of}
+use Rattle.client_core.specs.Kept.{kept_of, has_distinct_keys}
 use Rattle.client_core.specs.Words.{kept}
 
 pub same_key : (a b : Key) → is_same_key a b ≡ true → a ≡ b
@@ -67,3 +67,55 @@ pub found_last : (key : Key) (kept : List State) (state : State) → is_same_key
 found_last key [] state own h = rw own refl
 found_last key (k ∷ kept) state own h =
     absent_here (is_same_key key k.key) k state (kept_of key kept) (kept_of key (kept ++ state ∷ [])) h (λ e. found_last key kept state own e)
+
+-- keys are compared both ways alike
+pub turned : (a b : Key) → is_same_key a b ≡ is_same_key b a
+turned a b =
+    let r : (a.run == b.run) ≡ (b.run == a.run) = grind (arith, nat_tests) in
+    let s : (a.server == b.server) ≡ (b.server == a.server) = grind (arith, nat_tests) in
+    let j : (a.job == b.job) ≡ (b.job == a.job) = grind (arith, nat_tests) in
+    rw (r, s, j) refl
+
+pub not_here : (b : Bool) (here : State) (rest : Option State) → (if b then Some here else rest) ≡ None → (b ≡ false) × (rest ≡ None)
+not_here true here rest h = cc
+not_here false here rest h = (refl, h)
+
+pub none_of : (x : Option State) → is_none x ≡ true → x ≡ None
+none_of None h = refl
+none_of (Some s) h = cc
+
+-- a key that isn't there stays absent beside another one
+still_absent : (key : Key) (kept : List State) (s : State) → is_same_key key s.key ≡ false → kept_of key kept ≡ None → kept_of key (kept ++ s ∷ []) ≡ None
+still_absent key [] s h e = rw h refl
+still_absent key (k ∷ kept) s h e =
+    let p = not_here (is_same_key key k.key) k (kept_of key kept) e in
+    let n : is_same_key key k.key ≡ false = p.0 in
+    rw n (still_absent key kept s h p.1)
+
+pub distinct_push : (kept : List State) (s : State) → kept_of s.key kept ≡ None → has_distinct_keys kept ≡ true → has_distinct_keys (kept ++ s ∷ []) ≡ true
+distinct_push [] s e h = refl
+distinct_push (k ∷ kept) s e h =
+    let p = not_here (is_same_key s.key k.key) k (kept_of s.key kept) e in
+    let q = and_parts (is_none (kept_of k.key kept)) (has_distinct_keys kept) h in
+    let other : is_same_key k.key s.key ≡ false = turned k.key s.key ∙ p.0 in
+    let gone : kept_of k.key (kept ++ s ∷ []) ≡ None = still_absent k.key kept s other (none_of (kept_of k.key kept) q.0) in
+    rw gone (distinct_push kept s p.1 q.1)
+
+-- what stands in front of others keeps its keys apart
+front_absent : (key : Key) (kept extra : List State) → kept_of key (kept ++ extra) ≡ None → kept_of key kept ≡ None
+front_absent key [] extra h = refl
+front_absent key (k ∷ kept) extra h =
+    let p = not_here (is_same_key key k.key) k (kept_of key (kept ++ extra)) h in
+    let n : is_same_key key k.key ≡ false = p.0 in
+    rw n (front_absent key kept extra p.1)
+
+is_absent : (x : Option State) → x ≡ None → is_none x ≡ true
+is_absent None h = refl
+is_absent (Some s) h = cc
+
+pub distinct_front : (kept extra : List State) → has_distinct_keys (kept ++ extra) ≡ true → has_distinct_keys kept ≡ true
+distinct_front [] extra h = refl
+distinct_front (k ∷ kept) extra h =
+    let p = and_parts (is_none (kept_of k.key (kept ++ extra))) (has_distinct_keys (kept ++ extra)) h in
+    let n : is_none (kept_of k.key kept) ≡ true = is_absent (kept_of k.key kept) (front_absent k.key kept extra (none_of (kept_of k.key (kept ++ extra)) p.0)) in
+    rw n (distinct_front kept extra p.1)

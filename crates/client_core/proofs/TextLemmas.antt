@@ -12,7 +12,7 @@ use Rattle.messages.specs.declared.body.Body.TheVariants as bodies
 use Rattle.disk_model.specs.declared.left.Left.{Left}
 use Rattle.client_core.specs.declared.call.Call.{Call}
 use Rattle.client_core.specs.declared.call.Call.TheVariants.{Begin, Verify}
-use Rattle.client_core.specs.Note.{Noted}
+use Rattle.client_core.specs.declared.noted.Noted.{Noted}
 use Rattle.client_core.specs.History.{Opening, Entry, Met, Cut, Restart}
 use Rattle.client_core.specs.Words.{noted, is_answered}
 use Rattle.client_core.specs.Life.{Deed, Begins, Verifies, deeds_of, life, done, text_of, run_of, check_of}

@@ -2,7 +2,7 @@
 use Rattle.std.specs.Prelude.{ℕ}
 use Rattle.disk_model.specs.declared.left.Left.{Left}
 use Rattle.client_core.specs.declared.call.Call.{Call}
-use Rattle.client_core.specs.Note.{Noted}
+use Rattle.client_core.specs.declared.noted.Noted.{Noted}
 
 -- How many servers a client drives, and what its note says at the opening.
 pub record Opening : Type 0 where

@@ -16,7 +16,8 @@ use Rattle.client_core.specs.declared.call.Call.{Call}
 use Rattle.client_core.specs.declared.call.Call.TheVariants.{Tick}
 use Rattle.client_core.specs.declared.received.Received.{Received}
 use Rattle.client_core.specs.Kept.{kept_of}
-use Rattle.client_core.specs.Note.{Noted, IsNoted}
+use Rattle.client_core.specs.declared.noted.Noted.{Noted}
+use Rattle.client_core.specs.Note.{IsNoted}
 use Rattle.client_core.specs.History.{Opening, Entry, Met}
 use Rattle.client_core.specs.Words.{is_on, noted, kept, looked}
 use Rattle.client_core.specs.Life.{Deed, Begins, Verifies, life, done}

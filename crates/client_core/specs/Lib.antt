@@ -8,8 +8,10 @@ pub mod Note
 pub mod Outcomes
 pub mod Packets
 pub mod Ranges
+pub mod Reading
 pub mod Refusals
 pub mod Reports
 pub mod Requests
 pub mod Saves
+pub mod Table
 pub mod Words

@@ -6,7 +6,7 @@ use Rattle.messages.specs.declared.refusal.Act.TheVariants as acts
 use Rattle.messages.specs.Nodes.{node_number}
 use Rattle.client_core.specs.declared.call.Call.{Call}
 use Rattle.client_core.specs.declared.call.Call.TheVariants.{Begin, Trigger, Stop, Verify, Deliver, Tick}
-use Rattle.client_core.specs.Note.{Noted}
+use Rattle.client_core.specs.declared.noted.Noted.{Noted}
 use Rattle.client_core.specs.History.{Opening, Entry, Met, Cut, Restart}
 use Rattle.client_core.specs.Words.{noted, is_answered}
 

@@ -17,7 +17,7 @@ use Rattle.messages.specs.Ranges.{is_text}
 use Rattle.client_core.specs.declared.call.Call.{Call}
 use Rattle.client_core.specs.declared.call.Call.TheVariants.{Begin, Trigger, Stop, Verify, Deliver, Tick}
 use Rattle.client_core.specs.Kept.{kept_of}
-use Rattle.client_core.specs.Note.{Noted}
+use Rattle.client_core.specs.declared.noted.Noted.{Noted}
 
 -- The node is one of so many servers.
 abbrev pub is_server_of : ℕ → Node → Bool

@@ -9,7 +9,7 @@ use Rattle.messages.specs.declared.body.Body.TheVariants as bodies
 use Rattle.client_core.specs.declared.call.Call.{Call}
 use Rattle.client_core.specs.declared.call.Call.TheVariants.{Begin, Trigger, Stop, Verify, Deliver, Tick}
 use Rattle.client_core.specs.Kept.{kept_of}
-use Rattle.client_core.specs.Note.{Noted}
+use Rattle.client_core.specs.declared.noted.Noted.{Noted}
 use Rattle.client_core.specs.Refusals.{refusal_by}
 
 -- One more run, one more attempt, or one more state.

@@ -8,7 +8,7 @@ use Rattle.disk_model.specs.Left.{has_new, is_lost}
 use Rattle.verify_state.specs.State.{State}
 use Rattle.client_core.specs.declared.call.Call.{Call}
 use Rattle.client_core.specs.Kept.{kept_of}
-use Rattle.client_core.specs.Note.{Noted}
+use Rattle.client_core.specs.declared.noted.Noted.{Noted}
 use Rattle.client_core.specs.History.{Opening, Entry, Met, Cut, Restart}
 use Rattle.client_core.specs.Refusals.{refusal_by}
 use Rattle.client_core.specs.Saves.{Addition, due_by, noted_after, is_answer}
