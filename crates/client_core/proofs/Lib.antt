@@ -1,4 +1,5 @@
 mod AskedLemmas
+mod ClientLemmas
 mod EntryLemmas
 mod ExampleLemmas
 mod FewLemmas

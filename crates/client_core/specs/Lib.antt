@@ -13,5 +13,6 @@ pub mod Refusals
 pub mod Reports
 pub mod Requests
 pub mod Saves
+pub mod Stands
 pub mod Table
 pub mod Words

@@ -3,13 +3,16 @@
 #![tactic(auto)]
 
 mod call;
+mod client;
 mod kept;
 mod law;
 mod noted;
 mod outcome;
 mod received;
+mod refusal;
 
 pub use call::Call;
+pub use client::Client;
 pub use kept::{KEPT_LIMIT, Kept};
 pub use law::{
     acks_are_for_kept_states, examples, first_kept_stays, kept_was_sent, looks_at_all,
