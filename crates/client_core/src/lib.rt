@@ -22,3 +22,6 @@ pub use law::{
 pub use noted::{Noted, notes_are_read_back, one_note};
 pub use outcome::{Outcome, RequestKind};
 pub use received::Received;
+
+#[cfg(test)]
+mod tests;
