@@ -9,8 +9,9 @@ use Rattle.messages.specs.declared.refusal.Asked.TheVariants as asks
 use Rattle.messages.specs.declared.refusal.Reason.{Reason}
 use Rattle.messages.specs.declared.refusal.Reason.TheVariants as reasons
 use Rattle.client_core.specs.Life.{Deed, Begins, Triggers, Stops, Verifies, Hears, text_of, run_of, check_of}
-use Rattle.client_core.specs.Begins.{Beginning, staged, started, jobs_refused, start_refused, begin_refused, begin_heard, begin_at}
-use Rattle.client_core.specs.Begins as begins
+use Rattle.client_core.specs.declared.beginning.Beginning.{Beginning}
+use Rattle.client_core.specs.Begins.{staged, started, jobs_refused, start_refused, begin_refused, begin_heard, begin_at}
+use Rattle.client_core.specs.declared.beginning.Beginning.TheVariants as begins
 use Rattle.client_core.specs.Requests.{Telling, Request, told, refused, check_refused, verify_refused, verify_heard, verify_at}
 use Rattle.client_core.specs.Requests as requests
 use Rattle.client_core.proofs.ListLemmas.{behind_one, first_of}

@@ -12,8 +12,9 @@ use Rattle.client_core.specs.declared.call.Call.TheVariants.{Begin, Trigger, Sto
 use Rattle.client_core.specs.declared.noted.Noted.{Noted}
 use Rattle.client_core.specs.Words.{noted, is_answered}
 use Rattle.client_core.specs.Life.{Deed, life, text_of}
-use Rattle.client_core.specs.Begins.{Beginning, begin_at}
-use Rattle.client_core.specs.Begins as begins
+use Rattle.client_core.specs.declared.beginning.Beginning.{Beginning}
+use Rattle.client_core.specs.Begins.{begin_at}
+use Rattle.client_core.specs.declared.beginning.Beginning.TheVariants as begins
 use Rattle.client_core.specs.Packets.{to_server, to_all, start_for, jobs_for, lacks_jobs, replies, packets_for}
 use Rattle.client_core.specs.Laws.{is_tick, PacketsAreFew}
 

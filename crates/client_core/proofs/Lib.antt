@@ -15,6 +15,7 @@ mod ReadingLemmas
 mod ReasonLemmas
 mod ReportLemmas
 mod SentLemmas
+mod StandingLemmas
 mod TableLemmas
 mod TextLemmas
 mod TriggerLemmas

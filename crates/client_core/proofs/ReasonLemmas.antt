@@ -18,8 +18,9 @@ use Rattle.client_core.specs.Refusals.{refusal_by}
 use Rattle.client_core.specs.Saves.{is_answer}
 use Rattle.client_core.specs.Words.{is_on, noted, refusal, due, is_answered}
 use Rattle.client_core.specs.Life.{Deed, life, text_of, act_of, run_of, check_of}
-use Rattle.client_core.specs.Begins.{Beginning, begin_at}
-use Rattle.client_core.specs.Begins as begins
+use Rattle.client_core.specs.declared.beginning.Beginning.{Beginning}
+use Rattle.client_core.specs.Begins.{begin_at}
+use Rattle.client_core.specs.declared.beginning.Beginning.TheVariants as begins
 use Rattle.client_core.specs.Requests.{Request, trigger_at, stop_at, verify_at}
 use Rattle.client_core.specs.Requests as requests
 use Rattle.client_core.specs.Packets.{to_server, to_all, start_for, jobs_for, lacks_jobs, state_for, replies, begin_again, again, run_again, attempt_again, packets_for, packets}

@@ -6,15 +6,9 @@ use Rattle.messages.specs.declared.refusal.Asked.{Asked}
 use Rattle.messages.specs.declared.refusal.Asked.TheVariants as asks
 use Rattle.messages.specs.declared.refusal.Reason.{Reason}
 use Rattle.messages.specs.declared.refusal.Reason.TheVariants as reasons
+use Rattle.client_core.specs.declared.beginning.Beginning.{Beginning}
+use Rattle.client_core.specs.declared.beginning.Beginning.TheVariants.{Unbegun, Staging, Starting, Started, Denied}
 use Rattle.client_core.specs.Life.{Deed, Begins, Hears}
-
--- How far the begin of a run is at a server.
-pub data Beginning : Type 0 where
-  Unbegun : Beginning  -- it was not asked for
-  Staging : Beginning  -- Jobs is open
-  Starting : Beginning  -- Start is open
-  Started : Beginning  -- it ended well
-  Denied : Reason → Beginning  -- it was refused
 
 -- JobsOk answers Jobs, and Start is opened.
 abbrev pub staged : Beginning → Beginning

@@ -13,6 +13,7 @@ pub mod Refusals
 pub mod Reports
 pub mod Requests
 pub mod Saves
+pub mod Standing
 pub mod Stands
 pub mod Table
 pub mod Words

@@ -8,8 +8,9 @@ use Rattle.client_core.specs.declared.outcome.RequestKind.{RequestKind}
 use Rattle.client_core.specs.declared.outcome.RequestKind.TheVariants as kinds
 use Rattle.client_core.specs.History.{Opening, Entry}
 use Rattle.client_core.specs.Life.{Deed, life}
-use Rattle.client_core.specs.Begins as begins
-use Rattle.client_core.specs.Begins.{Beginning, begin_at}
+use Rattle.client_core.specs.declared.beginning.Beginning.TheVariants as begins
+use Rattle.client_core.specs.declared.beginning.Beginning.{Beginning}
+use Rattle.client_core.specs.Begins.{begin_at}
 use Rattle.client_core.specs.Requests as requests
 use Rattle.client_core.specs.Requests.{Request, trigger_at, stop_at, verify_at}
 

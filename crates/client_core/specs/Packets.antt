@@ -19,8 +19,9 @@ use Rattle.client_core.specs.declared.noted.Noted.{Noted}
 use Rattle.client_core.specs.History.{Opening, Entry, Met, Cut, Restart}
 use Rattle.client_core.specs.Words.{noted, is_answered}
 use Rattle.client_core.specs.Life.{Deed, life, text_of, act_of, run_of, check_of}
-use Rattle.client_core.specs.Begins as begins
-use Rattle.client_core.specs.Begins.{Beginning, begin_at}
+use Rattle.client_core.specs.declared.beginning.Beginning.TheVariants as begins
+use Rattle.client_core.specs.declared.beginning.Beginning.{Beginning}
+use Rattle.client_core.specs.Begins.{begin_at}
 use Rattle.client_core.specs.Requests as requests
 use Rattle.client_core.specs.Requests.{Request, trigger_at, stop_at, verify_at}
 

@@ -1,6 +1,6 @@
 //! The states that a client keeps.
 
-ghost use Rattle.std.specs.Prelude.{◌≡◌, ◌<◌, ◌≤◌, [], ◌∷◌, ◌++◌, length, is_some, None, OnOk, OnErr, IsTrue};
+ghost use Rattle.std.specs.Prelude.{◌≡◌, ◌<◌, ◌≤◌, [], ◌∷◌, ◌++◌, length, is_some, None, IfNone, OnOk, OnErr, IsTrue};
 ghost use Rattle.std.specs.Option.{option_copied, option_to_list};
 ghost use Rattle.client_core.specs.Kept.{kept_of, has_distinct_keys};
 
@@ -81,9 +81,10 @@ impl Kept {
         Ok(())
     }
 
-    /// Takes out the state that came last.
+    /// Takes out the state that came last, if there is one.
     pub fn pop(&mut self) -> Option<VerifyState>
-        ensures { self.old ≡ self.new ++ option_to_list result }
+        ensures last { self.old ≡ self.new ++ option_to_list result }
+        ensures none { IfNone result (self.old ≡ []) }
     {
         Some(self.by_key.pop()?.1)
     }

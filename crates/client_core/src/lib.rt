@@ -2,6 +2,7 @@
 //! laws that hold of every list.
 #![tactic(auto)]
 
+mod beginning;
 mod call;
 mod client;
 mod kept;
@@ -10,7 +11,9 @@ mod noted;
 mod outcome;
 mod received;
 mod refusal;
+mod standing;
 
+pub use beginning::Beginning;
 pub use call::Call;
 pub use client::Client;
 pub use kept::{KEPT_LIMIT, Kept};

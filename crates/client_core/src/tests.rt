@@ -13,36 +13,26 @@ use verify_state::VerifyState;
 /// The note of one run and one attempt, with the state of a job that has issued two writes, of which
 /// the first is done.
 const NOTE: &[u8] = &[
-    70, 67, 67, 49, 0, 0, 0, 0, 0, 0, 0, 1, 0, 0, 0, 0,
-    0, 0, 0, 1, 0, 0, 0, 1, 0, 0, 0, 136, 70, 67, 86, 50,
-    0, 0, 0, 0, 0, 0, 0, 1, 0, 0, 0, 0, 0, 0, 0, 0,
-    0, 0, 0, 0, 0, 0, 2, 0, 0, 0, 0, 2, 0, 0, 0, 0,
-    0, 0, 0, 2, 0, 0, 0, 0, 0, 0, 0, 1, 0, 0, 0, 2,
-    0, 0, 0, 2, 0, 0, 0, 0, 0, 0, 0, 2, 207, 197, 208, 127,
-    111, 3, 194, 155, 191, 66, 65, 50, 150, 63, 224, 141, 25, 163, 125, 87,
-    87, 170, 245, 32, 191, 8, 17, 159, 5, 205, 86, 214, 0, 0, 0, 0,
-    0, 0, 0, 0, 0, 0, 0, 0, 0, 0, 0, 1, 0, 0, 0, 0,
-    0, 0, 0, 0, 0, 0, 0, 0, 0, 0, 0, 0, 0, 0, 0, 0,
-    0, 0, 0, 0,
+    70, 67, 67, 49, 0, 0, 0, 0, 0, 0, 0, 1, 0, 0, 0, 0, 0, 0, 0, 1, 0, 0, 0, 1, 0, 0, 0, 136, 70,
+    67, 86, 50, 0, 0, 0, 0, 0, 0, 0, 1, 0, 0, 0, 0, 0, 0, 0, 0, 0, 0, 0, 0, 0, 0, 2, 0, 0, 0, 0, 2,
+    0, 0, 0, 0, 0, 0, 0, 2, 0, 0, 0, 0, 0, 0, 0, 1, 0, 0, 0, 2, 0, 0, 0, 2, 0, 0, 0, 0, 0, 0, 0, 2,
+    207, 197, 208, 127, 111, 3, 194, 155, 191, 66, 65, 50, 150, 63, 224, 141, 25, 163, 125, 87, 87,
+    170, 245, 32, 191, 8, 17, 159, 5, 205, 86, 214, 0, 0, 0, 0, 0, 0, 0, 0, 0, 0, 0, 0, 0, 0, 0, 1,
+    0, 0, 0, 0, 0, 0, 0, 0, 0, 0, 0, 0, 0, 0, 0, 0, 0, 0, 0, 0, 0, 0, 0, 0,
 ];
 
 /// The same note with the state in layout 1.
 const LISTED: &[u8] = &[
-    70, 67, 67, 49, 0, 0, 0, 0, 0, 0, 0, 1, 0, 0, 0, 0,
-    0, 0, 0, 1, 0, 0, 0, 1, 0, 0, 0, 108, 70, 67, 86, 49,
-    0, 0, 0, 0, 0, 0, 0, 1, 0, 0, 0, 0, 0, 0, 0, 0,
-    0, 0, 0, 0, 0, 0, 2, 0, 0, 0, 0, 2, 0, 0, 0, 0,
-    0, 0, 0, 2, 0, 0, 0, 0, 0, 0, 0, 1, 0, 0, 0, 2,
-    0, 0, 0, 2, 0, 0, 0, 0, 0, 0, 0, 2, 207, 197, 208, 127,
-    111, 3, 194, 155, 191, 66, 65, 50, 150, 63, 224, 141, 25, 163, 125, 87,
-    87, 170, 245, 32, 191, 8, 17, 159, 5, 205, 86, 214, 0, 0, 0, 1,
-    0, 0, 0, 0, 0, 0, 0, 0,
+    70, 67, 67, 49, 0, 0, 0, 0, 0, 0, 0, 1, 0, 0, 0, 0, 0, 0, 0, 1, 0, 0, 0, 1, 0, 0, 0, 108, 70,
+    67, 86, 49, 0, 0, 0, 0, 0, 0, 0, 1, 0, 0, 0, 0, 0, 0, 0, 0, 0, 0, 0, 0, 0, 0, 2, 0, 0, 0, 0, 2,
+    0, 0, 0, 0, 0, 0, 0, 2, 0, 0, 0, 0, 0, 0, 0, 1, 0, 0, 0, 2, 0, 0, 0, 2, 0, 0, 0, 0, 0, 0, 0, 2,
+    207, 197, 208, 127, 111, 3, 194, 155, 191, 66, 65, 50, 150, 63, 224, 141, 25, 163, 125, 87, 87,
+    170, 245, 32, 191, 8, 17, 159, 5, 205, 86, 214, 0, 0, 0, 1, 0, 0, 0, 0, 0, 0, 0, 0,
 ];
 
 /// The note of no run, no attempt and no state.
 const BLANK: &[u8] = &[
-    70, 67, 67, 49, 0, 0, 0, 0, 0, 0, 0, 0, 0, 0, 0, 0,
-    0, 0, 0, 0, 0, 0, 0, 0,
+    70, 67, 67, 49, 0, 0, 0, 0, 0, 0, 0, 0, 0, 0, 0, 0, 0, 0, 0, 0, 0, 0, 0, 0,
 ];
 
 /// The key of the state.
@@ -54,6 +44,7 @@ const KEPT: Key = Key {
 
 /// Where the number of states stands in a note, and where the first state's bytes begin.
 const COUNT_AT: usize = 20;
+
 const STATE_AT: usize = 28;
 
 fn is_note(alloc: Global, bytes: &[u8]) -> Result<bool, Fail> {
@@ -89,8 +80,17 @@ fn what_is_no_note(rt: HostRuntime) -> Result<(), Fail> {
     for len in 1..NOTE.len() {
         assert!(rt; !is_note(rt.alloc(), &NOTE[..len])?, "of length {len}");
     }
-    for (at, byte) in [(0, 0), (COUNT_AT, 1), (COUNT_AT + 3, 0), (COUNT_AT + 3, 2), (STATE_AT, 0)] {
-        assert!(rt; !is_note(rt.alloc(), &changed(rt.alloc(), at, byte)?)?, "with another byte at {at}");
+    for (at, byte) in [
+        (0, 0),
+        (COUNT_AT, 1),
+        (COUNT_AT + 3, 0),
+        (COUNT_AT + 3, 2),
+        (STATE_AT, 0),
+    ] {
+        assert!(rt;
+            !is_note(rt.alloc(), &changed(rt.alloc(), at, byte)?)?,
+            "with another byte at {at}"
+        );
     }
     Ok(())
 }
@@ -112,7 +112,10 @@ fn a_client_is_opened(rt: HostRuntime) -> Result<(), Fail> {
     assert!(rt; client.on());
     assert!(rt; client.runs_used() == 1 && client.attempts_used() == 1);
     assert!(rt; client.saved(KEPT).is_some());
-    let other = Key { job: JobNo(1), ..KEPT };
+    let other = Key {
+        job: JobNo(1),
+        ..KEPT
+    };
     assert!(rt; client.saved(other).is_none());
     assert!(rt; left_by(client)?.as_slice() == LISTED);
     Ok(())
