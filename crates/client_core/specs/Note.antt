@@ -1,5 +1,5 @@
 -- The durable note of a client: what it says, and its bytes.
-use Rattle.std.specs.Prelude.{◌≡◌, ◌⊎◌, ℕ, ◌^◌, ◌<◌, ◌≤◌, List, [], ◌∷◌, ◌++◌, length, map, codes, Option, Some, None, IsTrue}
+use Rattle.std.specs.Prelude.{◌≡◌, ◌⊎◌, ℕ, Bool, ◌&&◌, ◌==◌, ◌^◌, ◌<◌, ◌≤◌, List, [], ◌∷◌, ◌++◌, length, map, codes, Option, Some, None, IsTrue}
 use Rattle.std.specs.List.{flat_map, AllByRecursion}
 use Rattle.std.specs.Int.{w32, w64, to_be_bytes}
 use Rattle.verify_state.specs.State.{State, IsState}
@@ -11,6 +11,10 @@ use Rattle.client_core.specs.Kept.{has_distinct_keys}
 -- What a blank note says.
 abbrev pub blank : Noted
 blank = record { runs = 0; attempts = 0; kept = [] }
+
+-- The note says that.
+abbrev pub is_blank : Noted → Bool
+is_blank n = (n.runs == 0) && ((n.attempts == 0) && (length n.kept == 0))
 
 -- The bytes of a state behind their number.
 abbrev pub counted_bytes : List ℕ → List ℕ

@@ -3,7 +3,7 @@
 ghost use Rattle.std.specs.Prelude.{◌≡◌, ◌≤◌, ◌∷◌, List, Some, None, not};
 ghost use Rattle.std.specs.Option.{option_copied};
 ghost use Rattle.client_core.specs.History.{Opening, Entry};
-ghost use Rattle.client_core.specs.Note.{Says};
+ghost use Rattle.client_core.specs.Note.{Says, is_blank};
 ghost use Rattle.client_core.specs.declared.call.Call.TheVariants.{Deliver};
 ghost use Rattle.client_core.specs.Refusals.{refusal_by};
 ghost use Rattle.client_core.specs.Words.{is_on, noted, kept, looked, would_save};
@@ -85,6 +85,13 @@ impl<N: Notes> Client<N> {
         ensures { (o : Opening) (past : List Entry) → StandsFor N.note self.now o past → result ≡ (noted o (looked past)).attempts }
     {
         self.noted.attempts
+    }
+
+    /// Whether its note says what a blank one says: nothing was begun, and no state is kept.
+    pub fn is_blank(&self) -> bool
+        ensures { (o : Opening) (past : List Entry) → StandsFor N.note self.now o past → result ≡ is_blank (noted o (looked past)) }
+    {
+        self.noted.is_blank()
     }
 
     /// Whether the delivery of this packet would make a save: it is a State that isn't refused, of a key of

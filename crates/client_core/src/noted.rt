@@ -5,7 +5,7 @@ ghost use Rattle.std.specs.List.{flat_map};
 ghost use Rattle.std.specs.Option.{option_map};
 ghost use Rattle.std.specs.Int.{w32, w64, from_be_bytes};
 ghost use Rattle.verify_state.specs.Spelling.{spelling as state_bytes};
-ghost use Rattle.client_core.specs.Note.{spelling, blank, counted_bytes, Reads, SaysOneThing, SaysWhatIsWritten};
+ghost use Rattle.client_core.specs.Note.{spelling, blank, is_blank, counted_bytes, Reads, SaysOneThing, SaysWhatIsWritten};
 ghost use Rattle.client_core.specs.Reading.{first_state, ReadsStates};
 
 use crate::kept::{KEPT_LIMIT, Kept};
@@ -42,6 +42,13 @@ impl Noted {
             attempts: 0,
             kept: Kept::new(alloc),
         }
+    }
+
+    /// Whether it says what a blank note says.
+    pub fn is_blank(&self) -> bool
+        ensures value { result ≡ is_blank self.now }
+    {
+        self.runs == 0 && (self.attempts == 0 && self.kept.len() == 0)
     }
 
     /// The bytes of the note, which has each state in its one spelling.

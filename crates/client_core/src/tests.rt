@@ -111,7 +111,7 @@ fn a_client_is_opened(rt: HostRuntime) -> Result<(), Fail> {
     let client = opened(rt.alloc(), LISTED)?;
     assert!(rt; client.on());
     assert!(rt; client.runs_used() == 1 && client.attempts_used() == 1);
-    assert!(rt; client.saved(KEPT).is_some());
+    assert!(rt; client.saved(KEPT).is_some() && !client.is_blank());
     let other = Key {
         job: JobNo(1),
         ..KEPT
@@ -134,6 +134,7 @@ fn state_from(server: u32) -> Result<Packet, Fail> {
 
 #[test]
 fn what_would_be_saved(rt: HostRuntime) -> Result<(), Fail> {
+    assert!(rt; opened(rt.alloc(), BLANK)?.is_blank() && opened(rt.alloc(), &[])?.is_blank());
     assert!(rt; opened(rt.alloc(), BLANK)?.would_save(&state_from(0)?));
     assert!(rt; !opened(rt.alloc(), BLANK)?.would_save(&state_from(1)?));
     assert!(rt; !opened(rt.alloc(), NOTE)?.would_save(&state_from(0)?));
