@@ -18,6 +18,7 @@ use crate::line::{Line, line_of};
 use crate::option::Setting;
 use crate::settings::Settings;
 use crate::text::Name;
+use fc_base::MAX_TEXT;
 use std::alloc::Global;
 use std::mem;
 
@@ -152,7 +153,7 @@ impl<'a> Reader<'a> {
 
 /// What the lines of a text say, or the fault of the first faulty line.
 pub(crate) fn contents_of(alloc: Global, text: &[u8]) -> Result<Contents<'_>, JobFault>
-    requires { length text.now ≤ 16384 }
+    requires { length text.now ≤ MAX_TEXT }
     ensures { Gives {Y = List Draft × List Note} (λ c. (c.drafts.items, c.notes.items)) result (line_faults 1 false (lines_of text.now))
         (drafts_of (lines_of text.now), notes_from 1 (lines_of text.now)) }
 {

@@ -8,14 +8,11 @@ ghost use Rattle.recheck.specs.Faults.{is_checked, is_write, verdict, writes_to}
 
 use crate::last_write::LastWrite;
 use crate::verdict::Verdict;
-use fc_base::{JobRecord, Key, Seq};
+use fc_base::{JobRecord, Key, MAX_BLOCKS, MAX_DEPTH, Seq};
 use std::alloc::{AllocError, Global};
 use std::marker::Model;
 use verify_state::VerifyState;
 use write_order::{Order, holds_write};
-
-/// How many writes a job may have in flight.
-const MOST_IN_FLIGHT: usize = 64;
 
 /// A write and its block.
 #[derive(Clone, Copy, Debug)]
@@ -35,6 +32,7 @@ pub struct Expected {
 
 impl Model for Expected {
     ghost use Rattle.std.specs.Prelude.{◌≡◌, ◌≤◌, length};
+    ghost use Rattle.fc_base.specs.declared.limits.TheConstants.{MAX_BLOCKS};
     ghost use Rattle.recheck.specs.Expected.{Expected};
 
     ghost Value = { Expected };
@@ -46,7 +44,7 @@ impl Model for Expected {
       in_flight = e.in_flight.items;
     } };
 
-    ghost invariant = { λ e. (length e.last.items ≡ e.job.blocks) × (e.job.blocks ≤ 65536) };
+    ghost invariant = { λ e. (length e.last.items ≡ e.job.blocks) × (e.job.blocks ≤ MAX_BLOCKS) };
 }
 
 impl Expected {
@@ -62,7 +60,7 @@ impl Expected {
         ensures { IfOk result (λ e. e ≡ expected_by key job.now (option_copied state.entry)) }
     {
         let mut last = vec![in alloc; LastWrite::none(); job.blocks() as usize]?;
-        let mut in_flight = Vec::with_capacity(alloc, MOST_IN_FLIGHT)?;
+        let mut in_flight = Vec::with_capacity(alloc, MAX_DEPTH as usize)?;
         let mut order = Order::new(alloc, job)?;
         for k in 0..issued_in(job, state) {
             let Some(block) = order.peek() else {
@@ -104,7 +102,7 @@ impl Expected {
         requires block { block < self.now.job.blocks }
         requires bytes { length bytes.now ≡ self.now.job.bs }
         ensures value { result ≡ verdict self.now block bytes.now }
-        ensures range { block < 65536 }
+        ensures range { block < MAX_BLOCKS }
     {
         match self.last_write(block) {
             None => Verdict::Skipped,
@@ -117,7 +115,7 @@ impl Expected {
     fn last_write(&self, block: u32) -> Option<Seq>
         ensures value { result ≡ slice_index_or self.now.last block None }
         ensures past { self.now.job.blocks ≤ block → result ≡ None }
-        ensures blocks { self.now.job.blocks ≤ 65536 }
+        ensures blocks { self.now.job.blocks ≤ MAX_BLOCKS }
     {
         match self.last.get(block as usize) {
             None => None,

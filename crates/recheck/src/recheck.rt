@@ -10,7 +10,7 @@ ghost use Rattle.recheck.specs.Report.{can_end, report, report_of, told};
 use crate::expected::Expected;
 use crate::tally::Tally;
 use crate::verdict::Verdict;
-use fc_base::{CheckReport, Fault, JobRecord, Key, ReportEnd};
+use fc_base::{CheckReport, Fault, JobRecord, Key, MAX_BLOCKS, ReportEnd};
 use std::alloc::Global;
 use std::marker::Model;
 use verify_state::VerifyState;
@@ -123,7 +123,7 @@ impl Recheck {
 
     /// The report of the blocks that came, where this one could not be read.
     pub(crate) fn finish_at(self, block: u32) -> CheckReport
-        requires { block < 65536 }
+        requires { block < MAX_BLOCKS }
         ensures { result ≡ told self.found (ReportEnd.ReadFault block) }
     {
         let Recheck {

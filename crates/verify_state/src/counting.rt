@@ -6,8 +6,8 @@ ghost use Rattle.fc_base.specs.Counted.{has, counted, uncounted, is_distinct, is
 ghost use Rattle.fc_base.specs.Marks.{floor_of, marks_of, ends_by, counted_by, is_possible_by};
 ghost use Rattle.verify_state.specs.State.{has_come, has_come_by};
 
-use crate::distinct::is_distinct;
-use fc_base::{JobRecord, Marks, Seq};
+use crate::distinct::{MAX_COMPLETIONS, is_distinct};
+use fc_base::{JobRecord, MAX_WINDOW, Marks, Seq};
 
 /// The first number of the last window of those issued.
 pub(crate) fn floor_of(window: u32, issued: u64) -> u64
@@ -21,7 +21,7 @@ pub(crate) fn floor_of(window: u32, issued: u64) -> u64
 
 /// How many of the issued writes count: all below the floor, and one for each bit.
 pub(crate) fn completed(window: u32, issued: u64, marks: &Marks) -> u64
-    requires narrow { window ≤ 256 }
+    requires narrow { window ≤ MAX_WINDOW }
     requires ends { IsTrue (ends_by (issued - floor_of window issued) marks.now) }
     ensures { result ≡ length (counted_by window issued marks.now) }
 {
@@ -31,7 +31,7 @@ pub(crate) fn completed(window: u32, issued: u64, marks: &Marks) -> u64
 
 /// Whether a write counts: it was issued, and lies below the floor or has a bit.
 pub(crate) fn counts(window: u32, issued: u64, marks: &Marks, seq: Seq) -> bool
-    requires { window ≤ 256 }
+    requires { window ≤ MAX_WINDOW }
     ensures { result ≡ has (counted_by window issued marks.now) seq }
 {
     let number = seq.0;
@@ -98,7 +98,7 @@ fn listed(window: u32, issued: u64, list: &[Seq]) -> u64
 /// Whether a job can have issued so many writes and have this list, of at most two of the widest windows.
 #[tactic(auto, unfolding(crate::specs::State::has_come))]
 pub(crate) fn has_come(job: &JobRecord, issued: u64, list: &[Seq]) -> bool
-    requires { length list.now ≤ 512 }
+    requires { length list.now ≤ MAX_COMPLETIONS }
     ensures { result ≡ has_come job.now issued list.now }
 {
     if issued > job.total() || !is_distinct(list) || !all_below(list, issued) {
@@ -112,7 +112,7 @@ pub(crate) fn has_come(job: &JobRecord, issued: u64, list: &[Seq]) -> bool
 
 /// The marks of what a list counts.
 pub(crate) fn marks_of(window: u32, issued: u64, list: &[Seq]) -> Marks
-    requires { window ≤ 256 }
+    requires { window ≤ MAX_WINDOW }
     ensures { result ≡ marks_of (has (counted window issued list.now)) (floor_of window issued) }
 {
     let floor = floor_of(window, issued);

@@ -1,7 +1,6 @@
 //! The verify state of a job.
 
-ghost use Rattle.std.specs.Prelude.{◌≡◌, ◌≤◌, ◌++◌, [], IfOk, IfErr, OnOk, IsTrue, Some, length, slice_get, bytes_eq, string_bytes};
-ghost use Rattle.std.specs.Bool.{Decides};
+ghost use Rattle.std.specs.Prelude.{◌≡◌, ◌≤◌, ◌↔◌, ◌++◌, true, [], IfOk, IfErr, OnOk, IsTrue, Some, length, slice_get, bytes_eq, string_bytes};
 ghost use Rattle.fc_base.specs.Counted.{has};
 ghost use Rattle.fc_base.specs.Keys.{is_key};
 ghost use Rattle.verify_state.specs.State.{has_come_by, field_faults, field_faults_by, state_of, state_by, floor_in, marks_in as marks_of, IsState, IsSame};
@@ -15,11 +14,11 @@ use crate::counting;
 use crate::label::label as label_of;
 use crate::layouts::{LENGTH, marks_in};
 use crate::misfit::check_fit;
-use crate::ranges::{MAX_WRITES, are_in_range, has_counts, in_range, run_in_range};
+use crate::ranges::{are_in_range, has_counts, in_range, run_in_range};
 use crate::reading::{Front, front_of};
 use crate::same::{are_equal, is_same_job, is_same_key};
 use crate::writing::{push_job, push_key, push_words};
-use fc_base::{Fault, JobRecord, Key, Marks, Seq};
+use fc_base::{Fault, JobRecord, Key, MAX_WRITES, Marks, Seq};
 use std::alloc::{AllocError, Global};
 use std::marker::Model;
 
@@ -29,7 +28,7 @@ const MAGIC: &[u8] = b"FCV2";
 /// What a trigger takes of a job (fio's manual, "Verification and triggers": the write state): whose
 /// it is, what it writes, how many writes were issued, where the generator stands, and which writes
 /// had completed by then. All below its [`floor`](VerifyState::floor) had, since the window holds a
-/// write back until they have; of the numbers from the floor on, which are at most 256, the
+/// write back until they have; of the numbers from the floor on, which are at most a window, the
 /// [`marks`](VerifyState::marks) tell.
 ///
 /// A state is a plain value: it is taken, copied and compared without memory.
@@ -199,7 +198,7 @@ impl VerifyState {
     #[tactic(auto, unfolding(crate::specs::Same::is_same))]
     pub fn same(&self, other: &VerifyState) -> bool
         ensures value { result ≡ is_same self.now other.now }
-        ensures same { Decides result (IsSame self.now other.now) }
+        ensures same { (result ≡ true) ↔ IsSame self.now other.now }
     {
         is_same_key(&self.key, &other.key)
             && is_same_job(&self.rec, &other.rec)

@@ -10,7 +10,7 @@ ghost use Rattle.window.specs.Kept.{StandsFor, EachHistory, Adds, has_completed,
 use crate::in_flight::InFlight;
 use crate::room::Room;
 use circular_buffer::HeapCircularBuffer;
-use fc_base::{Fault, Seq};
+use fc_base::{Fault, MAX_DEPTH, MAX_WINDOW, MAX_WRITES, Seq};
 use std::alloc::{AllocError, Global};
 use std::marker::Model;
 
@@ -53,8 +53,8 @@ impl Model for Window {
 impl Window {
     /// A window before the first write, with room for two windows of completions.
     pub fn new(alloc: Global, depth: u64, window: u64) -> Result<Window, AllocError>
-        requires depth { (1 ≤ depth) × (depth ≤ 64) }
-        requires window { (depth ≤ window) × (window ≤ 256) }
+        requires depth { (1 ≤ depth) × (depth ≤ MAX_DEPTH) }
+        requires window { (depth ≤ window) × (window ≤ MAX_WINDOW) }
         ensures { IfOk result (λ made. StandsFor depth window made []) }
     {
         let completions = HeapCircularBuffer::with_capacity(alloc, 2 * window as usize)?;
@@ -74,11 +74,11 @@ impl Window {
         Room::by(self.in_flight.len(), self.depth, self.in_flight.is_held())
     }
 
-    /// Issues the next write, and answers its number. Numbers start at 0, and a job has at most a
-    /// million.
+    /// Issues the next write, and answers its number. Numbers start at 0, and a job has at most
+    /// [`MAX_WRITES`].
     pub fn issue(&mut self) -> Seq
         requires open { room_of self.old ≡ Room.Open }
-        requires fewer { self.old.issued < 1000000 }
+        requires fewer { self.old.issued < MAX_WRITES }
         ensures number { result ≡ self.old.issued }
         ensures left { self.new ≡ after_issue self.old }
         ensures history { EachHistory self.old (λ depth window h. result ≡ issued h) }

@@ -1,7 +1,7 @@
 use Rattle.std.proofs.Common.{◌≡◌, ◌∙◌, arith, sym, false, true, length, refl, eqb}
 use Rattle.std.proofs.lemmas.Bool.{le-leb, lt-leb}
 use Rattle.fc_base.specs.Counted.{counted, uncounted}
-use Rattle.fc_base.proofs.CountedByLemmas.{counted_and_uncounted}
+use Rattle.fc_base.specs.CountLaws.{counted_and_uncounted}
 use Rattle.verify_state.proofs.CountLemmas.{comes}
 use Rattle.verify_state.proofs.counting.has_come.Goals as goal
 

@@ -1,7 +1,7 @@
 use Rattle.std.proofs.Common.{◌≡◌, ◌-◌, ◌∙◌, arith, refl, true, sym, leb}
 use Rattle.std.proofs.lemmas.Bool.{le-leb}
 use Rattle.fc_base.specs.Marks.{floor_of, ends_by}
-use Rattle.fc_base.proofs.CountedByLemmas.{few_counted}
+use Rattle.fc_base.specs.CountLaws.{few_counted}
 use Rattle.verify_state.specs.State.{has_come_by}
 use Rattle.verify_state.proofs.counting.has_come_by.Goals as goal
 

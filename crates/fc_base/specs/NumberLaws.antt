@@ -1,5 +1,6 @@
--- Lists of numbers: what is in them, and filters of the numbers below a bound.
-use Rattle.std.proofs.Common.{◌≡◌, ℕ, ◌<◌, zero, suc, Bool, true, false, ◌&&◌, ◌||◌, eqb, ltb, List, [], ◌∷◌, ◌++◌, length, filter, append-nil, sym, refl, ap, ◌∙◌, inl, inr, arith}
+-- Laws of lists of numbers: what is in them, and filters of the numbers below a bound. They are cited
+-- from above; the proofs stand with them, and needn't be read.
+use Rattle.std.proofs.Common.{◌≡◌, ℕ, ◌<◌, zero, suc, Bool, true, false, ◌&&◌, ◌||◌, eqb, ◌==◌, nat_lt, List, [], ◌∷◌, ◌++◌, length, filter, append-nil, sym, refl, ap, ◌∙◌, inl, inr, arith}
 use Rattle.std.proofs.lemmas.Bool.{cases_Bool, eqb-true, and_right}
 use Rattle.std.proofs.lemmas.Bool.Decides.{nat_tests}
 use Rattle.std.proofs.lemmas.List.{length_push}
@@ -11,7 +12,7 @@ or_false : (b : Bool) → (b || false) ≡ b
 or_false true = refl
 or_false false = refl
 
-pub has_push : (xs : List ℕ) (m k : ℕ) → has (xs ++ m ∷ []) k ≡ (has xs k || eqb m k)
+pub has_push : (xs : List ℕ) (m k : ℕ) → has (xs ++ m ∷ []) k ≡ (has xs k || (m == k))
 has_push xs m k = list_any-append (λ j. eqb j k) xs (m ∷ []) ∙ ap (λ b. has xs k || b) (or_false (eqb m k))
 
 has_filter_head : (p : ℕ → Bool) (x : ℕ) (xs : List ℕ) (k : ℕ) (b : Bool) → p x ≡ b → has (filter p xs) k ≡ (has xs k && p k) → has (filter p (x ∷ xs)) k ≡ ((eqb x k || has xs k) && p k)
@@ -37,7 +38,7 @@ pub length_numbers_below : (n : ℕ) → length (numbers_below n) ≡ n
 length_numbers_below zero = refl
 length_numbers_below (suc n) = omega (arith, length_push (numbers_below n) n, length_numbers_below n)
 
-pub has_numbers_below : (n k : ℕ) → has (numbers_below n) k ≡ ltb k n
+pub has_numbers_below : (n k : ℕ) → has (numbers_below n) k ≡ nat_lt k n
 has_numbers_below zero k = grind (arith, nat_tests)
 has_numbers_below (suc n) k = has_push (numbers_below n) n k ∙ (rw (has_numbers_below n k) (grind (arith, nat_tests)))
 
@@ -57,7 +58,7 @@ pub filter_not_next : (p : ℕ → Bool) (n : ℕ) → p n ≡ false → filter 
 filter_not_next p n e = rw (filter-append p (numbers_below n) (n ∷ []), e) (append-nil (filter p (numbers_below n)))
 
 -- a write is among those counted where it is issued and counts
-pub has_counted : (window issued : ℕ) (xs : List ℕ) (k : ℕ) → has (counted window issued xs) k ≡ (ltb k issued && is_counted window issued xs k)
+pub has_counted : (window issued : ℕ) (xs : List ℕ) (k : ℕ) → has (counted window issued xs) k ≡ (nat_lt k issued && is_counted window issued xs k)
 has_counted window issued xs k =
     has_filter (is_counted window issued xs) (numbers_below issued) k
     ∙ ap (λ b. b && is_counted window issued xs k) (has_numbers_below issued k)

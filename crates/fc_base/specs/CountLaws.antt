@@ -1,5 +1,6 @@
--- What marks count, and the marks of what is counted.
-use Rattle.std.proofs.Common.{◌≡◌, ℕ, ◌+◌, ◌-◌, ◌^◌, ◌<◌, ◌≤◌, zero, suc, Bool, true, false, not, cond, ltb, leb, ◌&&◌, ◌||◌, List, [], ◌∷◌, length, filter, map, refl, ap, sym, ◌∙◌, inl, inr, arith}
+-- Laws of what marks count, and of the marks of what is counted. They are cited from above; the proofs
+-- stand with them, and needn't be read.
+use Rattle.std.proofs.Common.{◌≡◌, ℕ, ◌+◌, ◌-◌, ◌^◌, ◌<◌, ◌≤◌, zero, suc, Bool, true, false, not, cond, nat_lt, leb, ◌&&◌, ◌||◌, List, [], ◌∷◌, length, filter, map, refl, ap, sym, ◌∙◌, inl, inr, arith}
 use Rattle.std.specs.Prelude.{count_ones}
 use Rattle.std.specs.List.{AllByRecursion, range_with_len, list_all, count_by}
 use Rattle.std.proofs.lemmas.Bool.{cases_lt, and_parts, and_from, lt-ltb, le-ltb, or_right, leb-true, le-leb}
@@ -11,11 +12,11 @@ use Rattle.std.proofs.lemmas.Simd.{ones-mask_l}
 use lib.Lanes.{mask_l}
 use Rattle.fc_base.specs.Counted.{has, numbers_below, is_counted, counted, uncounted, is_distinct, is_possible}
 use Rattle.fc_base.specs.Marks.{floor_of, word_of, marks_of, is_marked, ends_by, marked_count, is_counted_by, counted_by, is_possible_by}
-use Rattle.fc_base.proofs.NumberLemmas.{has_filter, has_numbers_below, length_numbers_below, filter_agree_below}
-use Rattle.fc_base.proofs.MarkLemmas.{marks_from_bits, marked_passes, bits_end, ends_where}
+use Rattle.fc_base.specs.NumberLaws.{has_filter, has_numbers_below, length_numbers_below, filter_agree_below}
+use Rattle.fc_base.specs.MarkLaws.{marks_from_bits, marked_passes, bits_end, ends_where}
 
 -- a write counts by the marks where it was issued, and lies below the floor or has a bit
-pub has_counted_by : (window issued : ℕ) (marks : List ℕ) (k : ℕ) → has (counted_by window issued marks) k ≡ (ltb k issued && is_counted_by window issued marks k)
+pub has_counted_by : (window issued : ℕ) (marks : List ℕ) (k : ℕ) → has (counted_by window issued marks) k ≡ (nat_lt k issued && is_counted_by window issued marks k)
 has_counted_by window issued marks k =
     has_filter (is_counted_by window issued marks) (numbers_below issued) k
     ∙ ap (λ b. b && is_counted_by window issued marks k) (has_numbers_below issued k)
@@ -58,7 +59,7 @@ few_counted window issued marks =
 
 -- ---- marks made of the writes that a test counts
 
-kept_below : (p : ℕ → Bool) (n k : ℕ) → has (filter p (numbers_below n)) k ≡ (ltb k n && p k)
+kept_below : (p : ℕ → Bool) (n k : ℕ) → has (filter p (numbers_below n)) k ≡ (nat_lt k n && p k)
 kept_below p n k = has_filter p (numbers_below n) k ∙ ap (λ b. b && p k) (has_numbers_below n k)
 
 pub counted_again : (window issued : ℕ) (p : ℕ → Bool) → window ≤ 256 → ((k : ℕ) → k + window < issued → p k ≡ true) → counted_by window issued (marks_of (has (filter p (numbers_below issued))) (floor_of window issued)) ≡ filter p (numbers_below issued)
@@ -88,7 +89,7 @@ ends_again window issued p =
 -- ---- the marks of a list of completions
 
 old_counts : (window issued : ℕ) (xs : List ℕ) (k : ℕ) → k + window < issued → is_counted window issued xs k ≡ true
-old_counts window issued xs k lt = or_right (has xs k) (ltb (k + window) issued) (lt-ltb (k + window) issued lt)
+old_counts window issued xs k lt = or_right (has xs k) (nat_lt (k + window) issued) (lt-ltb (k + window) issued lt)
 
 both_ways : (a b : Bool) → (a && b) ≡ (b && a)
 both_ways true true = refl
@@ -101,12 +102,12 @@ no_other true b e = refl
 no_other false b e = e
 
 -- from the floor on, the list counts what stands in it and was issued
-pub listed_from_floor : (window issued : ℕ) (xs : List ℕ) (i : ℕ) → has (counted window issued xs) (floor_of window issued + i) ≡ (has xs (floor_of window issued + i) && ltb (floor_of window issued + i) issued)
+pub listed_from_floor : (window issued : ℕ) (xs : List ℕ) (i : ℕ) → has (counted window issued xs) (floor_of window issued + i) ≡ (has xs (floor_of window issued + i) && nat_lt (floor_of window issued + i) issued)
 listed_from_floor window issued xs i =
     let k = floor_of window issued + i in
     kept_below (is_counted window issued xs) issued k
-    ∙ ap (λ b. ltb k issued && b) (no_other (has xs k) (ltb (k + window) issued) (le-ltb (k + window) issued (omega arith)))
-    ∙ both_ways (ltb k issued) (has xs k)
+    ∙ ap (λ b. nat_lt k issued && b) (no_other (has xs k) (nat_lt (k + window) issued) (le-ltb (k + window) issued (omega arith)))
+    ∙ both_ways (nat_lt k issued) (has xs k)
 
 -- they count what the list counts
 pub counted_as_listed : (window issued : ℕ) (xs : List ℕ) → window ≤ 256 → counted_by window issued (marks_of (has (counted window issued xs)) (floor_of window issued)) ≡ counted window issued xs
@@ -120,7 +121,7 @@ counted_and_uncounted window issued xs =
 -- and are possible where the list is
 pub possible_as_listed : (depth window issued : ℕ) (xs : List ℕ) → window ≤ 256 → is_possible depth window issued xs ≡ true → is_possible_by depth window issued (marks_of (has (counted window issued xs)) (floor_of window issued)) ≡ true
 possible_as_listed depth window issued xs narrow possible =
-    let halves = and_parts (is_distinct xs && list_all (λ k. ltb k issued) xs) _ possible in
+    let halves = and_parts (is_distinct xs && list_all (λ k. nat_lt k issued) xs) _ possible in
     let few = leb-true (length (uncounted window issued xs)) depth (and_parts (leb (length (uncounted window issued xs)) depth) _ halves.1).0 in
     let counts = ap length (counted_as_listed window issued xs narrow) in
     and_from _ _ (ends_again window issued (is_counted window issued xs))
