@@ -44,7 +44,7 @@ marked-clear words slot i four within below =
 
 -- ---- where the bits end
 
--- the bits above a place are those of the word shifted down
+-- the bits from one on are those of the word shifted down
 bit_shifted : (w k i : ℕ) → bit_at (w / 2 ^ k) i ≡ bit_at w (k + i)
 bit_shifted w k i = ap (λ n. n % 2) (div-div-eq-div-mul w (2 ^ k) (2 ^ i) ∙ ap (λ n. w / n) (sym (pow-add 2 k i)))
 

@@ -30,7 +30,7 @@ is_distinct (k ∷ ks) = not (has ks k) && is_distinct ks
 
 -- A list of completions and a number issued that some job can have come to: no write stands twice,
 -- each was issued, at most depth of the issued ones don't count, and none is left out of the list but
--- for want of place.
+-- for want of room.
 abbrev pub is_possible : ℕ → ℕ → ℕ → List ℕ → Bool
 is_possible depth window issued completions =
     is_distinct completions && list_all (λ k. nat_lt k issued) completions

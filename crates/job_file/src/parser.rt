@@ -17,7 +17,7 @@ use std::alloc::Global;
 /// Reads a job file (fio's manual, "Job file format"): the jobs of the text, or the first of its
 /// faults. Faults are looked for in this order: the length of the text, its bytes, its lines one by
 /// one, the number of jobs, the jobs one by one, and whether all write or all read.
-/// [`JobFault::NoMemory`] may stand in place of any answer.
+/// [`JobFault::NoMemory`] may stand for any answer.
 pub fn parse(alloc: Global, text: &[u8]) -> Result<JobSet, JobFault>
     ensures { Answers result text.now }
 {

@@ -25,7 +25,7 @@ pub struct Placed {
 #[derive(Debug, Drop)]
 pub struct Expected {
     key: Key,
-    job: JobRecord,
+    rec: JobRecord,
     last: Vec<LastWrite>,
     in_flight: Vec<Placed>,
 }
@@ -39,12 +39,12 @@ impl Model for Expected {
 
     ghost view = { λ e. record {
       key = e.key;
-      job = e.job;
+      job = e.rec;
       last = e.last.items;
       in_flight = e.in_flight.items;
     } };
 
-    ghost invariant = { λ e. (length e.last.items ≡ e.job.blocks) × (e.job.blocks ≤ MAX_BLOCKS) };
+    ghost invariant = { λ e. (length e.last.items ≡ e.rec.blocks) × (e.rec.blocks ≤ MAX_BLOCKS) };
 }
 
 impl Expected {
@@ -53,16 +53,16 @@ impl Expected {
     pub fn new(
         alloc: Global,
         key: Key,
-        job: &JobRecord,
+        rec: &JobRecord,
         state: Option<&VerifyState>,
     ) -> Result<Expected, AllocError>
-        requires { issued_in job.now (option_copied state) ≤ job.now.total }
-        ensures { IfOk result (λ e. e ≡ expected_by key job.now (option_copied state.entry)) }
+        requires { issued_in rec.now (option_copied state) ≤ rec.now.total }
+        ensures { IfOk result (λ e. e ≡ expected_by key rec.now (option_copied state.entry)) }
     {
-        let mut last = vec![in alloc; LastWrite::none(); job.blocks() as usize]?;
+        let mut last = vec![in alloc; LastWrite::none(); rec.blocks() as usize]?;
         let mut in_flight = Vec::with_capacity(alloc, MAX_DEPTH as usize)?;
-        let mut order = Order::new(alloc, job)?;
-        for k in 0..issued_in(job, state) {
+        let mut order = Order::new(alloc, rec)?;
+        for k in 0..issued_in(rec, state) {
             let Some(block) = order.peek() else {
                 unreachable!()
             };
@@ -76,17 +76,17 @@ impl Expected {
         }
         Ok(Expected {
             key,
-            job: *job,
+            rec: *rec,
             last,
             in_flight,
         })
     }
 
     /// The job that is checked.
-    pub fn job(&self) -> JobRecord
+    pub fn rec(&self) -> JobRecord
         ensures { result ≡ self.now.job }
     {
-        self.job
+        self.rec
     }
 
     /// Whether some write to the block has completed. The job writes no block past its last one.
@@ -128,7 +128,7 @@ impl Expected {
         requires { length bytes.now ≡ self.now.job.bs }
         ensures { result ≡ is_write self.now block bytes.now seq }
     {
-        holds_write(&self.key, &self.job, seq, block, bytes)
+        holds_write(&self.key, &self.rec, seq, block, bytes)
     }
 
     /// Whether the bytes are those of a write in flight to the block.
@@ -146,11 +146,11 @@ impl Expected {
 }
 
 /// How many writes were issued.
-fn issued_in(job: &JobRecord, state: Option<&VerifyState>) -> u64
-    ensures { result ≡ issued_in job.now (option_copied state.entry) }
+fn issued_in(rec: &JobRecord, state: Option<&VerifyState>) -> u64
+    ensures { result ≡ issued_in rec.now (option_copied state.entry) }
 {
     match state {
-        None => job.total(),
+        None => rec.total(),
         Some(state) => state.issued(),
     }
 }

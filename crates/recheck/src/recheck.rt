@@ -51,15 +51,15 @@ impl Recheck {
     /// for a random order with a map, and a list of the writes in flight.
     pub fn new(
         alloc: Global,
-        job: &JobRecord,
+        rec: &JobRecord,
         key: Key,
         state: Option<&VerifyState>,
         fatal: bool,
     ) -> Result<Recheck, Fault>
-        ensures { Starts result key job.now (option_copied state.entry) fatal }
+        ensures { Starts result key rec.now (option_copied state.entry) fatal }
     {
-        fits(state, &key, job)?;
-        let Ok(expected) = Expected::new(alloc, key, job, state) else {
+        fits(state, &key, rec)?;
+        let Ok(expected) = Expected::new(alloc, key, rec, state) else {
             return Err(Fault::NoMemory);
         };
         Ok(Recheck {
@@ -136,11 +136,11 @@ impl Recheck {
 }
 
 /// Whether the state, if there is one, is one of this job.
-fn fits(state: Option<&VerifyState>, key: &Key, job: &JobRecord) -> Result<(), Fault>
-    ensures { FitsIfAny (option_copied state.entry) key.now job.now result }
+fn fits(state: Option<&VerifyState>, key: &Key, rec: &JobRecord) -> Result<(), Fault>
+    ensures { FitsIfAny (option_copied state.entry) key.now rec.now result }
 {
     match state {
         None => Ok(()),
-        Some(state) => state.fits(*key, job),
+        Some(state) => state.fits(*key, rec),
     }
 }

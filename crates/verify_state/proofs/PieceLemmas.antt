@@ -103,7 +103,7 @@ pieces n at bytes fits long = ap (λ ws. words ws ++ drop (at + 8 * n) bytes) (w
 pub length_words_at : (n at : ℕ) (bytes : List ℕ) → length (words_at n at bytes) ≡ n
 length_words_at n at bytes = ap length (words_are n at bytes) ∙ length_words_by n at bytes
 
--- ---- the mark and the codes
+-- ---- the magic and the codes
 
 same_bytes : (xs ys : List ℕ) → pointwise eqb xs ys ≡ true → xs ≡ ys
 same_bytes [] [] e = refl

@@ -38,7 +38,7 @@ word_at (x ∷ xs) rest (suc k) all lt =
     ∙ ap (λ l. from_be_bytes w64 (take 8 l)) (sym (drop-drop (8 * k) 8 (words (x ∷ xs) ++ rest)))
     ∙ word_at xs rest k all.1 (omega arith)
 
--- words that stand at a place are read from there
+-- words that stand at an offset are read from there
 pub words_back : (xs rest bytes : List ℕ) (at : ℕ) → drop at bytes ≡ words xs ++ rest → AllByRecursion (λ x. x < 2 ^ 64) xs → words_at (length xs) at bytes ≡ xs
 unfolding field
 words_back xs rest bytes at stands all = sym (fill_by_all (λ k. field w64 (at + 8 * k) bytes) xs (length xs) 0 refl each)

@@ -14,11 +14,11 @@ use Rattle.fc_base.specs.Faults.{when}
 use Rattle.verify_state.specs.Codes.{kind_of, verify_of}
 use Rattle.verify_state.specs.State.{State, state_of, state_by, has_come, has_come_by}
 
--- The number that stands at a place, high byte first.
+-- The number that stands at an offset, high byte first.
 unfoldable pub field : Width → ℕ → List ℕ → ℕ
 field width at bytes = from_be_bytes width (take (byte_len width) (drop at bytes))
 
--- So many numbers of eight bytes from a place on.
+-- So many numbers of eight bytes from an offset on.
 abbrev pub words_at : ℕ → ℕ → List ℕ → List ℕ
 words_at n at bytes = map (λ i. field w64 (at + 8 * i) bytes) (range_with_len 0 n)
 

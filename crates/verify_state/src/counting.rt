@@ -56,18 +56,18 @@ pub(crate) fn counts_alike(window: u32, issued: u64, one: &Marks, other: &Marks)
 
 /// Whether a job can have issued so many writes and have these marks.
 #[tactic(auto, unfolding(crate::specs::State::has_come_by))]
-pub(crate) fn has_come_by(job: &JobRecord, issued: u64, marks: &Marks) -> bool
-    ensures { result ≡ has_come_by job.now issued marks.now }
+pub(crate) fn has_come_by(rec: &JobRecord, issued: u64, marks: &Marks) -> bool
+    ensures { result ≡ has_come_by rec.now issued marks.now }
 {
-    let window = job.window();
+    let window = rec.window();
     let floor = floor_of(window, issued);
-    if issued > job.total() {
+    if issued > rec.total() {
         return false;
     }
     if !marks.ends_by(issued - floor) {
         return false;
     }
-    issued - completed(window, issued, marks) <= u64::from(job.depth())
+    issued - completed(window, issued, marks) <= u64::from(rec.depth())
 }
 
 // ---- by a list of completions
@@ -97,16 +97,16 @@ fn listed(window: u32, issued: u64, list: &[Seq]) -> u64
 
 /// Whether a job can have issued so many writes and have this list, of at most two of the widest windows.
 #[tactic(auto, unfolding(crate::specs::State::has_come))]
-pub(crate) fn has_come(job: &JobRecord, issued: u64, list: &[Seq]) -> bool
+pub(crate) fn has_come(rec: &JobRecord, issued: u64, list: &[Seq]) -> bool
     requires { length list.now ≤ MAX_COMPLETIONS }
-    ensures { result ≡ has_come job.now issued list.now }
+    ensures { result ≡ has_come rec.now issued list.now }
 {
-    if issued > job.total() || !is_distinct(list) || !all_below(list, issued) {
+    if issued > rec.total() || !is_distinct(list) || !all_below(list, issued) {
         return false;
     }
-    let window = job.window();
+    let window = rec.window();
     let completed = listed(window, issued, list);
-    issued - completed <= u64::from(job.depth())
+    issued - completed <= u64::from(rec.depth())
         && list.len() as u64 == (2 * u64::from(window)).min(completed)
 }
 

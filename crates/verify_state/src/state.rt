@@ -58,7 +58,7 @@ impl Model for VerifyState {
 }
 
 impl VerifyState {
-    /// The state of these fields, with a list of completions in place of marks. A run, server or job
+    /// The state of these fields, with a list of completions instead of marks. A run, server or job
     /// that can't be, more than a million writes issued, or a list longer than two windows is
     /// [`Fault::StateBadField`]; a list and a number issued to which no job can have come is
     /// [`Fault::Impossible`]. The list is handed back beside the fault.

@@ -29,7 +29,7 @@ apart window low high some less near same = elim (cases_lt (low / window) (high 
   | inr no_more ↦ let h = mul-le-mul_left window no_more in omega arith
 ]
 
--- what a write of one mark leaves
+-- what a bit that is written leaves
 abbrev pub Writes : List ℕ → List ℕ → ℕ → Bool → Type 0
 Writes old new slot b = (i : ℕ) → i < MAX_WINDOW → is_marked new i ≡ cond (eqb i slot) b (is_marked old i)
 
@@ -153,7 +153,7 @@ same_number window issued j k some a b ne same = elim (cases_lt j k) [
   | inr ge ↦ apart window k j some (omega arith) (omega (arith, a.below, b.near)) (sym same)
 ]
 
--- the mark of k is taken away: that is a test more
+-- the bit of k is cleared: that is a test more
 cleared : (o o' : List ℕ) (window issued j k : ℕ) → 0 < window → window ≤ MAX_WINDOW → IsLast window issued j → IsLast window issued k → Writes o o' (k % window) false → is_marked o' (j % window) ≡ (is_marked o (j % window) && not (eqb j k))
 cleared o o' window issued j k some most a b w = elim (cases_eq j k) [
   | inl same ↦

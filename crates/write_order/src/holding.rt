@@ -14,13 +14,13 @@ use fc_base::{JobRecord, Key, Seq, Verify};
 /// no memory is taken.
 ///
 /// `bytes` is the whole block.
-pub fn holds_write(key: &Key, job: &JobRecord, seq: Seq, block: u32, bytes: &[u8]) -> bool
-    requires { length bytes.now ≡ job.now.bs }
-    ensures { result ≡ bytes_eq bytes.now (written_bytes key.now job.now seq block) }
+pub fn holds_write(key: &Key, rec: &JobRecord, seq: Seq, block: u32, bytes: &[u8]) -> bool
+    requires { length bytes.now ≡ rec.now.bs }
+    ensures { result ≡ bytes_eq bytes.now (written_bytes key.now rec.now seq block) }
 {
-    let sectors = job.bs() / 512;
-    match job.verify() {
-        Verify::Pattern => holds_pattern(job.pattern(), sectors, bytes),
+    let sectors = rec.bs() / 512;
+    match rec.verify() {
+        Verify::Pattern => holds_pattern(rec.pattern(), sectors, bytes),
         Verify::Stamp => holds_stamps(&stamp(*key, seq, block), sectors, bytes),
     }
 }

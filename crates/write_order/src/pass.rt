@@ -8,8 +8,8 @@ use std::marker::Model;
 
 /// The blocks that a pass has yet to write. When none is left, the next pass begins.
 ///
-/// The list names all blocks: first those that are left, and behind them what a new pass has in
-/// those places. So a new pass begins with no list to fill.
+/// The list names all blocks: first those that are left, and behind them what a new pass has
+/// at those indices. So a new pass begins with no list to fill.
 #[derive(Debug, Drop)]
 pub struct Pass {
     blocks: u32,
@@ -88,7 +88,7 @@ fn index_of(left: u32, word: u64) -> u32
     (word % u64::from(left)) as u32
 }
 
-/// Takes one block out: the last that is left moves into its place, and the place of the last gets
+/// Takes one block out: the last that is left moves to its index, and the index of the last gets
 /// what a new pass has there.
 fn take_out(list: &mut [u32], index: u32, last: u32)
     requires one_left { index ≤ last }

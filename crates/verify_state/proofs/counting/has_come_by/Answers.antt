@@ -11,7 +11,7 @@ overflow_sub-result c = omega (arith, c.completed.ensures, few_counted c.window-
 pub returns : goal.returns
 unfolding has_come_by
 returns c =
-    let total : leb c.args.issued c.args.job.now.total ≡ true = le-leb _ _ (omega (arith, c.if-issued-total.false, c.total.ensures.value)) in
-    let ends : ends_by (c.args.issued - floor_of c.args.job.now.window c.args.issued) c.args.marks.now ≡ true =
+    let total : leb c.args.issued c.args.rec.now.total ≡ true = le-leb _ _ (omega (arith, c.if-issued-total.false, c.total.ensures.value)) in
+    let ends : ends_by (c.args.issued - floor_of c.args.rec.now.window c.args.issued) c.args.marks.now ≡ true =
     rw (← c.window-window.ensures.value, ← c.floor_of-floor.ensures.value) (sym c.ends_by.ensures ∙ c.if-not-ends_by.false) in
     rw (total, ends, c.completed.ensures, c.window-window.ensures.value, c.from.ensures, c.depth.ensures.value) refl
