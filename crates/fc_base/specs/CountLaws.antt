@@ -10,6 +10,7 @@ use Rattle.std.proofs.lemmas.List.Filters.{length-filter_both}
 use Rattle.std.proofs.lemmas.List.Sums.{sum_by-cons}
 use Rattle.std.proofs.lemmas.Simd.{ones-mask_l}
 use lib.Lanes.{mask_l}
+use Rattle.fc_base.specs.declared.limits.TheConstants.{MAX_WINDOW}
 use Rattle.fc_base.specs.Counted.{has, numbers_below, is_counted, counted, uncounted, is_distinct, is_possible}
 use Rattle.fc_base.specs.Marks.{floor_of, word_of, marks_of, is_marked, ends_by, marked_count, is_counted_by, counted_by, is_possible_by}
 use Rattle.fc_base.specs.NumberLaws.{has_filter, has_numbers_below, length_numbers_below, filter_agree_below}
@@ -62,7 +63,7 @@ few_counted window issued marks =
 kept_below : (p : ℕ → Bool) (n k : ℕ) → has (filter p (numbers_below n)) k ≡ (nat_lt k n && p k)
 kept_below p n k = has_filter p (numbers_below n) k ∙ ap (λ b. b && p k) (has_numbers_below n k)
 
-pub counted_again : (window issued : ℕ) (p : ℕ → Bool) → window ≤ 256 → ((k : ℕ) → k + window < issued → p k ≡ true) → counted_by window issued (marks_of (has (filter p (numbers_below issued))) (floor_of window issued)) ≡ filter p (numbers_below issued)
+pub counted_again : (window issued : ℕ) (p : ℕ → Bool) → window ≤ MAX_WINDOW → ((k : ℕ) → k + window < issued → p k ≡ true) → counted_by window issued (marks_of (has (filter p (numbers_below issued))) (floor_of window issued)) ≡ filter p (numbers_below issued)
 counted_again window issued p narrow old =
     let floor = floor_of window issued in
     let kept = filter p (numbers_below issued) in
@@ -110,7 +111,7 @@ listed_from_floor window issued xs i =
     ∙ both_ways (nat_lt k issued) (has xs k)
 
 -- they count what the list counts
-pub counted_as_listed : (window issued : ℕ) (xs : List ℕ) → window ≤ 256 → counted_by window issued (marks_of (has (counted window issued xs)) (floor_of window issued)) ≡ counted window issued xs
+pub counted_as_listed : (window issued : ℕ) (xs : List ℕ) → window ≤ MAX_WINDOW → counted_by window issued (marks_of (has (counted window issued xs)) (floor_of window issued)) ≡ counted window issued xs
 counted_as_listed window issued xs narrow = counted_again window issued (is_counted window issued xs) narrow (old_counts window issued xs)
 
 pub counted_and_uncounted : (window issued : ℕ) (xs : List ℕ) → length (counted window issued xs) + length (uncounted window issued xs) ≡ issued
@@ -119,7 +120,7 @@ counted_and_uncounted window issued xs =
     omega (arith, both, length_numbers_below issued)
 
 -- and are possible where the list is
-pub possible_as_listed : (depth window issued : ℕ) (xs : List ℕ) → window ≤ 256 → is_possible depth window issued xs ≡ true → is_possible_by depth window issued (marks_of (has (counted window issued xs)) (floor_of window issued)) ≡ true
+pub possible_as_listed : (depth window issued : ℕ) (xs : List ℕ) → window ≤ MAX_WINDOW → is_possible depth window issued xs ≡ true → is_possible_by depth window issued (marks_of (has (counted window issued xs)) (floor_of window issued)) ≡ true
 possible_as_listed depth window issued xs narrow possible =
     let halves = and_parts (is_distinct xs && list_all (λ k. nat_lt k issued) xs) _ possible in
     let few = leb-true (length (uncounted window issued xs)) depth (and_parts (leb (length (uncounted window issued xs)) depth) _ halves.1).0 in
@@ -168,7 +169,7 @@ ones_of_word p first = ones_of_range p first 64
     ones_of_range p first n = ones-mask_l p (range_with_len first n)
 
 -- four words have as many ones as numbers from their first on pass
-ones_of_marks : (p : ℕ → Bool) (floor : ℕ) → passing p (floor + 256) ≡ passing p floor + marked_count (marks_of p floor)
+ones_of_marks : (p : ℕ → Bool) (floor : ℕ) → passing p (floor + MAX_WINDOW) ≡ passing p floor + marked_count (marks_of p floor)
 ones_of_marks p floor =
     let a = passing_more p floor 64 in
     let b = passing_more p (floor + 64) 64 in
@@ -176,11 +177,11 @@ ones_of_marks p floor =
     let d = passing_more p (floor + 192) 64 in
     let eb : floor + 64 + 64 ≡ floor + 128 = omega arith in
     let ec : floor + 128 + 64 ≡ floor + 192 = omega arith in
-    let ed : floor + 192 + 64 ≡ floor + 256 = omega arith in
+    let ed : floor + 192 + 64 ≡ floor + MAX_WINDOW = omega arith in
     omega (arith, a, b, c, d, ap (passing p) eb, ap (passing p) ec, ap (passing p) ed, ones_of_word p floor, ones_of_word p (floor + 64), ones_of_word p (floor + 128), ones_of_word p (floor + 192))
 
 -- marks count the numbers below the floor, and one for each bit
-pub length_counted_by : (window issued : ℕ) (marks : List ℕ) → window ≤ 256 → length marks ≡ 4 → AllByRecursion (λ word. word < 2 ^ 64) marks → ends_by (issued - floor_of window issued) marks ≡ true → length (counted_by window issued marks) ≡ floor_of window issued + marked_count marks
+pub length_counted_by : (window issued : ℕ) (marks : List ℕ) → window ≤ MAX_WINDOW → length marks ≡ 4 → AllByRecursion (λ word. word < 2 ^ 64) marks → ends_by (issued - floor_of window issued) marks ≡ true → length (counted_by window issued marks) ≡ floor_of window issued + marked_count marks
 length_counted_by window issued marks narrow four words ends =
     let floor = floor_of window issued in
     let kept = counted_by window issued marks in
@@ -190,7 +191,7 @@ length_counted_by window issued marks narrow four words ends =
     has_counted_by window issued marks k
     ∙ true_and _ _ (lt-ltb k issued (omega arith))
     ∙ ap (λ b. b || is_marked marks (k - floor)) (lt-ltb k floor lt)) in
-    let none = none_more q issued (floor + 256 - issued) (λ k past. has_counted_by window issued marks k ∙ false_and _ _ (le-ltb k issued past)) in
-    let reach : issued + (floor + 256 - issued) ≡ floor + 256 = omega arith in
+    let none = none_more q issued (floor + MAX_WINDOW - issued) (λ k past. has_counted_by window issued marks k ∙ false_and _ _ (le-ltb k issued past)) in
+    let reach : issued + (floor + MAX_WINDOW - issued) ≡ floor + MAX_WINDOW = omega arith in
     let whole : passing q issued ≡ length kept = ap length (filter_agree_below q (is_counted_by window issued marks) issued (λ k lt. has_counted_by window issued marks k ∙ true_and _ _ (lt-ltb k issued lt))) in
     omega (arith, ones_of_marks q floor, ap marked_count same, all, none, ap (passing q) reach, whole)

@@ -8,6 +8,7 @@ use Rattle.std.proofs.lemmas.List.FromFn.{get_or-map-range_with_len, length-map-
 use Rattle.std.proofs.lemmas.Nat.Bits.{same_from_bits_below, bit_at-lt, bit_at-zero}
 use Rattle.std.proofs.lemmas.Simd.{mask_l-lt, bit_mask_l}
 use lib.Lanes.{mask_l}
+use Rattle.fc_base.specs.declared.limits.TheConstants.{MAX_WINDOW}
 use Rattle.fc_base.specs.Marks.{word_of, marks_of, is_marked, ends_by}
 
 -- ---- one word
@@ -78,7 +79,7 @@ first_word : (p : ℕ → Bool) (floor : ℕ) → word_of p floor ≡ word_of p 
 first_word p floor = ap (word_of p) (omega arith)
 
 -- bit i of the marks tells whether number floor + i passes
-pub marked_passes : (p : ℕ → Bool) (floor i : ℕ) → i < 256 → is_marked (marks_of p floor) i ≡ p (floor + i)
+pub marked_passes : (p : ℕ → Bool) (floor i : ℕ) → i < MAX_WINDOW → is_marked (marks_of p floor) i ≡ p (floor + i)
 marked_passes p floor i small = elim (cases_Bool (ltb i 64)) [
   | inl a ↦ passes_in p floor 0 i i _ refl (first_word p floor) (ltb-true i 64 a) (omega arith)
   | inr a ↦ elim (cases_Bool (ltb i 128)) [
@@ -90,7 +91,7 @@ marked_passes p floor i small = elim (cases_Bool (ltb i 64)) [
   ]
 ]
 
-word_in : (marks : List ℕ) (p : ℕ → Bool) (floor j w : ℕ) → j < 4 → get_or marks j 0 ≡ w → w < 2 ^ 64 → ((i : ℕ) → i < 256 → is_marked marks i ≡ p (floor + i)) → w ≡ word_of p (floor + 64 * j)
+word_in : (marks : List ℕ) (p : ℕ → Bool) (floor j w : ℕ) → j < 4 → get_or marks j 0 ≡ w → w < 2 ^ 64 → ((i : ℕ) → i < MAX_WINDOW → is_marked marks i ≡ p (floor + i)) → w ≡ word_of p (floor + 64 * j)
 word_in marks p floor j w within here small bits =
     word_from_bits w p (floor + 64 * j) small (λ i h.
     ap (λ n. eqb (bit_at n i) 1) (sym here)
@@ -99,7 +100,7 @@ word_in marks p floor j w within here small bits =
     ∙ ap p (omega arith))
 
 -- four words whose bits tell which numbers pass are the marks of these
-pub marks_from_bits : (marks : List ℕ) (p : ℕ → Bool) (floor : ℕ) → length marks ≡ 4 → AllByRecursion (λ word. word < 2 ^ 64) marks → ((i : ℕ) → i < 256 → is_marked marks i ≡ p (floor + i)) → marks ≡ marks_of p floor
+pub marks_from_bits : (marks : List ℕ) (p : ℕ → Bool) (floor : ℕ) → length marks ≡ 4 → AllByRecursion (λ word. word < 2 ^ 64) marks → ((i : ℕ) → i < MAX_WINDOW → is_marked marks i ≡ p (floor + i)) → marks ≡ marks_of p floor
 marks_from_bits [] p floor four small bits = absurd (omega arith)
 marks_from_bits (a ∷ []) p floor four small bits = absurd (omega arith)
 marks_from_bits (a ∷ b ∷ []) p floor four small bits = absurd (omega arith)
@@ -117,7 +118,7 @@ pub marks_are_words : (p : ℕ → Bool) (floor : ℕ) → AllByRecursion (λ wo
 marks_are_words p floor = (word_limit p floor, (word_limit p (floor + 64), (word_limit p (floor + 128), (word_limit p (floor + 192), tt))))
 
 -- marks of tests that agree from the floor on
-pub marks_agree : (p q : ℕ → Bool) (floor : ℕ) → ((i : ℕ) → i < 256 → p (floor + i) ≡ q (floor + i)) → marks_of p floor ≡ marks_of q floor
+pub marks_agree : (p q : ℕ → Bool) (floor : ℕ) → ((i : ℕ) → i < MAX_WINDOW → p (floor + i) ≡ q (floor + i)) → marks_of p floor ≡ marks_of q floor
 marks_agree p q floor same =
     marks_from_bits (marks_of p floor) q floor refl (marks_are_words p floor) (λ i h. marked_passes p floor i h ∙ same i h)
 
@@ -132,7 +133,7 @@ zero_in (suc (suc zero)) = refl
 zero_in (suc (suc (suc zero))) = refl
 zero_in (suc (suc (suc (suc j)))) = refl
 
-pub none_marked : (i : ℕ) → i < 256 → is_marked (0 ∷ 0 ∷ 0 ∷ 0 ∷ []) i ≡ false
+pub none_marked : (i : ℕ) → i < MAX_WINDOW → is_marked (0 ∷ 0 ∷ 0 ∷ 0 ∷ []) i ≡ false
 none_marked i small =
     let word : bit_at (get_or zeros (i / 64) 0) (i % 64) ≡ 0 = ap (λ n. bit_at n (i % 64)) (zero_in (i / 64)) ∙ bit_at-zero (i % 64) in
     marked_at zeros (i / 64) (i % 64) i (omega arith) (omega arith) ∙ ap (λ n. eqb n 1) word
@@ -153,10 +154,10 @@ all_range p a zero each = refl
 all_range p a (suc n) each =
     and_from (p a) (list_all p (range_with_len (a + 1) n)) (each a (omega arith) (omega arith)) (all_range p (a + 1) n (λ i low high. each i (omega arith) (omega arith)))
 
-pub bits_end : (n : ℕ) (marks : List ℕ) → ends_by n marks ≡ true → (i : ℕ) → n ≤ i → i < 256 → is_marked marks i ≡ false
+pub bits_end : (n : ℕ) (marks : List ℕ) → ends_by n marks ≡ true → (i : ℕ) → n ≤ i → i < MAX_WINDOW → is_marked marks i ≡ false
 unfolding ends_by
-bits_end n marks ends i low high = not-true (is_marked marks i) (range_all (λ j. not (is_marked marks j)) n (256 - n) ends i low (omega arith))
+bits_end n marks ends i low high = not-true (is_marked marks i) (range_all (λ j. not (is_marked marks j)) n (MAX_WINDOW - n) ends i low (omega arith))
 
-pub ends_where : (n : ℕ) (marks : List ℕ) → ((i : ℕ) → n ≤ i → i < 256 → is_marked marks i ≡ false) → ends_by n marks ≡ true
+pub ends_where : (n : ℕ) (marks : List ℕ) → ((i : ℕ) → n ≤ i → i < MAX_WINDOW → is_marked marks i ≡ false) → ends_by n marks ≡ true
 unfolding ends_by
-ends_where n marks each = all_range (λ j. not (is_marked marks j)) n (256 - n) (λ i low high. ap not (each i low (omega arith)))
+ends_where n marks each = all_range (λ j. not (is_marked marks j)) n (MAX_WINDOW - n) (λ i low high. ap not (each i low (omega arith)))

@@ -8,6 +8,7 @@ use Rattle.std.proofs.lemmas.List.{append_cancel_left, length-replicate}
 use Rattle.std.proofs.lemmas.List.Concat.{flat_map-cons}
 use Rattle.std.proofs.lemmas.List.FromFn.{length-map-range_with_len}
 use Rattle.std.proofs.lemmas.Nat.{from_be_bytes-to_be_bytes_4, from_be_bytes-to_be_bytes_8}
+use Rattle.fc_base.specs.declared.limits.TheConstants.{MAX_BLOCK_SIZE, MAX_BLOCKS, MAX_WRITES}
 use Rattle.fc_base.specs.declared.record.JobParts.{JobParts}
 use Rattle.fc_base.specs.declared.record.Verify.{Verify}
 use Rattle.fc_base.specs.declared.record.Verify.TheVariants.{Stamp, Pattern}
@@ -28,12 +29,12 @@ block_limits job limits =
     let three = and_parts (has_block_size job && has_region job && has_queue job) (has_pattern job) limits in
     let two = and_parts (has_block_size job && has_region job) (has_queue job) three.0 in
     let one = and_parts (has_block_size job) (has_region job) two.0 in
-    let size = and_parts (nat_le 512 job.bs && nat_le job.bs 65536) (eqb (job.bs % 512) 0) one.0 in
-    let region = and_parts (nat_le 1 job.blocks && nat_le job.blocks 65536) (nat_le 1 job.total && nat_le job.total 1000000) one.1 in
+    let size = and_parts (nat_le 512 job.bs && nat_le job.bs MAX_BLOCK_SIZE) (eqb (job.bs % 512) 0) one.0 in
+    let region = and_parts (nat_le 1 job.blocks && nat_le job.blocks MAX_BLOCKS) (nat_le 1 job.total && nat_le job.total MAX_WRITES) one.1 in
     record {
-      size = leb-true 512 job.bs (and_parts (nat_le 512 job.bs) (nat_le job.bs 65536) size.0).0;
+      size = leb-true 512 job.bs (and_parts (nat_le 512 job.bs) (nat_le job.bs MAX_BLOCK_SIZE) size.0).0;
       whole = eqb-true (job.bs % 512) 0 size.1;
-      blocks = leb-true 1 job.blocks (and_parts (nat_le 1 job.blocks) (nat_le job.blocks 65536) region.0).0;
+      blocks = leb-true 1 job.blocks (and_parts (nat_le 1 job.blocks) (nat_le job.blocks MAX_BLOCKS) region.0).0;
     }
 
 pub length-counting_bytes : (from n : ℕ) → length (counting_bytes from n) ≡ n
