@@ -11,7 +11,7 @@ abbrev pub numbers_below : ℕ → List ℕ
 numbers_below zero = []
 numbers_below (suc n) = numbers_below n ++ n ∷ []
 
--- A write counts where it is among the last completions, or a whole window below the number issued.
+-- A write counts where it is among the last completions, or more than a window below the number issued.
 abbrev pub is_counted : ℕ → ℕ → List ℕ → ℕ → Bool
 is_counted window issued completions k = has completions k || nat_lt (k + window) issued
 

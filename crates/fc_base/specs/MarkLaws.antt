@@ -23,23 +23,22 @@ range_limit p first n =
     let e = length-map-range_with_len p first n in
     subst (λ m. mask_l (map p (range_with_len first n)) < 2 ^ m) e (mask_l-lt (map p (range_with_len first n)))
 
-pub bit_word : (p : ℕ → Bool) (first i : ℕ) → i < 64 → bit_at (word_of p first) i ≡ cond (p (first + i)) 1 0
+bit_word : (p : ℕ → Bool) (first i : ℕ) → i < 64 → bit_at (word_of p first) i ≡ cond (p (first + i)) 1 0
 unfolding word_of
 bit_word p first i small = bit_of_range p first 64 i small
 
-pub word_limit : (p : ℕ → Bool) (first : ℕ) → word_of p first < 2 ^ 64
+word_limit : (p : ℕ → Bool) (first : ℕ) → word_of p first < 2 ^ 64
 unfolding word_of
 word_limit p first = range_limit p first 64
 
--- a bit is set where the number passes
 one_where : (b : Bool) → eqb (cond b 1 0) 1 ≡ b
 one_where true = refl
 one_where false = refl
 
-pub bit_passes : (p : ℕ → Bool) (first i : ℕ) → i < 64 → eqb (bit_at (word_of p first) i) 1 ≡ p (first + i)
+bit_passes : (p : ℕ → Bool) (first i : ℕ) → i < 64 → eqb (bit_at (word_of p first) i) 1 ≡ p (first + i)
 bit_passes p first i small = ap (λ n. eqb n 1) (bit_word p first i small) ∙ one_where (p (first + i))
 
--- a bit that is told by a test
+-- A bit that is told by a test.
 pub bit_of_test : (n : ℕ) (b : Bool) → n < 2 → eqb n 1 ≡ b → n ≡ cond b 1 0
 bit_of_test n true small e = eqb-true n 1 e
 bit_of_test n false small e = elim (cases_Bool (eqb n 1)) [
@@ -47,27 +46,23 @@ bit_of_test n false small e = elim (cases_Bool (eqb n 1)) [
   | inr f ↦ let ne : n ≡ 1 → ⊥ = (λ one. let bad : true ≡ false = sym (eq-eqb n 1 one) ∙ f in cc) in omega arith
 ]
 
--- a word whose bits tell which numbers pass is the word of these
-pub word_from_bits : (w : ℕ) (p : ℕ → Bool) (first : ℕ) → w < 2 ^ 64 → ((i : ℕ) → i < 64 → (bit_at w i == 1) ≡ p (first + i)) → w ≡ word_of p first
+-- A word whose bits tell which of 64 numbers pass is the word of these.
+pub word_from_bits : (w : ℕ) (p : ℕ → Bool) (first : ℕ) → w < 2 ^ 64 →
+    ((i : ℕ) → i < 64 → (bit_at w i == 1) ≡ p (first + i)) → w ≡ word_of p first
 word_from_bits w p first small bits =
     same_from_bits_below 64 w (word_of p first) small (word_limit p first) (λ i h. bit_of_test (bit_at w i) (p (first + i)) (bit_at-lt w i) (bits i h) ∙ sym (bit_word p first i h))
 
--- words of tests that agree on their numbers
-pub word_agree : (p q : ℕ → Bool) (first : ℕ) → ((i : ℕ) → i < 64 → p (first + i) ≡ q (first + i)) → word_of p first ≡ word_of q first
-word_agree p q first same =
-    word_from_bits (word_of p first) q first (word_limit p first) (λ i h. bit_passes p first i h ∙ same i h)
-
 -- ---- four words
 
--- bit i of word j is bit 64 j + i of the marks
-pub marked_at : (marks : List ℕ) (j i k : ℕ) → i < 64 → 64 * j + i ≡ k → is_marked marks k ≡ (bit_at (slice_index marks j) i == 1)
+-- Bit i of word j is bit 64 j + i of the marks.
+pub marked_at : (marks : List ℕ) (j i k : ℕ) → i < 64 → 64 * j + i ≡ k →
+    is_marked marks k ≡ (bit_at (slice_index marks j) i == 1)
 unfolding is_marked
 marked_at marks j i k small e =
     let word : k / 64 ≡ j = omega arith in
     let bit : k % 64 ≡ i = omega arith in
     rw (word, bit) refl
 
--- one of the four words
 passes_in : (p : ℕ → Bool) (floor j i k : ℕ) → (w : ℕ) → get_or (marks_of p floor) j 0 ≡ w → w ≡ word_of p (floor + 64 * j) → i < 64 → 64 * j + i ≡ k → is_marked (marks_of p floor) k ≡ p (floor + k)
 passes_in p floor j i k w here is small e =
     marked_at (marks_of p floor) j i k small e
@@ -78,7 +73,7 @@ passes_in p floor j i k w here is small e =
 first_word : (p : ℕ → Bool) (floor : ℕ) → word_of p floor ≡ word_of p (floor + 64 * 0)
 first_word p floor = ap (word_of p) (omega arith)
 
--- bit i of the marks tells whether number floor + i passes
+-- Bit i of the marks of a test tells whether number floor + i passes.
 pub marked_passes : (p : ℕ → Bool) (floor i : ℕ) → i < MAX_WINDOW → is_marked (marks_of p floor) i ≡ p (floor + i)
 marked_passes p floor i small = elim (cases_Bool (ltb i 64)) [
   | inl a ↦ passes_in p floor 0 i i _ refl (first_word p floor) (ltb-true i 64 a) (omega arith)
@@ -99,8 +94,10 @@ word_in marks p floor j w within here small bits =
     ∙ bits (64 * j + i) (omega arith)
     ∙ ap p (omega arith))
 
--- four words whose bits tell which numbers pass are the marks of these
-pub marks_from_bits : (marks : List ℕ) (p : ℕ → Bool) (floor : ℕ) → length marks ≡ 4 → AllByRecursion (λ word. word < 2 ^ 64) marks → ((i : ℕ) → i < MAX_WINDOW → is_marked marks i ≡ p (floor + i)) → marks ≡ marks_of p floor
+-- Four words whose bits tell which numbers pass are the marks of these.
+pub marks_from_bits : (marks : List ℕ) (p : ℕ → Bool) (floor : ℕ) → length marks ≡ 4 →
+    AllByRecursion (λ word. word < 2 ^ 64) marks →
+    ((i : ℕ) → i < MAX_WINDOW → is_marked marks i ≡ p (floor + i)) → marks ≡ marks_of p floor
 marks_from_bits [] p floor four small bits = absurd (omega arith)
 marks_from_bits (a ∷ []) p floor four small bits = absurd (omega arith)
 marks_from_bits (a ∷ b ∷ []) p floor four small bits = absurd (omega arith)
@@ -114,15 +111,16 @@ marks_from_bits (a ∷ b ∷ c ∷ d ∷ []) p floor four small bits =
     rw (ea, eb, ec, ed) refl
 marks_from_bits (a ∷ b ∷ c ∷ d ∷ e ∷ rest) p floor four small bits = absurd (omega arith)
 
+-- The marks of any test are four words of 64 bits.
 pub marks_are_words : (p : ℕ → Bool) (floor : ℕ) → AllByRecursion (λ word. word < 2 ^ 64) (marks_of p floor)
 marks_are_words p floor = (word_limit p floor, (word_limit p (floor + 64), (word_limit p (floor + 128), (word_limit p (floor + 192), tt))))
 
--- marks of tests that agree from the floor on
-pub marks_agree : (p q : ℕ → Bool) (floor : ℕ) → ((i : ℕ) → i < MAX_WINDOW → p (floor + i) ≡ q (floor + i)) → marks_of p floor ≡ marks_of q floor
+-- Tests that agree from the floor on have the same marks.
+pub marks_agree : (p q : ℕ → Bool) (floor : ℕ) →
+    ((i : ℕ) → i < MAX_WINDOW → p (floor + i) ≡ q (floor + i)) → marks_of p floor ≡ marks_of q floor
 marks_agree p q floor same =
     marks_from_bits (marks_of p floor) q floor refl (marks_are_words p floor) (λ i h. marked_passes p floor i h ∙ same i h)
 
--- where no bit is set
 abbrev zeros : List ℕ
 zeros = 0 ∷ 0 ∷ 0 ∷ 0 ∷ []
 
@@ -133,6 +131,7 @@ zero_in (suc (suc zero)) = refl
 zero_in (suc (suc (suc zero))) = refl
 zero_in (suc (suc (suc (suc j)))) = refl
 
+-- Words of zeros mark nothing.
 pub none_marked : (i : ℕ) → i < MAX_WINDOW → is_marked (0 ∷ 0 ∷ 0 ∷ 0 ∷ []) i ≡ false
 none_marked i small =
     let word : bit_at (get_or zeros (i / 64) 0) (i % 64) ≡ 0 = ap (λ n. bit_at n (i % 64)) (zero_in (i / 64)) ∙ bit_at-zero (i % 64) in
@@ -154,10 +153,12 @@ all_range p a zero each = refl
 all_range p a (suc n) each =
     and_from (p a) (list_all p (range_with_len (a + 1) n)) (each a (omega arith) (omega arith)) (all_range p (a + 1) n (λ i low high. each i (omega arith) (omega arith)))
 
+-- Where bits end, none is set from there on.
 pub bits_end : (n : ℕ) (marks : List ℕ) → ends_by n marks ≡ true → (i : ℕ) → n ≤ i → i < MAX_WINDOW → is_marked marks i ≡ false
 unfolding ends_by
 bits_end n marks ends i low high = not-true (is_marked marks i) (range_all (λ j. not (is_marked marks j)) n (MAX_WINDOW - n) ends i low (omega arith))
 
+-- And where none is set from somewhere on, they end there.
 pub ends_where : (n : ℕ) (marks : List ℕ) → ((i : ℕ) → n ≤ i → i < MAX_WINDOW → is_marked marks i ≡ false) → ends_by n marks ≡ true
 unfolding ends_by
 ends_where n marks each = all_range (λ j. not (is_marked marks j)) n (MAX_WINDOW - n) (λ i low high. ap not (each i low (omega arith)))
