@@ -30,8 +30,8 @@ pub fn save_law()
     ensures { TellsWhatIsLeft }
 {}
 
-/// A torn write: two sectors of sevens go to sectors 4 and 5 of a file of zeros, and only the second
-/// of them lands.
+/// A torn write: two sectors of sevens go to sectors 4 and 5 of a file of zeros, and only the
+/// second of them lands.
 pub fn examples()
     ensures lost { landed (λ i. i == 1) 4 (replicate 1024 7) (λ _. zeros) 4 ≡ zeros }
     ensures landed { landed (λ i. i == 1) 4 (replicate 1024 7) (λ _. zeros) 5 ≡ replicate 512 7 }

@@ -51,7 +51,8 @@ impl Sectors {
         requires within { first % 128 + length bytes.now / 512 ≤ 128 }
         requires whole { length bytes.now % 512 ≡ 0 }
         ensures runs { KeepsRuns self.old self.new }
-        ensures content { HasContent self.new (landed (is_picked picks) first bytes.now (content_of self.old)) }
+        ensures content { HasContent self.new
+            (landed (is_picked picks) first bytes.now (content_of self.old)) }
     {
         if let Some(run) = self.runs.get_mut(&(first / 128)) {
             run.land((first % 128) as usize, bytes, picks);

@@ -40,7 +40,8 @@ impl Singles {
     pub(crate) fn read(&self, first: u64, bytes: &mut [u8])
         requires reach { first + length bytes.old / 512 ≤ 2 ^ 64 }
         requires whole { length bytes.old % 512 ≡ 0 }
-        ensures { (i : ℕ) → i < length bytes.old / 512 → sector_of bytes.new i ≡ single_of self.now (first + i) }
+        ensures { (i : ℕ) → i < length bytes.old / 512 → sector_of bytes.new i
+            ≡ single_of self.now (first + i) }
     {
         bytes.fill(0);
         for i in 0..bytes.len() / SECTOR {

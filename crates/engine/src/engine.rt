@@ -137,8 +137,9 @@ impl Engine {
         self.stopped = true;
     }
 
-    /// The state of the job as of now: how many writes were issued, the place of the generator after
-    /// them, and which writes have completed. It counts exactly those. Taking it needs no memory.
+    /// The state of the job as of now: how many writes were issued, the place of the generator
+    /// after them, and which writes have completed. It counts exactly those. Taking it needs no
+    /// memory.
     pub fn take(&self) -> VerifyState
         ensures value { result ≡ state_now self.now }
         ensures history { EachHistory self.now (λ h. result ≡ state_after self.now.origin h) }

@@ -50,7 +50,8 @@ pub fn examples()
     ensures waits { answer_to first_run false (done 1 ∷ issue 1 ∷ issue 0 ∷ []) ≡ Issue.Overlap }
     ensures goes_on { answer_to first_run false (done 0 ∷ issue 1 ∷ issue 0 ∷ [])
         ≡ Issue.Write (ticket_of first_run 2) }
-    ensures ends { answer_to first_run false (issue 2 ∷ done 0 ∷ issue 1 ∷ issue 0 ∷ []) ≡ Issue.Finished }
+    ensures ends { answer_to first_run false (issue 2 ∷ done 0 ∷ issue 1 ∷ issue 0 ∷ [])
+        ≡ Issue.Finished }
     ensures stops { answer_to first_run true (done 0 ∷ issue 1 ∷ issue 0 ∷ []) ≡ Issue.Stopped }
     ensures counts { (state_after first_run (done 1 ∷ issue 1 ∷ issue 0 ∷ [])).counted ≡ 1 ∷ [] }
 {}

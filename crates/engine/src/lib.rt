@@ -9,7 +9,8 @@
 //! let state = engine.take();
 //! ```
 //!
-//! Begin with `engine`; `specs/Answers.antt` says what `issue` answers, `specs/Taken.antt` what a state is.
+//! Begin with `engine`; `specs/Answers.antt` says what `issue` answers, `specs/Taken.antt` what a
+//! state is.
 #![tactic(auto)]
 
 mod engine;

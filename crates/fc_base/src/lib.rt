@@ -9,8 +9,8 @@
 //! println!(rt; "refused {} {}", fault.number(), fault)?;
 //! ```
 //!
-//! Begin with `record`, then `counted`; `limits` has every limit, and `specs/Counted.antt` the rule by
-//! which a verify state counts writes.
+//! Begin with `record`, then `counted`; `limits` has every limit, and `specs/Counted.antt` the rule
+//! by which a verify state counts writes.
 #![tactic(auto)]
 
 mod counted;

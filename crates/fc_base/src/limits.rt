@@ -3,10 +3,12 @@
 /// How many bytes a job file has at the most.
 pub const MAX_TEXT: usize = 16_384;
 
-/// How many jobs a job file has at the most, copies counted; also one past the greatest [`JobNo`](crate::JobNo).
+/// How many jobs a job file has at the most, copies counted; also one past the greatest
+/// [`JobNo`](crate::JobNo).
 pub const MAX_JOBS: u32 = 16;
 
-/// How many servers there are at the most; also one past the greatest [`ServerNo`](crate::ServerNo).
+/// How many servers there are at the most; also one past the greatest
+/// [`ServerNo`](crate::ServerNo).
 pub const MAX_SERVERS: u32 = 8;
 
 /// How many bytes a block has at the most.

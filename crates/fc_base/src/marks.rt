@@ -7,8 +7,8 @@ ghost use Rattle.std.specs.List.{AllByRecursion};
 use crate::limits::MAX_WINDOW;
 use std::marker::Model;
 
-/// A bit for each of [`MAX_WINDOW`](crate::MAX_WINDOW) numbers, from 0: 64 of them a word, the lowest
-/// bit first.
+/// A bit for each of [`MAX_WINDOW`](crate::MAX_WINDOW) numbers, from 0: 64 of them a word, the
+/// lowest bit first.
 #[derive(Clone, Copy, Debug, PartialEq, Eq)]
 pub struct Marks {
     words: [u64; 4],

@@ -86,8 +86,8 @@ pub struct Key {
 impl Key {
     ghost use Rattle.fc_base.specs.Keys.{is_key};
 
-    /// Whether a job can have this key: the run is at least 1, the server below [`MAX_SERVERS`], the
-    /// job below [`MAX_JOBS`].
+    /// Whether a job can have this key: the run is at least 1, the server below [`MAX_SERVERS`],
+    /// the job below [`MAX_JOBS`].
     pub fn is_key(&self) -> bool
         ensures { result ≡ is_key self.now }
     {

@@ -90,7 +90,8 @@ pub struct ReportParts {
     pub end: ReportEnd,
 }
 
-/// A report whose numbers fit together. It is a plain value: it is kept, sent and told without memory.
+/// A report whose numbers fit together. It is a plain value: it is kept, sent and told without
+/// memory.
 #[derive(Clone, Copy, Debug)]
 pub struct CheckReport {
     parts: ReportParts,

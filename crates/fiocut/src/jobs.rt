@@ -30,8 +30,8 @@ const MAX_BYTES: usize = MAX_TEXT + 1;
 const MAX_READS: u32 = 20_000;
 
 /// Reads a job file and writes a line for each of its notes and jobs and a last line with their
-/// number, or the one line `refused CODE NAME` with the line or job where the fault has one. Answers
-/// the exit status.
+/// number, or the one line `refused CODE NAME` with the line or job where the fault has one.
+/// Answers the exit status.
 ///
 /// All memory is got before the first line is written. An error is that of a write: nothing is
 /// written after it.
@@ -81,7 +81,8 @@ fn write_text<W: Write>(writer: &mut W, text: &str) -> io::Result<()>
 }
 
 fn write_refusal<W: Write>(writer: &mut W, refusal: Refusal) -> io::Result<()>
-    ensures { OnOk result (Appends (W.contents writer.old) (W.contents writer.new) (ended (refusal_line refusal))) }
+    ensures { OnOk result (Appends (W.contents writer.old) (W.contents writer.new)
+        (ended (refusal_line refusal))) }
 {
     writeln!(writer, "{refusal}")?;
     writer.flush()

@@ -6,7 +6,8 @@ ghost use Rattle.job_file.specs.JobSet.{jobs_of, refusal_of};
 
 use crate::fault::JobFault;
 
-/// A text that is not refused has a job, at most [`MAX_JOBS`](fc_base::MAX_JOBS), and each is within the limits of a job's record.
+/// A text that is not refused has a job, at most [`MAX_JOBS`](fc_base::MAX_JOBS), and each is
+/// within the limits of a job's record.
 pub fn jobs_are_within_limits()
     ensures { JobsAreWithinLimits }
 {}
@@ -22,6 +23,7 @@ pub fn examples()
     ensures below { map (λ job. job.rec.bs)
         (jobs_of (codes "[global]\nbs=1k\nsize=8k\n[a]\n[global]\nbs=512\n[b]\n[c]\nbs=4k\n"))
         ≡ 1024 ∷ 512 ∷ 4096 ∷ [] }
-    ensures line_first { refusal_of (codes "[a]\nbs=4k\nsizes=8k\n") ≡ Some (JobFault.UnknownOption 3) }
+    ensures line_first { refusal_of (codes "[a]\nbs=4k\nsizes=8k\n")
+        ≡ Some (JobFault.UnknownOption 3) }
     ensures then_job { refusal_of (codes "[a]\nbs=4k\n") ≡ Some (JobFault.NoSize 0) }
 {}

@@ -76,7 +76,8 @@ fn count_of(drafts: &[Draft]) -> u64
 /// The jobs of the sections, the copies of each in a row.
 fn jobs_of(alloc: Global, drafts: &[Draft]) -> Result<Vec<Job>, JobFault>
     requires { count_of drafts.now ≤ MAX_JOBS }
-    ensures jobs { Gives (λ jobs. jobs.items) result (faults_from 0 (with_copies drafts.now)) (jobs_from 0 (with_copies drafts.now)) }
+    ensures jobs { Gives (λ jobs. jobs.items) result (faults_from 0 (with_copies drafts.now))
+        (jobs_from 0 (with_copies drafts.now)) }
     ensures length { IfOk result (λ jobs. length jobs.items ≡ count_of drafts.now) }
 {
     let mut jobs = Vec::new(alloc);
@@ -89,9 +90,13 @@ fn jobs_of(alloc: Global, drafts: &[Draft]) -> Result<Vec<Job>, JobFault>
 /// Adds the copies of one section, numbered on from the jobs that are there.
 fn add_copies(alloc: Global, draft: &Draft, jobs: &mut Vec<Job>) -> Result<(), JobFault>
     requires { length jobs.old.items + copies_of draft.now ≤ MAX_JOBS }
-    ensures faults { Checks result (faults_from (length jobs.old.items) (replicate (copies_of draft.now) draft.now)) }
-    ensures jobs { OnOk result (jobs.new.items ≡ jobs.old.items ++ jobs_from (length jobs.old.items) (replicate (copies_of draft.now) draft.now)) }
-    ensures length { OnOk result (length jobs.new.items ≡ length jobs.old.items + copies_of draft.now) }
+    ensures faults { Checks result
+        (faults_from (length jobs.old.items) (replicate (copies_of draft.now) draft.now)) }
+    ensures jobs { OnOk result
+        (jobs.new.items ≡ jobs.old.items
+        ++ jobs_from (length jobs.old.items) (replicate (copies_of draft.now) draft.now)) }
+    ensures length { OnOk result
+        (length jobs.new.items ≡ length jobs.old.items + copies_of draft.now) }
 {
     for _ in 0..draft.copies() {
         let number = JobNo(jobs.len() as u32);

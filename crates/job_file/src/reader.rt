@@ -69,9 +69,12 @@ impl<'a> Reader<'a> {
     /// Takes the line of this number.
     fn take(&mut self, alloc: Global, number: u32, line: Line<'a>) -> Result<(), JobFault>
         ensures fault { Checks result (faults_in number (is_inside self.old.scope) line.entry) }
-        ensures inside { OnOk result (is_inside self.new.scope ≡ (is_inside self.old.scope || opens line.entry)) }
-        ensures coming { OnOk result ((below : List Line) → coming self.new below ≡ coming self.old (line.entry ∷ below)) }
-        ensures notes { OnOk result (self.new.notes.items ≡ self.old.notes.items ++ note_in number line.entry) }
+        ensures inside { OnOk result
+            (is_inside self.new.scope ≡ (is_inside self.old.scope || opens line.entry)) }
+        ensures coming { OnOk result
+            ((below : List Line) → coming self.new below ≡ coming self.old (line.entry ∷ below)) }
+        ensures notes { OnOk result
+            (self.new.notes.items ≡ self.old.notes.items ++ note_in number line.entry) }
     {
         match line {
             Line::Blank => Ok(()),
@@ -94,7 +97,8 @@ impl<'a> Reader<'a> {
         ensures memory { IfErr result (λ fault. fault ≡ JobFault.NoMemory) }
         ensures scope { OnOk result (self.new.scope ≡ next.entry) }
         ensures defaults { OnOk result (self.new.defaults ≡ self.old.defaults) }
-        ensures drafts { OnOk result (self.new.drafts.items ≡ self.old.drafts.items ++ draft_in self.old.scope) }
+        ensures drafts { OnOk result
+            (self.new.drafts.items ≡ self.old.drafts.items ++ draft_in self.old.scope) }
         ensures notes { OnOk result (self.new.notes.items ≡ self.old.notes.items) }
     {
         if let Scope::Job(draft) = mem::replace(&mut self.scope, next) {
@@ -105,9 +109,12 @@ impl<'a> Reader<'a> {
 
     /// Sets an option of the section that is open.
     fn set(&mut self, number: u32, setting: Setting<'a>) -> Result<(), JobFault>
-        ensures fault { Checks result (faults_in number (is_inside self.old.scope) (Line.Set setting.entry)) }
+        ensures fault { Checks result
+            (faults_in number (is_inside self.old.scope) (Line.Set setting.entry)) }
         ensures inside { is_inside self.new.scope ≡ is_inside self.old.scope }
-        ensures coming { OnOk result ((below : List Line) → coming self.new below ≡ coming self.old (Line.Set setting.entry ∷ below)) }
+        ensures coming { OnOk result
+            ((below : List Line) → coming self.new below
+            ≡ coming self.old (Line.Set setting.entry ∷ below)) }
         ensures notes { self.new.notes.items ≡ self.old.notes.items }
     {
         match &mut self.scope {
@@ -120,10 +127,15 @@ impl<'a> Reader<'a> {
 
     /// Notes an option that has no effect.
     fn note(&mut self, alloc: Global, number: u32, name: &Name) -> Result<(), JobFault>
-        ensures fault { Checks result (faults_in number (is_inside self.old.scope) (Line.Ignored name.now)) }
+        ensures fault { Checks result
+            (faults_in number (is_inside self.old.scope) (Line.Ignored name.now)) }
         ensures inside { is_inside self.new.scope ≡ is_inside self.old.scope }
-        ensures coming { OnOk result ((below : List Line) → coming self.new below ≡ coming self.old (Line.Ignored name.now ∷ below)) }
-        ensures notes { OnOk result (self.new.notes.items ≡ self.old.notes.items ++ note_in number (Line.Ignored name.now)) }
+        ensures coming { OnOk result
+            ((below : List Line) → coming self.new below
+            ≡ coming self.old (Line.Ignored name.now ∷ below)) }
+        ensures notes { OnOk result
+            (self.new.notes.items ≡ self.old.notes.items
+            ++ note_in number (Line.Ignored name.now)) }
     {
         if let Scope::Outside = self.scope {
             return Err(JobFault::BadLine(number));
@@ -138,7 +150,9 @@ impl<'a> Reader<'a> {
 
     /// Ends the section that is open, and gives what the lines have said.
     fn finish(mut self) -> Result<Contents<'a>, JobFault>
-        ensures { Gives {Y = List Draft × List Note} (λ c. (c.drafts.items, c.notes.items)) result [] (coming self.entry [], self.entry.notes.items) }
+        ensures { Gives {Y = List Draft × List Note}
+            (λ c. (c.drafts.items, c.notes.items)) result []
+            (coming self.entry [], self.entry.notes.items) }
     {
         self.open(Scope::Outside)?;
         let Reader {
@@ -154,7 +168,8 @@ impl<'a> Reader<'a> {
 /// What the lines of a text say, or the fault of the first faulty line.
 pub(crate) fn contents_of(alloc: Global, text: &[u8]) -> Result<Contents<'_>, JobFault>
     requires { length text.now ≤ MAX_TEXT }
-    ensures { Gives {Y = List Draft × List Note} (λ c. (c.drafts.items, c.notes.items)) result (line_faults 1 false (lines_of text.now))
+    ensures { Gives {Y = List Draft × List Note} (λ c. (c.drafts.items, c.notes.items)) result
+        (line_faults 1 false (lines_of text.now))
         (drafts_of (lines_of text.now), notes_from 1 (lines_of text.now)) }
 {
     let mut reader = Reader::new(alloc);

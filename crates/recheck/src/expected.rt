@@ -134,7 +134,8 @@ impl Expected {
     /// Whether the bytes are those of a write in flight to the block.
     fn is_in_flight(&self, block: u32, bytes: &[u8]) -> bool
         requires { length bytes.now ≡ self.now.job.bs }
-        ensures { result ≡ list_any (is_write self.now block bytes.now) (writes_to block self.now.in_flight) }
+        ensures { result ≡ list_any (is_write self.now block bytes.now)
+            (writes_to block self.now.in_flight) }
     {
         for write in &self.in_flight {
             if write.block == block && self.is_write(write.seq, block, bytes) {

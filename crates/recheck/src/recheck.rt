@@ -69,8 +69,8 @@ impl Recheck {
         })
     }
 
-    /// Whether the block is checked: some write to it has completed. Another need not be read. A block
-    /// past the job's last one is not wanted.
+    /// Whether the block is checked: some write to it has completed. Another need not be read. A
+    /// block past the job's last one is not wanted.
     pub fn wants(&self, block: u32) -> bool
         ensures value { result ≡ is_checked self.now.expected block }
         ensures past { self.now.expected.job.blocks ≤ block → result ≡ false }

@@ -29,7 +29,8 @@ pub fn check_disk<D: Disk>(
     fatal: bool,
     disk: &mut D,
 ) -> Result<CheckReport, Fault>
-    ensures { ChecksDisk result key rec.now (option_copied state.entry) fatal (D.file disk.old) (D.file disk.new) }
+    ensures { ChecksDisk result key rec.now (option_copied state.entry) fatal (D.file disk.old)
+        (D.file disk.new) }
 {
     let mut check = Recheck::new(alloc, rec, key, state, fatal)?;
     let Ok(mut bytes) = vec![in alloc; 0u8; rec.bs() as usize] else {

@@ -1,4 +1,5 @@
-//! Which writes count, by marks or by a list of completions, and whether a job can have come to them.
+//! Which writes count, by marks or by a list of completions, and whether a job can have come to
+//! them.
 
 ghost use Rattle.std.specs.Prelude.{◌≡◌, ◌-◌, ◌*◌, ◌^◌, ◌<◌, ◌≤◌, length, filter, nat_le, nat_lt, bytes_eq, IsTrue};
 ghost use Rattle.std.specs.List.{list_all, AllByRecursion};
@@ -49,7 +50,8 @@ pub(crate) fn counts(window: u32, issued: u64, marks: &Marks, seq: Seq) -> bool
 pub(crate) fn counts_alike(window: u32, issued: u64, one: &Marks, other: &Marks) -> bool
     requires one { IsTrue (ends_by (issued - floor_of window issued) one.now) }
     requires other { IsTrue (ends_by (issued - floor_of window issued) other.now) }
-    ensures { result ≡ bytes_eq (counted_by window issued one.now) (counted_by window issued other.now) }
+    ensures { result ≡ bytes_eq (counted_by window issued one.now)
+        (counted_by window issued other.now) }
 {
     one.words() == other.words()
 }
@@ -84,8 +86,8 @@ fn count_from(list: &[Seq], first: u64) -> u64
     list.iter().filter(|seq| first <= seq.0).count() as u64
 }
 
-/// How many of the issued writes the list counts: all below the floor, and those of the list that are
-/// not.
+/// How many of the issued writes the list counts: all below the floor, and those of the list that
+/// are not.
 fn listed(window: u32, issued: u64, list: &[Seq]) -> u64
     requires distinct { IsTrue (is_distinct list.now) }
     requires below { IsTrue (list_all (λ k. nat_lt k issued) list.now) }
@@ -95,7 +97,8 @@ fn listed(window: u32, issued: u64, list: &[Seq]) -> u64
     floor + count_from(list, floor)
 }
 
-/// Whether a job can have issued so many writes and have this list, of at most two of the widest windows.
+/// Whether a job can have issued so many writes and have this list, of at most two of the widest
+/// windows.
 #[tactic(auto, unfolding(crate::specs::State::has_come))]
 pub(crate) fn has_come(rec: &JobRecord, issued: u64, list: &[Seq]) -> bool
     requires { length list.now ≤ MAX_COMPLETIONS }

@@ -9,8 +9,8 @@ use fc_base::{MAX_WINDOW, Seq};
 /// The most completions that a list has: two of the widest windows.
 pub(crate) const MAX_COMPLETIONS: usize = 2 * MAX_WINDOW as usize;
 
-/// Whether no write stands in the list twice. The numbers are sorted on the stack, where equal ones come
-/// to stand side by side.
+/// Whether no write stands in the list twice. The numbers are sorted on the stack, where equal ones
+/// come to stand side by side.
 pub(crate) fn is_distinct(list: &[Seq]) -> bool
     requires { length list.now ≤ MAX_COMPLETIONS }
     ensures { result ≡ is_distinct list.now }

@@ -8,8 +8,8 @@
 //! if again.counts(Seq(7)) { .. }
 //! ```
 //!
-//! Begin with `state` and `specs/State.antt`; `specs/Spelling.antt` has the bytes, `specs/Reading.antt` the
-//! faults of bytes.
+//! Begin with `state` and `specs/State.antt`; `specs/Spelling.antt` has the bytes,
+//! `specs/Reading.antt` the faults of bytes.
 #![tactic(auto)]
 
 mod counting;

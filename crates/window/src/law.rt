@@ -28,7 +28,8 @@ pub fn in_flight_law()
     ensures { StaysInOneWindow }
 {}
 
-/// A write is issued, and is then in flight until it completes, and open until it completes or fails.
+/// A write is issued, and is then in flight until it completes, and open until it completes or
+/// fails.
 pub fn sets_law()
     ensures in_flight { InFlightIsNotDone }
     ensures open_writes { OpenIsNotFailed }
@@ -40,8 +41,9 @@ pub fn room_law()
     ensures { RoomIsRight }
 {}
 
-/// At depth and window 2 writes 0 and 1 are issued, and write 1 completes first: write 0 holds the next
-/// write back until it completes, too. The completions are kept in the order in which they came.
+/// At depth and window 2 writes 0 and 1 are issued, and write 1 completes first: write 0 holds the
+/// next write back until it completes, too. The completions are kept in the order in which they
+/// came.
 pub fn examples()
     ensures flies { in_flight (done 1 ∷ issue 1 ∷ issue 0 ∷ []) ≡ 0 ∷ [] }
     ensures full { room_of (kept_of 2 2 (issue 1 ∷ issue 0 ∷ [])) ≡ Room.Depth }

@@ -22,10 +22,12 @@ pub(crate) fn around(marks: &Marks, first: usize, length: usize) -> u64
     (from(words, first) & low_bits(ahead as u64)) | (words[0] << ahead)
 }
 
-/// The marks of 64 slots from this one on, the lowest bit first. Bits past the last slot say nothing.
+/// The marks of 64 slots from this one on, the lowest bit first. Bits past the last slot say
+/// nothing.
 fn from(words: [u64; 4], first: usize) -> u64
     requires { first < MAX_WINDOW }
-    ensures { (i : ℕ) → i < 64 → first + i < MAX_WINDOW → is_set result i ≡ is_marked words (first + i) }
+    ensures { (i : ℕ) → i < 64 → first + i < MAX_WINDOW → is_set result i
+        ≡ is_marked words (first + i) }
 {
     let word = first / 64;
     let shift = first % 64;

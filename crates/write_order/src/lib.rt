@@ -9,7 +9,8 @@
 //! }
 //! ```
 //!
-//! Begin with `order` and `specs/Blocks.antt`; `stamp` has the bytes, `specs/Picks.antt` the random orders.
+//! Begin with `order` and `specs/Blocks.antt`; `stamp` has the bytes, `specs/Picks.antt` the random
+//! orders.
 #![tactic(auto)]
 
 mod holding;

@@ -21,10 +21,10 @@ enum Chooser {
 /// The writes of a job in their order: which block the next one goes to, and the place of the
 /// generator before it.
 ///
-/// A sequential job goes to its blocks in turn (fio's manual, I/O type: `rw`). A random one takes one
-/// word of xoshiro256++ a write, seeded with the job's seed (`randseed`), and picks with it from the
-/// blocks that its pass has left, or from all of them (`norandommap`). Which block a word picks is
-/// this project's own rule.
+/// A sequential job goes to its blocks in turn (fio's manual, I/O type: `rw`). A random one takes
+/// one word of xoshiro256++ a write, seeded with the job's seed (`randseed`), and picks with it
+/// from the blocks that its pass has left, or from all of them (`norandommap`). Which block a word
+/// picks is this project's own rule.
 #[derive(Debug, Drop)]
 pub struct Order {
     rec: JobRecord,

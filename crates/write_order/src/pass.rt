@@ -47,7 +47,8 @@ impl Pass {
 
     /// The block that the next word picks.
     pub fn pick(&self, word: u64) -> u32
-        ensures { (words : ℕ → ℕ) (k : ℕ) → self.now ≡ pass_before words self.now.blocks k → word ≡ words k
+        ensures { (words : ℕ → ℕ) (k : ℕ) → self.now ≡ pass_before words self.now.blocks k
+            → word ≡ words k
             → result ≡ block_with_map words self.now.blocks k }
     {
         self.list[index_of(self.left, word) as usize]
@@ -55,7 +56,8 @@ impl Pass {
 
     /// Goes on by the block that the next word picks, in the same few steps wherever the pass is.
     pub fn advance(&mut self, word: u64)
-        ensures { (words : ℕ → ℕ) (k : ℕ) → self.old ≡ pass_before words self.old.blocks k → word ≡ words k
+        ensures { (words : ℕ → ℕ) (k : ℕ) → self.old ≡ pass_before words self.old.blocks k
+            → word ≡ words k
             → self.new ≡ pass_before words self.old.blocks (k + 1) }
     {
         let index = index_of(self.left, word);

@@ -14,8 +14,8 @@ pub(crate) const SECTOR: usize = 512;
 /// Fills the block of write `seq` with what that write puts there (fio's manual, Verification): the
 /// job's pattern in every byte, or a stamp in each sector of 512 bytes. The stamp's layout is this
 /// project's own: run (8 bytes), server (4), job (4), number of the write (8), block (8) and sector
-/// within the block (4), each high byte first, then 476 bytes that count up from the write's number,
-/// modulo 256.
+/// within the block (4), each high byte first, then 476 bytes that count up from the write's
+/// number, modulo 256.
 ///
 /// `bytes` is the whole block. No memory is taken.
 pub fn fill_block(key: Key, rec: &JobRecord, seq: Seq, block: u32, bytes: &mut [u8])
