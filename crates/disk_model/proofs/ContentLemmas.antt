@@ -14,7 +14,7 @@ use Rattle.disk_model.specs.Run.{run_sector}
 abbrev pub content_by : (ℕ → Option (List ℕ)) → (ℕ → List ℕ) → ℕ → List ℕ
 content_by runs singles s = run_sector (runs (s / 128)) (singles s) (s % 128)
 
--- within the run of a first sector, places in the run compare as the sectors do
+-- within the run of a first sector, numbers in the run compare as the sectors do
 pub is_within-in_run : (first count s : ℕ) → s / 128 ≡ first / 128 →
     (leb (first % 128) (s % 128) && ltb (s % 128) (first % 128 + count)) ≡ (leb first s && ltb s (first + count))
 is_within-in_run first count s same = ap₂ (λ a b. a && b) low high
@@ -67,13 +67,13 @@ other_key k r apart = grind (arith, nat_tests)
 pub content_by-in_run : (runs : ℕ → Option (List ℕ)) (singles : ℕ → List ℕ) (first i : ℕ) → first % 128 + i < 128 →
     content_by runs singles (first + i) ≡ run_sector (runs (first / 128)) (singles (first + i)) (first % 128 + i)
 content_by-in_run runs singles first i fits =
-    ap₂ (λ (r k : ℕ). run_sector (runs r) (singles (first + i)) k) same_run same_place
+    ap₂ (λ (r k : ℕ). run_sector (runs r) (singles (first + i)) k) same_run same_sector
   where
     same_run : (first + i) / 128 ≡ first / 128
     same_run = omega arith
 
-    same_place : (first + i) % 128 ≡ first % 128 + i
-    same_place = omega arith
+    same_sector : (first + i) % 128 ≡ first % 128 + i
+    same_sector = omega arith
 
 same_choice : (b c p q : Bool) (x y u v : List ℕ) → b ≡ c → p ≡ q → x ≡ y → u ≡ v → cond (b && p) x u ≡ cond (c && q) y v
 same_choice b c p q x y u v bs ps xs us = cc
@@ -124,10 +124,10 @@ landed-twice picks rest first second m bytes front back old mid s rest_is second
 
     behind : first + m ≤ s → landed rest second back mid s ≡ landed picks first bytes old s
     behind le =
-        let place : m + (s - second) ≡ s - first = omega arith in
+        let shifted : m + (s - second) ≡ s - first = omega arith in
         let old_is = mid_is ∙ ap (λ b. cond (b && picks (s - first)) (sector_of front (s - first)) (old s)) (no_inner le) in
-        same_choice (leb second s && ltb s (second + length back / 512)) (leb first s && ltb s (first + length bytes / 512)) (rest (s - second)) (picks (s - first)) (sector_of back (s - second)) (sector_of bytes (s - first)) (mid s) (old s) (both_behind le) (rest_is (s - second) ∙ ap picks place)
-        (ap (λ (l : List ℕ). sector_of l (s - second)) back_is ∙ sector_of-drop m bytes (s - second) ∙ ap (λ k. sector_of bytes k) place) old_is
+        same_choice (leb second s && ltb s (second + length back / 512)) (leb first s && ltb s (first + length bytes / 512)) (rest (s - second)) (picks (s - first)) (sector_of back (s - second)) (sector_of bytes (s - first)) (mid s) (old s) (both_behind le) (rest_is (s - second) ∙ ap picks shifted)
+        (ap (λ (l : List ℕ). sector_of l (s - second)) back_is ∙ sector_of-drop m bytes (s - second) ∙ ap (λ k. sector_of bytes k) shifted) old_is
 
 -- one sector is within itself alone
 pub is_within-one : (sector n s : ℕ) → n ≡ 1 → s ≡ sector → (leb sector s && ltb s (sector + n)) ≡ true

@@ -254,7 +254,7 @@ placed_one to part wanted i j len is fits so_far =
         let whole : sector_of part (j - i) ≡ wanted j = ap (λ k. sector_of part k) none ∙ take_all 512 part (omega arith) ∙ is ∙ ap wanted (sym same) in
         grind (arith, nat_tests, whole)
 
--- one place more is left with its zeros
+-- one sector more is left with its zeros
 pub passed_one : (to : List ℕ) (wanted : ℕ → List ℕ) (i j : ℕ) → wanted i ≡ zeros →
     sector_of to j ≡ cond (ltb j i) (wanted j) zeros → sector_of to j ≡ cond (ltb j (i + 1)) (wanted j) zeros
 passed_one to wanted i j none so_far = so_far ∙ ⊎_elim here other (cases_eq j i)

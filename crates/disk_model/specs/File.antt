@@ -2,6 +2,7 @@
 use Rattle.std.specs.Prelude.{◌≡◌, ◌<◌, ◌≤◌, ℕ, zero, suc, ◌+◌, ◌*◌, ◌-◌, ◌/◌, ◌%◌, ◌==◌, nat_le, nat_lt}
 use Rattle.std.specs.Prelude.{Bool, true, false, ◌&&◌, List, [], ◌++◌, length, take, drop, replicate, Option, if◌then◌else◌}
 use Rattle.std.specs.Int.{bit_at}
+use Rattle.fc_base.specs.declared.limits.TheConstants.{MAX_BLOCK_SIZE, MAX_BLOCKS}
 
 -- A file: its content, each sector's 512 bytes by the sector's number; the epoch in which its disk
 -- is on, or none while the disk is off; and how often the disk has failed.
@@ -77,7 +78,7 @@ has_bit mask i = bit_at mask i == 1
 
 -- What a block may be: one of the first 65,536, of a length that a job's block size may have.
 pub record IsBlock (block len : ℕ) : Type 0 where
-  pub number : block < 65536
+  pub number : block < MAX_BLOCKS
   pub least : 512 ≤ len
-  pub most : len ≤ 65536
+  pub most : len ≤ MAX_BLOCK_SIZE
   pub whole : len % 512 ≡ 0

@@ -60,7 +60,8 @@ impl Disk for FaultDisk {
 
     fn write(&mut self, epoch: u64, block: u32, bytes: &[u8]) -> Result<(), Fault>
         requires { IsBlock block (length bytes.now) }
-        ensures law { IsWritten (faulty_file self.old) (faulty_file self.new) epoch block bytes.now result }
+        ensures law { IsWritten (faulty_file self.old)
+            (faulty_file self.new) epoch block bytes.now result }
         ensures left { calls_left self.new ≡ one_fewer (calls_left self.old) }
         // The call whose turn it is doesn't succeed, and no other fails.
         ensures due { calls_left self.old ≡ Some 0 → result ≢ Ok tt }

@@ -3,6 +3,8 @@
 ghost use Rattle.disk_model.specs.Laws.{ReadsBack, LandsWhole, KeepsOtherBlocks, ReplacesOneSector};
 ghost use Rattle.disk_model.specs.Laws.{StartsWhole, StaysWhole, LandsWholeSectors, HasItsLength};
 ghost use Rattle.disk_model.specs.Left.{TellsWhatIsLeft};
+ghost use Rattle.std.specs.Prelude.{◌≡◌, ◌==◌, replicate};
+ghost use Rattle.disk_model.specs.File.{landed, zeros};
 
 /// A block holds what was written to it, or what landed of it as a whole, and other blocks hold
 /// what they held. A sector that is replaced changes no other.
@@ -26,4 +28,12 @@ pub fn sector_law()
 /// Each save, but one that finds no memory, leaves one of what [`Left`](crate::Left) names.
 pub fn save_law()
     ensures { TellsWhatIsLeft }
+{}
+
+/// A torn write: two sectors of sevens go to sectors 4 and 5 of a file of zeros, and only the
+/// second of them lands.
+pub fn examples()
+    ensures lost { landed (λ i. i == 1) 4 (replicate 1024 7) (λ _. zeros) 4 ≡ zeros }
+    ensures landed { landed (λ i. i == 1) 4 (replicate 1024 7) (λ _. zeros) 5 ≡ replicate 512 7 }
+    ensures behind { landed (λ i. i == 1) 4 (replicate 1024 7) (λ _. zeros) 6 ≡ zeros }
 {}

@@ -1,4 +1,15 @@
 //! Disks and durable notes: what they promise, models that keep it, and models that fail.
+//!
+//! ```text
+//! let mut disk = MemDisk::new(alloc);
+//! disk.power_on(1);
+//! disk.write(1, block, &bytes)?;    // a write of another epoch is refused as `Off`
+//! disk.cut();
+//! disk.power_on(2);
+//! disk.read(block, &mut bytes)?;
+//! ```
+//!
+//! Begin with `disk` and `notes`, whose traits are the laws; `specs/File.antt` says what a file is.
 #![tactic(auto)]
 
 mod block;
@@ -20,7 +31,7 @@ pub use block::is_block;
 pub use disk::Disk;
 pub use fault_disk::FaultDisk;
 pub use fault_notes::FaultNotes;
-pub use law::{block_law, save_law, sector_law};
+pub use law::{block_law, examples, save_law, sector_law};
 pub use left::Left;
 pub use mem_disk::MemDisk;
 pub use mem_notes::MemNotes;

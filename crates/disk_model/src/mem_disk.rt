@@ -6,7 +6,7 @@ ghost use Rattle.disk_model.specs.File.{with_landed, with_sector, IsSameOutside,
 
 use crate::disk::Disk;
 use crate::picks::Picks;
-use crate::run::SECTOR;
+use crate::run::{MAX_SECTORS, SECTOR};
 use crate::sectors::Sectors;
 use fc_base::Fault;
 use std::alloc::{AllocError, Global};
@@ -120,7 +120,7 @@ impl Disk for MemDisk {
 fn first_sector(block: u32, len: usize) -> u64
     requires { IsBlock block len }
     ensures value { result ≡ first_sector block len }
-    ensures reach { result + len / 512 ≤ 8388608 }
+    ensures reach { result + len / 512 ≤ MAX_SECTORS }
 {
     u64::from(block) * (len / SECTOR) as u64
 }

@@ -5,8 +5,9 @@ ghost use Rattle.disk_model.specs.File.{zeros, sectors, landed, put};
 ghost use Rattle.disk_model.specs.Picks.{is_picked};
 
 use crate::picks::Picks;
-use crate::run::{RUN_SECTORS, Run, SECTOR};
+use crate::run::{MAX_SECTORS, RUN_SECTORS, Run, SECTOR};
 use crate::singles::Singles;
+use fc_base::MAX_BLOCK_SIZE;
 use std::alloc::{AllocError, Global};
 use std::collections::BTreeMap;
 
@@ -50,7 +51,8 @@ impl Sectors {
         requires within { first % 128 + length bytes.now / 512 ≤ 128 }
         requires whole { length bytes.now % 512 ≡ 0 }
         ensures runs { KeepsRuns self.old self.new }
-        ensures content { HasContent self.new (landed (is_picked picks) first bytes.now (content_of self.old)) }
+        ensures content { HasContent self.new
+            (landed (is_picked picks) first bytes.now (content_of self.old)) }
     {
         if let Some(run) = self.runs.get_mut(&(first / 128)) {
             run.land((first % 128) as usize, bytes, picks);
@@ -59,7 +61,7 @@ impl Sectors {
 
     /// Reads sectors of one run.
     fn read_in_run(&self, first: u64, bytes: &mut [u8])
-        requires reach { first + length bytes.old / 512 ≤ 8388608 }
+        requires reach { first + length bytes.old / 512 ≤ MAX_SECTORS }
         requires within { first % 128 + length bytes.old / 512 ≤ 128 }
         requires whole { length bytes.old % 512 ≡ 0 }
         ensures { bytes.new ≡ sectors (content_of self.now) first (length bytes.old / 512) }
@@ -72,7 +74,7 @@ impl Sectors {
 
     /// Makes the one or two runs that some bytes lie in.
     fn make_room(&mut self, first: u64, front: usize, len: usize) -> Result<(), AllocError>
-        requires { first < 8388608 }
+        requires { first < MAX_SECTORS }
         ensures made { OnOk result (HasRun self.new (first / 128)) }
         ensures second { OnOk result (front < len → HasRun self.new (first / 128 + 1)) }
         ensures content { HasContent self.new (content_of self.old) }
@@ -86,9 +88,9 @@ impl Sectors {
 
     /// Lands the picked sectors of some bytes. Where none is picked no memory is taken.
     pub(crate) fn land(&mut self, first: u64, bytes: &[u8], picks: Picks) -> Result<(), AllocError>
-        requires reach { first + length bytes.now / 512 ≤ 8388608 }
+        requires reach { first + length bytes.now / 512 ≤ MAX_SECTORS }
         requires least { 512 ≤ length bytes.now }
-        requires most { length bytes.now ≤ 65536 }
+        requires most { length bytes.now ≤ MAX_BLOCK_SIZE }
         requires whole { length bytes.now % 512 ≡ 0 }
         ensures ok { OnOk result
             (HasContent self.new (landed (is_picked picks) first bytes.now (content_of self.old))) }
@@ -112,9 +114,9 @@ impl Sectors {
 
     /// Reads sectors from `first` on.
     pub(crate) fn read(&self, first: u64, bytes: &mut [u8])
-        requires reach { first + length bytes.old / 512 ≤ 8388608 }
+        requires reach { first + length bytes.old / 512 ≤ MAX_SECTORS }
         requires least { 512 ≤ length bytes.old }
-        requires most { length bytes.old ≤ 65536 }
+        requires most { length bytes.old ≤ MAX_BLOCK_SIZE }
         requires whole { length bytes.old % 512 ≡ 0 }
         ensures { bytes.new ≡ sectors (content_of self.now) first (length bytes.old / 512) }
     {
@@ -140,7 +142,7 @@ impl Sectors {
 
 /// How many of the bytes that begin at a sector lie in that sector's run.
 fn front_len(first: u64, len: usize) -> usize
-    requires most { len ≤ 65536 }
+    requires most { len ≤ MAX_BLOCK_SIZE }
     requires whole { len % 512 ≡ 0 }
     ensures most { result ≤ len }
     ensures whole { result % 512 ≡ 0 }

@@ -40,18 +40,19 @@ impl Singles {
     pub(crate) fn read(&self, first: u64, bytes: &mut [u8])
         requires reach { first + length bytes.old / 512 ≤ 2 ^ 64 }
         requires whole { length bytes.old % 512 ≡ 0 }
-        ensures { (i : ℕ) → i < length bytes.old / 512 → sector_of bytes.new i ≡ single_of self.now (first + i) }
+        ensures { (i : ℕ) → i < length bytes.old / 512 → sector_of bytes.new i
+            ≡ single_of self.now (first + i) }
     {
         bytes.fill(0);
-        for place in 0..bytes.len() / SECTOR {
-            if let Some(sector) = self.sectors.get(&(first + place as u64)) {
-                let start = place * SECTOR;
+        for i in 0..bytes.len() / SECTOR {
+            if let Some(sector) = self.sectors.get(&(first + i as u64)) {
+                let start = i * SECTOR;
                 copy(sector, &mut bytes[start..start + SECTOR]);
             }
         }
     }
 
-    /// A run of what the sectors in its place hold.
+    /// A run of what its sectors hold.
     pub(crate) fn gather(&self, run: u64) -> Result<Run, AllocError>
         requires { run < 2 ^ 57 }
         ensures { IfOk result (λ made. (i : ℕ) → i < 128 → sector_of made i
@@ -62,13 +63,13 @@ impl Singles {
         Ok(Run::make(bytes))
     }
 
-    /// Drops the sectors in the place of a run.
+    /// Drops the sectors that lie where a run does.
     pub(crate) fn forget(&mut self, run: u64)
         requires { run < 2 ^ 57 }
         ensures { IsSameOutsideRun self.old self.new run }
     {
-        for place in 0..RUN_SECTORS as u64 {
-            let _ = self.sectors.remove(&(128 * run + place));
+        for i in 0..RUN_SECTORS as u64 {
+            let _ = self.sectors.remove(&(128 * run + i));
         }
     }
 }

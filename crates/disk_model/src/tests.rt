@@ -76,28 +76,28 @@ fn rot_of_one_sector(rt: HostRuntime) {
 }
 
 /// The byte that fills the first sector of a run.
-fn mark(run: u32) -> u8 {
+fn filler(run: u32) -> u8 {
     (run % 251) as u8 + 1
 }
 
 /// Replaces the first sector of each of so many runs.
 fn rot_runs(disk: &mut MemDisk, count: u32) -> Result<(), AllocError> {
     for run in 0..count {
-        disk.rot(128 * u64::from(run), [mark(run); 512])?;
+        disk.rot(128 * u64::from(run), [filler(run); 512])?;
     }
     Ok(())
 }
 
 /// Whether a run, which is a block of the greatest size, has its first sector as it was replaced,
 /// and zeros behind it.
-fn has_mark(disk: &mut MemDisk, run: u32) -> bool {
+fn has_filler(disk: &mut MemDisk, run: u32) -> bool {
     if run >= 65_536 {
         return false;
     }
     let mut bytes = [0xff; 65_536];
     let is_read = disk.read(run, &mut bytes).is_ok();
     let (front, back) = bytes.split_at(512);
-    is_read && is_full_of(front, mark(run)) && is_full_of(back, 0)
+    is_read && is_full_of(front, filler(run)) && is_full_of(back, 0)
 }
 
 #[test]
@@ -106,7 +106,7 @@ fn rot_of_many_runs(rt: HostRuntime) {
     assert!(rt; rot_runs(&mut disk, 60_000) == Ok(()));
     for i in 0..600 {
         let run = 100 * i + i % 100;
-        assert!(rt; has_mark(&mut disk, run), "run {run}");
+        assert!(rt; has_filler(&mut disk, run), "run {run}");
     }
 }
 

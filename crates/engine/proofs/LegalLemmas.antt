@@ -5,7 +5,7 @@ use Rattle.std.proofs.lemmas.Bool.{cases_Bool, cases_lt, false≢true, and_parts
 use Rattle.std.proofs.lemmas.List.{length_push}
 use Rattle.fc_base.specs.Counted.{has}
 use Rattle.fc_base.specs.declared.record.JobParts.{JobParts}
-use Rattle.fc_base.proofs.NumberLemmas.{has_push}
+use Rattle.fc_base.specs.NumberLaws.{has_push}
 use Rattle.write_order.specs.Blocks.{block_of}
 use Rattle.window.specs.History.{Event, issue, done, fail, issues, completions, issued, is_done, in_flight, open_writes}
 use Rattle.window.specs.Legal as rules

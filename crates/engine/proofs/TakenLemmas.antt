@@ -3,12 +3,13 @@ use Rattle.std.proofs.Common.{◌≡◌, ℕ, ◌+◌, ◌*◌, ◌≤◌, min, 
 use Rattle.std.specs.List.{list_all}
 use Rattle.std.proofs.lemmas.List.Elements.{filter_agree}
 use Rattle.std.proofs.lemmas.Bool.{and_parts, and_from, or_cases, eqb-true, ltb-true, lt-ltb, le-leb}
+use Rattle.fc_base.specs.declared.limits.TheConstants.{MAX_WINDOW, MAX_WRITES}
 use Rattle.fc_base.specs.declared.numbers.Key.{Key}
 use Rattle.fc_base.specs.declared.record.JobParts.{JobParts}
 use Rattle.fc_base.specs.Counted.{has, numbers_below, is_counted, counted, uncounted, is_distinct}
 use Rattle.fc_base.specs.Keys.{is_key}
 use Rattle.fc_base.specs.Marks.{counted_by, is_possible_by}
-use Rattle.fc_base.proofs.NumberLemmas.{has_counted}
+use Rattle.fc_base.specs.NumberLaws.{has_counted}
 use Rattle.window.specs.History.{Event, issued, is_done, recent, done_marks}
 use Rattle.window.specs.Kept as window
 use Rattle.window.specs.Legal as rules
@@ -61,7 +62,7 @@ counts_the_done counts comes depth window h legal k =
     counted_where window (issued h) k (recent window h) all.1 ∙ counts depth window h legal k
 
 -- and so do its marks
-marks_count : CountsTheCompleted → MarksCountTheCompleted → (depth window : ℕ) (h : List Event) → window ≤ 256 → rules.IsLegal depth window h → counted_by window (issued h) (done_marks window h) ≡ counted window (issued h) (recent window h)
+marks_count : CountsTheCompleted → MarksCountTheCompleted → (depth window : ℕ) (h : List Event) → window ≤ MAX_WINDOW → rules.IsLegal depth window h → counted_by window (issued h) (done_marks window h) ≡ counted window (issued h) (recent window h)
 marks_count counts marks depth window h narrow legal =
     marks depth window h narrow legal
     ∙ sym (filter_agree (is_counted window (issued h) (recent window h)) (is_done h) (counts depth window h legal) (numbers_below (issued h)))
@@ -69,21 +70,21 @@ marks_count counts marks depth window h narrow legal =
 -- ---- the state of an engine
 
 -- nothing is wrong with the fields of marks that some job can have come to
-pub no_faults : (key : Key) (job : JobParts) (n : ℕ) (marks : List ℕ) → is_key key ≡ true → n ≤ job.total → job.total ≤ 1000000 → is_possible_by job.depth job.window n marks ≡ true → field_faults_by key job n marks ≡ []
+pub no_faults : (key : Key) (job : JobParts) (n : ℕ) (marks : List ℕ) → is_key key ≡ true → n ≤ job.total → job.total ≤ MAX_WRITES → is_possible_by job.depth job.window n marks ≡ true → field_faults_by key job n marks ≡ []
 unfolding has_come_by
 no_faults key job n marks is_one fewer most possible =
     let come : has_come_by job n marks ≡ true = and_from _ _ (le-leb n job.total fewer) possible in
-    rw (is_one, le-leb n 1000000 (omega arith), come) refl
+    rw (is_one, le-leb n MAX_WRITES (omega arith), come) refl
 
 -- the marks of an engine's window are those of its history
 marks_in : (r : Running) (marks : List ℕ) → window.EachHistory r.kept (λ depth window h. marks ≡ done_marks window h) → (h : List Event) → StandsFor r h → marks ≡ done_marks r.origin.job.window h
 marks_in r marks each h s = each r.origin.job.depth r.origin.job.window h (in_window r h s)
 
-pub possible_in : ComesToPossibleMarks → (r : Running) (marks : List ℕ) → r.origin.job.window ≤ 256 → window.EachHistory r.kept (λ depth window h. marks ≡ done_marks window h) → (h : List Event) → StandsFor r h → is_possible_by r.origin.job.depth r.origin.job.window r.kept.issued marks ≡ true
+pub possible_in : ComesToPossibleMarks → (r : Running) (marks : List ℕ) → r.origin.job.window ≤ MAX_WINDOW → window.EachHistory r.kept (λ depth window h. marks ≡ done_marks window h) → (h : List Event) → StandsFor r h → is_possible_by r.origin.job.depth r.origin.job.window r.kept.issued marks ≡ true
 possible_in comes r marks narrow each h s =
     rw (kept_is r h s, marks_in r marks each h s) (comes r.origin.job.depth r.origin.job.window h narrow s.legal.by_window)
 
-pub counted_in : CountsTheCompleted → MarksCountTheCompleted → (r : Running) (marks : List ℕ) → r.origin.job.window ≤ 256 → window.EachHistory r.kept (λ depth window h. marks ≡ done_marks window h) → (h : List Event) → StandsFor r h → counted_by r.origin.job.window r.kept.issued marks ≡ counted r.origin.job.window r.kept.issued r.kept.recent
+pub counted_in : CountsTheCompleted → MarksCountTheCompleted → (r : Running) (marks : List ℕ) → r.origin.job.window ≤ MAX_WINDOW → window.EachHistory r.kept (λ depth window h. marks ≡ done_marks window h) → (h : List Event) → StandsFor r h → counted_by r.origin.job.window r.kept.issued marks ≡ counted r.origin.job.window r.kept.issued r.kept.recent
 counted_in counts by_marks r marks narrow each h s =
     rw (kept_is r h s, marks_in r marks each h s) (marks_count counts by_marks r.origin.job.depth r.origin.job.window h narrow s.legal.by_window)
 

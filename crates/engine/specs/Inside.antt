@@ -11,7 +11,7 @@ use Rattle.engine.specs.Running.{Origin, Running, StandsFor}
 
 -- Where the writes come from.
 abbrev pub origin_in : Inside → Origin
-origin_in engine = record { boot = engine.boot; key = engine.key; job = engine.job }
+origin_in engine = record { boot = engine.boot; key = engine.key; job = engine.rec }
 
 -- What the fields show.
 abbrev pub running_in : Inside → Running
@@ -31,13 +31,13 @@ open_write job k = record { seq = k; block = block_of job k }
 -- of them, with room for as many; all writes in flight are open until one fails; and there is a
 -- history that all this comes from.
 pub record IsConsistent (engine : Inside) : Type 0 where
-  pub limits : IsTrue (is_within_limits engine.job)
+  pub limits : IsTrue (is_within_limits engine.rec)
   pub key : IsTrue (is_key engine.key)
-  pub depth : engine.window.depth ≡ engine.job.depth
-  pub window : engine.window.window ≡ engine.job.window
-  pub order : engine.order ≡ record { job = engine.job; issued = engine.window.issued }
-  pub open_writes : engine.open.items ≡ map (open_write engine.job) engine.window.open_writes
-  pub few : length engine.window.open_writes ≤ engine.job.depth
-  pub room : engine.job.depth ≤ vec_capacity engine.open
+  pub depth : engine.window.depth ≡ engine.rec.depth
+  pub window : engine.window.window ≡ engine.rec.window
+  pub order : engine.order ≡ record { job = engine.rec; issued = engine.window.issued }
+  pub open_writes : engine.open.items ≡ map (open_write engine.rec) engine.window.open_writes
+  pub few : length engine.window.open_writes ≤ engine.rec.depth
+  pub room : engine.rec.depth ≤ vec_capacity engine.open
   pub none_failed : engine.failed ≡ false → engine.window.in_flight ≡ engine.window.open_writes
   pub history : ∥ ((h : List Event) × StandsFor (running_in engine) h) ∥₁

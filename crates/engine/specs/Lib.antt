@@ -1,4 +1,5 @@
 pub mod Answers
+pub mod Examples
 pub mod Inside
 pub mod Laws
 pub mod Legal

@@ -28,7 +28,7 @@ use write_order::Order;
 pub struct Engine {
     boot: u64,
     key: Key,
-    job: JobRecord,
+    rec: JobRecord,
     window: Window,
     order: Order,
     /// The open writes, with room for as many as may be in flight. Until one has failed, these are
@@ -66,7 +66,7 @@ impl Engine {
         Ok(Engine {
             boot,
             key,
-            job: *rec,
+            rec: *rec,
             window: Window::new(alloc, u64::from(depth), u64::from(rec.window()))?,
             order: Order::new(alloc, rec)?,
             open: Vec::with_capacity(alloc, depth as usize)?,
@@ -137,8 +137,9 @@ impl Engine {
         self.stopped = true;
     }
 
-    /// The state of the job as of now: how many writes were issued, the place of the generator after
-    /// them, and which writes have completed. It counts exactly those. Taking it needs no memory.
+    /// The state of the job as of now: how many writes were issued, the place of the generator
+    /// after them, and which writes have completed. It counts exactly those. Taking it needs no
+    /// memory.
     pub fn take(&self) -> VerifyState
         ensures value { result ≡ state_now self.now }
         ensures history { EachHistory self.now (λ h. result ≡ state_after self.now.origin h) }
@@ -148,7 +149,7 @@ impl Engine {
         marks_law();
         let issued = self.order.issued();
         let marks = self.window.marks();
-        match VerifyState::make_marked(self.key, &self.job, issued, self.order.place(), marks) {
+        match VerifyState::make_marked(self.key, &self.rec, issued, self.order.place(), marks) {
             Ok(state) => state,
             Err(_) => unreachable!(),
         }

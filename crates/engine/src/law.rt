@@ -1,7 +1,13 @@
-//! What holds of every legal history. The functions have nothing to run.
+//! What holds of every legal history, and of one. The functions have nothing to run.
 
 ghost use Rattle.engine.specs.Laws.{AlwaysGoesOn, WritesAreLegal, EndsAreLegal, StatesCountTheDone, LaterWaits, FlyApart, StaysStopped, StaysFinished};
+ghost use Rattle.std.specs.Prelude.{◌≡◌, true, false, [], ◌∷◌};
+ghost use Rattle.window.specs.History.{issue, done};
+ghost use Rattle.engine.specs.Answers.{answer_to, ticket_of};
+ghost use Rattle.engine.specs.Taken.{state_after};
+ghost use Rattle.engine.specs.Examples.{first_run};
 
+use crate::issue::Issue;
 use window::{counting_law, room_law, sets_law};
 
 /// A job never waits for nothing: with no open write it has ended, or it issues its next write.
@@ -36,4 +42,16 @@ pub fn overlap_law()
 pub fn ended_law()
     ensures stopped { StaysStopped }
     ensures finished { StaysFinished }
+{}
+
+/// Of three writes to two blocks the third goes to block 0 again: it waits for write 0, and not for
+/// write 1, and after it there is none. A state that is taken in between counts what has completed.
+pub fn examples()
+    ensures waits { answer_to first_run false (done 1 ∷ issue 1 ∷ issue 0 ∷ []) ≡ Issue.Overlap }
+    ensures goes_on { answer_to first_run false (done 0 ∷ issue 1 ∷ issue 0 ∷ [])
+        ≡ Issue.Write (ticket_of first_run 2) }
+    ensures ends { answer_to first_run false (issue 2 ∷ done 0 ∷ issue 1 ∷ issue 0 ∷ [])
+        ≡ Issue.Finished }
+    ensures stops { answer_to first_run true (done 0 ∷ issue 1 ∷ issue 0 ∷ []) ≡ Issue.Stopped }
+    ensures counts { (state_after first_run (done 1 ∷ issue 1 ∷ issue 0 ∷ [])).counted ≡ 1 ∷ [] }
 {}

@@ -1,4 +1,2 @@
 pub mod AscendingLemmas
-pub mod CountedByLemmas
 pub mod MarkLemmas
-pub mod NumberLemmas

@@ -1,143 +1,12 @@
--- Marks: bit for bit what they were made of, and made of their bits.
-use Rattle.std.proofs.Common.{◌≡◌, ℕ, ◌+◌, ◌-◌, ◌*◌, ◌/◌, ◌%◌, ◌^◌, ◌<◌, ◌≤◌, zero, suc, Bool, true, false, not, cond, eqb, ltb, ◌&&◌, List, [], ◌∷◌, length, get_or, map, refl, ap, sym, ◌∙◌, subst, inl, inr, arith, set, bit_and, bit_or, w64, get_or-set_same, get_or-set_other}
-use Rattle.std.specs.List.{AllByRecursion, range_with_len, list_all}
+-- Marks: a bit that is written, and where the bits of the words end.
+use Rattle.std.proofs.Common.{◌≡◌, ◌↔◌, ℕ, ◌+◌, ◌-◌, ◌*◌, ◌/◌, ◌%◌, ◌^◌, ◌<◌, ◌≤◌, Bool, true, false, cond, eqb, ◌&&◌, List, length, get_or, refl, ap, sym, ◌∙◌, inl, inr, arith, set, bit_and, bit_or, w64, get_or-set_same, get_or-set_other}
 use Rattle.std.specs.Int.{bit_at, bit_not}
-use Rattle.std.proofs.lemmas.Bool.{cases_Bool, eqb-true, eq-eqb, ne_eqb, ltb-true, ltb-false, and_parts, and_from, cases_eq, cases_lt, not-true}
-use Rattle.std.proofs.lemmas.List.FromFn.{get_or-map-range_with_len, length-map-range_with_len}
-use Rattle.std.proofs.lemmas.Nat.Bits.{same_from_bits_below, bit_at-lt, bit_at-zero, bit_at_above, same_from_bits, bit_at_set_same, bit_at_set_other, bit_at_clear_same, bit_at_clear_other}
-use Rattle.std.proofs.lemmas.Simd.{mask_l-lt, bit_mask_l}
+use Rattle.std.proofs.lemmas.Bool.{eqb-true, eq-eqb, ne_eqb, and_parts, and_from, cases_eq, cases_lt}
+use Rattle.std.proofs.lemmas.Nat.Bits.{bit_at-lt, bit_at-zero, bit_at_above, same_from_bits, bit_at_set_same, bit_at_set_other, bit_at_clear_same, bit_at_clear_other}
 use Rattle.std.proofs.lemmas.Nat.{pow-add}
 use Rattle.std.proofs.Math.Nat.{div-div-eq-div-mul}
-use Rattle.std.specs.Bool.{Decides}
-use lib.Lanes.{mask_l}
-use Rattle.fc_base.specs.Marks.{word_of, marks_of, is_marked, ends_by}
-
--- ---- one word
-
-bit_of_range : (p : ℕ → Bool) (first n i : ℕ) → i < n → bit_at (mask_l (map p (range_with_len first n))) i ≡ cond (p (first + i)) 1 0
-bit_of_range p first n i small =
-    bit_mask_l (map p (range_with_len first n)) i
-    ∙ ap (λ b. cond b 1 0) (get_or-map-range_with_len p first n i (first + i) false small refl)
-
-range_limit : (p : ℕ → Bool) (first n : ℕ) → mask_l (map p (range_with_len first n)) < 2 ^ n
-range_limit p first n =
-    let e = length-map-range_with_len p first n in
-    subst (λ m. mask_l (map p (range_with_len first n)) < 2 ^ m) e (mask_l-lt (map p (range_with_len first n)))
-
-pub bit_word : (p : ℕ → Bool) (first i : ℕ) → i < 64 → bit_at (word_of p first) i ≡ cond (p (first + i)) 1 0
-unfolding word_of
-bit_word p first i small = bit_of_range p first 64 i small
-
-pub word_limit : (p : ℕ → Bool) (first : ℕ) → word_of p first < 2 ^ 64
-unfolding word_of
-word_limit p first = range_limit p first 64
-
--- a bit is set where the number passes
-one_where : (b : Bool) → eqb (cond b 1 0) 1 ≡ b
-one_where true = refl
-one_where false = refl
-
-pub bit_passes : (p : ℕ → Bool) (first i : ℕ) → i < 64 → eqb (bit_at (word_of p first) i) 1 ≡ p (first + i)
-bit_passes p first i small = ap (λ n. eqb n 1) (bit_word p first i small) ∙ one_where (p (first + i))
-
--- a bit that is told by a test
-bit_of_test : (n : ℕ) (b : Bool) → n < 2 → eqb n 1 ≡ b → n ≡ cond b 1 0
-bit_of_test n true small e = eqb-true n 1 e
-bit_of_test n false small e = elim (cases_Bool (eqb n 1)) [
-  | inl t ↦ absurd (let bad : true ≡ false = sym t ∙ e in cc)
-  | inr f ↦ let ne : n ≡ 1 → ⊥ = (λ one. let bad : true ≡ false = sym (eq-eqb n 1 one) ∙ f in cc) in omega arith
-]
-
--- a word whose bits tell which numbers pass is the word of these
-pub word_from_bits : (w : ℕ) (p : ℕ → Bool) (first : ℕ) → w < 2 ^ 64 → ((i : ℕ) → i < 64 → eqb (bit_at w i) 1 ≡ p (first + i)) → w ≡ word_of p first
-word_from_bits w p first small bits =
-    same_from_bits_below 64 w (word_of p first) small (word_limit p first) (λ i h. bit_of_test (bit_at w i) (p (first + i)) (bit_at-lt w i) (bits i h) ∙ sym (bit_word p first i h))
-
--- words of tests that agree on their numbers
-pub word_agree : (p q : ℕ → Bool) (first : ℕ) → ((i : ℕ) → i < 64 → p (first + i) ≡ q (first + i)) → word_of p first ≡ word_of q first
-word_agree p q first same =
-    word_from_bits (word_of p first) q first (word_limit p first) (λ i h. bit_passes p first i h ∙ same i h)
-
--- ---- four words
-
--- bit i of word j is bit 64 j + i of the marks
-pub marked_at : (marks : List ℕ) (j i k : ℕ) → i < 64 → 64 * j + i ≡ k → is_marked marks k ≡ eqb (bit_at (get_or marks j 0) i) 1
-unfolding is_marked
-marked_at marks j i k small e =
-    let word : k / 64 ≡ j = omega arith in
-    let bit : k % 64 ≡ i = omega arith in
-    rw (word, bit) refl
-
--- one of the four words
-passes_in : (p : ℕ → Bool) (floor j i k : ℕ) → (w : ℕ) → get_or (marks_of p floor) j 0 ≡ w → w ≡ word_of p (floor + 64 * j) → i < 64 → 64 * j + i ≡ k → is_marked (marks_of p floor) k ≡ p (floor + k)
-passes_in p floor j i k w here is small e =
-    marked_at (marks_of p floor) j i k small e
-    ∙ ap (λ n. eqb (bit_at n i) 1) (here ∙ is)
-    ∙ bit_passes p (floor + 64 * j) i small
-    ∙ ap p (omega arith)
-
-first_word : (p : ℕ → Bool) (floor : ℕ) → word_of p floor ≡ word_of p (floor + 64 * 0)
-first_word p floor = ap (word_of p) (omega arith)
-
--- bit i of the marks tells whether number floor + i passes
-pub marked_passes : (p : ℕ → Bool) (floor i : ℕ) → i < 256 → is_marked (marks_of p floor) i ≡ p (floor + i)
-marked_passes p floor i small = elim (cases_Bool (ltb i 64)) [
-  | inl a ↦ passes_in p floor 0 i i _ refl (first_word p floor) (ltb-true i 64 a) (omega arith)
-  | inr a ↦ elim (cases_Bool (ltb i 128)) [
-    | inl b ↦ passes_in p floor 1 (i - 64) i _ refl refl (omega (arith, ltb-true i 128 b)) (omega (arith, ltb-false i 64 a))
-    | inr b ↦ elim (cases_Bool (ltb i 192)) [
-      | inl c ↦ passes_in p floor 2 (i - 128) i _ refl refl (omega (arith, ltb-true i 192 c)) (omega (arith, ltb-false i 128 b))
-      | inr c ↦ passes_in p floor 3 (i - 192) i _ refl refl (omega arith) (omega (arith, ltb-false i 192 c))
-    ]
-  ]
-]
-
-word_in : (marks : List ℕ) (p : ℕ → Bool) (floor j w : ℕ) → j < 4 → get_or marks j 0 ≡ w → w < 2 ^ 64 → ((i : ℕ) → i < 256 → is_marked marks i ≡ p (floor + i)) → w ≡ word_of p (floor + 64 * j)
-word_in marks p floor j w within here small bits =
-    word_from_bits w p (floor + 64 * j) small (λ i h.
-    ap (λ n. eqb (bit_at n i) 1) (sym here)
-    ∙ sym (marked_at marks j i (64 * j + i) h refl)
-    ∙ bits (64 * j + i) (omega arith)
-    ∙ ap p (omega arith))
-
--- four words whose bits tell which numbers pass are the marks of these
-pub marks_from_bits : (marks : List ℕ) (p : ℕ → Bool) (floor : ℕ) → length marks ≡ 4 → AllByRecursion (λ word. word < 2 ^ 64) marks → ((i : ℕ) → i < 256 → is_marked marks i ≡ p (floor + i)) → marks ≡ marks_of p floor
-marks_from_bits [] p floor four small bits = absurd (omega arith)
-marks_from_bits (a ∷ []) p floor four small bits = absurd (omega arith)
-marks_from_bits (a ∷ b ∷ []) p floor four small bits = absurd (omega arith)
-marks_from_bits (a ∷ b ∷ c ∷ []) p floor four small bits = absurd (omega arith)
-marks_from_bits (a ∷ b ∷ c ∷ d ∷ []) p floor four small bits =
-    let marks : List ℕ = a ∷ b ∷ c ∷ d ∷ [] in
-    let ea = word_in marks p floor 0 a (omega arith) refl small.0 bits ∙ sym (first_word p floor) in
-    let eb : b ≡ word_of p (floor + 64) = word_in marks p floor 1 b (omega arith) refl small.1.0 bits in
-    let ec : c ≡ word_of p (floor + 128) = word_in marks p floor 2 c (omega arith) refl small.1.1.0 bits in
-    let ed : d ≡ word_of p (floor + 192) = word_in marks p floor 3 d (omega arith) refl small.1.1.1.0 bits in
-    rw (ea, eb, ec, ed) refl
-marks_from_bits (a ∷ b ∷ c ∷ d ∷ e ∷ rest) p floor four small bits = absurd (omega arith)
-
-pub marks_are_words : (p : ℕ → Bool) (floor : ℕ) → AllByRecursion (λ word. word < 2 ^ 64) (marks_of p floor)
-marks_are_words p floor = (word_limit p floor, (word_limit p (floor + 64), (word_limit p (floor + 128), (word_limit p (floor + 192), tt))))
-
--- marks of tests that agree from the floor on
-pub marks_agree : (p q : ℕ → Bool) (floor : ℕ) → ((i : ℕ) → i < 256 → p (floor + i) ≡ q (floor + i)) → marks_of p floor ≡ marks_of q floor
-marks_agree p q floor same =
-    marks_from_bits (marks_of p floor) q floor refl (marks_are_words p floor) (λ i h. marked_passes p floor i h ∙ same i h)
-
--- where no bit is set
-abbrev zeros : List ℕ
-zeros = 0 ∷ 0 ∷ 0 ∷ 0 ∷ []
-
-zero_in : (j : ℕ) → get_or zeros j 0 ≡ 0
-zero_in zero = refl
-zero_in (suc zero) = refl
-zero_in (suc (suc zero)) = refl
-zero_in (suc (suc (suc zero))) = refl
-zero_in (suc (suc (suc (suc j)))) = refl
-
-pub none_marked : (i : ℕ) → i < 256 → is_marked (0 ∷ 0 ∷ 0 ∷ 0 ∷ []) i ≡ false
-none_marked i small =
-    let word : bit_at (get_or zeros (i / 64) 0) (i % 64) ≡ 0 = ap (λ n. bit_at n (i % 64)) (zero_in (i / 64)) ∙ bit_at-zero (i % 64) in
-    marked_at zeros (i / 64) (i % 64) i (omega arith) (omega arith) ∙ ap (λ n. eqb n 1) word
+use Rattle.fc_base.specs.Marks.{ends_by}
+use Rattle.fc_base.specs.MarkLaws.{marked_at, bit_of_test, bits_end, ends_where}
 
 -- ---- one bit written
 
@@ -175,29 +44,7 @@ marked-clear words slot i four within below =
 
 -- ---- where the bits end
 
-range_all : (p : ℕ → Bool) (a n : ℕ) → list_all p (range_with_len a n) ≡ true → (i : ℕ) → a ≤ i → i < a + n → p i ≡ true
-range_all p a zero all i low high = absurd (omega arith)
-range_all p a (suc n) all i low high =
-    let parts = and_parts (p a) (list_all p (range_with_len (a + 1) n)) all in
-    elim (cases_eq i a) [
-      | inl here ↦ ap p here ∙ parts.0
-      | inr apart ↦ range_all p (a + 1) n parts.1 i (omega arith) (omega arith)
-    ]
-
-all_range : (p : ℕ → Bool) (a n : ℕ) → ((i : ℕ) → a ≤ i → i < a + n → p i ≡ true) → list_all p (range_with_len a n) ≡ true
-all_range p a zero each = refl
-all_range p a (suc n) each =
-    and_from (p a) (list_all p (range_with_len (a + 1) n)) (each a (omega arith) (omega arith)) (all_range p (a + 1) n (λ i low high. each i (omega arith) (omega arith)))
-
-pub bits_end : (n : ℕ) (marks : List ℕ) → ends_by n marks ≡ true → (i : ℕ) → n ≤ i → i < 256 → is_marked marks i ≡ false
-unfolding ends_by
-bits_end n marks ends i low high = not-true (is_marked marks i) (range_all (λ j. not (is_marked marks j)) n (256 - n) ends i low (omega arith))
-
-pub ends_where : (n : ℕ) (marks : List ℕ) → ((i : ℕ) → n ≤ i → i < 256 → is_marked marks i ≡ false) → ends_by n marks ≡ true
-unfolding ends_by
-ends_where n marks each = all_range (λ j. not (is_marked marks j)) n (256 - n) (λ i low high. ap not (each i low (omega arith)))
-
--- the bits above a place are those of the word shifted down
+-- the bits from one on are those of the word shifted down
 bit_shifted : (w k i : ℕ) → bit_at (w / 2 ^ k) i ≡ bit_at w (k + i)
 bit_shifted w k i = ap (λ n. n % 2) (div-div-eq-div-mul w (2 ^ k) (2 ^ i) ∙ ap (λ n. w / n) (sym (pow-add 2 k i)))
 
@@ -245,7 +92,7 @@ same_test true y f g = sym (f refl)
 same_test false true f g = g refl
 same_test false false f g = refl
 
-pub ends_as_tested : (n : ℕ) (marks : List ℕ) (a b c d : Bool) → Decides a (WordEnds (get_or marks 0 0) n) → Decides b (WordEnds (get_or marks 1 0) (n - 64)) → Decides c (WordEnds (get_or marks 2 0) (n - 128)) → Decides d (WordEnds (get_or marks 3 0) (n - 192)) → (a && b && c && d) ≡ ends_by n marks
+pub ends_as_tested : (n : ℕ) (marks : List ℕ) (a b c d : Bool) → ((a ≡ true) ↔ WordEnds (get_or marks 0 0) n) → ((b ≡ true) ↔ WordEnds (get_or marks 1 0) (n - 64)) → ((c ≡ true) ↔ WordEnds (get_or marks 2 0) (n - 128)) → ((d ≡ true) ↔ WordEnds (get_or marks 3 0) (n - 192)) → (a && b && c && d) ≡ ends_by n marks
 ends_as_tested n marks a b c d da db dc dd = same_test _ _
     (λ all.
     let three = and_parts (a && b && c) d all in

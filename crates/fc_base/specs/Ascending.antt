@@ -1,5 +1,6 @@
 -- Lists of blocks in ascending order.
 use Rattle.std.specs.Prelude.{ℕ, Bool, true, ◌&&◌, nat_lt, List, [], ◌∷◌}
+use Rattle.fc_base.specs.declared.limits.TheConstants.{MAX_BLOCKS}
 
 -- Each number is below the next one.
 abbrev pub ascends : List ℕ → Bool
@@ -9,4 +10,4 @@ ascends (x ∷ y ∷ ys) = nat_lt x y && ascends (y ∷ ys)
 
 -- A block's number is below 65,536.
 abbrev pub is_block : ℕ → Bool
-is_block b = nat_lt b 65536
+is_block b = nat_lt b MAX_BLOCKS

@@ -11,7 +11,7 @@ abbrev pub numbers_below : ℕ → List ℕ
 numbers_below zero = []
 numbers_below (suc n) = numbers_below n ++ n ∷ []
 
--- A write counts where it is among the last completions, or a whole window below the number issued.
+-- A write counts where it is among the last completions, or more than a window below the number issued.
 abbrev pub is_counted : ℕ → ℕ → List ℕ → ℕ → Bool
 is_counted window issued completions k = has completions k || nat_lt (k + window) issued
 
@@ -30,7 +30,7 @@ is_distinct (k ∷ ks) = not (has ks k) && is_distinct ks
 
 -- A list of completions and a number issued that some job can have come to: no write stands twice,
 -- each was issued, at most depth of the issued ones don't count, and none is left out of the list but
--- for want of place.
+-- for want of room.
 abbrev pub is_possible : ℕ → ℕ → ℕ → List ℕ → Bool
 is_possible depth window issued completions =
     is_distinct completions && list_all (λ k. nat_lt k issued) completions

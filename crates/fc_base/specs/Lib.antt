@@ -1,10 +1,13 @@
 pub mod Ascending
 pub mod Blocks
+pub mod CountLaws
 pub mod Counted
 pub mod Fault
 pub mod Faults
 pub mod JobParts
 pub mod Keys
 pub mod Laws
+pub mod MarkLaws
 pub mod Marks
+pub mod NumberLaws
 pub mod Report

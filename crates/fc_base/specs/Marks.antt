@@ -1,8 +1,10 @@
--- The marks of a job's last writes: 256 bits in four words, one for each number from the floor on.
+-- The marks of a job's last writes, a bit for each number from the floor on: four words, as wide as
+-- the widest window.
 use Rattle.std.specs.Prelude.{ℕ, ◌+◌, ◌-◌, ◌/◌, ◌%◌, Bool, not, ◌&&◌, ◌||◌, ◌==◌, nat_lt, nat_le, List, [], ◌∷◌, length, slice_index, filter, map, count_ones}
 use Rattle.std.specs.List.{list_all, range_with_len}
 use Rattle.std.specs.Int.{bit_at}
 use lib.Lanes.{mask_l}
+use Rattle.fc_base.specs.declared.limits.TheConstants.{MAX_WINDOW}
 use Rattle.fc_base.specs.Counted.{numbers_below}
 
 -- The first number of the last window of those issued: every write below it has completed.
@@ -13,7 +15,7 @@ floor_of window issued = issued - window
 unfoldable pub word_of : (ℕ → Bool) → ℕ → ℕ
 word_of passes first = mask_l (map passes (range_with_len first 64))
 
--- Four words that say so of 256 numbers from the floor on.
+-- Four words that say so of the numbers from the floor on.
 abbrev pub marks_of : (ℕ → Bool) → ℕ → List ℕ
 marks_of passes floor =
     word_of passes floor ∷ word_of passes (floor + 64) ∷ word_of passes (floor + 128)
@@ -25,7 +27,7 @@ is_marked marks i = bit_at (slice_index marks (i / 64)) (i % 64) == 1
 
 -- No bit from n on is set.
 unfoldable pub ends_by : ℕ → List ℕ → Bool
-ends_by n marks = list_all (λ i. not (is_marked marks i)) (range_with_len n (256 - n))
+ends_by n marks = list_all (λ i. not (is_marked marks i)) (range_with_len n (MAX_WINDOW - n))
 
 -- How many bits are set.
 abbrev pub marked_count : List ℕ → ℕ

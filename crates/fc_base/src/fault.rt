@@ -14,7 +14,8 @@ pub enum Fault {
     JobTooLong = 1,
     /// The job file has a byte that is neither printable ASCII, a tab nor a line's end.
     NotAscii = 2,
-    /// A line is neither an option, a section's header nor a comment, or is an option before any section.
+    /// A line is neither an option, a section's header nor a comment, or is an option before any
+    /// section.
     BadLine = 3,
     /// An option that the profile doesn't name.
     UnknownOption = 4,

@@ -1,13 +1,14 @@
-//! Marks: a bit for each of 256 numbers.
+//! Marks: a bit for each write of the widest window.
 
-ghost use Rattle.std.specs.Prelude.{◌≡◌, ◌≤◌, ◌<◌, ◌^◌, ◌==◌, ◌&&◌, ℕ, length, if◌then◌else◌, true, false};
-ghost use Rattle.std.specs.Bool.{Decides};
+ghost use Rattle.std.specs.Prelude.{◌≡◌, ◌≤◌, ◌<◌, ◌^◌, ◌==◌, ◌&&◌, ◌↔◌, ℕ, length, if◌then◌else◌, true, false};
 ghost use Rattle.std.specs.Int.{bit_at};
 ghost use Rattle.std.specs.List.{AllByRecursion};
 
+use crate::limits::MAX_WINDOW;
 use std::marker::Model;
 
-/// A bit for each of 256 numbers, from 0: 64 of them a word, the lowest bit first.
+/// A bit for each of [`MAX_WINDOW`](crate::MAX_WINDOW) numbers, from 0: 64 of them a word, the
+/// lowest bit first.
 #[derive(Clone, Copy, Debug, PartialEq, Eq)]
 pub struct Marks {
     words: [u64; 4],
@@ -48,7 +49,7 @@ impl Marks {
     /// Whether a bit is set.
     #[tactic(auto, unfolding(crate::specs::Marks::is_marked))]
     pub fn has(&self, bit: usize) -> bool
-        requires { bit < 256 }
+        requires { bit < MAX_WINDOW }
         ensures { result ≡ is_marked self.now bit }
     {
         (self.words[bit / 64] >> (bit % 64)) & 1 == 1
@@ -56,8 +57,8 @@ impl Marks {
 
     /// Sets a bit.
     pub fn set(&mut self, bit: usize)
-        requires { bit < 256 }
-        ensures { (i : ℕ) → i < 256 →
+        requires { bit < MAX_WINDOW }
+        ensures { (i : ℕ) → i < MAX_WINDOW →
             is_marked self.new i ≡ (if i == bit then true else is_marked self.old i) }
     {
         self.words[bit / 64] |= 1 << (bit % 64);
@@ -65,8 +66,8 @@ impl Marks {
 
     /// Clears a bit.
     pub fn clear(&mut self, bit: usize)
-        requires { bit < 256 }
-        ensures { (i : ℕ) → i < 256 →
+        requires { bit < MAX_WINDOW }
+        ensures { (i : ℕ) → i < MAX_WINDOW →
             is_marked self.new i ≡ (if i == bit then false else is_marked self.old i) }
     {
         self.words[bit / 64] &= !(1 << (bit % 64));
@@ -75,7 +76,7 @@ impl Marks {
     /// How many bits are set.
     pub fn count(&self) -> u32
         ensures value { result ≡ marked_count self.now }
-        ensures range { result ≤ 256 }
+        ensures range { result ≤ MAX_WINDOW }
     {
         self.words[0].count_ones()
             + self.words[1].count_ones()
@@ -98,7 +99,7 @@ impl Marks {
 
 /// Whether no bit of the word from `end` on is set.
 fn word_ends_by(word: u64, end: u64) -> bool
-    ensures { Decides result ((i : ℕ) → end ≤ i → i < 64 → bit_at word i ≡ 0) }
+    ensures { (result ≡ true) ↔ ((i : ℕ) → end ≤ i → i < 64 → bit_at word i ≡ 0) }
 {
     end >= 64 || word >> end == 0
 }

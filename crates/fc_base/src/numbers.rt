@@ -2,6 +2,7 @@
 
 ghost use Rattle.std.specs.Prelude.{◌≡◌};
 
+use crate::limits::{MAX_JOBS, MAX_SERVERS};
 use std::marker::Model;
 
 /// The number of a run: the client counts runs from 1, and gives no number twice.
@@ -85,10 +86,11 @@ pub struct Key {
 impl Key {
     ghost use Rattle.fc_base.specs.Keys.{is_key};
 
-    /// Whether a job can have this key: the run is at least 1, the server below 8, the job below 16.
+    /// Whether a job can have this key: the run is at least 1, the server below [`MAX_SERVERS`],
+    /// the job below [`MAX_JOBS`].
     pub fn is_key(&self) -> bool
         ensures { result ≡ is_key self.now }
     {
-        1 <= self.run.0 && self.server.0 < 8 && self.job.0 < 16
+        1 <= self.run.0 && self.server.0 < MAX_SERVERS && self.job.0 < MAX_JOBS
     }
 }

@@ -2,6 +2,7 @@
 
 ghost use Rattle.std.specs.Prelude.{◌≡◌, ◌≤◌, ◌%◌, IsTrue, Some, None, if◌then◌else◌};
 
+use crate::limits::{MAX_BLOCK_SIZE, MAX_BLOCKS, MAX_DEPTH, MAX_WINDOW, MAX_WRITES};
 use std::marker::Model;
 
 /// In which order a job writes its blocks (fio's `rw` and `norandommap`).
@@ -71,19 +72,20 @@ impl JobParts {
     fn has_block_size(&self) -> bool
         ensures { result ≡ has_block_size self.now }
     {
-        512 <= self.bs && self.bs <= 65_536 && self.bs % 512 == 0
+        512 <= self.bs && self.bs <= u64::from(MAX_BLOCK_SIZE) && self.bs % 512 == 0
     }
 
     fn has_region(&self) -> bool
         ensures { result ≡ has_region self.now }
     {
-        (1..=65_536).contains(&self.blocks) && (1..=1_000_000).contains(&self.total)
+        (1..=u64::from(MAX_BLOCKS)).contains(&self.blocks) && (1..=MAX_WRITES).contains(&self.total)
     }
 
     fn has_queue(&self) -> bool
         ensures { result ≡ has_queue self.now }
     {
-        (1..=64).contains(&self.depth) && (self.depth..=256).contains(&self.window)
+        (1..=u64::from(MAX_DEPTH)).contains(&self.depth)
+            && (self.depth..=u64::from(MAX_WINDOW)).contains(&self.window)
     }
 
     fn has_pattern(&self) -> bool
@@ -149,7 +151,7 @@ impl JobRecord {
     /// Bytes of a block.
     pub fn bs(&self) -> u32
         ensures value { result ≡ self.now.bs }
-        ensures range { (512 ≤ result) × (result ≤ 65536) × (result % 512 ≡ 0) }
+        ensures range { (512 ≤ result) × (result ≤ MAX_BLOCK_SIZE) × (result % 512 ≡ 0) }
     {
         self.parts.bs as u32
     }
@@ -157,7 +159,7 @@ impl JobRecord {
     /// Blocks of the region.
     pub fn blocks(&self) -> u32
         ensures value { result ≡ self.now.blocks }
-        ensures range { (1 ≤ result) × (result ≤ 65536) }
+        ensures range { (1 ≤ result) × (result ≤ MAX_BLOCKS) }
     {
         self.parts.blocks as u32
     }
@@ -165,7 +167,7 @@ impl JobRecord {
     /// Writes in all.
     pub fn total(&self) -> u64
         ensures value { result ≡ self.now.total }
-        ensures range { (1 ≤ result) × (result ≤ 1000000) }
+        ensures range { (1 ≤ result) × (result ≤ MAX_WRITES) }
     {
         self.parts.total
     }
@@ -180,7 +182,7 @@ impl JobRecord {
     /// How many writes may be in flight.
     pub fn depth(&self) -> u32
         ensures value { result ≡ self.now.depth }
-        ensures range { (1 ≤ result) × (result ≤ 64) }
+        ensures range { (1 ≤ result) × (result ≤ MAX_DEPTH) }
     {
         self.parts.depth as u32
     }
@@ -188,7 +190,7 @@ impl JobRecord {
     /// How far writes may run ahead of one that isn't done.
     pub fn window(&self) -> u32
         ensures value { result ≡ self.now.window }
-        ensures range { (self.now.depth ≤ result) × (result ≤ 256) }
+        ensures range { (self.now.depth ≤ result) × (result ≤ MAX_WINDOW) }
     {
         self.parts.window as u32
     }

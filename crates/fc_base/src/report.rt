@@ -4,12 +4,10 @@ ghost use Rattle.std.specs.Prelude.{◌≡◌, ◌<◌, ◌≤◌, IsTrue, Ok, E
 ghost use Rattle.std.specs.List.{list_all};
 ghost use Rattle.fc_base.specs.Ascending.{ascends, is_block};
 
+use crate::limits::{MAX_BLOCKS, MAX_LISTED};
 use std::marker::Model;
 
-/// How many faulty blocks a report lists at the most.
-pub const MAX_LISTED: usize = 32;
-
-/// A list of at most 32 blocks. It is a plain value, and takes no memory.
+/// A list of at most [`MAX_LISTED`] blocks. It is a plain value, and takes no memory.
 #[derive(Clone, Copy, Debug)]
 pub struct Blocks {
     len: usize,
@@ -43,9 +41,9 @@ impl Blocks {
         }
     }
 
-    /// Adds a block behind the others, of which there have to be fewer than 32.
+    /// Adds a block behind the others, of which there have to be fewer than [`MAX_LISTED`].
     pub fn push(&mut self, block: u32)
-        requires { length self.old < 32 }
+        requires { length self.old < MAX_LISTED }
         ensures { self.new ≡ self.old ++ block ∷ [] }
     {
         self.blocks[self.len] = block;
@@ -55,7 +53,7 @@ impl Blocks {
     /// How many there are.
     pub fn len(&self) -> usize
         ensures value { result ≡ length self.now }
-        ensures range { result ≤ 32 }
+        ensures range { result ≤ MAX_LISTED }
     {
         self.len
     }
@@ -63,7 +61,7 @@ impl Blocks {
     /// The blocks, in their order.
     pub fn as_slice(&self) -> &[u32]
         ensures value { result.now ≡ self.now }
-        ensures range { length result.now ≤ 32 }
+        ensures range { length result.now ≤ MAX_LISTED }
     {
         &self.blocks[..self.len]
     }
@@ -83,16 +81,17 @@ pub enum ReportEnd {
 /// What a report says, with no ranges: what it is made of.
 #[derive(Clone, Copy, Debug)]
 pub struct ReportParts {
-    /// How many blocks were checked: at most 65,536.
+    /// How many blocks were checked.
     pub checked: u32,
     /// How many of them were faulty.
     pub faults: u32,
-    /// The first 32 faulty blocks, ascending.
+    /// The first faulty blocks, ascending: all of them, or [`MAX_LISTED`].
     pub first: Blocks,
     pub end: ReportEnd,
 }
 
-/// A report whose numbers fit together. It is a plain value: it is kept, sent and told without memory.
+/// A report whose numbers fit together. It is a plain value: it is kept, sent and told without
+/// memory.
 #[derive(Clone, Copy, Debug)]
 pub struct CheckReport {
     parts: ReportParts,
@@ -112,13 +111,10 @@ impl Model for CheckReport {
     ghost inverse = { λ p. record { parts = p } };
 }
 
-/// One past the greatest number of a block.
-const BLOCKS_END: u32 = 65_536;
-
 fn are_blocks(blocks: &[u32]) -> bool
     ensures { result ≡ list_all is_block blocks.now }
 {
-    blocks.iter().all(|b| *b < BLOCKS_END)
+    blocks.iter().all(|b| *b < MAX_BLOCKS)
 }
 
 fn is_ascending(blocks: &[u32]) -> bool
@@ -137,7 +133,7 @@ impl ReportParts {
     fn has_counts(&self) -> bool
         ensures { result ≡ has_counts self.now }
     {
-        self.faults <= self.checked && self.checked <= BLOCKS_END
+        self.faults <= self.checked && self.checked <= MAX_BLOCKS
     }
 
     fn has_list(&self) -> bool
@@ -155,7 +151,7 @@ impl ReportParts {
         match self.end {
             ReportEnd::Whole => true,
             ReportEnd::AtFault => self.faults == 1,
-            ReportEnd::ReadFault(block) => block < BLOCKS_END,
+            ReportEnd::ReadFault(block) => block < MAX_BLOCKS,
         }
     }
 
@@ -184,7 +180,7 @@ impl CheckReport {
     /// How many blocks were checked.
     pub fn checked(&self) -> u32
         ensures value { result ≡ self.now.checked }
-        ensures range { result ≤ 65536 }
+        ensures range { result ≤ MAX_BLOCKS }
     {
         self.parts.checked
     }
@@ -197,10 +193,10 @@ impl CheckReport {
         self.parts.faults
     }
 
-    /// The first 32 faulty blocks, ascending.
+    /// The first faulty blocks, ascending: all of them, or [`MAX_LISTED`].
     pub fn first(&self) -> &[u32]
         ensures value { result.now ≡ self.now.first }
-        ensures range { length result.now ≤ 32 }
+        ensures range { length result.now ≤ MAX_LISTED }
     {
         self.parts.first.as_slice()
     }

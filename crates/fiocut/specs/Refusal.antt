@@ -4,7 +4,7 @@ use Rattle.fc_base.specs.declared.fault.Fault.{Fault}
 use Rattle.fc_base.specs.declared.fault.Fault.TheVariants as base
 use Rattle.fc_base.specs.Fault.{number_of, name_of}
 use Rattle.job_file.specs.declared.fault.JobFault.{JobFault}
-use Rattle.job_file.specs.Fault.{fault_of, place_of}
+use Rattle.job_file.specs.Fault.{fault_of, line_or_job_of}
 use Rattle.job_file.specs.JobSet.{refusal_of}
 use Rattle.fiocut.specs.declared.input.InputFault.{InputFault as Unread}
 use Rattle.fiocut.specs.declared.input.InputFault.TheVariants as unread
@@ -13,7 +13,7 @@ use Rattle.fiocut.specs.Lines.{spaced}
 
 -- A fault that has neither a line nor a job.
 abbrev pub plain : Fault → Refusal
-plain row = record { fault = row; place = None }
+plain row = record { fault = row; line_or_job = None }
 
 -- An input that was not read is refused as a job file that could not be read, or had no memory.
 abbrev pub of_input : Unread → Refusal
@@ -22,17 +22,17 @@ of_input unread.NoMemory = plain base.JobNoMemory
 
 -- A fault of a job file, with its line or its job.
 abbrev pub refusal_for : JobFault → Refusal
-refusal_for fault = record { fault = fault_of fault; place = place_of fault }
+refusal_for fault = record { fault = fault_of fault; line_or_job = line_or_job_of fault }
 
--- A place is a word of its own.
-abbrev pub place_words : Option ℕ → List (List ℕ)
-place_words None = []
-place_words (Some place) = decimal place ∷ []
+-- The number of a line or job is a word of its own.
+abbrev pub number_words : Option ℕ → List (List ℕ)
+number_words None = []
+number_words (Some number) = decimal number ∷ []
 
--- The line of a refusal: its number, its name, and its place where it has one.
+-- The line of a refusal: its number, its name, and its line or job where it has one.
 abbrev pub refusal_line : Refusal → List ℕ
 refusal_line refusal =
-    spaced (codes "refused" ∷ decimal (number_of refusal.fault) ∷ name_of refusal.fault ∷ place_words refusal.place)
+    spaced (codes "refused" ∷ decimal (number_of refusal.fault) ∷ name_of refusal.fault ∷ number_words refusal.line_or_job)
 
 -- The refusal is that of the first fault of a text.
 pub record RefusesText (refusal : Refusal) (text : List ℕ) : Type 0 where

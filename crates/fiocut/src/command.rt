@@ -46,11 +46,12 @@ fn matches_of<'a, S: AsStr>(alloc: Global, words: &'a [S]) -> Result<ArgMatches<
         .try_get_matches_from(words)
 }
 
-/// Answers a bad command line: it prints `bad command`, and the exit status is that of a refusal. An
-/// error is that of a write.
+/// Answers a bad command line: it prints `bad command`, and the exit status is that of a refusal.
+/// An error is that of a write.
 pub fn refuse_words<W: Write>(writer: &mut W) -> io::Result<u8>
     ensures status { IfOk result (λ status. status ≡ 2) }
-    ensures printed { OnOk result (Appends (W.contents writer.old) (W.contents writer.new) (codes "bad command\n")) }
+    ensures printed { OnOk result
+        (Appends (W.contents writer.old) (W.contents writer.new) (codes "bad command\n")) }
 {
     writer.write_all(b"bad command\n")?;
     writer.flush()?;

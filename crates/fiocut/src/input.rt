@@ -27,9 +27,12 @@ pub fn read_input<R: Read>(
     max_bytes: usize,
     max_reads: u32,
 ) -> Result<Vec<u8>, InputFault>
-    ensures ok { IfOk result (λ bytes. IsRead max_bytes (R.remaining reader.old) (R.remaining reader.new) bytes.items) }
-    ensures err { OnErr result (HasRead max_bytes (R.remaining reader.old) (R.remaining reader.new)) }
-    ensures memory { result ≡ Err InputFault.NoMemory → Keeps (R.remaining reader.old) (R.remaining reader.new) }
+    ensures ok { IfOk result (λ bytes. IsRead max_bytes (R.remaining reader.old)
+        (R.remaining reader.new) bytes.items) }
+    ensures err { OnErr result
+        (HasRead max_bytes (R.remaining reader.old) (R.remaining reader.new)) }
+    ensures memory { result ≡ Err InputFault.NoMemory
+        → Keeps (R.remaining reader.old) (R.remaining reader.new) }
 {
     let Ok(mut bytes) = vec![in alloc; 0; max_bytes] else {
         return Err(InputFault::NoMemory);
@@ -42,8 +45,10 @@ pub fn read_input<R: Read>(
 /// Reads until the input ends or the buffer is full, and answers how many of its bytes are filled.
 fn fill<R: Read>(reader: &mut R, buffer: &mut [u8], max_reads: u32) -> Result<usize, InputFault>
     ensures bound { IfOk result (λ filled. filled ≤ length buffer.new) }
-    ensures ok { IfOk result (λ filled. IsRead (length buffer.new) (R.remaining reader.old) (R.remaining reader.new) (take filled buffer.new)) }
-    ensures read { OnErr result (HasRead (length buffer.new) (R.remaining reader.old) (R.remaining reader.new)) }
+    ensures ok { IfOk result (λ filled. IsRead (length buffer.new) (R.remaining reader.old)
+        (R.remaining reader.new) (take filled buffer.new)) }
+    ensures read { OnErr result
+        (HasRead (length buffer.new) (R.remaining reader.old) (R.remaining reader.new)) }
     ensures err { IfErr result (λ fault. fault ≡ InputFault.ReadError) }
 {
     let mut filled = 0;

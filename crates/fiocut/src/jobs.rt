@@ -1,6 +1,6 @@
 //! `fiocut jobs`: a job file in, its jobs or its first fault out.
 
-ghost use Rattle.std.specs.Prelude.{◌≡◌, ◌⊎◌, IfOk, OnOk, IfSome, string_bytes};
+ghost use Rattle.std.specs.Prelude.{◌≡◌, ◌⊎◌, ◌+◌, IfOk, OnOk, IfSome, string_bytes};
 ghost use Rattle.std.specs.Io.KnownBytes.{Appends};
 ghost use Rattle.fiocut.specs.Lines.{ended};
 ghost use Rattle.fiocut.specs.Refusal.{refusal_line};
@@ -10,6 +10,7 @@ ghost use Rattle.fiocut.specs.Answer.{AnswersText, WritesLinesOf, WritesRefusalO
 use crate::input::read_input;
 use crate::lines::lines_of_set;
 use crate::refusal::Refusal;
+use fc_base::MAX_TEXT;
 use job_file::parse;
 use std::alloc::Global;
 use std::io;
@@ -23,14 +24,14 @@ const PRINTED: u8 = 0;
 pub const REFUSED: u8 = 2;
 
 /// The most bytes that are read: one more than a job file may have, so that a longer one shows.
-const MAX_BYTES: usize = 16_385;
+const MAX_BYTES: usize = MAX_TEXT + 1;
 
 /// The most calls of `read`.
 const MAX_READS: u32 = 20_000;
 
 /// Reads a job file and writes a line for each of its notes and jobs and a last line with their
-/// number, or the one line `refused CODE NAME` with the line or job where the fault has one. Answers
-/// the exit status.
+/// number, or the one line `refused CODE NAME` with the line or job where the fault has one.
+/// Answers the exit status.
 ///
 /// All memory is got before the first line is written. An error is that of a write: nothing is
 /// written after it.
@@ -40,7 +41,7 @@ pub fn run_jobs<R: Read, W: Write>(alloc: Global, reader: &mut R, writer: &mut W
         (λ text. WritesLinesOf text (W.contents writer.old) (W.contents writer.new))) }
     ensures refused { IfOk result (λ status. status ≡ 2 → IfSome (R.remaining reader.old)
         (λ text. WritesRefusalOf text (W.contents writer.old) (W.contents writer.new))) }
-    ensures read { HasRead 16385 (R.remaining reader.old) (R.remaining reader.new) }
+    ensures read { HasRead (MAX_TEXT + 1) (R.remaining reader.old) (R.remaining reader.new) }
 {
     match lines_of_input(alloc, reader) {
         Ok(lines) => {
@@ -57,7 +58,7 @@ pub fn run_jobs<R: Read, W: Write>(alloc: Global, reader: &mut R, writer: &mut W
 /// All that is printed for the text of this input, or why it is refused.
 fn lines_of_input<R: Read>(alloc: Global, reader: &mut R) -> Result<String, Refusal>
     ensures answer { IfSome (R.remaining reader.old) (AnswersText string_bytes result) }
-    ensures read { HasRead 16385 (R.remaining reader.old) (R.remaining reader.new) }
+    ensures read { HasRead (MAX_TEXT + 1) (R.remaining reader.old) (R.remaining reader.new) }
 {
     let text = read_input(alloc, reader, MAX_BYTES, MAX_READS)?;
     lines_of_text(alloc, &text)
@@ -80,7 +81,8 @@ fn write_text<W: Write>(writer: &mut W, text: &str) -> io::Result<()>
 }
 
 fn write_refusal<W: Write>(writer: &mut W, refusal: Refusal) -> io::Result<()>
-    ensures { OnOk result (Appends (W.contents writer.old) (W.contents writer.new) (ended (refusal_line refusal))) }
+    ensures { OnOk result (Appends (W.contents writer.old) (W.contents writer.new)
+        (ended (refusal_line refusal))) }
 {
     writeln!(writer, "{refusal}")?;
     writer.flush()

@@ -20,7 +20,8 @@ pub fn lines_of_set(alloc: Global, set: &JobSet) -> Result<String, AllocError>
 }
 
 fn push_notes(lines: &mut String, notes: &[Note]) -> Result<(), AllocError>
-    ensures { OnOk result (string_bytes lines.new ≡ string_bytes lines.old ++ note_lines notes.now) }
+    ensures { OnOk result (string_bytes lines.new ≡ string_bytes lines.old
+        ++ note_lines notes.now) }
 {
     for note in notes {
         writeln!(lines, "{}", NoteLine(note))?;

@@ -20,7 +20,8 @@ fn main(rt: HostRuntime) -> ExitCode {
     ExitCode::from(run(&rt))
 }
 
-/// Does what the command line asks for, and answers the exit status. All text goes to standard output.
+/// Does what the command line asks for, and answers the exit status. All text goes to standard
+/// output.
 fn run<R: Env + AllocGlobal + Input + Print>(rt: &R) -> u8 {
     let mut writer = io::writer(rt);
     let answer = match request_of(rt) {
@@ -30,8 +31,8 @@ fn run<R: Env + AllocGlobal + Input + Print>(rt: &R) -> u8 {
     answer.unwrap_or(REFUSED)
 }
 
-/// What this process's command line asks for. `None` is a bad command: also words that are not UTF-8,
-/// or that there is no memory for.
+/// What this process's command line asks for. `None` is a bad command: also words that are not
+/// UTF-8, or that there is no memory for.
 fn request_of<R: Env + AllocGlobal>(rt: &R) -> Option<Request> {
     let words = std::env::args(rt).ok()?;
     let words: Vec<String> = words.collect(rt.alloc()).ok()?;

@@ -10,12 +10,12 @@ use std::alloc::AllocError;
 use std::fmt;
 
 /// A fault, and the line or the job where it is found, if it has one. It prints as
-/// `refused CODE NAME` or `refused CODE NAME PLACE`, and takes no memory for that.
+/// `refused CODE NAME` or `refused CODE NAME NUMBER`, and takes no memory for that.
 #[derive(Clone, Copy, Debug, PartialEq, Eq)]
 pub struct Refusal {
     pub fault: Fault,
     /// The line, counted from 1, or the job, counted from 0.
-    pub place: Option<u32>,
+    pub line_or_job: Option<u32>,
 }
 
 impl fmt::Display for Refusal {
@@ -25,8 +25,8 @@ impl fmt::Display for Refusal {
 
     fn fmt<W: fmt::Write>(&self, f: &mut fmt::Formatter<W>) -> fmt::Result {
         let fault = self.fault;
-        match self.place {
-            Some(place) => write!(f, "refused {} {fault} {place}", fault.number()),
+        match self.line_or_job {
+            Some(line_or_job) => write!(f, "refused {} {fault} {line_or_job}", fault.number()),
             None => write!(f, "refused {} {fault}", fault.number()),
         }
     }
@@ -51,7 +51,10 @@ impl From<Fault> for Refusal {
     ghost from_gives = { λ fault refusal. refusal ≡ plain fault };
 
     fn from(fault: Fault) -> Refusal {
-        Refusal { fault, place: None }
+        Refusal {
+            fault,
+            line_or_job: None,
+        }
     }
 }
 
@@ -65,7 +68,7 @@ impl From<JobFault> for Refusal {
         let again = found;
         Refusal {
             fault: found.fault(),
-            place: again.place(),
+            line_or_job: again.line_or_job(),
         }
     }
 }

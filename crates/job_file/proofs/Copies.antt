@@ -30,7 +30,7 @@ jobs_from-append m [] ys = ap (λ k. jobs_from k ys) (let same : m ≡ m + 0 = o
 jobs_from-append m (x ∷ xs) ys =
     ap (λ rest. job_of m x ∷ rest) (jobs_from-append (m + 1) xs ys ∙ ap (λ k. jobs_from (m + 1) xs ++ jobs_from k ys) (let same : m + 1 + length xs ≡ m + suc (length xs) = omega arith in same))
 
--- The copies of the section at a place, and those of the sections behind it.
+-- The copies of the section of a number, and those of the sections behind it.
 with_copies-drop : (ds : List Draft) (i : ℕ) (d : Draft) → i < length ds → d ≡ get_or ds i d → with_copies (drop i ds) ≡ replicate (copies_of d) d ++ with_copies (drop (i + 1) ds)
 with_copies-drop ds i d more is =
     ap with_copies (drop_more ds i d more) ∙ ap (λ e. replicate (copies_of e) e ++ with_copies (drop (i + 1) ds)) (sym is)

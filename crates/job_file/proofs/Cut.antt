@@ -4,7 +4,7 @@ use Rattle.std.specs.List.{list_any, slice_split, onto_first, position_or_len}
 use Rattle.std.specs.Str.Lines.{lines, lines_of_parts, strip_carriage_return}
 use Rattle.std.proofs.lemmas.Bool.Decides.{nat_tests}
 use Rattle.std.proofs.lemmas.List.Splits.{slice_split_first, length-slice_split}
-use Rattle.job_file.proofs.Texts.{list_any_is, place_some, place_none}
+use Rattle.job_file.proofs.Texts.{list_any_is, found_at, found_nowhere}
 
 abbrev is_line_feed : ℕ → Bool
 is_line_feed b = b == 10
@@ -28,7 +28,7 @@ split_whole (x ∷ xs) none =
 -- The first line ends at the first line feed.
 pub first_of_lines : (text : List ℕ) (end : ℕ) → position is_line_feed text ≡ Some end → lines text ≡ strip_carriage_return (take end text) ∷ lines (drop (end + 1) text)
 first_of_lines text end is =
-    let found = place_some (ltb (position_or_len is_line_feed text) (length text)) (position_or_len is_line_feed text) end is in
+    let found = found_at (ltb (position_or_len is_line_feed text) (length text)) (position_or_len is_line_feed text) end is in
     let within : position_or_len is_line_feed text < length text = grind (arith, nat_tests) in
     let rest = slice_split is_line_feed (drop (end + 1) text) in
     let parts : slice_split is_line_feed text ≡ take end text ∷ rest = slice_split_first is_line_feed text 0 within ∙ ap (λ n. take n text ∷ slice_split is_line_feed (drop (n + 1) text)) found.1 in
@@ -40,5 +40,5 @@ whole_line n xs some = grind (arith, nat_tests)
 -- Without a line feed the text is one line.
 pub lines_whole : (text : List ℕ) → 0 < length text → position is_line_feed text ≡ None → lines text ≡ text ∷ []
 lines_whole text some is =
-    let none = list_any_is is_line_feed text ∙ place_none (ltb (position_or_len is_line_feed text) (length text)) (position_or_len is_line_feed text) is in
+    let none = list_any_is is_line_feed text ∙ found_nowhere (ltb (position_or_len is_line_feed text) (length text)) (position_or_len is_line_feed text) is in
     ap lines_of_parts (split_whole text none) ∙ whole_line (length text) text some

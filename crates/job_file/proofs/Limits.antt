@@ -4,6 +4,7 @@ use Rattle.std.specs.List.{AllByRecursion}
 use Rattle.std.proofs.lemmas.Bool.Decides.{nat_tests}
 use Rattle.std.proofs.lemmas.List.{length-replicate}
 use Rattle.std.proofs.lemmas.List.Sums.{sum_by-cons}
+use Rattle.fc_base.specs.declared.limits.TheConstants.{MAX_JOBS}
 use Rattle.fc_base.specs.JobParts.{is_within_limits}
 use Rattle.job_file.specs.declared.draft.Draft.{Draft}
 use Rattle.job_file.specs.declared.fault.JobFault.{JobFault}
@@ -67,7 +68,7 @@ count_is ds = length-jobs_from 0 (with_copies ds) ∙ length-with_copies ds
 at_least : (n : ℕ) → (n == 0) ≡ false → 1 ≤ n
 at_least n some = grind (arith, nat_tests)
 
-at_most : (n : ℕ) → nat_lt 16 n ≡ false → n ≤ 16
+at_most : (n : ℕ) → nat_lt MAX_JOBS n ≡ false → n ≤ MAX_JOBS
 at_most n few = grind (arith, nat_tests)
 
 set_within : (ds : List Draft) → set_faults ds ≡ [] → AreWithinLimits (jobs_from 0 (with_copies ds))
@@ -75,7 +76,7 @@ set_within ds none =
     let counted = front_none (count_faults ds) _ none in
     let jobs = front_none (faults_from 0 (with_copies ds)) _ (rest_none (count_faults ds) _ none) in
     let some = at_least (count_of ds) (not_when (count_of ds == 0) NoJobs (front_none _ _ counted)) in
-    let few = at_most (count_of ds) (not_when (nat_lt 16 (count_of ds)) TooManyJobs (rest_none _ _ counted)) in
+    let few : count_of ds ≤ MAX_JOBS = at_most (count_of ds) (not_when (nat_lt MAX_JOBS (count_of ds)) TooManyJobs (rest_none (when (count_of ds == 0) NoJobs) _ counted)) in
     record {
       some = omega (arith, some, count_is ds);
       few = omega (arith, few, count_is ds);

@@ -26,7 +26,7 @@ numeral_other radix ds other = grind (arith, nat_tests)
 numeral_is : (radix : ℕ) (ds : List ℕ) (n : ℕ) → 0 < length ds → list_all (λ c. is_digit c radix) ds ≡ true → n ≡ digits_value radix ds → n < 2 ^ 64 → numeral radix ds ≡ Some n
 numeral_is radix ds n some all is fits = grind (arith, nat_tests)
 
--- The digits from a place on, behind the value so far, come to what all of them come to.
+-- The digits from some one on, behind the value so far, come to what all of them come to.
 pub record IsSoFar (radix : ℕ) (ds : List ℕ) (i n : ℕ) : Type 0 where
   pub value : digits_value_after radix n (drop i ds) ≡ digits_value radix ds
   pub digits : list_all (λ c. is_digit c radix) (drop i ds) ≡ list_all (λ c. is_digit c radix) ds

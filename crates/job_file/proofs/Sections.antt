@@ -1,12 +1,10 @@
 -- What is carried from line to line is what the whole text says.
-use Rattle.std.proofs.Common.{◌≡◌, ℕ, Bool, List, [], ◌∷◌, ◌++◌, Option, Some, None, append-nil, refl, sym, ◌∙◌, ap}
+use Rattle.std.proofs.Common.{◌≡◌, List, [], ◌∷◌, ◌++◌, Option, Some, None, append-nil, refl, sym, ◌∙◌, ap}
 use Rattle.std.specs.Option.{option_or}
 use Rattle.std.proofs.lemmas.Grind.{flat_map-append}
 use Rattle.std.proofs.lemmas.List.Sums.{fold-append}
 use Rattle.job_file.specs.declared.line.Line.{Line}
 use Rattle.job_file.specs.declared.line.Line.TheVariants.{Blank, Global, Job, Set, Ignored, Faulty}
-use Rattle.fc_base.specs.declared.record.Verify.{Verify}
-use Rattle.job_file.specs.declared.option.ReadWrite.{ReadWrite}
 use Rattle.job_file.specs.declared.option.Setting.{Setting}
 use Rattle.job_file.specs.declared.settings.Settings.{Settings}
 use Rattle.job_file.specs.declared.draft.Draft.{Draft}
@@ -34,46 +32,46 @@ value_is gives get step none own above =
     value_after gives get step (with_all none_set above) own
     ∙ ap (option_or (last_in gives own)) (value_after gives get step none_set above ∙ ap (option_or (last_in gives above)) none ∙ option_or_none (last_in gives above))
 
-same_settings : (a b : Settings) → a.read_write ≡ b.read_write → a.block_size ≡ b.block_size → a.size ≡ b.size → a.io_size ≡ b.io_size → a.number_ios ≡ b.number_ios → a.io_depth ≡ b.io_depth → a.x_window ≡ b.x_window → a.num_jobs ≡ b.num_jobs → a.rand_seed ≡ b.rand_seed → a.no_random_map ≡ b.no_random_map → a.verify ≡ b.verify → a.verify_pattern ≡ b.verify_pattern → a.verify_fatal ≡ b.verify_fatal → a.verify_state_save ≡ b.verify_state_save → a.verify_state_load ≡ b.verify_state_load → a.filename ≡ b.filename → a ≡ b
-same_settings a b p0 p1 p2 p3 p4 p5 p6 p7 p8 p9 p10 p11 p12 p13 p14 p15 =
-    let of_parts : Option ReadWrite → Option ℕ → Option ℕ → Option ℕ → Option ℕ → Option ℕ → Option ℕ → Option ℕ → Option ℕ → Option Bool → Option Verify → Option ℕ → Option Bool → Option Bool → Option Bool → Option (List ℕ) → Settings =
-    λ v0 v1 v2 v3 v4 v5 v6 v7 v8 v9 v10 v11 v12 v13 v14 v15. record { read_write = v0; block_size = v1; size = v2; io_size = v3; number_ios = v4; io_depth = v5; x_window = v6; num_jobs = v7; rand_seed = v8; no_random_map = v9; verify = v10; verify_pattern = v11; verify_fatal = v12; verify_state_save = v13; verify_state_load = v14; filename = v15 } in
-    ap (λ v. of_parts v a.block_size a.size a.io_size a.number_ios a.io_depth a.x_window a.num_jobs a.rand_seed a.no_random_map a.verify a.verify_pattern a.verify_fatal a.verify_state_save a.verify_state_load a.filename) p0
-    ∙ ap (λ v. of_parts b.read_write v a.size a.io_size a.number_ios a.io_depth a.x_window a.num_jobs a.rand_seed a.no_random_map a.verify a.verify_pattern a.verify_fatal a.verify_state_save a.verify_state_load a.filename) p1
-    ∙ ap (λ v. of_parts b.read_write b.block_size v a.io_size a.number_ios a.io_depth a.x_window a.num_jobs a.rand_seed a.no_random_map a.verify a.verify_pattern a.verify_fatal a.verify_state_save a.verify_state_load a.filename) p2
-    ∙ ap (λ v. of_parts b.read_write b.block_size b.size v a.number_ios a.io_depth a.x_window a.num_jobs a.rand_seed a.no_random_map a.verify a.verify_pattern a.verify_fatal a.verify_state_save a.verify_state_load a.filename) p3
-    ∙ ap (λ v. of_parts b.read_write b.block_size b.size b.io_size v a.io_depth a.x_window a.num_jobs a.rand_seed a.no_random_map a.verify a.verify_pattern a.verify_fatal a.verify_state_save a.verify_state_load a.filename) p4
-    ∙ ap (λ v. of_parts b.read_write b.block_size b.size b.io_size b.number_ios v a.x_window a.num_jobs a.rand_seed a.no_random_map a.verify a.verify_pattern a.verify_fatal a.verify_state_save a.verify_state_load a.filename) p5
-    ∙ ap (λ v. of_parts b.read_write b.block_size b.size b.io_size b.number_ios b.io_depth v a.num_jobs a.rand_seed a.no_random_map a.verify a.verify_pattern a.verify_fatal a.verify_state_save a.verify_state_load a.filename) p6
-    ∙ ap (λ v. of_parts b.read_write b.block_size b.size b.io_size b.number_ios b.io_depth b.x_window v a.rand_seed a.no_random_map a.verify a.verify_pattern a.verify_fatal a.verify_state_save a.verify_state_load a.filename) p7
-    ∙ ap (λ v. of_parts b.read_write b.block_size b.size b.io_size b.number_ios b.io_depth b.x_window b.num_jobs v a.no_random_map a.verify a.verify_pattern a.verify_fatal a.verify_state_save a.verify_state_load a.filename) p8
-    ∙ ap (λ v. of_parts b.read_write b.block_size b.size b.io_size b.number_ios b.io_depth b.x_window b.num_jobs b.rand_seed v a.verify a.verify_pattern a.verify_fatal a.verify_state_save a.verify_state_load a.filename) p9
-    ∙ ap (λ v. of_parts b.read_write b.block_size b.size b.io_size b.number_ios b.io_depth b.x_window b.num_jobs b.rand_seed b.no_random_map v a.verify_pattern a.verify_fatal a.verify_state_save a.verify_state_load a.filename) p10
-    ∙ ap (λ v. of_parts b.read_write b.block_size b.size b.io_size b.number_ios b.io_depth b.x_window b.num_jobs b.rand_seed b.no_random_map b.verify v a.verify_fatal a.verify_state_save a.verify_state_load a.filename) p11
-    ∙ ap (λ v. of_parts b.read_write b.block_size b.size b.io_size b.number_ios b.io_depth b.x_window b.num_jobs b.rand_seed b.no_random_map b.verify b.verify_pattern v a.verify_state_save a.verify_state_load a.filename) p12
-    ∙ ap (λ v. of_parts b.read_write b.block_size b.size b.io_size b.number_ios b.io_depth b.x_window b.num_jobs b.rand_seed b.no_random_map b.verify b.verify_pattern b.verify_fatal v a.verify_state_load a.filename) p13
-    ∙ ap (λ v. of_parts b.read_write b.block_size b.size b.io_size b.number_ios b.io_depth b.x_window b.num_jobs b.rand_seed b.no_random_map b.verify b.verify_pattern b.verify_fatal b.verify_state_save v a.filename) p14
-    ∙ ap (λ v. of_parts b.read_write b.block_size b.size b.io_size b.number_ios b.io_depth b.x_window b.num_jobs b.rand_seed b.no_random_map b.verify b.verify_pattern b.verify_fatal b.verify_state_save b.verify_state_load v) p15
-
 settings_are : (own above : List Setting) → with_all (with_all none_set above) own ≡ settings_of own above
 settings_are own above =
-    same_settings (with_all (with_all none_set above) own) (settings_of own above)
-    (value_is read_write_in (λ s. s.read_write) (λ s x. refl) refl own above)
-    (value_is block_size_in (λ s. s.block_size) (λ s x. refl) refl own above)
-    (value_is size_in (λ s. s.size) (λ s x. refl) refl own above)
-    (value_is io_size_in (λ s. s.io_size) (λ s x. refl) refl own above)
-    (value_is number_ios_in (λ s. s.number_ios) (λ s x. refl) refl own above)
-    (value_is io_depth_in (λ s. s.io_depth) (λ s x. refl) refl own above)
-    (value_is x_window_in (λ s. s.x_window) (λ s x. refl) refl own above)
-    (value_is num_jobs_in (λ s. s.num_jobs) (λ s x. refl) refl own above)
-    (value_is rand_seed_in (λ s. s.rand_seed) (λ s x. refl) refl own above)
-    (value_is no_random_map_in (λ s. s.no_random_map) (λ s x. refl) refl own above)
-    (value_is verify_in (λ s. s.verify) (λ s x. refl) refl own above)
-    (value_is verify_pattern_in (λ s. s.verify_pattern) (λ s x. refl) refl own above)
-    (value_is verify_fatal_in (λ s. s.verify_fatal) (λ s x. refl) refl own above)
-    (value_is verify_state_save_in (λ s. s.verify_state_save) (λ s x. refl) refl own above)
-    (value_is verify_state_load_in (λ s. s.verify_state_load) (λ s x. refl) refl own above)
-    (value_is filename_in (λ s. s.filename) (λ s x. refl) refl own above)
+    let read : Settings = with_all (with_all none_set above) own in
+    let by_field : read ≡ record {
+      read_write = read.read_write;
+      block_size = read.block_size;
+      size = read.size;
+      io_size = read.io_size;
+      number_ios = read.number_ios;
+      io_depth = read.io_depth;
+      x_window = read.x_window;
+      num_jobs = read.num_jobs;
+      rand_seed = read.rand_seed;
+      no_random_map = read.no_random_map;
+      verify = read.verify;
+      verify_pattern = read.verify_pattern;
+      verify_fatal = read.verify_fatal;
+      verify_state_save = read.verify_state_save;
+      verify_state_load = read.verify_state_load;
+      filename = read.filename;
+    } = refl in
+    by_field
+    ∙ rw (
+      value_is read_write_in (λ s. s.read_write) (λ s x. refl) refl own above,
+      value_is block_size_in (λ s. s.block_size) (λ s x. refl) refl own above,
+      value_is size_in (λ s. s.size) (λ s x. refl) refl own above,
+      value_is io_size_in (λ s. s.io_size) (λ s x. refl) refl own above,
+      value_is number_ios_in (λ s. s.number_ios) (λ s x. refl) refl own above,
+      value_is io_depth_in (λ s. s.io_depth) (λ s x. refl) refl own above,
+      value_is x_window_in (λ s. s.x_window) (λ s x. refl) refl own above,
+      value_is num_jobs_in (λ s. s.num_jobs) (λ s x. refl) refl own above,
+      value_is rand_seed_in (λ s. s.rand_seed) (λ s x. refl) refl own above,
+      value_is no_random_map_in (λ s. s.no_random_map) (λ s x. refl) refl own above,
+      value_is verify_in (λ s. s.verify) (λ s x. refl) refl own above,
+      value_is verify_pattern_in (λ s. s.verify_pattern) (λ s x. refl) refl own above,
+      value_is verify_fatal_in (λ s. s.verify_fatal) (λ s x. refl) refl own above,
+      value_is verify_state_save_in (λ s. s.verify_state_save) (λ s x. refl) refl own above,
+      value_is verify_state_load_in (λ s. s.verify_state_load) (λ s x. refl) refl own above,
+      value_is filename_in (λ s. s.filename) (λ s x. refl) refl own above,
+    ) refl
 
 -- What the lines below give with the defaults so far is what their sections give below the sections so far.
 drafts_are : (above : List Section) (ls : List Line) → drafts_with (with_all none_set (global_options above)) ls ≡ drafts_below above (sections_of ls)

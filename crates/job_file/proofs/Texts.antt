@@ -49,22 +49,22 @@ list_any_is p (x ∷ xs) = by_head (p x) (list_any_is p xs)
     by_head true rest = sym (first_is_within (length xs))
     by_head false rest = rest ∙ sym (next_is_within (position_or_len p xs) (length xs))
 
-pub place_some : (b : Bool) (n at : ℕ) → cond b (Some n) None ≡ Some at → (b ≡ true) × (n ≡ at)
-place_some true n at is = (refl, cc)
-place_some false n at is = absurd cc
+pub found_at : (b : Bool) (n at : ℕ) → cond b (Some n) None ≡ Some at → (b ≡ true) × (n ≡ at)
+found_at true n at is = (refl, cc)
+found_at false n at is = absurd cc
 
-pub place_none : (b : Bool) (n : ℕ) → cond b (Some n) None ≡ None → b ≡ false
-place_none true n is = absurd cc
-place_none false n is = refl
+pub found_nowhere : (b : Bool) (n : ℕ) → cond b (Some n) None ≡ None → b ≡ false
+found_nowhere true n is = absurd cc
+found_nowhere false n is = refl
 
 -- The value stands behind the first `=`.
 pub value_behind : (line : List ℕ) (at : ℕ) → position is_equals line ≡ Some at → value_in line ≡ Some (trimmed (drop (at + 1) line))
 value_behind line at is =
-    let found = place_some (ltb (position_or_len is_equals line) (length line)) (position_or_len is_equals line) at is in
+    let found = found_at (ltb (position_or_len is_equals line) (length line)) (position_or_len is_equals line) at is in
     rw (list_any_is is_equals line, found.0, found.1) refl
 
 -- Without `=` there is no value.
 pub value_none : (line : List ℕ) → position is_equals line ≡ None → value_in line ≡ None
 value_none line is =
-    let none = place_none (ltb (position_or_len is_equals line) (length line)) (position_or_len is_equals line) is in
+    let none = found_nowhere (ltb (position_or_len is_equals line) (length line)) (position_or_len is_equals line) is in
     rw (list_any_is is_equals line, none) refl

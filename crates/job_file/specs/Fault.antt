@@ -21,14 +21,14 @@ fault_of MixedPhases = base.MixedPhases
 fault_of NoMemory = base.JobNoMemory
 
 -- A refusal of a line has the line's number, and one of a job the job's.
-abbrev pub place_of : JobFault → Option ℕ
-place_of (BadLine line) = Some line
-place_of (UnknownOption line) = Some line
-place_of (BadValue line) = Some line
-place_of (NoSize job) = Some job
-place_of (OutOfLimits job) = Some job
-place_of (SharedFile job) = Some job
-place_of _ = None
+abbrev pub line_or_job_of : JobFault → Option ℕ
+line_or_job_of (BadLine line) = Some line
+line_or_job_of (UnknownOption line) = Some line
+line_or_job_of (BadValue line) = Some line
+line_or_job_of (NoSize job) = Some job
+line_or_job_of (OutOfLimits job) = Some job
+line_or_job_of (SharedFile job) = Some job
+line_or_job_of _ = None
 
 -- A fault where a test holds.
 abbrev pub when : Bool → JobFault → List JobFault

@@ -1,6 +1,7 @@
 -- The set of jobs of a text, or its first fault.
 use Rattle.std.specs.Prelude.{◌≡◌, ◌⊎◌, ℕ, ◌+◌, Bool, true, false, ◌&&◌, ◌||◌, not, ◌==◌, nat_lt, List, [], ◌∷◌, ◌++◌, length, bytes_eq, Option, Some, None, Result, Ok, Err, slice_get, if◌then◌else◌}
 use Rattle.std.specs.List.{list_all, list_any}
+use Rattle.fc_base.specs.declared.limits.TheConstants.{MAX_JOBS, MAX_TEXT}
 use Rattle.job_file.specs.declared.fault.JobFault.{JobFault}
 use Rattle.job_file.specs.declared.fault.JobFault.TheVariants.{TooLong, NotAscii, BadLine, UnknownOption, BadValue, NoJobs, TooManyJobs, SharedFile, MixedPhases, NoMemory}
 use Rattle.job_file.specs.declared.job.Job.{Job}
@@ -22,7 +23,7 @@ use Rattle.job_file.specs.Fault.{when}
 -- A text has at most 16,384 bytes, all of them bytes of a text.
 abbrev pub byte_faults : List ℕ → List JobFault
 byte_faults text =
-    when (nat_lt 16384 (length text)) TooLong ++ when (not (list_all is_text_byte text)) NotAscii
+    when (nat_lt MAX_TEXT (length text)) TooLong ++ when (not (list_all is_text_byte text)) NotAscii
 
 -- The fault of a line, by its number.
 abbrev pub fault_at : ℕ → LineFault → JobFault
@@ -60,7 +61,7 @@ notes_from number (l ∷ ls) = note_in number l ++ notes_from (number + 1) ls
 
 -- There are 1 to 16 jobs.
 abbrev pub count_faults : List Draft → List JobFault
-count_faults drafts = when (count_of drafts == 0) NoJobs ++ when (nat_lt 16 (count_of drafts)) TooManyJobs
+count_faults drafts = when (count_of drafts == 0) NoJobs ++ when (nat_lt MAX_JOBS (count_of drafts)) TooManyJobs
 
 -- Two jobs that have a file have the same one.
 abbrev pub same_file : Option (List ℕ) → Option (List ℕ) → Bool

@@ -1,6 +1,7 @@
 -- What holds of the jobs of every text.
 use Rattle.std.specs.Prelude.{◌≡◌, ℕ, ◌<◌, ◌≤◌, ◌^◌, List, length, IsTrue, None}
 use Rattle.std.specs.List.{AllByRecursion}
+use Rattle.fc_base.specs.declared.limits.TheConstants.{MAX_JOBS}
 use Rattle.fc_base.specs.JobParts.{is_within_limits}
 use Rattle.job_file.specs.declared.job.Job.{Job}
 use Rattle.job_file.specs.JobSet.{jobs_of, refusal_of}
@@ -8,7 +9,7 @@ use Rattle.job_file.specs.JobSet.{jobs_of, refusal_of}
 -- There are 1 to 16 jobs, and each is within the limits.
 pub record AreWithinLimits (jobs : List Job) : Type 0 where
   pub some : 1 ≤ length jobs
-  pub few : length jobs ≤ 16
+  pub few : length jobs ≤ MAX_JOBS
   pub within : AllByRecursion (λ job. IsTrue (is_within_limits job.rec)) jobs
 
 -- So it is with the jobs of each text without faults.

@@ -6,23 +6,23 @@ use Rattle.job_file.specs.declared.line.Line.TheVariants.{Blank, Global, Job, Se
 use Rattle.job_file.specs.declared.option.Setting.{Setting}
 use Rattle.job_file.specs.declared.settings.Settings.{Settings}
 use Rattle.job_file.specs.declared.draft.Draft.{Draft}
-use Rattle.job_file.specs.declared.reader.Place.{Place}
-use Rattle.job_file.specs.declared.reader.Place.TheVariants as place
+use Rattle.job_file.specs.declared.reader.Scope.{Scope}
+use Rattle.job_file.specs.declared.reader.Scope.TheVariants as scope
 use Rattle.job_file.specs.declared.reader.Reader.{Reader}
 use Rattle.job_file.specs.Section.{own_options}
 use Rattle.job_file.specs.Settings.{with_setting}
 
 -- A section has been opened.
-abbrev pub is_inside : Place → Bool
-is_inside place.Nowhere = false
-is_inside place.Global = true
-is_inside (place.Job draft) = true
+abbrev pub is_inside : Scope → Bool
+is_inside scope.Outside = false
+is_inside scope.Global = true
+is_inside (scope.Job draft) = true
 
 -- The job whose section is open, if it is one.
-abbrev pub draft_in : Place → List Draft
-draft_in place.Nowhere = []
-draft_in place.Global = []
-draft_in (place.Job draft) = draft ∷ []
+abbrev pub draft_in : Scope → List Draft
+draft_in scope.Outside = []
+draft_in scope.Global = []
+draft_in (scope.Job draft) = draft ∷ []
 
 -- The options after more lines.
 abbrev pub with_all : Settings → List Setting → Settings
@@ -40,13 +40,13 @@ drafts_with defaults (Ignored name ∷ below) = drafts_with defaults below
 drafts_with defaults (Faulty fault ∷ below) = drafts_with defaults below
 
 -- The jobs of a text, where these lines come behind those that were read.
-abbrev pub drafts_after : Place → Settings → List Draft → List Line → List Draft
-drafts_after place.Nowhere defaults drafts below = drafts ++ drafts_with defaults below
-drafts_after place.Global defaults drafts below =
+abbrev pub drafts_after : Scope → Settings → List Draft → List Line → List Draft
+drafts_after scope.Outside defaults drafts below = drafts ++ drafts_with defaults below
+drafts_after scope.Global defaults drafts below =
     drafts ++ drafts_with (with_all defaults (own_options below)) below
-drafts_after (place.Job draft) defaults drafts below =
+drafts_after (scope.Job draft) defaults drafts below =
     drafts ++ (record draft { settings = with_all draft.settings (own_options below) } ∷ drafts_with defaults below)
 
 -- The same of all that the reader keeps.
 abbrev pub coming : Reader → List Line → List Draft
-coming reader below = drafts_after reader.place reader.defaults reader.drafts.items below
+coming reader below = drafts_after reader.scope reader.defaults reader.drafts.items below

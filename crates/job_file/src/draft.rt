@@ -160,7 +160,8 @@ impl<'a> Draft<'a> {
 
     /// The job of this number, or what it lacks.
     pub(crate) fn job(&self, alloc: Global, number: JobNo) -> Result<Job, JobFault>
-        ensures { Gives (λ job. job) result (draft_faults number self.now) (job_of number self.now) }
+        ensures { Gives (λ job. job) result (draft_faults number self.now)
+            (job_of number self.now) }
     {
         let rec = self.rec(number)?;
         let settings = &self.settings;
@@ -175,7 +176,8 @@ impl<'a> Draft<'a> {
     }
 
     fn rec(&self, number: JobNo) -> Result<JobRecord, JobFault>
-        ensures { Gives (λ rec. rec) result (draft_faults number self.now) (parts_of number self.now.settings) }
+        ensures { Gives (λ rec. rec) result (draft_faults number self.now)
+            (parts_of number self.now.settings) }
     {
         if self.settings.size() == 0 {
             return Err(JobFault::NoSize(number));

@@ -2,7 +2,7 @@
 
 ghost use Rattle.std.specs.Prelude.{◌≡◌};
 ghost use Rattle.job_file.specs.declared.fault.JobFault.TheVariants.{NoMemory};
-ghost use Rattle.job_file.specs.Fault.{fault_of, place_of};
+ghost use Rattle.job_file.specs.Fault.{fault_of, line_or_job_of};
 
 use fc_base::{Fault, JobNo};
 use std::alloc::{AllocError, AllocFailed};
@@ -60,8 +60,8 @@ impl JobFault {
     }
 
     /// The line or the job of the fault, where it has one.
-    pub fn place(self) -> Option<u32>
-        ensures { result ≡ place_of self }
+    pub fn line_or_job(self) -> Option<u32>
+        ensures { result ≡ line_or_job_of self }
     {
         match self {
             JobFault::BadLine(line) | JobFault::UnknownOption(line) | JobFault::BadValue(line) =>

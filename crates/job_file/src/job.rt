@@ -1,6 +1,7 @@
 //! The jobs of a job file.
 
 ghost use Rattle.std.specs.Prelude.{◌≡◌, ◌≤◌, length};
+ghost use Rattle.fc_base.specs.declared.limits.TheConstants.{MAX_JOBS};
 
 use crate::text::Text;
 use fc_base::JobRecord;
@@ -124,5 +125,5 @@ pub struct JobSet {
     pub jobs: Jobs,
     pub notes: Notes,
     ghost some: { 1 ≤ length jobs },
-    ghost few: { length jobs ≤ 16 },
+    ghost few: { length jobs ≤ MAX_JOBS },
 }

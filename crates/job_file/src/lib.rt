@@ -1,5 +1,14 @@
 //! Job files of fio, as far as fiocut's profile takes them: a text becomes a set of jobs, or the
 //! first of its faults.
+//!
+//! ```text
+//! match parse(alloc, text) {
+//!     Ok(set) => for job in set.jobs.as_slice() { .. job.rec .. },
+//!     Err(fault) => println!(rt; "refused {} {:?}", fault.fault(), fault.line_or_job())?,
+//! }
+//! ```
+//!
+//! Begin with `parser` and `specs/JobSet.antt`; the options are rows in `option` and `settings`.
 #![tactic(auto)]
 
 mod bytes;
@@ -18,6 +27,6 @@ mod value;
 
 pub use fault::JobFault;
 pub use job::{Job, JobSet, Jobs, Note, Notes, Phase};
-pub use law::{jobs_are_within_limits, jobs_fit};
+pub use law::{examples, jobs_are_within_limits, jobs_fit};
 pub use parser::parse;
 pub use text::Text;

@@ -70,8 +70,8 @@ fn is_word(bytes: &[u8], word: &[u8]) -> bool
     bytes.eq_ignore_ascii_case(word)
 }
 
-/// The value of digits in a base; `None` where there are none, or other characters, or where 64 bits
-/// don't hold it.
+/// The value of digits in a base; `None` where there are none, or other characters, or where 64
+/// bits don't hold it.
 pub(crate) fn numeral(radix: u32, digits: &[u8]) -> Option<u64>
     requires low { 2 ≤ radix }
     requires high { radix ≤ 36 }

@@ -11,19 +11,13 @@ use crate::fault::JobFault;
 use crate::job::{Job, JobSet, Jobs, Notes, Phase};
 use crate::reader::{Contents, contents_of};
 use crate::text::Text;
-use fc_base::JobNo;
+use fc_base::{JobNo, MAX_JOBS, MAX_TEXT};
 use std::alloc::Global;
-
-/// The most bytes of a text.
-const MAX_TEXT: usize = 16_384;
-
-/// The most jobs of a set.
-const MAX_JOBS: u64 = 16;
 
 /// Reads a job file (fio's manual, "Job file format"): the jobs of the text, or the first of its
 /// faults. Faults are looked for in this order: the length of the text, its bytes, its lines one by
 /// one, the number of jobs, the jobs one by one, and whether all write or all read.
-/// [`JobFault::NoMemory`] may stand in place of any answer.
+/// [`JobFault::NoMemory`] may stand for any answer.
 pub fn parse(alloc: Global, text: &[u8]) -> Result<JobSet, JobFault>
     ensures { Answers result text.now }
 {
@@ -42,7 +36,7 @@ pub fn parse(alloc: Global, text: &[u8]) -> Result<JobSet, JobFault>
 
 fn check_bytes(text: &[u8]) -> Result<(), JobFault>
     ensures faults { Checks result (byte_faults text.now) }
-    ensures bound { OnOk result (length text.now ≤ 16384) }
+    ensures bound { OnOk result (length text.now ≤ MAX_TEXT) }
 {
     if text.len() > MAX_TEXT {
         return Err(JobFault::TooLong);
@@ -56,13 +50,13 @@ fn check_bytes(text: &[u8]) -> Result<(), JobFault>
 fn check_count(drafts: &[Draft]) -> Result<(), JobFault>
     ensures faults { Checks result (count_faults drafts.now) }
     ensures some { OnOk result (1 ≤ count_of drafts.now) }
-    ensures few { OnOk result (count_of drafts.now ≤ 16) }
+    ensures few { OnOk result (count_of drafts.now ≤ MAX_JOBS) }
 {
     let count = count_of(drafts);
     if count == 0 {
         return Err(JobFault::NoJobs);
     }
-    if count > MAX_JOBS {
+    if count > u64::from(MAX_JOBS) {
         return Err(JobFault::TooManyJobs);
     }
     Ok(())
@@ -81,8 +75,9 @@ fn count_of(drafts: &[Draft]) -> u64
 
 /// The jobs of the sections, the copies of each in a row.
 fn jobs_of(alloc: Global, drafts: &[Draft]) -> Result<Vec<Job>, JobFault>
-    requires { count_of drafts.now ≤ 16 }
-    ensures jobs { Gives (λ jobs. jobs.items) result (faults_from 0 (with_copies drafts.now)) (jobs_from 0 (with_copies drafts.now)) }
+    requires { count_of drafts.now ≤ MAX_JOBS }
+    ensures jobs { Gives (λ jobs. jobs.items) result (faults_from 0 (with_copies drafts.now))
+        (jobs_from 0 (with_copies drafts.now)) }
     ensures length { IfOk result (λ jobs. length jobs.items ≡ count_of drafts.now) }
 {
     let mut jobs = Vec::new(alloc);
@@ -94,10 +89,14 @@ fn jobs_of(alloc: Global, drafts: &[Draft]) -> Result<Vec<Job>, JobFault>
 
 /// Adds the copies of one section, numbered on from the jobs that are there.
 fn add_copies(alloc: Global, draft: &Draft, jobs: &mut Vec<Job>) -> Result<(), JobFault>
-    requires { length jobs.old.items + copies_of draft.now ≤ 16 }
-    ensures faults { Checks result (faults_from (length jobs.old.items) (replicate (copies_of draft.now) draft.now)) }
-    ensures jobs { OnOk result (jobs.new.items ≡ jobs.old.items ++ jobs_from (length jobs.old.items) (replicate (copies_of draft.now) draft.now)) }
-    ensures length { OnOk result (length jobs.new.items ≡ length jobs.old.items + copies_of draft.now) }
+    requires { length jobs.old.items + copies_of draft.now ≤ MAX_JOBS }
+    ensures faults { Checks result
+        (faults_from (length jobs.old.items) (replicate (copies_of draft.now) draft.now)) }
+    ensures jobs { OnOk result
+        (jobs.new.items ≡ jobs.old.items
+        ++ jobs_from (length jobs.old.items) (replicate (copies_of draft.now) draft.now)) }
+    ensures length { OnOk result
+        (length jobs.new.items ≡ length jobs.old.items + copies_of draft.now) }
 {
     for _ in 0..draft.copies() {
         let number = JobNo(jobs.len() as u32);
@@ -109,7 +108,7 @@ fn add_copies(alloc: Global, draft: &Draft, jobs: &mut Vec<Job>) -> Result<(), J
 
 /// No two jobs may have one file.
 fn check_files(jobs: &[Job]) -> Result<(), JobFault>
-    requires { length jobs.now ≤ 16 }
+    requires { length jobs.now ≤ MAX_JOBS }
     ensures { Checks result (file_faults [] jobs.now) }
 {
     for (number, job) in jobs.iter().enumerate() {

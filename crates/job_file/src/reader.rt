@@ -18,14 +18,15 @@ use crate::line::{Line, line_of};
 use crate::option::Setting;
 use crate::settings::Settings;
 use crate::text::Name;
+use fc_base::MAX_TEXT;
 use std::alloc::Global;
 use std::mem;
 
 /// Which section the next line stands in.
 #[derive(Drop)]
-enum Place<'a> {
+enum Scope<'a> {
     /// None has been opened.
-    Nowhere,
+    Outside,
     Global,
     Job(Draft<'a>),
 }
@@ -33,7 +34,7 @@ enum Place<'a> {
 /// What the lines so far have said.
 #[derive(Drop)]
 struct Reader<'a> {
-    place: Place<'a>,
+    scope: Scope<'a>,
     /// The options of the global sections.
     defaults: Settings<'a>,
     /// The jobs whose sections are over.
@@ -53,12 +54,12 @@ impl<'a> Reader<'a> {
     ghost use Rattle.job_file.specs.Reader.{is_inside, draft_in, coming, drafts_with};
 
     fn new(alloc: Global) -> Reader<'a>
-        ensures outside { is_inside result.place ≡ false }
+        ensures outside { is_inside result.scope ≡ false }
         ensures coming { (below : List Line) → coming result below ≡ drafts_with none_set below }
         ensures notes { result.notes.items ≡ [] }
     {
         Reader {
-            place: Place::Nowhere,
+            scope: Scope::Outside,
             defaults: Settings::new(),
             drafts: Vec::new(alloc),
             notes: Vec::new(alloc),
@@ -67,36 +68,40 @@ impl<'a> Reader<'a> {
 
     /// Takes the line of this number.
     fn take(&mut self, alloc: Global, number: u32, line: Line<'a>) -> Result<(), JobFault>
-        ensures fault { Checks result (faults_in number (is_inside self.old.place) line.entry) }
-        ensures inside { OnOk result (is_inside self.new.place ≡ (is_inside self.old.place || opens line.entry)) }
-        ensures coming { OnOk result ((below : List Line) → coming self.new below ≡ coming self.old (line.entry ∷ below)) }
-        ensures notes { OnOk result (self.new.notes.items ≡ self.old.notes.items ++ note_in number line.entry) }
+        ensures fault { Checks result (faults_in number (is_inside self.old.scope) line.entry) }
+        ensures inside { OnOk result
+            (is_inside self.new.scope ≡ (is_inside self.old.scope || opens line.entry)) }
+        ensures coming { OnOk result
+            ((below : List Line) → coming self.new below ≡ coming self.old (line.entry ∷ below)) }
+        ensures notes { OnOk result
+            (self.new.notes.items ≡ self.old.notes.items ++ note_in number line.entry) }
     {
         match line {
             Line::Blank => Ok(()),
-            Line::Global => self.open(Place::Global),
+            Line::Global => self.open(Scope::Global),
             Line::Job(name) => {
                 let settings = self.defaults.inherited();
-                self.open(Place::Job(Draft { name, settings }))
+                self.open(Scope::Job(Draft { name, settings }))
             }
             Line::Set(setting) => self.set(number, setting),
             Line::Ignored(name) => self.note(alloc, number, &name),
-            Line::Faulty(fault) => match self.place {
-                Place::Nowhere => Err(JobFault::BadLine(number)),
+            Line::Faulty(fault) => match self.scope {
+                Scope::Outside => Err(JobFault::BadLine(number)),
                 _ => Err(fault.at(number)),
             },
         }
     }
 
     /// Ends the section that is open, and opens another.
-    fn open(&mut self, next: Place<'a>) -> Result<(), JobFault>
+    fn open(&mut self, next: Scope<'a>) -> Result<(), JobFault>
         ensures memory { IfErr result (λ fault. fault ≡ JobFault.NoMemory) }
-        ensures place { OnOk result (self.new.place ≡ next.entry) }
+        ensures scope { OnOk result (self.new.scope ≡ next.entry) }
         ensures defaults { OnOk result (self.new.defaults ≡ self.old.defaults) }
-        ensures drafts { OnOk result (self.new.drafts.items ≡ self.old.drafts.items ++ draft_in self.old.place) }
+        ensures drafts { OnOk result
+            (self.new.drafts.items ≡ self.old.drafts.items ++ draft_in self.old.scope) }
         ensures notes { OnOk result (self.new.notes.items ≡ self.old.notes.items) }
     {
-        if let Place::Job(draft) = mem::replace(&mut self.place, next) {
+        if let Scope::Job(draft) = mem::replace(&mut self.scope, next) {
             self.drafts.push(draft)?;
         }
         Ok(())
@@ -104,27 +109,35 @@ impl<'a> Reader<'a> {
 
     /// Sets an option of the section that is open.
     fn set(&mut self, number: u32, setting: Setting<'a>) -> Result<(), JobFault>
-        ensures fault { Checks result (faults_in number (is_inside self.old.place) (Line.Set setting.entry)) }
-        ensures inside { is_inside self.new.place ≡ is_inside self.old.place }
-        ensures coming { OnOk result ((below : List Line) → coming self.new below ≡ coming self.old (Line.Set setting.entry ∷ below)) }
+        ensures fault { Checks result
+            (faults_in number (is_inside self.old.scope) (Line.Set setting.entry)) }
+        ensures inside { is_inside self.new.scope ≡ is_inside self.old.scope }
+        ensures coming { OnOk result
+            ((below : List Line) → coming self.new below
+            ≡ coming self.old (Line.Set setting.entry ∷ below)) }
         ensures notes { self.new.notes.items ≡ self.old.notes.items }
     {
-        match &mut self.place {
-            Place::Nowhere => return Err(JobFault::BadLine(number)),
-            Place::Global => self.defaults.set(setting),
-            Place::Job(draft) => draft.settings.set(setting),
+        match &mut self.scope {
+            Scope::Outside => return Err(JobFault::BadLine(number)),
+            Scope::Global => self.defaults.set(setting),
+            Scope::Job(draft) => draft.settings.set(setting),
         }
         Ok(())
     }
 
     /// Notes an option that has no effect.
     fn note(&mut self, alloc: Global, number: u32, name: &Name) -> Result<(), JobFault>
-        ensures fault { Checks result (faults_in number (is_inside self.old.place) (Line.Ignored name.now)) }
-        ensures inside { is_inside self.new.place ≡ is_inside self.old.place }
-        ensures coming { OnOk result ((below : List Line) → coming self.new below ≡ coming self.old (Line.Ignored name.now ∷ below)) }
-        ensures notes { OnOk result (self.new.notes.items ≡ self.old.notes.items ++ note_in number (Line.Ignored name.now)) }
+        ensures fault { Checks result
+            (faults_in number (is_inside self.old.scope) (Line.Ignored name.now)) }
+        ensures inside { is_inside self.new.scope ≡ is_inside self.old.scope }
+        ensures coming { OnOk result
+            ((below : List Line) → coming self.new below
+            ≡ coming self.old (Line.Ignored name.now ∷ below)) }
+        ensures notes { OnOk result
+            (self.new.notes.items ≡ self.old.notes.items
+            ++ note_in number (Line.Ignored name.now)) }
     {
-        if let Place::Nowhere = self.place {
+        if let Scope::Outside = self.scope {
             return Err(JobFault::BadLine(number));
         }
         let option = name.copied(alloc)?;
@@ -137,11 +150,13 @@ impl<'a> Reader<'a> {
 
     /// Ends the section that is open, and gives what the lines have said.
     fn finish(mut self) -> Result<Contents<'a>, JobFault>
-        ensures { Gives {Y = List Draft × List Note} (λ c. (c.drafts.items, c.notes.items)) result [] (coming self.entry [], self.entry.notes.items) }
+        ensures { Gives {Y = List Draft × List Note}
+            (λ c. (c.drafts.items, c.notes.items)) result []
+            (coming self.entry [], self.entry.notes.items) }
     {
-        self.open(Place::Nowhere)?;
+        self.open(Scope::Outside)?;
         let Reader {
-            place: _,
+            scope: _,
             defaults: _,
             drafts,
             notes,
@@ -152,8 +167,9 @@ impl<'a> Reader<'a> {
 
 /// What the lines of a text say, or the fault of the first faulty line.
 pub(crate) fn contents_of(alloc: Global, text: &[u8]) -> Result<Contents<'_>, JobFault>
-    requires { length text.now ≤ 16384 }
-    ensures { Gives {Y = List Draft × List Note} (λ c. (c.drafts.items, c.notes.items)) result (line_faults 1 false (lines_of text.now))
+    requires { length text.now ≤ MAX_TEXT }
+    ensures { Gives {Y = List Draft × List Note} (λ c. (c.drafts.items, c.notes.items)) result
+        (line_faults 1 false (lines_of text.now))
         (drafts_of (lines_of text.now), notes_from 1 (lines_of text.now)) }
 {
     let mut reader = Reader::new(alloc);

@@ -109,11 +109,11 @@ fn phase_and_count(alloc: Global, text: &[u8]) -> Option<(Phase, usize)> {
     }
 }
 
-/// Whether a fault has this number and this place.
-fn is_row(fault: JobFault, number: u8, place: Option<u32>) -> bool {
+/// Whether a fault has this number, and this line or job.
+fn is_row(fault: JobFault, number: u8, line_or_job: Option<u32>) -> bool {
     // A fault is passed on whole, so the second call gets a copy.
     let again = fault;
-    fault.fault().number() == number && again.place() == place
+    fault.fault().number() == number && again.line_or_job() == line_or_job
 }
 
 #[test]

@@ -11,7 +11,7 @@ use Rattle.std.specs.List.{list_any}
 use Rattle.fc_base.specs.declared.numbers.Key.{Key}
 use Rattle.fc_base.specs.declared.record.JobParts.{JobParts}
 use Rattle.fc_base.specs.Counted.{numbers_below}
-use Rattle.fc_base.proofs.NumberLemmas.{filter_next, filter_not_next}
+use Rattle.fc_base.specs.NumberLaws.{filter_next, filter_not_next}
 use Rattle.write_order.specs.Blocks.{block_of}
 use Rattle.write_order.specs.Progress.{Progress, next_block}
 use Rattle.verify_state.specs.State.{State}

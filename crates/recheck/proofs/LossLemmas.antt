@@ -10,7 +10,7 @@ use Rattle.std.proofs.lemmas.Slice.Eq.{bytes_eq-Decides}
 use Rattle.fc_base.specs.declared.numbers.Key.{Key}
 use Rattle.fc_base.specs.declared.record.JobParts.{JobParts}
 use Rattle.fc_base.specs.Counted.{numbers_below}
-use Rattle.fc_base.proofs.NumberLemmas.{filter_next, filter_not_next}
+use Rattle.fc_base.specs.NumberLaws.{filter_next, filter_not_next}
 use Rattle.write_order.specs.Blocks.{block_of}
 use Rattle.write_order.specs.Stamps.{written_bytes}
 use Rattle.verify_state.specs.State.{State}

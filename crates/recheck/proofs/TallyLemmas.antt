@@ -5,6 +5,7 @@ use Rattle.std.specs.List.{list_all}
 use Rattle.std.proofs.lemmas.Bool.{lt-ltb, ltb-true, le-leb, eq-eqb, and_parts, cases_lt}
 use Rattle.std.proofs.lemmas.List.{length_push, take_all, take-append-le}
 use Rattle.std.proofs.lemmas.List.Folds.{list_all-append}
+use Rattle.fc_base.specs.declared.limits.TheConstants.{MAX_BLOCKS, MAX_LISTED}
 use Rattle.fc_base.specs.Ascending.{ascends, is_block}
 use Rattle.fc_base.specs.Report.{has_counts, has_list, has_end, is_report}
 use Rattle.fc_base.specs.declared.report.ReportParts.{ReportParts}
@@ -33,24 +34,24 @@ below_higher (x ∷ xs) low high le below =
     let lt = ltb-true x low parts.0 in
     rw (lt-ltb x high (omega arith)) (below_higher xs low high le parts.1)
 
--- What a list of the first 32 keeps when one more number comes.
+-- What a list of the first MAX_LISTED keeps when one more number comes.
 pub record Listed (faults next : ℕ) (first : List ℕ) : Type 0 where
-  pub listed : length first ≡ min faults 32
+  pub listed : length first ≡ min faults MAX_LISTED
   pub ascending : ascends first ≡ true
   pub below : list_all (λ b. nat_lt b next) first ≡ true
 
-pub listed_more : (faults next block : ℕ) (first : List ℕ) → next ≤ block → Listed faults next first → Listed (faults + 1) (block + 1) (take 32 (first ++ block ∷ []))
-listed_more faults next block first le kept = elim (cases_lt (length first) 32) [
+pub listed_more : (faults next block : ℕ) (first : List ℕ) → next ≤ block → Listed faults next first → Listed (faults + 1) (block + 1) (take MAX_LISTED (first ++ block ∷ []))
+listed_more faults next block first le kept = elim (cases_lt (length first) MAX_LISTED) [
   | inl few ↦
-      let whole = take_all 32 (first ++ block ∷ []) (omega (arith, length_push first block)) in
+      let whole = take_all MAX_LISTED (first ++ block ∷ []) (omega (arith, length_push first block)) in
       rw whole (record {
         listed = omega (arith, length_push first block, kept.listed);
         ascending = ascends_push first next block kept.ascending kept.below le;
         below = list_all-append (λ b. nat_lt b (block + 1)) first (block ∷ []) ∙ rw (below_higher first next (block + 1) (omega arith) kept.below, lt-ltb block (block + 1) (omega arith)) refl;
       })
   | inr many ↦
-      let len : length first ≡ 32 = omega (arith, kept.listed) in
-      let cut : take 32 (first ++ block ∷ []) ≡ first = take-append-le 32 first (block ∷ []) (omega arith) ∙ take_all 32 first (omega arith) in
+      let len : length first ≡ MAX_LISTED = omega (arith, kept.listed) in
+      let cut : take MAX_LISTED (first ++ block ∷ []) ≡ first = take-append-le MAX_LISTED first (block ∷ []) (omega arith) ∙ take_all MAX_LISTED first (omega arith) in
       rw cut (record {
         listed = omega (arith, kept.listed);
         ascending = kept.ascending;
@@ -65,14 +66,14 @@ told_whole found (ReadFault block) e = e
 
 -- A tally's numbers make a report.
 pub told_by : (noted : Noted) (next checked faults : ℕ) (first items : List ℕ) (end : ReportEnd) (answer : Result ReportParts ReportParts) →
-    record { next = next; found = record { checked = checked; faults = faults; first = items } } ≡ noted → first ≡ items → next ≤ 65536 → checked ≤ next → faults ≤ checked → Listed faults next items → can_end noted.found end ≡ true →
+    record { next = next; found = record { checked = checked; faults = faults; first = items } } ≡ noted → first ≡ items → next ≤ MAX_BLOCKS → checked ≤ next → faults ≤ checked → Listed faults next items → can_end noted.found end ≡ true →
     answer ≡ (if is_report (record { checked = checked; faults = faults; first = first; end = end }) then Ok (record { checked = checked; faults = faults; first = first; end = end }) else Err (record { checked = checked; faults = faults; first = first; end = end })) → answer ≡ Ok (told noted.found end)
 told_by noted next checked faults first items end answer is same below few fewer listed can made =
     let parts : ReportParts = record { checked = checked; faults = faults; first = items; end = end } in
     let found : Tally = record { checked = checked; faults = faults; first = items } in
-    let blocks : list_all is_block items ≡ true = below_higher items next 65536 below listed.below in
-    let counts : has_counts parts ≡ true = rw (le-leb faults checked fewer, le-leb checked 65536 (omega arith)) refl in
-    let list : has_list parts ≡ true = rw (eq-eqb (length items) (min faults 32) listed.listed, blocks, listed.ascending) refl in
+    let blocks : list_all is_block items ≡ true = below_higher items next MAX_BLOCKS below listed.below in
+    let counts : has_counts parts ≡ true = rw (le-leb faults checked fewer, le-leb checked MAX_BLOCKS (omega arith)) refl in
+    let list : has_list parts ≡ true = rw (eq-eqb (length items) (min faults MAX_LISTED) listed.listed, blocks, listed.ascending) refl in
     let ends : has_end parts ≡ true = told_whole found end (ap (λ n. can_end n.found end) is ∙ can) in
     let good : is_report parts ≡ true = rw (counts, list, ends) refl in
     let answered = (rw (same, good) at made) in

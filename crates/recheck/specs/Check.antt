@@ -1,5 +1,6 @@
 -- A check under way.
 use Rattle.std.specs.Prelude.{◌≡◌, ℕ, ◌+◌, Bool, ◌&&◌, nat_lt, List, [], ◌∷◌, ◌++◌, take, Option, Some, None, Result, Ok, Err}
+use Rattle.fc_base.specs.declared.limits.TheConstants.{MAX_LISTED}
 use Rattle.fc_base.specs.declared.numbers.Key.{Key}
 use Rattle.fc_base.specs.declared.record.JobParts.{JobParts}
 use Rattle.fc_base.specs.declared.fault.Fault.{Fault}
@@ -34,7 +35,7 @@ with_verdict found block verdicts.Good = record found { checked = found.checked 
 with_verdict found block verdicts.Fault = record {
   checked = found.checked + 1;
   faults = found.faults + 1;
-  first = take 32 (found.first ++ block ∷ []);
+  first = take MAX_LISTED (found.first ++ block ∷ []);
 }
 
 -- The check once this was found at a block.

@@ -1,6 +1,7 @@
 pub mod Check
 pub mod Disk
 pub mod DiskSteps
+pub mod Examples
 pub mod Expected
 pub mod Faults
 pub mod LastWrite

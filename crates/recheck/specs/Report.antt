@@ -1,5 +1,6 @@
 -- The report of a check over the whole content, block by block in ascending order.
 use Rattle.std.specs.Prelude.{ℕ, Bool, true, ◌&&◌, ◌==◌, nat_lt, List, [], ◌∷◌, filter, length, take, if◌then◌else◌}
+use Rattle.fc_base.specs.declared.limits.TheConstants.{MAX_LISTED}
 use Rattle.fc_base.specs.Ascending.{is_block}
 use Rattle.fc_base.specs.declared.report.ReportParts.{ReportParts}
 use Rattle.fc_base.specs.declared.report.ReportEnd.{ReportEnd}
@@ -18,7 +19,7 @@ abbrev pub tally : Expected → (ℕ → List ℕ) → List ℕ → Tally
 tally e held blocks = record {
   checked = length (filter (is_checked e) blocks);
   faults = length (filter (is_fault e held) blocks);
-  first = take 32 (filter (is_fault e held) blocks);
+  first = take MAX_LISTED (filter (is_fault e held) blocks);
 }
 
 -- The numbers up to and with the first that passes, or all where none does.

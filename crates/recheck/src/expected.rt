@@ -8,14 +8,11 @@ ghost use Rattle.recheck.specs.Faults.{is_checked, is_write, verdict, writes_to}
 
 use crate::last_write::LastWrite;
 use crate::verdict::Verdict;
-use fc_base::{JobRecord, Key, Seq};
+use fc_base::{JobRecord, Key, MAX_BLOCKS, MAX_DEPTH, Seq};
 use std::alloc::{AllocError, Global};
 use std::marker::Model;
 use verify_state::VerifyState;
 use write_order::{Order, holds_write};
-
-/// How many writes a job may have in flight.
-const MOST_IN_FLIGHT: usize = 64;
 
 /// A write and its block.
 #[derive(Clone, Copy, Debug)]
@@ -28,25 +25,26 @@ pub struct Placed {
 #[derive(Debug, Drop)]
 pub struct Expected {
     key: Key,
-    job: JobRecord,
+    rec: JobRecord,
     last: Vec<LastWrite>,
     in_flight: Vec<Placed>,
 }
 
 impl Model for Expected {
     ghost use Rattle.std.specs.Prelude.{◌≡◌, ◌≤◌, length};
+    ghost use Rattle.fc_base.specs.declared.limits.TheConstants.{MAX_BLOCKS};
     ghost use Rattle.recheck.specs.Expected.{Expected};
 
     ghost Value = { Expected };
 
     ghost view = { λ e. record {
       key = e.key;
-      job = e.job;
+      job = e.rec;
       last = e.last.items;
       in_flight = e.in_flight.items;
     } };
 
-    ghost invariant = { λ e. (length e.last.items ≡ e.job.blocks) × (e.job.blocks ≤ 65536) };
+    ghost invariant = { λ e. (length e.last.items ≡ e.rec.blocks) × (e.rec.blocks ≤ MAX_BLOCKS) };
 }
 
 impl Expected {
@@ -55,16 +53,16 @@ impl Expected {
     pub fn new(
         alloc: Global,
         key: Key,
-        job: &JobRecord,
+        rec: &JobRecord,
         state: Option<&VerifyState>,
     ) -> Result<Expected, AllocError>
-        requires { issued_in job.now (option_copied state) ≤ job.now.total }
-        ensures { IfOk result (λ e. e ≡ expected_by key job.now (option_copied state.entry)) }
+        requires { issued_in rec.now (option_copied state) ≤ rec.now.total }
+        ensures { IfOk result (λ e. e ≡ expected_by key rec.now (option_copied state.entry)) }
     {
-        let mut last = vec![in alloc; LastWrite::none(); job.blocks() as usize]?;
-        let mut in_flight = Vec::with_capacity(alloc, MOST_IN_FLIGHT)?;
-        let mut order = Order::new(alloc, job)?;
-        for k in 0..issued_in(job, state) {
+        let mut last = vec![in alloc; LastWrite::none(); rec.blocks() as usize]?;
+        let mut in_flight = Vec::with_capacity(alloc, MAX_DEPTH as usize)?;
+        let mut order = Order::new(alloc, rec)?;
+        for k in 0..issued_in(rec, state) {
             let Some(block) = order.peek() else {
                 unreachable!()
             };
@@ -78,17 +76,17 @@ impl Expected {
         }
         Ok(Expected {
             key,
-            job: *job,
+            rec: *rec,
             last,
             in_flight,
         })
     }
 
     /// The job that is checked.
-    pub fn job(&self) -> JobRecord
+    pub fn rec(&self) -> JobRecord
         ensures { result ≡ self.now.job }
     {
-        self.job
+        self.rec
     }
 
     /// Whether some write to the block has completed. The job writes no block past its last one.
@@ -104,7 +102,7 @@ impl Expected {
         requires block { block < self.now.job.blocks }
         requires bytes { length bytes.now ≡ self.now.job.bs }
         ensures value { result ≡ verdict self.now block bytes.now }
-        ensures range { block < 65536 }
+        ensures range { block < MAX_BLOCKS }
     {
         match self.last_write(block) {
             None => Verdict::Skipped,
@@ -117,7 +115,7 @@ impl Expected {
     fn last_write(&self, block: u32) -> Option<Seq>
         ensures value { result ≡ slice_index_or self.now.last block None }
         ensures past { self.now.job.blocks ≤ block → result ≡ None }
-        ensures blocks { self.now.job.blocks ≤ 65536 }
+        ensures blocks { self.now.job.blocks ≤ MAX_BLOCKS }
     {
         match self.last.get(block as usize) {
             None => None,
@@ -130,13 +128,14 @@ impl Expected {
         requires { length bytes.now ≡ self.now.job.bs }
         ensures { result ≡ is_write self.now block bytes.now seq }
     {
-        holds_write(&self.key, &self.job, seq, block, bytes)
+        holds_write(&self.key, &self.rec, seq, block, bytes)
     }
 
     /// Whether the bytes are those of a write in flight to the block.
     fn is_in_flight(&self, block: u32, bytes: &[u8]) -> bool
         requires { length bytes.now ≡ self.now.job.bs }
-        ensures { result ≡ list_any (is_write self.now block bytes.now) (writes_to block self.now.in_flight) }
+        ensures { result ≡ list_any (is_write self.now block bytes.now)
+            (writes_to block self.now.in_flight) }
     {
         for write in &self.in_flight {
             if write.block == block && self.is_write(write.seq, block, bytes) {
@@ -148,11 +147,11 @@ impl Expected {
 }
 
 /// How many writes were issued.
-fn issued_in(job: &JobRecord, state: Option<&VerifyState>) -> u64
-    ensures { result ≡ issued_in job.now (option_copied state.entry) }
+fn issued_in(rec: &JobRecord, state: Option<&VerifyState>) -> u64
+    ensures { result ≡ issued_in rec.now (option_copied state.entry) }
 {
     match state {
-        None => job.total(),
+        None => rec.total(),
         Some(state) => state.issued(),
     }
 }

@@ -2,7 +2,7 @@
 
 ghost use Rattle.std.specs.Prelude.{◌≡◌, ◌<◌, None, Some};
 
-use fc_base::Seq;
+use fc_base::{MAX_WRITES, Seq};
 use std::marker::Model;
 
 /// The last completed write to a block, if there is one, in four bytes: a check keeps one for each
@@ -32,9 +32,9 @@ impl LastWrite {
         LastWrite { after: 0 }
     }
 
-    /// This write. A job has at most a million.
+    /// This write.
     pub fn of(seq: Seq) -> LastWrite
-        requires { seq < 1000000 }
+        requires { seq < MAX_WRITES }
         ensures { result ≡ Some seq }
     {
         LastWrite {

@@ -10,7 +10,7 @@ ghost use Rattle.recheck.specs.Report.{can_end, report, report_of, told};
 use crate::expected::Expected;
 use crate::tally::Tally;
 use crate::verdict::Verdict;
-use fc_base::{CheckReport, Fault, JobRecord, Key, ReportEnd};
+use fc_base::{CheckReport, Fault, JobRecord, Key, MAX_BLOCKS, ReportEnd};
 use std::alloc::Global;
 use std::marker::Model;
 use verify_state::VerifyState;
@@ -51,15 +51,15 @@ impl Recheck {
     /// for a random order with a map, and a list of the writes in flight.
     pub fn new(
         alloc: Global,
-        job: &JobRecord,
+        rec: &JobRecord,
         key: Key,
         state: Option<&VerifyState>,
         fatal: bool,
     ) -> Result<Recheck, Fault>
-        ensures { Starts result key job.now (option_copied state.entry) fatal }
+        ensures { Starts result key rec.now (option_copied state.entry) fatal }
     {
-        fits(state, &key, job)?;
-        let Ok(expected) = Expected::new(alloc, key, job, state) else {
+        fits(state, &key, rec)?;
+        let Ok(expected) = Expected::new(alloc, key, rec, state) else {
             return Err(Fault::NoMemory);
         };
         Ok(Recheck {
@@ -69,8 +69,8 @@ impl Recheck {
         })
     }
 
-    /// Whether the block is checked: some write to it has completed. Another need not be read. A block
-    /// past the job's last one is not wanted.
+    /// Whether the block is checked: some write to it has completed. Another need not be read. A
+    /// block past the job's last one is not wanted.
     pub fn wants(&self, block: u32) -> bool
         ensures value { result ≡ is_checked self.now.expected block }
         ensures past { self.now.expected.job.blocks ≤ block → result ≡ false }
@@ -123,7 +123,7 @@ impl Recheck {
 
     /// The report of the blocks that came, where this one could not be read.
     pub(crate) fn finish_at(self, block: u32) -> CheckReport
-        requires { block < 65536 }
+        requires { block < MAX_BLOCKS }
         ensures { result ≡ told self.found (ReportEnd.ReadFault block) }
     {
         let Recheck {
@@ -136,11 +136,11 @@ impl Recheck {
 }
 
 /// Whether the state, if there is one, is one of this job.
-fn fits(state: Option<&VerifyState>, key: &Key, job: &JobRecord) -> Result<(), Fault>
-    ensures { FitsIfAny (option_copied state.entry) key.now job.now result }
+fn fits(state: Option<&VerifyState>, key: &Key, rec: &JobRecord) -> Result<(), Fault>
+    ensures { FitsIfAny (option_copied state.entry) key.now rec.now result }
 {
     match state {
         None => Ok(()),
-        Some(state) => state.fits(*key, job),
+        Some(state) => state.fits(*key, rec),
     }
 }

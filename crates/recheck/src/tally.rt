@@ -5,11 +5,11 @@ ghost use Rattle.recheck.specs.Check.{with_verdict, nothing};
 ghost use Rattle.recheck.specs.Report.{told, can_end};
 
 use crate::verdict::Verdict;
-use fc_base::{Blocks, CheckReport, MAX_LISTED, ReportEnd, ReportParts};
+use fc_base::{Blocks, CheckReport, MAX_BLOCKS, MAX_LISTED, ReportEnd, ReportParts};
 use std::marker::Model;
 
-/// How many blocks were checked, how many of them are faulty, and the first 32 that are, which are
-/// noted in ascending order.
+/// How many blocks were checked, how many of them are faulty, and the first that are, at most
+/// [`MAX_LISTED`], which are noted in ascending order.
 #[derive(Debug, Drop)]
 pub struct Tally {
     next: u32,
@@ -47,7 +47,7 @@ impl Tally {
     /// Notes what was found at the next block.
     pub fn note(&mut self, block: u32, verdict: Verdict)
         requires next { self.old.next ≤ block }
-        requires range { block < 65536 }
+        requires range { block < MAX_BLOCKS }
         ensures { self.new ≡ record { next = block + 1; found = with_verdict self.old.found block verdict } }
     {
         self.next = block + 1;
@@ -94,8 +94,8 @@ impl Tally {
 
 /// Lists a faulty block, where it is one of the first.
 fn list(first: &mut Blocks, block: u32)
-    requires few { length first.old ≤ 32 }
-    ensures { first.new ≡ take 32 (first.old ++ block ∷ []) }
+    requires few { length first.old ≤ MAX_LISTED }
+    ensures { first.new ≡ take MAX_LISTED (first.old ++ block ∷ []) }
 {
     if first.len() < MAX_LISTED {
         first.push(block);

@@ -23,19 +23,20 @@ use verify_state::VerifyState;
 /// then the same.
 pub fn check_disk<D: Disk>(
     alloc: Global,
-    job: &JobRecord,
+    rec: &JobRecord,
     key: Key,
     state: Option<&VerifyState>,
     fatal: bool,
     disk: &mut D,
 ) -> Result<CheckReport, Fault>
-    ensures { ChecksDisk result key job.now (option_copied state.entry) fatal (D.file disk.old) (D.file disk.new) }
+    ensures { ChecksDisk result key rec.now (option_copied state.entry) fatal (D.file disk.old)
+        (D.file disk.new) }
 {
-    let mut check = Recheck::new(alloc, job, key, state, fatal)?;
-    let Ok(mut bytes) = vec![in alloc; 0u8; job.bs() as usize] else {
+    let mut check = Recheck::new(alloc, rec, key, state, fatal)?;
+    let Ok(mut bytes) = vec![in alloc; 0u8; rec.bs() as usize] else {
         return Err(Fault::NoMemory);
     };
-    for block in 0..job.blocks() {
+    for block in 0..rec.blocks() {
         match check_block(&mut check, block, &mut bytes, disk) {
             Ok(()) => {}
             Err(Fault::ReadFault) => return Ok(check.finish_at(block)),

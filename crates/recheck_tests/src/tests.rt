@@ -6,7 +6,7 @@ ghost use Rattle.disk_model.specs.File.{IsBlock};
 
 mod beside;
 mod disks;
-mod history;
+mod machine;
 mod plain;
 
 use disk_model::{Disk, FaultDisk, MemDisk};

@@ -6,7 +6,7 @@ use Rattle.std.proofs.lemmas.List.{length-append}
 use Rattle.fc_base.specs.declared.record.JobParts.{JobParts}
 use Rattle.fc_base.specs.JobParts.{is_within_limits, has_block_size, has_region, has_queue, has_pattern}
 use Rattle.fc_base.specs.Counted.{is_possible}
-use Rattle.fc_base.proofs.CountedByLemmas.{counted_as_listed, possible_as_listed}
+use Rattle.fc_base.specs.CountLaws.{counted_as_listed, possible_as_listed}
 use Rattle.job_file.specs.declared.job.Job.{Job}
 use Rattle.job_file.specs.Laws.{FitsItsWidths}
 use Rattle.write_order.specs.Words.{word}

@@ -1,8 +1,7 @@
 -- Numbers of which none stands twice, and what sorting tells of them.
-use Rattle.std.proofs.Common.{◌≡◌, ℕ, ◌+◌, ◌<◌, ◌≤◌, zero, suc, Bool, true, false, not, cond, eqb, ◌||◌, List, [], ◌∷◌, length, get_or, refl, ap, sym, ◌∙◌, inl, inr, arith}
+use Rattle.std.proofs.Common.{◌≡◌, ◌↔◌, ℕ, ◌+◌, ◌<◌, ◌≤◌, zero, suc, Bool, true, false, not, cond, eqb, ◌||◌, List, [], ◌∷◌, length, get_or, refl, ap, sym, ◌∙◌, inl, inr, arith}
 use Rattle.std.specs.Prelude.{sum_by}
 use Rattle.std.specs.List.Sorted.{IsPermutation, IsNonDecreasing, IsStrictlyIncreasing}
-use Rattle.std.specs.Bool.{Decides}
 use Rattle.std.proofs.lemmas.Bool.{cases_Bool, cases_eq, and_parts, and_from, eq-eqb, ne_eqb, eqb-true, not-true}
 use Rattle.std.proofs.lemmas.List.Sums.{sum_by-cons}
 use Rattle.std.proofs.lemmas.List.Sorted.{sum_by-IsPermutation}
@@ -120,7 +119,7 @@ same_test false true f g = g refl
 same_test false false f g = refl
 
 -- whether the sorted numbers rise tells whether one stands twice
-pub sorted_tells : (xs ys : List ℕ) (rise : Bool) → IsPermutation xs ys → IsNonDecreasing ys → Decides rise (IsStrictlyIncreasing ys) → rise ≡ is_distinct xs
+pub sorted_tells : (xs ys : List ℕ) (rise : Bool) → IsPermutation xs ys → IsNonDecreasing ys → ((rise ≡ true) ↔ IsStrictlyIncreasing ys) → rise ≡ is_distinct xs
 sorted_tells xs ys rise moved sorted d = same_test rise (is_distinct xs)
     (λ r. none_twice xs (λ k. omega (arith, times_sorted k xs ys moved, once ys k (rising_distinct ys (d.0 r)))))
     (λ e. d.1 (distinct_rises ys sorted (none_twice ys (λ k. omega (arith, times_sorted k xs ys moved, once xs k e)))))

@@ -3,6 +3,7 @@ use Rattle.std.proofs.Common.{◌≡◌, ℕ, ◌*◌, ◌≤◌, Bool, true, fa
 use Rattle.std.specs.Prelude.{nat_lt, nat_le, if◌then◌else◌}
 use Rattle.std.specs.Int.{w32}
 use Rattle.std.proofs.lemmas.Bool.{and_from, le-ltb, ltb-false, le-leb, leb-true, eq-eqb}
+use Rattle.fc_base.specs.declared.limits.TheConstants.{MAX_WRITES}
 use Rattle.fc_base.specs.declared.record.Kind.{Kind}
 use Rattle.fc_base.specs.declared.record.Kind.TheVariants.{Sequential, RandomMap, RandomFree}
 use Rattle.fc_base.specs.declared.record.Verify.{Verify}
@@ -140,7 +141,7 @@ codes_hold s =
 fields_hold : (s : State) → IsState s → has_fields (spelling s) ≡ true
 fields_hold s is =
     let key : is_key (key_in (spelling s)) ≡ true = ap is_key (key_back s is) ∙ is.key in
-    let few : nat_le (issued_in (spelling s)) 1000000 ≡ true = ap (λ n. leb n 1000000) (issued_again s is) ∙ le-leb s.issued 1000000 (issued_limit s is) in
+    let few : nat_le (issued_in (spelling s)) MAX_WRITES ≡ true = ap (λ n. leb n MAX_WRITES) (issued_again s is) ∙ le-leb s.issued MAX_WRITES (issued_limit s is) in
     and_from _ _ (and_from _ _ (codes_hold s) key) few
 
 marks_hold : (s : State) → IsState s → has_marks (spelling s) ≡ true

@@ -12,7 +12,7 @@ use Rattle.fc_base.specs.declared.record.JobParts.{JobParts}
 use Rattle.fc_base.specs.JobParts.{is_within_limits}
 use Rattle.fc_base.specs.Counted.{has, counted, is_possible}
 use Rattle.fc_base.specs.Marks.{floor_of, marks_of, ends_by, counted_by, is_possible_by}
-use Rattle.fc_base.proofs.CountedByLemmas.{marks_again, counted_as_listed, possible_as_listed}
+use Rattle.fc_base.specs.CountLaws.{marks_again, counted_as_listed, possible_as_listed}
 use Rattle.verify_state.specs.Codes.{kind_code, verify_code, kind_of, verify_of}
 use Rattle.verify_state.specs.State.{State, IsState, state_by, floor_in, marks_in, has_come, has_come_by}
 use Rattle.verify_state.specs.Spelling.{key_bytes, job_bytes, words, spelling}
@@ -103,7 +103,7 @@ pieces n at bytes fits long = ap (λ ws. words ws ++ drop (at + 8 * n) bytes) (w
 pub length_words_at : (n at : ℕ) (bytes : List ℕ) → length (words_at n at bytes) ≡ n
 length_words_at n at bytes = ap length (words_are n at bytes) ∙ length_words_by n at bytes
 
--- ---- the mark and the codes
+-- ---- the magic and the codes
 
 same_bytes : (xs ys : List ℕ) → pointwise eqb xs ys ≡ true → xs ≡ ys
 same_bytes [] [] e = refl

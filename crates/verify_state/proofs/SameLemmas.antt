@@ -1,7 +1,6 @@
 -- States that are the same, as a test and as equations.
-use Rattle.std.proofs.Common.{◌≡◌, true, ◌&&◌, eqb, refl, ap, sym, ◌∙◌}
+use Rattle.std.proofs.Common.{◌≡◌, ◌↔◌, true, ◌&&◌, eqb, refl, ap, sym, ◌∙◌}
 use Rattle.std.specs.Prelude.{bytes_eq}
-use Rattle.std.specs.Bool.{Decides}
 use Rattle.std.specs.Cmp.Lexicographic.{bytes_decides}
 use Rattle.std.proofs.lemmas.Bool.{and_parts, and_from, eqb-true, eq-eqb}
 use Rattle.fc_base.specs.declared.numbers.Key.{Key}
@@ -63,7 +62,7 @@ job_again a =
     (and_from _ _ (eq-eqb a.depth a.depth refl) (eq-eqb a.window a.window refl))
 
 -- the test holds of two states exactly where they are the same
-pub same_decides : (a b : State) → Decides (is_same a b) (IsSame a b)
+pub same_decides : (a b : State) → (is_same a b ≡ true) ↔ IsSame a b
 unfolding is_same
 same_decides a b = (
   λ e.

@@ -7,6 +7,7 @@ use Rattle.std.proofs.lemmas.Bool.{and_parts, leb-true, ltb-true}
 use Rattle.std.proofs.lemmas.Nat.{from_be_bytes-to_be_bytes_4, from_be_bytes-to_be_bytes_8}
 use Rattle.std.proofs.lemmas.List.{drop-drop, drop_at, append-nil, length-append}
 use Rattle.std.proofs.lemmas.List.FromFn.{fill_by_all}
+use Rattle.fc_base.specs.declared.limits.TheConstants.{MAX_WRITES}
 use Rattle.fc_base.specs.declared.numbers.Key.{Key}
 use Rattle.fc_base.specs.declared.record.JobParts.{JobParts}
 use Rattle.fc_base.specs.declared.record.Kind.{Kind}
@@ -15,7 +16,7 @@ use Rattle.fc_base.specs.declared.record.Verify.{Verify}
 use Rattle.fc_base.specs.declared.record.Verify.TheVariants.{Stamp, Pattern}
 use Rattle.fc_base.specs.Marks.{counted_by, is_possible_by}
 use Rattle.fc_base.specs.Counted.{has}
-use Rattle.fc_base.proofs.MarkLemmas.{marks_are_words}
+use Rattle.fc_base.specs.MarkLaws.{marks_are_words}
 use Rattle.verify_state.specs.Codes.{kind_code, verify_code, kind_of, verify_of}
 use Rattle.verify_state.specs.State.{State, IsState, state_by, floor_in, marks_in, has_come_by}
 use Rattle.verify_state.specs.Spelling.{key_bytes, job_bytes, words, spelling}
@@ -37,7 +38,7 @@ word_at (x ∷ xs) rest (suc k) all lt =
     ∙ ap (λ l. from_be_bytes w64 (take 8 l)) (sym (drop-drop (8 * k) 8 (words (x ∷ xs) ++ rest)))
     ∙ word_at xs rest k all.1 (omega arith)
 
--- words that stand at a place are read from there
+-- words that stand at an offset are read from there
 pub words_back : (xs rest bytes : List ℕ) (at : ℕ) → drop at bytes ≡ words xs ++ rest → AllByRecursion (λ x. x < 2 ^ 64) xs → words_at (length xs) at bytes ≡ xs
 unfolding field
 words_back xs rest bytes at stands all = sym (fill_by_all (λ k. field w64 (at + 8 * k) bytes) xs (length xs) 0 refl each)
@@ -106,7 +107,7 @@ pub issued_few : (s : State) → IsState s → s.issued ≤ s.job.total
 unfolding has_come_by
 issued_few s is = leb-true s.issued s.job.total (and_parts (nat_le s.issued s.job.total) (is_possible_by s.job.depth s.job.window s.issued (marks_in s)) is.come).0
 
-pub issued_limit : (s : State) → IsState s → s.issued ≤ 1000000
+pub issued_limit : (s : State) → IsState s → s.issued ≤ MAX_WRITES
 issued_limit s is = omega (arith, issued_few s is, (limits s.job is.limits).total)
 
 -- what stands behind the number issued

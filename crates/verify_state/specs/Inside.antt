@@ -7,7 +7,7 @@ use Rattle.std.proofs.lemmas.Bool.{and_parts}
 use Rattle.fc_base.specs.declared.record.JobParts.{JobParts}
 use Rattle.fc_base.specs.Keys.{is_key}
 use Rattle.fc_base.specs.Marks.{floor_of, ends_by, is_possible_by}
-use Rattle.fc_base.proofs.CountedByLemmas.{marks_again}
+use Rattle.fc_base.specs.CountLaws.{marks_again}
 use Rattle.verify_state.specs.declared.state.VerifyState.TheInside.{Inside}
 use Rattle.verify_state.specs.State.{State, state_by, marks_in, has_come_by}
 

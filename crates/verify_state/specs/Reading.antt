@@ -2,6 +2,7 @@
 use Rattle.std.specs.Prelude.{◌≡◌, ℕ, ◌+◌, ◌*◌, Bool, not, ◌&&◌, ◌||◌, ◌==◌, nat_lt, nat_le, List, [], ◌++◌, length, map, take, drop, Result, Ok, Err, Some, codes, nat_eq, slice_get, if◌then◌else◌}
 use Rattle.std.specs.List.{starts_with, range_with_len}
 use Rattle.std.specs.Int.{Width, w8, w32, w64, byte_len, from_be_bytes}
+use Rattle.fc_base.specs.declared.limits.TheConstants.{MAX_WRITES}
 use Rattle.fc_base.specs.declared.numbers.Key.{Key}
 use Rattle.fc_base.specs.declared.record.JobParts.{JobParts}
 use Rattle.fc_base.specs.declared.fault.Fault.{Fault}
@@ -13,11 +14,11 @@ use Rattle.fc_base.specs.Faults.{when}
 use Rattle.verify_state.specs.Codes.{kind_of, verify_of}
 use Rattle.verify_state.specs.State.{State, state_of, state_by, has_come, has_come_by}
 
--- The number that stands at a place, high byte first.
+-- The number that stands at an offset, high byte first.
 unfoldable pub field : Width → ℕ → List ℕ → ℕ
 field width at bytes = from_be_bytes width (take (byte_len width) (drop at bytes))
 
--- So many numbers of eight bytes from a place on.
+-- So many numbers of eight bytes from an offset on.
 abbrev pub words_at : ℕ → ℕ → List ℕ → List ℕ
 words_at n at bytes = map (λ i. field w64 (at + 8 * i) bytes) (range_with_len 0 n)
 
@@ -63,7 +64,7 @@ has_codes bytes = nat_lt (field w8 20 bytes) 3 && nat_lt (field w8 21 bytes) 2 &
 
 -- The codes are known, and the key and the number issued are in their ranges.
 abbrev pub has_fields : List ℕ → Bool
-has_fields bytes = has_codes bytes && is_key (key_in bytes) && nat_le (issued_in bytes) 1000000
+has_fields bytes = has_codes bytes && is_key (key_in bytes) && nat_le (issued_in bytes) MAX_WRITES
 
 -- Each field up to the place is in its range.
 unfoldable pub has_ranges : List ℕ → Bool

@@ -1,6 +1,7 @@
 -- What a verify state is, and when two are the same.
 use Rattle.std.specs.Prelude.{◌≡◌, ℕ, ◌*◌, ◌^◌, ◌<◌, Bool, not, ◌&&◌, nat_le, List, ◌++◌, length, IsTrue}
 use Rattle.std.specs.List.{AllByRecursion}
+use Rattle.fc_base.specs.declared.limits.TheConstants.{MAX_WRITES}
 use Rattle.fc_base.specs.declared.numbers.Key.{Key}
 use Rattle.fc_base.specs.declared.record.JobParts.{JobParts}
 use Rattle.fc_base.specs.declared.fault.Fault.{Fault}
@@ -58,7 +59,7 @@ pub record IsSame (a b : State) : Type 0 where
 
 -- At most a million writes are issued, and a list has at most two windows of completions.
 abbrev pub has_counts : ℕ → ℕ → ℕ → Bool
-has_counts window issued count = nat_le issued 1000000 && nat_le count (2 * window)
+has_counts window issued count = nat_le issued MAX_WRITES && nat_le count (2 * window)
 
 -- No more writes were issued than the job has, and some job can have come to this list.
 unfoldable pub has_come : JobParts → ℕ → List ℕ → Bool
@@ -79,7 +80,7 @@ field_faults key job issued completions =
 -- What is wrong with a state of these fields and these marks.
 abbrev pub field_faults_by : Key → JobParts → ℕ → List ℕ → List Fault
 field_faults_by key job issued marks =
-    when (not (is_key key && nat_le issued 1000000)) StateBadField
+    when (not (is_key key && nat_le issued MAX_WRITES)) StateBadField
     ++ when (not (has_come_by job issued marks)) Impossible
 
 -- What every state keeps.

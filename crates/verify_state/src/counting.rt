@@ -1,4 +1,5 @@
-//! Which writes count, by marks or by a list of completions, and whether a job can have come to them.
+//! Which writes count, by marks or by a list of completions, and whether a job can have come to
+//! them.
 
 ghost use Rattle.std.specs.Prelude.{◌≡◌, ◌-◌, ◌*◌, ◌^◌, ◌<◌, ◌≤◌, length, filter, nat_le, nat_lt, bytes_eq, IsTrue};
 ghost use Rattle.std.specs.List.{list_all, AllByRecursion};
@@ -6,8 +7,8 @@ ghost use Rattle.fc_base.specs.Counted.{has, counted, uncounted, is_distinct, is
 ghost use Rattle.fc_base.specs.Marks.{floor_of, marks_of, ends_by, counted_by, is_possible_by};
 ghost use Rattle.verify_state.specs.State.{has_come, has_come_by};
 
-use crate::distinct::is_distinct;
-use fc_base::{JobRecord, Marks, Seq};
+use crate::distinct::{MAX_COMPLETIONS, is_distinct};
+use fc_base::{JobRecord, MAX_WINDOW, Marks, Seq};
 
 /// The first number of the last window of those issued.
 pub(crate) fn floor_of(window: u32, issued: u64) -> u64
@@ -21,7 +22,7 @@ pub(crate) fn floor_of(window: u32, issued: u64) -> u64
 
 /// How many of the issued writes count: all below the floor, and one for each bit.
 pub(crate) fn completed(window: u32, issued: u64, marks: &Marks) -> u64
-    requires narrow { window ≤ 256 }
+    requires narrow { window ≤ MAX_WINDOW }
     requires ends { IsTrue (ends_by (issued - floor_of window issued) marks.now) }
     ensures { result ≡ length (counted_by window issued marks.now) }
 {
@@ -31,7 +32,7 @@ pub(crate) fn completed(window: u32, issued: u64, marks: &Marks) -> u64
 
 /// Whether a write counts: it was issued, and lies below the floor or has a bit.
 pub(crate) fn counts(window: u32, issued: u64, marks: &Marks, seq: Seq) -> bool
-    requires { window ≤ 256 }
+    requires { window ≤ MAX_WINDOW }
     ensures { result ≡ has (counted_by window issued marks.now) seq }
 {
     let number = seq.0;
@@ -49,25 +50,26 @@ pub(crate) fn counts(window: u32, issued: u64, marks: &Marks, seq: Seq) -> bool
 pub(crate) fn counts_alike(window: u32, issued: u64, one: &Marks, other: &Marks) -> bool
     requires one { IsTrue (ends_by (issued - floor_of window issued) one.now) }
     requires other { IsTrue (ends_by (issued - floor_of window issued) other.now) }
-    ensures { result ≡ bytes_eq (counted_by window issued one.now) (counted_by window issued other.now) }
+    ensures { result ≡ bytes_eq (counted_by window issued one.now)
+        (counted_by window issued other.now) }
 {
     one.words() == other.words()
 }
 
 /// Whether a job can have issued so many writes and have these marks.
 #[tactic(auto, unfolding(crate::specs::State::has_come_by))]
-pub(crate) fn has_come_by(job: &JobRecord, issued: u64, marks: &Marks) -> bool
-    ensures { result ≡ has_come_by job.now issued marks.now }
+pub(crate) fn has_come_by(rec: &JobRecord, issued: u64, marks: &Marks) -> bool
+    ensures { result ≡ has_come_by rec.now issued marks.now }
 {
-    let window = job.window();
+    let window = rec.window();
     let floor = floor_of(window, issued);
-    if issued > job.total() {
+    if issued > rec.total() {
         return false;
     }
     if !marks.ends_by(issued - floor) {
         return false;
     }
-    issued - completed(window, issued, marks) <= u64::from(job.depth())
+    issued - completed(window, issued, marks) <= u64::from(rec.depth())
 }
 
 // ---- by a list of completions
@@ -84,8 +86,8 @@ fn count_from(list: &[Seq], first: u64) -> u64
     list.iter().filter(|seq| first <= seq.0).count() as u64
 }
 
-/// How many of the issued writes the list counts: all below the floor, and those of the list that are
-/// not.
+/// How many of the issued writes the list counts: all below the floor, and those of the list that
+/// are not.
 fn listed(window: u32, issued: u64, list: &[Seq]) -> u64
     requires distinct { IsTrue (is_distinct list.now) }
     requires below { IsTrue (list_all (λ k. nat_lt k issued) list.now) }
@@ -95,24 +97,25 @@ fn listed(window: u32, issued: u64, list: &[Seq]) -> u64
     floor + count_from(list, floor)
 }
 
-/// Whether a job can have issued so many writes and have this list, of at most two of the widest windows.
+/// Whether a job can have issued so many writes and have this list, of at most two of the widest
+/// windows.
 #[tactic(auto, unfolding(crate::specs::State::has_come))]
-pub(crate) fn has_come(job: &JobRecord, issued: u64, list: &[Seq]) -> bool
-    requires { length list.now ≤ 512 }
-    ensures { result ≡ has_come job.now issued list.now }
+pub(crate) fn has_come(rec: &JobRecord, issued: u64, list: &[Seq]) -> bool
+    requires { length list.now ≤ MAX_COMPLETIONS }
+    ensures { result ≡ has_come rec.now issued list.now }
 {
-    if issued > job.total() || !is_distinct(list) || !all_below(list, issued) {
+    if issued > rec.total() || !is_distinct(list) || !all_below(list, issued) {
         return false;
     }
-    let window = job.window();
+    let window = rec.window();
     let completed = listed(window, issued, list);
-    issued - completed <= u64::from(job.depth())
+    issued - completed <= u64::from(rec.depth())
         && list.len() as u64 == (2 * u64::from(window)).min(completed)
 }
 
 /// The marks of what a list counts.
 pub(crate) fn marks_of(window: u32, issued: u64, list: &[Seq]) -> Marks
-    requires { window ≤ 256 }
+    requires { window ≤ MAX_WINDOW }
     ensures { result ≡ marks_of (has (counted window issued list.now)) (floor_of window issued) }
 {
     let floor = floor_of(window, issued);

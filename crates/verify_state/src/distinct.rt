@@ -1,19 +1,18 @@
 //! Whether no write stands twice in a list of completions.
 
-ghost use Rattle.std.specs.Prelude.{◌≡◌, ◌≤◌, length};
-ghost use Rattle.std.specs.Bool.{Decides};
+ghost use Rattle.std.specs.Prelude.{◌≡◌, ◌≤◌, ◌↔◌, true, length};
 ghost use Rattle.std.specs.List.Sorted.{IsStrictlyIncreasing};
 ghost use Rattle.fc_base.specs.Counted.{is_distinct};
 
-use fc_base::Seq;
+use fc_base::{MAX_WINDOW, Seq};
 
 /// The most completions that a list has: two of the widest windows.
-pub(crate) const MAX_COMPLETIONS: usize = 512;
+pub(crate) const MAX_COMPLETIONS: usize = 2 * MAX_WINDOW as usize;
 
-/// Whether no write stands in the list twice. The numbers are sorted on the stack, where equal ones come
-/// to stand side by side.
+/// Whether no write stands in the list twice. The numbers are sorted on the stack, where equal ones
+/// come to stand side by side.
 pub(crate) fn is_distinct(list: &[Seq]) -> bool
-    requires { length list.now ≤ 512 }
+    requires { length list.now ≤ MAX_COMPLETIONS }
     ensures { result ≡ is_distinct list.now }
 {
     let mut room = [0; MAX_COMPLETIONS];
@@ -35,7 +34,7 @@ fn copy_numbers(list: &[Seq], numbers: &mut [u64])
 
 /// Whether each number is below the next one.
 fn rise(numbers: &[u64]) -> bool
-    ensures { Decides result (IsStrictlyIncreasing numbers.now) }
+    ensures { (result ≡ true) ↔ IsStrictlyIncreasing numbers.now }
 {
     for i in 1..numbers.len() {
         if numbers[i - 1] >= numbers[i] {

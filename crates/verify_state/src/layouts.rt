@@ -1,5 +1,5 @@
-//! What a state counts, as its bytes say it behind the place: a list of completions in layout 1, the
-//! floor and the marks in layout 2.
+//! What a state counts, as its bytes say it behind the place: a list of completions in layout 1,
+//! the floor and the marks in layout 2.
 
 ghost use Rattle.std.specs.Prelude.{◌≡◌, ◌+◌, ◌*◌, ◌≤◌, length, IsTrue};
 ghost use Rattle.verify_state.specs.Front.{front_in};

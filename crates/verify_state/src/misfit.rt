@@ -25,10 +25,10 @@ pub(crate) fn check_fit(state: &VerifyState, key: &Key, rec: &JobRecord) -> Resu
     Ok(())
 }
 
-fn is_of_job(state: &VerifyState, job: &JobRecord) -> bool
-    ensures { result ≡ is_of_job state.now job.now }
+fn is_of_job(state: &VerifyState, rec: &JobRecord) -> bool
+    ensures { result ≡ is_of_job state.now rec.now }
 {
-    is_of_kind(&state.rec(), job)
-        && is_of_region(&state.rec(), job)
-        && state.issued() <= u64::from(job.total())
+    is_of_kind(&state.rec(), rec)
+        && is_of_region(&state.rec(), rec)
+        && state.issued() <= u64::from(rec.total())
 }

@@ -4,10 +4,7 @@ ghost use Rattle.std.specs.Prelude.{◌≡◌, ◌<◌, ◌^◌, length};
 ghost use Rattle.std.specs.List.{AllByRecursion};
 ghost use Rattle.verify_state.specs.State.{has_counts};
 
-use fc_base::Key;
-
-/// The most writes that a job issues.
-pub(crate) const MAX_WRITES: u64 = 1_000_000;
+use fc_base::{Key, MAX_WRITES};
 
 pub(crate) fn has_counts(window: u32, issued: u64, count: u64) -> bool
     ensures { result ≡ has_counts window issued count }

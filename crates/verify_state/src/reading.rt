@@ -7,8 +7,7 @@ ghost use Rattle.verify_state.specs.Codes.{kind_of, verify_of};
 ghost use Rattle.verify_state.specs.Reading.{field, words_at, key_in, job_in, place_in, is_layout_1, is_layout_2, has_codes, has_fields, has_ranges};
 ghost use Rattle.verify_state.specs.Front.{front_in, Fronts};
 
-use crate::ranges::MAX_WRITES;
-use fc_base::{Fault, JobNo, JobParts, JobRecord, Key, Kind, RunNo, ServerNo, Verify};
+use fc_base::{Fault, JobNo, JobParts, JobRecord, Key, Kind, MAX_WRITES, RunNo, ServerNo, Verify};
 
 /// The fewest bytes that a state has, in either layout.
 const SHORTEST: usize = 100;

@@ -1,7 +1,6 @@
 //! The verify state of a job.
 
-ghost use Rattle.std.specs.Prelude.{◌≡◌, ◌≤◌, ◌++◌, [], IfOk, IfErr, OnOk, IsTrue, Some, length, slice_get, bytes_eq, string_bytes};
-ghost use Rattle.std.specs.Bool.{Decides};
+ghost use Rattle.std.specs.Prelude.{◌≡◌, ◌≤◌, ◌↔◌, ◌++◌, true, [], IfOk, IfErr, OnOk, IsTrue, Some, length, slice_get, bytes_eq, string_bytes};
 ghost use Rattle.fc_base.specs.Counted.{has};
 ghost use Rattle.fc_base.specs.Keys.{is_key};
 ghost use Rattle.verify_state.specs.State.{has_come_by, field_faults, field_faults_by, state_of, state_by, floor_in, marks_in as marks_of, IsState, IsSame};
@@ -15,22 +14,22 @@ use crate::counting;
 use crate::label::label as label_of;
 use crate::layouts::{LENGTH, marks_in};
 use crate::misfit::check_fit;
-use crate::ranges::{MAX_WRITES, are_in_range, has_counts, in_range, run_in_range};
+use crate::ranges::{are_in_range, has_counts, in_range, run_in_range};
 use crate::reading::{Front, front_of};
 use crate::same::{are_equal, is_same_job, is_same_key};
 use crate::writing::{push_job, push_key, push_words};
-use fc_base::{Fault, JobRecord, Key, Marks, Seq};
+use fc_base::{Fault, JobRecord, Key, MAX_WRITES, Marks, Seq};
 use std::alloc::{AllocError, Global};
 use std::marker::Model;
 
 /// What a state's bytes begin with.
 const MAGIC: &[u8] = b"FCV2";
 
-/// What a trigger takes of a job (fio's manual, "Verification and triggers": the write state): whose
-/// it is, what it writes, how many writes were issued, where the generator stands, and which writes
-/// had completed by then. All below its [`floor`](VerifyState::floor) had, since the window holds a
-/// write back until they have; of the numbers from the floor on, which are at most 256, the
-/// [`marks`](VerifyState::marks) tell.
+/// What a trigger takes of a job (fio's manual, "Verification and triggers": the write state):
+/// whose it is, what it writes, how many writes were issued, where the generator stands, and which
+/// writes had completed by then. All below its [`floor`](VerifyState::floor) had, since the window
+/// holds a write back until they have; of the numbers from the floor on, which are at most a
+/// window, the [`marks`](VerifyState::marks) tell.
 ///
 /// A state is a plain value: it is taken, copied and compared without memory.
 #[derive(Clone, Copy, Debug)]
@@ -59,7 +58,7 @@ impl Model for VerifyState {
 }
 
 impl VerifyState {
-    /// The state of these fields, with a list of completions in place of marks. A run, server or job
+    /// The state of these fields, with a list of completions instead of marks. A run, server or job
     /// that can't be, more than a million writes issued, or a list longer than two windows is
     /// [`Fault::StateBadField`]; a list and a number issued to which no job can have come is
     /// [`Fault::Impossible`]. The list is handed back beside the fault.
@@ -72,7 +71,8 @@ impl VerifyState {
     ) -> Result<VerifyState, (Fault, Vec<Seq>)>
         ensures made { IfOk result (λ s. s ≡ state_of key rec.now issued place completions.items) }
         ensures sound { IfOk result (λ _. field_faults key rec.now issued completions.items ≡ []) }
-        ensures refused { IfErr result (λ e. (slice_get (field_faults key rec.now issued completions.items) 0 ≡ Some e.0)
+        ensures refused { IfErr result
+            (λ e. (slice_get (field_faults key rec.now issued completions.items) 0 ≡ Some e.0)
             × (e.1.items ≡ completions.items)) }
     {
         let window = rec.window();
@@ -86,10 +86,10 @@ impl VerifyState {
         Ok(VerifyState::with_marks(key, rec, issued, place, marks))
     }
 
-    /// The state of these fields. Bit `i % 64` of word `i / 64`, the lowest bit first, says that write
-    /// `floor + i` had completed, where the floor is `issued - window`, or 0. A run, server or job that
-    /// can't be, or more than a million writes issued, is [`Fault::StateBadField`]; marks and a number
-    /// issued to which no job can have come is [`Fault::Impossible`].
+    /// The state of these fields. Bit `i % 64` of word `i / 64`, the lowest bit first, says that
+    /// write `floor + i` had completed, where the floor is `issued - window`, or 0. A run, server
+    /// or job that can't be, or more than a million writes issued, is [`Fault::StateBadField`];
+    /// marks and a number issued to which no job can have come is [`Fault::Impossible`].
     pub fn make_marked(
         key: Key,
         rec: &JobRecord,
@@ -199,7 +199,7 @@ impl VerifyState {
     #[tactic(auto, unfolding(crate::specs::Same::is_same))]
     pub fn same(&self, other: &VerifyState) -> bool
         ensures value { result ≡ is_same self.now other.now }
-        ensures same { Decides result (IsSame self.now other.now) }
+        ensures same { (result ≡ true) ↔ IsSame self.now other.now }
     {
         is_same_key(&self.key, &other.key)
             && is_same_job(&self.rec, &other.rec)
@@ -218,16 +218,18 @@ impl VerifyState {
     }
 
     /// Whether the state is one of this job: [`Fault::OtherKey`] for another run, server or job;
-    /// [`Fault::OtherJob`] where kind, verify, pattern, block size, blocks, writes or seed differ, or more writes were
-    /// issued than the job has; [`Fault::OtherPlace`] where the generator doesn't stand where it stands after as many
-    /// writes of the job. Depth and window may differ: a job that reads has its own.
+    /// [`Fault::OtherJob`] where kind, verify, pattern, block size, blocks, writes or seed differ,
+    /// or more writes were issued than the job has; [`Fault::OtherPlace`] where the generator
+    /// doesn't stand where it stands after as many writes of the job. Depth and window may differ:
+    /// a job that reads has its own.
     pub fn fits(&self, key: Key, rec: &JobRecord) -> Result<(), Fault>
         ensures { Fits self.now key rec.now result }
     {
         check_fit(self, &key, rec)
     }
 
-    /// The name under which the state is stored: `s0-a-0-verify.state` for job 0, named `a`, of server 0.
+    /// The name under which the state is stored: `s0-a-0-verify.state` for job 0, named `a`, of
+    /// server 0.
     pub fn label(&self, alloc: Global, name: &str) -> Result<String, AllocError>
         ensures { IfOk result (λ text. string_bytes text ≡ label self.now.key name.now) }
     {
@@ -252,7 +254,8 @@ impl VerifyState {
         Ok(bytes)
     }
 
-    /// Adds the bytes of the state, layout 2, to others. Where memory runs out, some of them may be there.
+    /// Adds the bytes of the state, layout 2, to others. Where memory runs out, some of them may be
+    /// there.
     #[tactic(auto, unfolding(crate::specs::Spelling::spelling))]
     pub fn push_to(&self, bytes: &mut Vec<u8>) -> Result<(), AllocError>
         ensures { OnOk result (bytes.new.items ≡ bytes.old.items ++ spelling self.now) }
@@ -267,10 +270,12 @@ impl VerifyState {
         Ok(())
     }
 
-    /// The state that these bytes are, in layout 1 or 2. It takes no memory. The first fault is told, in this order: fewer than
-    /// 100 bytes ([`Fault::StateShort`]), another magic than the two layouts' ([`Fault::StateBadMagic`]), a field out of its
-    /// range ([`Fault::StateBadField`]), fewer bytes than the layout asks for, more
-    /// ([`Fault::StateTrailing`]), completions or marks to which no job can have come ([`Fault::Impossible`]).
+    /// The state that these bytes are, in layout 1 or 2. It takes no memory. The first fault is
+    /// told, in this order: fewer than 100 bytes ([`Fault::StateShort`]), another magic than the
+    /// two layouts' ([`Fault::StateBadMagic`]), a field out of its range
+    /// ([`Fault::StateBadField`]), fewer bytes than the layout asks for, more
+    /// ([`Fault::StateTrailing`]), completions or marks to which no job can have come
+    /// ([`Fault::Impossible`]).
     pub fn decode(bytes: &[u8]) -> Result<VerifyState, Fault>
         ensures { Answers result bytes.now }
     {
@@ -285,8 +290,8 @@ impl VerifyState {
         Ok(VerifyState::with_marks(key, &rec, issued, place, marks))
     }
 
-    /// What every state keeps: the ranges of its fields, and that some job can have come to it. There is
-    /// nothing to run.
+    /// What every state keeps: the ranges of its fields, and that some job can have come to it.
+    /// There is nothing to run.
     pub fn keeps_its_ranges(&self)
         ensures { IsState self.now }
     {

@@ -35,21 +35,21 @@ pub(crate) fn push_key(bytes: &mut Vec<u8>, key: &Key) -> Result<(), AllocError>
     Ok(())
 }
 
-pub(crate) fn push_job(bytes: &mut Vec<u8>, job: &JobRecord) -> Result<(), AllocError>
-    ensures { OnOk result (bytes.new.items ≡ bytes.old.items ++ job_bytes job.now) }
+pub(crate) fn push_job(bytes: &mut Vec<u8>, rec: &JobRecord) -> Result<(), AllocError>
+    ensures { OnOk result (bytes.new.items ≡ bytes.old.items ++ job_bytes rec.now) }
 {
     bytes.extend_from_slice(&[
-        kind_code(job.kind()),
-        verify_code(job.verify()),
-        job.pattern(),
+        kind_code(rec.kind()),
+        verify_code(rec.verify()),
+        rec.pattern(),
         0,
     ])?;
-    bytes.extend_from_slice(&job.bs().to_be_bytes())?;
-    bytes.extend_from_slice(&job.blocks().to_be_bytes())?;
-    bytes.extend_from_slice(&job.total().to_be_bytes())?;
-    bytes.extend_from_slice(&job.seed().to_be_bytes())?;
-    bytes.extend_from_slice(&job.depth().to_be_bytes())?;
-    bytes.extend_from_slice(&job.window().to_be_bytes())?;
+    bytes.extend_from_slice(&rec.bs().to_be_bytes())?;
+    bytes.extend_from_slice(&rec.blocks().to_be_bytes())?;
+    bytes.extend_from_slice(&rec.total().to_be_bytes())?;
+    bytes.extend_from_slice(&rec.seed().to_be_bytes())?;
+    bytes.extend_from_slice(&rec.depth().to_be_bytes())?;
+    bytes.extend_from_slice(&rec.window().to_be_bytes())?;
     Ok(())
 }
 

@@ -81,14 +81,14 @@ fn refusal(bytes: &[u8]) -> Option<Fault> {
     VerifyState::decode(bytes).err()
 }
 
-/// The bytes with another one at this place.
+/// The bytes with another one at this offset.
 fn changed(alloc: Global, bytes: &[u8], at: usize, byte: u8) -> Result<Vec<u8>, Fail> {
     let mut changed = Vec::from_slice(alloc, bytes)?;
     *changed.get_mut(at).ok_or("a byte")? = byte;
     Ok(changed)
 }
 
-/// Why the bytes are refused with another one at this place, or nothing.
+/// Why the bytes are refused with another one at this offset, or nothing.
 fn refusal_of_change(
     alloc: Global,
     bytes: &[u8],

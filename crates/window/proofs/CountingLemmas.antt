@@ -14,9 +14,9 @@ use Rattle.fc_base.specs.Marks.{floor_of, marks_of, ends_by, counted_by}
 use Rattle.window.specs.History.{Event, issue, done, fail, issues, completions, issued, is_done, recent, done_marks}
 use Rattle.window.specs.Legal.{IsLegal}
 use Rattle.window.specs.Counting.{CountsTheCompleted, ComesToPossible, MarksCountTheCompleted, ComesToPossibleMarks}
-use Rattle.fc_base.proofs.NumberLemmas.{has_push, has_filter, has_numbers_below, length_numbers_below}
-use Rattle.fc_base.proofs.MarkLemmas.{marks_agree}
-use Rattle.fc_base.proofs.CountedByLemmas.{counted_again, ends_again}
+use Rattle.fc_base.specs.NumberLaws.{has_push, has_filter, has_numbers_below, length_numbers_below}
+use Rattle.fc_base.specs.MarkLaws.{marks_agree}
+use Rattle.fc_base.specs.CountLaws.{counted_again, ends_again}
 use Rattle.window.proofs.NumberLemmas.{eqb_comm, has_append_right, has_head, has_is_member, has_last_of, IsDistinct-drop, length-le_from_range}
 use Rattle.window.proofs.HistoryLemmas.{in_flight_are_numbers, open_is, done_issued, old_is_done, few_in_flight, length-in_flight-completions}
 

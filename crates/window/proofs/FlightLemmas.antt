@@ -9,15 +9,16 @@ use Rattle.std.proofs.lemmas.Bool.{cases_Bool, cases_lt, cases_eq, false≢true,
 use Rattle.std.proofs.lemmas.Bool.Decides.{same_from_decides}
 use Rattle.std.proofs.lemmas.List.Elements.{filter-append}
 use Rattle.std.proofs.lemmas.List.Filters.{length-filter_both}
+use Rattle.fc_base.specs.declared.limits.TheConstants.{MAX_WINDOW}
 use Rattle.fc_base.specs.Counted.{has, numbers_below}
 use Rattle.window.specs.Numbers.{without}
 use Rattle.fc_base.specs.Marks.{word_of, is_marked}
-use Rattle.fc_base.proofs.MarkLemmas.{word_from_bits}
+use Rattle.fc_base.specs.MarkLaws.{word_from_bits}
 use Rattle.window.specs.Kept.{has_completed}
 use Rattle.window.proofs.BitLemmas.{set_and, set_not, clear_is}
 use Rattle.window.proofs.RingLemmas.{and_true}
 use Rattle.window.specs.InFlight.{Flights, is_set, is_current, marked_numbers}
-use Rattle.fc_base.proofs.NumberLemmas.{has_filter, has_numbers_below, filter_agree_below, filter_next, length_numbers_below}
+use Rattle.fc_base.specs.NumberLaws.{has_filter, has_numbers_below, filter_agree_below, filter_next, length_numbers_below}
 use Rattle.window.proofs.NumberLemmas.{has_head, filter_twice, length_filter_without, and_not}
 use Rattle.window.proofs.StepLemmas.{any_from_has, has_from_any}
 
@@ -28,14 +29,14 @@ apart window low high some less near same = elim (cases_lt (low / window) (high 
   | inr no_more ↦ let h = mul-le-mul_left window no_more in omega arith
 ]
 
--- what a write of one mark leaves
+-- what a bit that is written leaves
 abbrev pub Writes : List ℕ → List ℕ → ℕ → Bool → Type 0
-Writes old new slot b = (i : ℕ) → i < 256 → is_marked new i ≡ cond (eqb i slot) b (is_marked old i)
+Writes old new slot b = (i : ℕ) → i < MAX_WINDOW → is_marked new i ≡ cond (eqb i slot) b (is_marked old i)
 
-marked_same : (old new : List ℕ) (slot : ℕ) (b : Bool) → Writes old new slot b → slot < 256 → is_marked new slot ≡ b
+marked_same : (old new : List ℕ) (slot : ℕ) (b : Bool) → Writes old new slot b → slot < MAX_WINDOW → is_marked new slot ≡ b
 marked_same old new slot b w below = w slot below ∙ (rw (eq-eqb slot slot refl) refl)
 
-marked_other : (old new : List ℕ) (slot : ℕ) (b : Bool) (i : ℕ) → Writes old new slot b → i < 256 → (i ≡ slot → ⊥) → is_marked new i ≡ is_marked old i
+marked_other : (old new : List ℕ) (slot : ℕ) (b : Bool) (i : ℕ) → Writes old new slot b → i < MAX_WINDOW → (i ≡ slot → ⊥) → is_marked new i ≡ is_marked old i
 marked_other old new slot b i w below ne = w i below ∙ (rw (ne_eqb i slot ne) refl)
 
 -- ---- what is in the list of marked numbers
@@ -107,10 +108,10 @@ not_held m window issued k none e = elim (cases_lt issued (k + window)) [
   | inr le ↦ absurd (false≢true (sym none ∙ any_from_has (λ j. leb (j + window) issued) (marked_numbers m window issued) k e (le-leb (k + window) issued le)))
 ]
 
-mod_in : (k window : ℕ) → 0 < window → window ≤ 256 → k % window < 256
+mod_in : (k window : ℕ) → 0 < window → window ≤ MAX_WINDOW → k % window < MAX_WINDOW
 mod_in k window some most = omega arith
 
-current-issue : (m m' : List ℕ) (window issued k : ℕ) → 0 < window → window ≤ 256 → list_any (λ j. leb (j + window) issued) (marked_numbers m window issued) ≡ false → Writes m m' (issued % window) true → k < issued → is_current m' window (suc issued) k ≡ is_current m window issued k
+current-issue : (m m' : List ℕ) (window issued k : ℕ) → 0 < window → window ≤ MAX_WINDOW → list_any (λ j. leb (j + window) issued) (marked_numbers m window issued) ≡ false → Writes m m' (issued % window) true → k < issued → is_current m' window (suc issued) k ≡ is_current m window issued k
 current-issue m m' window issued k some most none w below = elim (cases_lt issued (k + window)) [
   | inl near ↦
       let same = marked_other m m' (issued % window) true (k % window) w (mod_in k window some most) (apart window k issued some below near) in
@@ -125,14 +126,14 @@ current-issue m m' window issued k some most none w below = elim (cases_lt issue
       and_left (leb (suc issued) (k + window)) (is_marked m' (k % window)) (lt-leb (suc issued) (k + window) (omega arith)) ∙ sym not_current
 ]
 
-pub marked-issue : (m m' : List ℕ) (window issued : ℕ) → 0 < window → window ≤ 256 → list_any (λ j. leb (j + window) issued) (marked_numbers m window issued) ≡ false → Writes m m' (issued % window) true → marked_numbers m' window (issued + 1) ≡ marked_numbers m window issued ++ issued ∷ []
+pub marked-issue : (m m' : List ℕ) (window issued : ℕ) → 0 < window → window ≤ MAX_WINDOW → list_any (λ j. leb (j + window) issued) (marked_numbers m window issued) ≡ false → Writes m m' (issued % window) true → marked_numbers m' window (issued + 1) ≡ marked_numbers m window issued ++ issued ∷ []
 marked-issue m m' window issued some most none w =
     let p = is_current m window issued in
     let p' = is_current m' window (suc issued) in
     let last : p' issued ≡ true = and_from (leb (suc issued) (issued + window)) (is_marked m' (issued % window)) (le-leb (suc issued) (issued + window) (omega arith)) (marked_same m m' (issued % window) true w (mod_in issued window some most)) in
     rw (add-one issued) (filter_next p' issued last ∙ ap (λ xs. xs ++ issued ∷ []) (filter_agree_below p' p issued (λ k below. current-issue m m' window issued k some most none w below)))
 
-pub open-issue : (m m' o o' : List ℕ) (window issued : ℕ) → 0 < window → window ≤ 256 → list_any (λ j. leb (j + window) issued) (marked_numbers m window issued) ≡ false → Writes m m' (issued % window) true → Writes o o' (issued % window) true → filter (λ k. is_marked o' (k % window)) (marked_numbers m' window (issued + 1)) ≡ filter (λ k. is_marked o (k % window)) (marked_numbers m window issued) ++ issued ∷ []
+pub open-issue : (m m' o o' : List ℕ) (window issued : ℕ) → 0 < window → window ≤ MAX_WINDOW → list_any (λ j. leb (j + window) issued) (marked_numbers m window issued) ≡ false → Writes m m' (issued % window) true → Writes o o' (issued % window) true → filter (λ k. is_marked o' (k % window)) (marked_numbers m' window (issued + 1)) ≡ filter (λ k. is_marked o (k % window)) (marked_numbers m window issued) ++ issued ∷ []
 open-issue m m' o o' window issued some most none w wo =
     let flying = marked_numbers m window issued in
     let p = λ (k : ℕ). is_marked o (k % window) in
@@ -152,8 +153,8 @@ same_number window issued j k some a b ne same = elim (cases_lt j k) [
   | inr ge ↦ apart window k j some (omega arith) (omega (arith, a.below, b.near)) (sym same)
 ]
 
--- the mark of k is taken away: that is a test more
-cleared : (o o' : List ℕ) (window issued j k : ℕ) → 0 < window → window ≤ 256 → IsLast window issued j → IsLast window issued k → Writes o o' (k % window) false → is_marked o' (j % window) ≡ (is_marked o (j % window) && not (eqb j k))
+-- the bit of k is cleared: that is a test more
+cleared : (o o' : List ℕ) (window issued j k : ℕ) → 0 < window → window ≤ MAX_WINDOW → IsLast window issued j → IsLast window issued k → Writes o o' (k % window) false → is_marked o' (j % window) ≡ (is_marked o (j % window) && not (eqb j k))
 cleared o o' window issued j k some most a b w = elim (cases_eq j k) [
   | inl same ↦
       ap (λ i. is_marked o' (i % window)) same
@@ -164,7 +165,7 @@ cleared o o' window issued j k some most a b w = elim (cases_eq j k) [
       ∙ sym (and_not (is_marked o (j % window)) (eqb j k) (ne_eqb j k ne))
 ]
 
-marked-cleared : (m m' : List ℕ) (window issued k : ℕ) → 0 < window → window ≤ 256 → has (marked_numbers m window issued) k ≡ true → Writes m m' (k % window) false → marked_numbers m' window issued ≡ filter (λ j. is_current m window issued j && not (eqb j k)) (numbers_below issued)
+marked-cleared : (m m' : List ℕ) (window issued k : ℕ) → 0 < window → window ≤ MAX_WINDOW → has (marked_numbers m window issued) k ≡ true → Writes m m' (k % window) false → marked_numbers m' window issued ≡ filter (λ j. is_current m window issued j && not (eqb j k)) (numbers_below issued)
 marked-cleared m m' window issued k some most e w =
     filter_agree_below (is_current m' window issued) (λ j. is_current m window issued j && not (eqb j k)) issued (λ j below. elim (cases_lt (j + window) issued) [
       | inl far ↦
@@ -175,17 +176,17 @@ marked-cleared m m' window issued k some most e w =
           ∙ and_assoc (leb issued (j + window)) (is_marked m (j % window)) (not (eqb j k))
     ])
 
-pub marked-done : (m m' : List ℕ) (window issued k : ℕ) → 0 < window → window ≤ 256 → has (marked_numbers m window issued) k ≡ true → Writes m m' (k % window) false → marked_numbers m' window issued ≡ without k (marked_numbers m window issued)
+pub marked-done : (m m' : List ℕ) (window issued k : ℕ) → 0 < window → window ≤ MAX_WINDOW → has (marked_numbers m window issued) k ≡ true → Writes m m' (k % window) false → marked_numbers m' window issued ≡ without k (marked_numbers m window issued)
 marked-done m m' window issued k some most e w =
     marked-cleared m m' window issued k some most e w
     ∙ sym (filter_twice (is_current m window issued) (λ j. not (eqb j k)) (numbers_below issued))
 
-pub length-marked-done : (m m' : List ℕ) (window issued k : ℕ) → 0 < window → window ≤ 256 → has (marked_numbers m window issued) k ≡ true → Writes m m' (k % window) false → length (marked_numbers m' window issued) + 1 ≡ length (marked_numbers m window issued)
+pub length-marked-done : (m m' : List ℕ) (window issued k : ℕ) → 0 < window → window ≤ MAX_WINDOW → has (marked_numbers m window issued) k ≡ true → Writes m m' (k % window) false → length (marked_numbers m' window issued) + 1 ≡ length (marked_numbers m window issued)
 length-marked-done m m' window issued k some most e w =
     let parts = and_parts (has (numbers_below issued) k) (is_current m window issued k) (sym (has_filter (is_current m window issued) (numbers_below issued) k) ∙ e) in
     omega (arith, ap length (marked-cleared m m' window issued k some most e w), length_filter_without (is_current m window issued) issued k ((is_last m window issued k e).below) parts.1)
 
-pub open-fail : (m o o' : List ℕ) (window issued k : ℕ) → 0 < window → window ≤ 256 → has (marked_numbers m window issued) k ≡ true → Writes o o' (k % window) false → filter (λ j. is_marked o' (j % window)) (marked_numbers m window issued) ≡ without k (filter (λ j. is_marked o (j % window)) (marked_numbers m window issued))
+pub open-fail : (m o o' : List ℕ) (window issued k : ℕ) → 0 < window → window ≤ MAX_WINDOW → has (marked_numbers m window issued) k ≡ true → Writes o o' (k % window) false → filter (λ j. is_marked o' (j % window)) (marked_numbers m window issued) ≡ without k (filter (λ j. is_marked o (j % window)) (marked_numbers m window issued))
 open-fail m o o' window issued k some most e wo =
     let flying = marked_numbers m window issued in
     let p = λ (j : ℕ). is_marked o (j % window) in
@@ -200,7 +201,7 @@ tested_twice true false = refl
 tested_twice false true = refl
 tested_twice false false = refl
 
-pub open-done : (m m' o o' : List ℕ) (window issued k : ℕ) → 0 < window → window ≤ 256 → has (marked_numbers m window issued) k ≡ true → Writes m m' (k % window) false → Writes o o' (k % window) false → filter (λ j. is_marked o' (j % window)) (marked_numbers m' window issued) ≡ without k (filter (λ j. is_marked o (j % window)) (marked_numbers m window issued))
+pub open-done : (m m' o o' : List ℕ) (window issued k : ℕ) → 0 < window → window ≤ MAX_WINDOW → has (marked_numbers m window issued) k ≡ true → Writes m m' (k % window) false → Writes o o' (k % window) false → filter (λ j. is_marked o' (j % window)) (marked_numbers m' window issued) ≡ without k (filter (λ j. is_marked o (j % window)) (marked_numbers m window issued))
 open-done m m' o o' window issued k some most e w wo =
     let flying = marked_numbers m window issued in
     let p = λ (j : ℕ). is_marked o (j % window) in

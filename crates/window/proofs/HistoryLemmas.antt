@@ -9,7 +9,7 @@ use Rattle.window.specs.History.{Event, issue, done, fail, issues, completions, 
 use Rattle.window.specs.Legal.{IsLegal}
 use Rattle.window.specs.Kept.{has_completed}
 use Rattle.window.specs.Counting.{StaysInOneWindow}
-use Rattle.fc_base.proofs.NumberLemmas.{has_push, has_filter, has_numbers_below}
+use Rattle.fc_base.specs.NumberLaws.{has_push, has_filter, has_numbers_below}
 use Rattle.window.proofs.NumberLemmas.{filter_not_push, filter-without, filter_twice, length_filter_without}
 
 -- the writes issued are the numbers below their number

@@ -11,7 +11,7 @@ use Rattle.std.proofs.lemmas.List.Folds.{list_any-append}
 use Rattle.std.proofs.lemmas.Map.Keys.{IsDistinct-tail}
 use Rattle.std.proofs.lemmas.Map.Made.{length-le_from_is_member}
 use Rattle.fc_base.specs.Counted.{has, numbers_below}
-use Rattle.fc_base.proofs.NumberLemmas.{has_push, filter_agree_below, filter_next, filter_not_next}
+use Rattle.fc_base.specs.NumberLaws.{has_push, filter_agree_below, filter_next, filter_not_next}
 use Rattle.window.specs.Numbers.{last_of, without}
 
 pub eqb_comm : (j k : ℕ) → eqb j k ≡ eqb k j

@@ -8,7 +8,7 @@ use Rattle.std.proofs.lemmas.List.Filters.{length-filter_both}
 use Rattle.fc_base.specs.Counted.{has, numbers_below}
 use Rattle.window.specs.Kept.{after_issue, after_done, after_fail}
 use Rattle.window.specs.Plain.{not_done, kept_by}
-use Rattle.fc_base.proofs.NumberLemmas.{has_filter, has_numbers_below, filter_next, filter_not_next, length_numbers_below}
+use Rattle.fc_base.specs.NumberLaws.{has_filter, has_numbers_below, filter_next, filter_not_next, length_numbers_below}
 use Rattle.window.proofs.NumberLemmas.{filter_not_push, filter-without, last_of_push}
 use Rattle.window.proofs.StepLemmas.{same_kept}
 

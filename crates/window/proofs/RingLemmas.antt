@@ -3,8 +3,9 @@ use Rattle.std.proofs.Common.{◌≡◌, ℕ, ◌+◌, ◌-◌, ◌≤◌, ◌&&
 use Rattle.std.proofs.Math.Nat.{mod-eq_of_lt, mod-eq-sub-mod}
 use Rattle.std.proofs.lemmas.Bool.{cases_lt, and_right, lt-ltb, le-ltb}
 use Rattle.std.proofs.lemmas.Nat.Bits.{bit_at_above}
+use Rattle.fc_base.specs.declared.limits.TheConstants.{MAX_WINDOW}
 use Rattle.fc_base.specs.Marks.{is_marked}
-use Rattle.fc_base.proofs.MarkLemmas.{marked_at}
+use Rattle.fc_base.specs.MarkLaws.{marked_at}
 use Rattle.window.specs.InFlight.{is_set}
 use Rattle.window.proofs.BitLemmas.{bit_shr, bit_shl_low, bit_shl_high, set_or, set_and, clear_is}
 
@@ -46,7 +47,7 @@ from-both words first i below small =
 -- ---- the same in a ring
 
 -- the last slots of the ring, and then its first ones
-pub around-both : (words : List ℕ) (ahead mask first length i : ℕ) → first < length → length - first < 64 → i < 64 → i < length → (first + i < 256 → is_set ahead i ≡ is_marked words (first + i)) → length ≤ 256 → is_set mask i ≡ ltb i (length - first) → is_set (bit_or (bit_and ahead mask) (get_or words 0 0 * 2 ^ (length - first) % 2 ^ 64)) i ≡ is_marked words ((first + i) % length)
+pub around-both : (words : List ℕ) (ahead mask first length i : ℕ) → first < length → length - first < 64 → i < 64 → i < length → (first + i < MAX_WINDOW → is_set ahead i ≡ is_marked words (first + i)) → length ≤ MAX_WINDOW → is_set mask i ≡ ltb i (length - first) → is_set (bit_or (bit_and ahead mask) (get_or words 0 0 * 2 ^ (length - first) % 2 ^ 64)) i ≡ is_marked words ((first + i) % length)
 around-both words ahead mask first length i within short below inside same most masked =
     let start = get_or words 0 0 * 2 ^ (length - first) % 2 ^ 64 in
     let parts : is_set (bit_or (bit_and ahead mask) start) i ≡ ((is_set ahead i && is_set mask i) || is_set start i) = set_or (bit_and ahead mask) start i ∙ ap (λ b. b || is_set start i) (set_and ahead mask i) in

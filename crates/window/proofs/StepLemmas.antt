@@ -5,7 +5,7 @@ use Rattle.std.proofs.lemmas.Bool.{cases_Bool, false≢true, or_left, or_right, 
 use Rattle.std.proofs.lemmas.List.{length_push}
 use Rattle.fc_base.specs.Counted.{has}
 use Rattle.fc_base.specs.Marks.{floor_of, marks_of}
-use Rattle.fc_base.proofs.MarkLemmas.{marks_agree}
+use Rattle.fc_base.specs.MarkLaws.{marks_agree}
 use Rattle.window.specs.History.{Event, issue, done, fail, completions, issued, is_done, in_flight}
 use Rattle.window.specs.Legal.{IsLegal, IsClear, HasRoom}
 use Rattle.window.specs.Kept.{Kept, kept_of, StandsFor, has_completed, room_of, after_issue, after_done, after_fail}

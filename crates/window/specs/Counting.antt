@@ -1,5 +1,6 @@
 -- What holds of every legal history, and why a state that keeps few completions still counts all.
 use Rattle.std.specs.Prelude.{◌≡◌, ℕ, ◌+◌, ◌<◌, ◌≤◌, List, length, filter, IsTrue}
+use Rattle.fc_base.specs.declared.limits.TheConstants.{MAX_WINDOW}
 use Rattle.fc_base.specs.Counted.{has, numbers_below, is_counted, is_possible}
 use Rattle.fc_base.specs.Marks.{counted_by, is_possible_by}
 use Rattle.window.specs.History.{Event, issues, issued, is_done, in_flight, recent, done_marks}
@@ -18,19 +19,19 @@ ComesToPossible =
     (depth window : ℕ) (h : List Event) →
     IsLegal depth window h → IsTrue (is_possible depth window (issued h) (recent window h))
 
--- For each legal history, the marks and the number issued count exactly the completed writes. Four
--- words have room for the widest window, of 256 writes.
+-- For each legal history, the marks and the number issued count exactly the completed writes. They
+-- have room for the widest window.
 abbrev pub MarksCountTheCompleted : Type 0
 MarksCountTheCompleted =
     (depth window : ℕ) (h : List Event) →
-    window ≤ 256 → IsLegal depth window h
+    window ≤ MAX_WINDOW → IsLegal depth window h
     → counted_by window (issued h) (done_marks window h) ≡ filter (is_done h) (numbers_below (issued h))
 
 -- Each legal history comes to marks and a number issued that are possible.
 abbrev pub ComesToPossibleMarks : Type 0
 ComesToPossibleMarks =
     (depth window : ℕ) (h : List Event) →
-    window ≤ 256 → IsLegal depth window h
+    window ≤ MAX_WINDOW → IsLegal depth window h
     → IsTrue (is_possible_by depth window (issued h) (done_marks window h))
 
 -- The writes issued are the numbers below their number. Of these at most depth are in flight, and

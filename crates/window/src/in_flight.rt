@@ -7,7 +7,7 @@ ghost use Rattle.fc_base.specs.Marks.{floor_of, word_of, marks_of};
 ghost use Rattle.window.specs.Kept.{is_held, has_completed};
 
 use crate::ring::{around, low_bits};
-use fc_base::{Marks, Seq};
+use fc_base::{MAX_WINDOW, MAX_WRITES, Marks, Seq};
 use std::marker::Model;
 
 /// Which of the last writes are in flight, and which of those are open. All lie within one window
@@ -26,15 +26,16 @@ pub(crate) struct InFlight {
 
 impl Model for InFlight {
     ghost use Rattle.std.specs.Prelude.{◌≡◌, ◌≤◌, length};
+    ghost use Rattle.fc_base.specs.declared.limits.TheConstants.{MAX_WINDOW, MAX_WRITES};
     ghost use Rattle.window.specs.InFlight.{Flights, flights_of, marked_numbers};
 
     ghost Value = { Flights };
 
     ghost view = { λ a. flights_of a.window a.issued a.marks a.open_marks };
 
-    ghost invariant = { λ a. (1 ≤ a.window) × (a.window ≤ 256)
+    ghost invariant = { λ a. (1 ≤ a.window) × (a.window ≤ MAX_WINDOW)
         × (a.count ≡ length (marked_numbers a.marks a.window a.issued))
-        × (a.issued ≤ 1000000) };
+        × (a.issued ≤ MAX_WRITES) };
 }
 
 impl InFlight {
@@ -43,7 +44,7 @@ impl InFlight {
     /// Nothing is issued yet.
     pub(crate) fn new(window: u64) -> Self
         requires least { 1 ≤ window }
-        requires most { window ≤ 256 }
+        requires most { window ≤ MAX_WINDOW }
         ensures { result ≡ record { window = window; issued = 0; in_flight = []; open_writes = [] } }
     {
         InFlight {
@@ -120,7 +121,7 @@ impl InFlight {
     /// Issues the next write.
     pub(crate) fn issue(&mut self)
         requires clear { is_held self.old.window self.old.issued self.old.in_flight ≡ false }
-        requires fewer { self.old.issued < 1000000 }
+        requires fewer { self.old.issued < MAX_WRITES }
         ensures { self.new ≡ record self.old {
           issued = self.old.issued + 1;
           in_flight = self.old.in_flight ++ self.old.issued ∷ [];
@@ -167,9 +168,9 @@ fn is_last(number: u64, issued: u64, window: u64) -> bool
 /// The slot of a number.
 fn slot(number: u64, window: u64) -> usize
     requires least { 1 ≤ window }
-    requires most { window ≤ 256 }
+    requires most { window ≤ MAX_WINDOW }
     ensures value { result ≡ number % window }
-    ensures within { result < 256 }
+    ensures within { result < MAX_WINDOW }
 {
     (number % window) as usize
 }

@@ -8,7 +8,7 @@ ghost use Rattle.window.specs.Legal.{HasRoom};
 ghost use Rattle.window.specs.Kept.{StandsFor, EachHistory, Adds, is_held, room_of, after_issue, after_done, after_fail};
 
 use crate::room::Room;
-use fc_base::{Fault, Seq};
+use fc_base::{Fault, MAX_DEPTH, MAX_WINDOW, MAX_WRITES, Seq};
 use std::alloc::{AllocError, Global};
 use std::marker::Model;
 
@@ -26,20 +26,21 @@ pub struct PlainWindow {
 impl Model for PlainWindow {
     ghost use Rattle.std.specs.Prelude.{◌≤◌, ◌<◌, All};
     ghost use Rattle.window.specs.Kept.{Kept};
+    ghost use Rattle.fc_base.specs.declared.limits.TheConstants.{MAX_WINDOW};
     ghost use Rattle.window.specs.Plain.{kept_by};
 
     ghost Value = { Kept };
 
     ghost view = { λ a. kept_by a.depth a.window a.issued a.completions.items a.failures.items };
 
-    ghost invariant = { λ a. (1 ≤ a.window) × (a.window ≤ 256)
+    ghost invariant = { λ a. (1 ≤ a.window) × (a.window ≤ MAX_WINDOW)
         × All (λ k. k < a.issued) a.completions.items × All (λ k. k < a.issued) a.failures.items };
 }
 
 impl PlainWindow {
     pub fn new(alloc: Global, depth: u64, window: u64) -> Self
-        requires depth { (1 ≤ depth) × (depth ≤ 64) }
-        requires window { (depth ≤ window) × (window ≤ 256) }
+        requires depth { (1 ≤ depth) × (depth ≤ MAX_DEPTH) }
+        requires window { (depth ≤ window) × (window ≤ MAX_WINDOW) }
         ensures { StandsFor depth window result [] }
     {
         PlainWindow {
@@ -61,7 +62,7 @@ impl PlainWindow {
 
     pub fn issue(&mut self) -> Seq
         requires open { room_of self.old ≡ Room.Open }
-        requires fewer { self.old.issued < 1000000 }
+        requires fewer { self.old.issued < MAX_WRITES }
         ensures number { result ≡ self.old.issued }
         ensures left { self.new ≡ after_issue self.old }
         ensures history { EachHistory self.old (λ depth window h. result ≡ issued h) }

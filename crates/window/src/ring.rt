@@ -4,13 +4,13 @@ ghost use Rattle.std.specs.Prelude.{◌≡◌, ℕ, ◌+◌, ◌%◌, ◌<◌, �
 ghost use Rattle.fc_base.specs.Marks.{is_marked};
 ghost use Rattle.window.specs.InFlight.{is_set};
 
-use fc_base::Marks;
+use fc_base::{MAX_WINDOW, Marks};
 
 /// The marks of 64 slots from this one on, the lowest bit first, in a ring of `length` slots: the
 /// first slot follows the last. Bits that would go round it again say nothing.
 pub(crate) fn around(marks: &Marks, first: usize, length: usize) -> u64
     requires within { first < length }
-    requires most { length ≤ 256 }
+    requires most { length ≤ MAX_WINDOW }
     ensures { (i : ℕ) → i < 64 → i < length →
         is_set result i ≡ is_marked marks.now ((first + i) % length) }
 {
@@ -22,10 +22,12 @@ pub(crate) fn around(marks: &Marks, first: usize, length: usize) -> u64
     (from(words, first) & low_bits(ahead as u64)) | (words[0] << ahead)
 }
 
-/// The marks of 64 slots from this one on, the lowest bit first. Bits past the last slot say nothing.
+/// The marks of 64 slots from this one on, the lowest bit first. Bits past the last slot say
+/// nothing.
 fn from(words: [u64; 4], first: usize) -> u64
-    requires { first < 256 }
-    ensures { (i : ℕ) → i < 64 → first + i < 256 → is_set result i ≡ is_marked words (first + i) }
+    requires { first < MAX_WINDOW }
+    ensures { (i : ℕ) → i < 64 → first + i < MAX_WINDOW → is_set result i
+        ≡ is_marked words (first + i) }
 {
     let word = first / 64;
     let shift = first % 64;

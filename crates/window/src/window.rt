@@ -10,7 +10,7 @@ ghost use Rattle.window.specs.Kept.{StandsFor, EachHistory, Adds, has_completed,
 use crate::in_flight::InFlight;
 use crate::room::Room;
 use circular_buffer::HeapCircularBuffer;
-use fc_base::{Fault, Seq};
+use fc_base::{Fault, MAX_DEPTH, MAX_WINDOW, MAX_WRITES, Seq};
 use std::alloc::{AllocError, Global};
 use std::marker::Model;
 
@@ -20,8 +20,9 @@ use std::marker::Model;
 /// Its depth is fio's `iodepth` (manual, "I/O depth"). Its window, the option `x_window` of this
 /// profile, is how far writes may run ahead of one that hasn't completed. It keeps the last two
 /// windows of completions, the "last so many" of fio's write state (manual, "Verification and
-/// triggers"): they suffice to count all completed writes, by [`counting_law`](crate::counting_law).
-/// [`marks`](Window::marks) tells the same by a bit for each write, by [`marks_law`](crate::marks_law).
+/// triggers"): they suffice to count all completed writes, by
+/// [`counting_law`](crate::counting_law). [`marks`](Window::marks) tells the same by a bit for each
+/// write, by [`marks_law`](crate::marks_law).
 ///
 /// Only making it and [`recent`](Window::recent) take memory, and only `recent` takes time that
 /// grows with the window.
@@ -47,14 +48,15 @@ impl Model for Window {
       open_writes = a.in_flight.open_writes;
     } };
 
-    ghost invariant = { λ a. (1 ≤ a.in_flight.window) × (a.completions.capacity ≡ 2 * a.in_flight.window) };
+    ghost invariant = { λ a. (1 ≤ a.in_flight.window)
+        × (a.completions.capacity ≡ 2 * a.in_flight.window) };
 }
 
 impl Window {
     /// A window before the first write, with room for two windows of completions.
     pub fn new(alloc: Global, depth: u64, window: u64) -> Result<Window, AllocError>
-        requires depth { (1 ≤ depth) × (depth ≤ 64) }
-        requires window { (depth ≤ window) × (window ≤ 256) }
+        requires depth { (1 ≤ depth) × (depth ≤ MAX_DEPTH) }
+        requires window { (depth ≤ window) × (window ≤ MAX_WINDOW) }
         ensures { IfOk result (λ made. StandsFor depth window made []) }
     {
         let completions = HeapCircularBuffer::with_capacity(alloc, 2 * window as usize)?;
@@ -74,11 +76,11 @@ impl Window {
         Room::by(self.in_flight.len(), self.depth, self.in_flight.is_held())
     }
 
-    /// Issues the next write, and answers its number. Numbers start at 0, and a job has at most a
-    /// million.
+    /// Issues the next write, and answers its number. Numbers start at 0, and a job has at most
+    /// [`MAX_WRITES`].
     pub fn issue(&mut self) -> Seq
         requires open { room_of self.old ≡ Room.Open }
-        requires fewer { self.old.issued < 1000000 }
+        requires fewer { self.old.issued < MAX_WRITES }
         ensures number { result ≡ self.old.issued }
         ensures left { self.new ≡ after_issue self.old }
         ensures history { EachHistory self.old (λ depth window h. result ≡ issued h) }
@@ -95,7 +97,8 @@ impl Window {
         ensures answer { result
             ≡ (if has self.old.open_writes seq then Ok tt else Err Fault.NotInFlight) }
         ensures left { self.new ≡ (if is_ok result then after_done self.old seq else self.old) }
-        ensures history { EachHistory self.old (λ depth window h. is_ok result ≡ has (open_writes h) seq) }
+        ensures history { EachHistory self.old
+            (λ depth window h. is_ok result ≡ has (open_writes h) seq) }
         ensures added { OnOk result (Adds self.old self.new (done seq)) }
     {
         if !self.in_flight.is_open(seq) {
@@ -112,7 +115,8 @@ impl Window {
         ensures answer { result
             ≡ (if has self.old.open_writes seq then Ok tt else Err Fault.NotInFlight) }
         ensures left { self.new ≡ (if is_ok result then after_fail self.old seq else self.old) }
-        ensures history { EachHistory self.old (λ depth window h. is_ok result ≡ has (open_writes h) seq) }
+        ensures history { EachHistory self.old
+            (λ depth window h. is_ok result ≡ has (open_writes h) seq) }
         ensures added { OnOk result (Adds self.old self.new (fail seq)) }
     {
         if !self.in_flight.is_open(seq) {
@@ -132,9 +136,9 @@ impl Window {
         self.completions.to_vec(*self.completions.allocator())
     }
 
-    /// Which of the last writes have completed, a window of them: bit `i % 64` of word `i / 64` is that
-    /// of number `floor + i`, where the floor is the number issued less the window, or 0. All writes
-    /// below the floor have completed, and the bits of numbers not yet issued are clear.
+    /// Which of the last writes have completed, a window of them: bit `i % 64` of word `i / 64` is
+    /// that of number `floor + i`, where the floor is the number issued less the window, or 0. All
+    /// writes below the floor have completed, and the bits of numbers not yet issued are clear.
     pub fn marks(&self) -> [u64; 4]
         ensures value { result ≡ marks_of (has_completed self.now.issued self.now.in_flight)
             (floor_of self.now.window self.now.issued) }

@@ -8,13 +8,14 @@ use Rattle.std.proofs.lemmas.List.{append_cancel_left, length-replicate}
 use Rattle.std.proofs.lemmas.List.Concat.{flat_map-cons}
 use Rattle.std.proofs.lemmas.List.FromFn.{length-map-range_with_len}
 use Rattle.std.proofs.lemmas.Nat.{from_be_bytes-to_be_bytes_4, from_be_bytes-to_be_bytes_8}
+use Rattle.fc_base.specs.declared.limits.TheConstants.{MAX_BLOCK_SIZE, MAX_BLOCKS, MAX_WRITES}
 use Rattle.fc_base.specs.declared.record.JobParts.{JobParts}
 use Rattle.fc_base.specs.declared.record.Verify.{Verify}
 use Rattle.fc_base.specs.declared.record.Verify.TheVariants.{Stamp, Pattern}
 use Rattle.fc_base.specs.declared.numbers.Key.{Key}
 use Rattle.fc_base.specs.JobParts.{is_within_limits, has_block_size, has_region, has_queue, has_pattern}
 use Rattle.write_order.specs.Stamps.{counting_bytes, stamped_sector, written_bytes}
-use Rattle.write_order.specs.Laws.{Mark, HasRoomInAStamp, sector_with, first_mark}
+use Rattle.write_order.specs.Laws.{StampFields, HasRoomInAStamp, sector_with, first_fields}
 use Rattle.write_order.proofs.HoldSteps.{sector_at}
 
 -- What the limits say of blocks.
@@ -28,12 +29,12 @@ block_limits job limits =
     let three = and_parts (has_block_size job && has_region job && has_queue job) (has_pattern job) limits in
     let two = and_parts (has_block_size job && has_region job) (has_queue job) three.0 in
     let one = and_parts (has_block_size job) (has_region job) two.0 in
-    let size = and_parts (nat_le 512 job.bs && nat_le job.bs 65536) (eqb (job.bs % 512) 0) one.0 in
-    let region = and_parts (nat_le 1 job.blocks && nat_le job.blocks 65536) (nat_le 1 job.total && nat_le job.total 1000000) one.1 in
+    let size = and_parts (nat_le 512 job.bs && nat_le job.bs MAX_BLOCK_SIZE) (eqb (job.bs % 512) 0) one.0 in
+    let region = and_parts (nat_le 1 job.blocks && nat_le job.blocks MAX_BLOCKS) (nat_le 1 job.total && nat_le job.total MAX_WRITES) one.1 in
     record {
-      size = leb-true 512 job.bs (and_parts (nat_le 512 job.bs) (nat_le job.bs 65536) size.0).0;
+      size = leb-true 512 job.bs (and_parts (nat_le 512 job.bs) (nat_le job.bs MAX_BLOCK_SIZE) size.0).0;
       whole = eqb-true (job.bs % 512) 0 size.1;
-      blocks = leb-true 1 job.blocks (and_parts (nat_le 1 job.blocks) (nat_le job.blocks 65536) region.0).0;
+      blocks = leb-true 1 job.blocks (and_parts (nat_le 1 job.blocks) (nat_le job.blocks MAX_BLOCKS) region.0).0;
     }
 
 pub length-counting_bytes : (from n : ℕ) → length (counting_bytes from n) ≡ n
@@ -76,19 +77,19 @@ same_short : (m n : ℕ) → m < 2 ^ 32 → n < 2 ^ 32 → to_be_bytes w32 m ≡
 same_short m n p q e =
     sym (from_be_bytes-to_be_bytes_4 m p) ∙ ap (from_be_bytes w32) e ∙ from_be_bytes-to_be_bytes_4 n q
 
--- A mark is known by its numbers.
-abbrev mark_of : ℕ → ℕ → ℕ → ℕ → ℕ → ℕ → Mark
-mark_of run server job write block sector =
+-- The fields are known by their numbers.
+abbrev fields_of : ℕ → ℕ → ℕ → ℕ → ℕ → ℕ → StampFields
+fields_of run server job write block sector =
     record { key = record { run = run; server = server; job = job }; write = write; block = block; sector = sector }
 
-same_mark : (a b : Mark) → a.key.run ≡ b.key.run → a.key.server ≡ b.key.server → a.key.job ≡ b.key.job → a.write ≡ b.write → a.block ≡ b.block → a.sector ≡ b.sector → a ≡ b
-same_mark a b run server job write block sector =
-    let same : mark_of a.key.run a.key.server a.key.job a.write a.block a.sector ≡ mark_of b.key.run b.key.server b.key.job b.write b.block b.sector =
+same_fields : (a b : StampFields) → a.key.run ≡ b.key.run → a.key.server ≡ b.key.server → a.key.job ≡ b.key.job → a.write ≡ b.write → a.block ≡ b.block → a.sector ≡ b.sector → a ≡ b
+same_fields a b run server job write block sector =
+    let same : fields_of a.key.run a.key.server a.key.job a.write a.block a.sector ≡ fields_of b.key.run b.key.server b.key.job b.write b.block b.sector =
     rw (run, server, job, write, block, sector) refl in
     same
 
 -- Sectors with the same bytes say the same.
-pub same_stamps : (a b : Mark) → HasRoomInAStamp a → HasRoomInAStamp b → sector_with a ≡ sector_with b → a ≡ b
+pub same_stamps : (a b : StampFields) → HasRoomInAStamp a → HasRoomInAStamp b → sector_with a ≡ sector_with b → a ≡ b
 unfolding stamped_sector
 same_stamps a b p q e =
     let run = same_parts (to_be_bytes w64 a.key.run) (to_be_bytes w64 b.key.run) _ _ refl e in
@@ -97,10 +98,10 @@ same_stamps a b p q e =
     let write = same_parts (to_be_bytes w64 a.write) (to_be_bytes w64 b.write) _ _ refl job.1 in
     let block = same_parts (to_be_bytes w64 a.block) (to_be_bytes w64 b.block) _ _ refl write.1 in
     let sector = same_parts (to_be_bytes w32 a.sector) (to_be_bytes w32 b.sector) _ _ refl block.1 in
-    same_mark a b (same_long _ _ p.run q.run run.0) (same_short _ _ p.server q.server server.0) (same_short _ _ p.job q.job job.0)
+    same_fields a b (same_long _ _ p.run q.run run.0) (same_short _ _ p.server q.server server.0) (same_short _ _ p.job q.job job.0)
     (same_long _ _ p.write q.write write.0) (same_long _ _ p.block q.block block.0) (same_short _ _ p.sector q.sector sector.0)
 
 -- The first sector of a block that a job stamped.
-pub first_sector_is : (key : Key) (job : JobParts) (k block : ℕ) → 512 ≤ job.bs → job.verify ≡ Stamp → take 512 (written_bytes key job k block) ≡ sector_with (first_mark key k block)
+pub first_sector_is : (key : Key) (job : JobParts) (k block : ℕ) → 512 ≤ job.bs → job.verify ≡ Stamp → take 512 (written_bytes key job k block) ≡ sector_with (first_fields key k block)
 first_sector_is key job k block some is =
     rw is (sector_at (stamped_sector key k block) (job.bs / 512) 0 0 (length-stamped_sector key k block) (omega arith))

@@ -56,8 +56,8 @@ next_block_is job k r more is = let test = lt-ltb k job.total more in rw (test, 
 
 -- An order with its words and its chooser one write on is under way again.
 pub goes_on : (o next : Inside) (words : Words) (chooser : Chooser) →
-    (let on : Inside = record { job = o.job; issued = o.issued; words = words; chooser = chooser } in next ≡ on) →
-    o.issued < o.job.total → words ≡ words_after o.job.seed (words_used o.job.kind (o.issued + 1)) → chooser ≡ chooser_before o.job (o.issued + 1) →
+    (let on : Inside = record { rec = o.rec; issued = o.issued; words = words; chooser = chooser } in next ≡ on) →
+    o.issued < o.rec.total → words ≡ words_after o.rec.seed (words_used o.rec.kind (o.issued + 1)) → chooser ≡ chooser_before o.rec (o.issued + 1) →
     IsUnderWay (record next { issued = next.issued + 1 })
 goes_on o next words chooser on more after before =
     let Holds : Inside → Type 0 = λ x. IsUnderWay (record x { issued = x.issued + 1 }) in

@@ -8,7 +8,7 @@ use Rattle.write_order.specs.Picks.{block_with_map}
 use Rattle.write_order.specs.Passes.{left_before}
 use Rattle.write_order.proofs.PickSteps.{block_from_left, left_before-more, left_before-new, length-left_before, next_pass}
 
--- The list with one of the first blocks taken out, and the last of these in its place.
+-- The list with one of the first blocks taken out, and the last of these at its index.
 abbrev pub taken_out : List ℕ → ℕ → ℕ → ℕ → List ℕ
 taken_out list index last v = set (set list index v) last last
 
@@ -33,7 +33,7 @@ take-taken_out list index last left v d one within room read =
     ap (take last) (sym (take-set-lt left list index v within)) ∙ take-take last left (set list index v) (omega arith) in
     take-set (set list index v) last last ∙ sym (rw (last_is, value) short)
 
--- Behind them each place holds its own number, and so does the one that is given up.
+-- Behind them each index holds its own number, and so does the one that is given up.
 pub drop-taken_out : (b : ℕ) (list : List ℕ) (index last left v : ℕ) → left ≡ last + 1 → index < left → left ≤ b → length list ≡ b → drop left list ≡ range_with_len left (b - left) →
     drop last (taken_out list index last v) ≡ range_with_len last (b - last)
 drop-taken_out b list index last left v one within room len behind =
@@ -56,13 +56,13 @@ none_behind b list len =
 -- What a word reads of the list is the block that it picks.
 pub read_is_block : (words : ℕ → ℕ) (b k word index left r : ℕ) (list : List ℕ) → take left list ≡ left_before words b k → word ≡ words k → 0 < left → left ≤ length list → index ≡ word % left → r ≡ get_or list index r →
     r ≡ block_with_map words b k
-read_is_block words b k word index left r list is next some room place read =
+read_is_block words b k word index left r list is next some room picked read =
     let len : length (take left list) ≡ left = omega (arith, length-take {A = ℕ}) in
     let rest : left ≡ b - k % b = sym len ∙ ap length is ∙ length-left_before words b k in
     let in_range : index < left = omega arith in
     let by_read = get_or_read list index r (omega arith) read 0 in
     let at : index ≡ words k % length (left_before words b k) =
-    place ∙ ap (λ w. w % left) next ∙ ap (λ n. words k % n) (sym len ∙ ap length is) in
+    picked ∙ ap (λ w. w % left) next ∙ ap (λ n. words k % n) (sym len ∙ ap length is) in
     let value : get_or list index 0 ≡ get_or (left_before words b k) (words k % length (left_before words b k)) 0 =
     sym (get_or-take left list index 0 in_range) ∙ ap (λ xs. get_or xs index 0) is ∙ ap (λ i. get_or (left_before words b k) i 0) at in
     by_read ∙ value ∙ block_from_left words b k (omega arith)
@@ -70,11 +70,11 @@ read_is_block words b k word index left r list is next some room place read =
 -- What is left before the next write, where the pass goes on.
 pub rest_goes_on : (words : ℕ → ℕ) (b k word index last left v : ℕ) (list : List ℕ) → take left list ≡ left_before words b k → word ≡ words k → index ≡ word % left → index < left → left ≤ length list → left ≡ last + 1 → 0 < last → v ≡ get_or list last 0 →
     take last (taken_out list index last v) ≡ left_before words b (k + 1)
-rest_goes_on words b k word index last left v list is next place within room one some read =
+rest_goes_on words b k word index last left v list is next picked within room one some read =
     let len : length (take left list) ≡ left = omega (arith, length-take {A = ℕ}) in
     let rest : left ≡ b - k % b = sym len ∙ ap length is ∙ length-left_before words b k in
     let at : index ≡ words k % length (left_before words b k) =
-    place ∙ ap (λ w. w % left) next ∙ ap (λ n. words k % n) (sym len ∙ ap length is) in
+    picked ∙ ap (λ w. w % left) next ∙ ap (λ n. words k % n) (sym len ∙ ap length is) in
     take-taken_out list index last left v 0 one within room read
     ∙ ap (λ xs. swap_remove xs index 0) is ∙ ap (λ i. swap_remove (left_before words b k) i 0) at
     ∙ left_before-more words b k 0 (omega arith)

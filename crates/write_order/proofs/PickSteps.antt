@@ -67,11 +67,11 @@ left_before-more words b k d more =
     let start = k / b * b in
     let whole : k + 1 ≡ start + (k % b + 1) = omega arith in
     let same_pass : (k + 1) / b ≡ k / b = rw whole (div-mul-add (k / b) b (k % b + 1) more) in
-    let next_place : (k + 1) % b ≡ k % b + 1 = rw whole (mod-mul-add (k / b) b (k % b + 1) more) in
+    let next_turn : (k + 1) % b ≡ k % b + 1 = rw whole (mod-mul-add (k / b) b (k % b + 1) more) in
     let words_more = map-range_with_len_more words start (k % b) k (omega arith) in
     let some : 0 < length left = omega (arith, length-left_before words b k) in
     let pushed = left_after-push (range_with_len 0 b) (map words (range_with_len start (k % b))) (words k) in
-    rw (same_pass, next_place, words_more) (swap_remove_default left _ d 0 some ∙ sym pushed)
+    rw (same_pass, next_turn, words_more) (swap_remove_default left _ d 0 some ∙ sym pushed)
 
 pub next_pass : (b k : ℕ) → k % b + 1 ≡ b → (k + 1) % b ≡ 0
 next_pass b k last =
@@ -86,8 +86,8 @@ left_before-new words b k new = rw new refl
 pub same_pass : (b c : ℕ) (left rest : List ℕ) → b ≡ c → left ≡ rest → (let p : PassLeft = record { blocks = b; left = left } in let q : PassLeft = record { blocks = c; left = rest } in p ≡ q)
 same_pass b c left rest same e = cc
 
-pub zero_place : (b : ℕ) → 0 < b → 0 % b ≡ 0
-zero_place b some = omega arith
+pub zero_turn : (b : ℕ) → 0 < b → 0 % b ≡ 0
+zero_turn b some = omega arith
 
 -- Without a map each word picks by itself.
 pub blocks_without_map : (words : List ℕ) (b : ℕ) → map (λ w. w % b) words ≡ blocks_picked false words b

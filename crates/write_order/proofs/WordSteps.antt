@@ -34,9 +34,9 @@ pub words_after_more : (old : Words) (seed n w : ℕ) (new : List ℕ) → (w, n
     } in next ≡ words_after seed (n + 1))
 words_after_more old seed n w new step e =
     let at : old.generator ≡ state_after seed (n + 4) = ap (λ (x : Words). x.generator) e in
-    let place : old.next ≡ (words_after seed n).next = ap (λ (x : Words). x.next) e in
-    same_words _ _ _ _ _ _ _ _ _ _ (ap (λ xs. get_or xs 1 0) place)
-    (ap (λ xs. get_or xs 2 0) place ∙ ap (word seed) (omega arith))
-    (ap (λ xs. get_or xs 3 0) place ∙ ap (word seed) (omega arith))
+    let ahead : old.next ≡ (words_after seed n).next = ap (λ (x : Words). x.next) e in
+    same_words _ _ _ _ _ _ _ _ _ _ (ap (λ xs. get_or xs 1 0) ahead)
+    (ap (λ xs. get_or xs 2 0) ahead ∙ ap (word seed) (omega arith))
+    (ap (λ xs. get_or xs 3 0) ahead ∙ ap (word seed) (omega arith))
     (word_from_step seed (n + 4) w _ new step at ∙ ap (word seed) (omega arith))
     (state_from_step seed (n + 4) (n + 1 + 4) w _ new step at (omega arith))

@@ -29,33 +29,33 @@ WritesFillTheirBlocks =
 
 -- What the stamp in a sector says: whose write it is, which one, into which block, and which sector
 -- of that block.
-pub record Mark : Type 0 where
+pub record StampFields : Type 0 where
   pub key : Key
   pub write : ℕ
   pub block : ℕ
   pub sector : ℕ
 
 -- Each number has room in the stamp.
-pub record HasRoomInAStamp (mark : Mark) : Type 0 where
-  pub run : mark.key.run < 2 ^ 64
-  pub server : mark.key.server < 2 ^ 32
-  pub job : mark.key.job < 2 ^ 32
-  pub write : mark.write < 2 ^ 64
-  pub block : mark.block < 2 ^ 64
-  pub sector : mark.sector < 2 ^ 32
+pub record HasRoomInAStamp (fields : StampFields) : Type 0 where
+  pub run : fields.key.run < 2 ^ 64
+  pub server : fields.key.server < 2 ^ 32
+  pub job : fields.key.job < 2 ^ 32
+  pub write : fields.write < 2 ^ 64
+  pub block : fields.block < 2 ^ 64
+  pub sector : fields.sector < 2 ^ 32
 
 -- The sector with the stamp that says this.
-abbrev pub sector_with : Mark → List ℕ
-sector_with mark = stamped_sector mark.key mark.write mark.block mark.sector
+abbrev pub sector_with : StampFields → List ℕ
+sector_with fields = stamped_sector fields.key fields.write fields.block fields.sector
 
 -- Sectors with the same bytes have stamps that say the same.
 abbrev pub StampsTellSectorsApart : Type 0
 StampsTellSectorsApart =
-    (a b : Mark) → HasRoomInAStamp a → HasRoomInAStamp b → sector_with a ≡ sector_with b → a ≡ b
+    (a b : StampFields) → HasRoomInAStamp a → HasRoomInAStamp b → sector_with a ≡ sector_with b → a ≡ b
 
 -- The first sector of the block of this write says this.
-abbrev pub first_mark : Key → ℕ → ℕ → Mark
-first_mark key k block = record { key = key; write = k; block = block; sector = 0 }
+abbrev pub first_fields : Key → ℕ → ℕ → StampFields
+first_fields key k block = record { key = key; write = k; block = block; sector = 0 }
 
 -- Two blocks that were filled with stamps and have the same bytes are of the same write, to the same
 -- block.
@@ -64,5 +64,5 @@ StampsTellWritesApart =
     (job other : JobParts) → IsTrue (is_within_limits job) → IsTrue (is_within_limits other) →
     job.verify ≡ Stamp → other.verify ≡ Stamp →
     (key owner : Key) (k l block at : ℕ) →
-    HasRoomInAStamp (first_mark key k block) → HasRoomInAStamp (first_mark owner l at) →
-    written_bytes key job k block ≡ written_bytes owner other l at → first_mark key k block ≡ first_mark owner l at
+    HasRoomInAStamp (first_fields key k block) → HasRoomInAStamp (first_fields owner l at) →
+    written_bytes key job k block ≡ written_bytes owner other l at → first_fields key k block ≡ first_fields owner l at

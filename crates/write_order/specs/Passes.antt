@@ -23,7 +23,7 @@ abbrev pub pass_before : (ℕ → ℕ) → ℕ → ℕ → PassLeft
 pass_before words blocks k = record { blocks = blocks; left = left_before words blocks k }
 
 -- A pass has a block left, and the list names all blocks: from where those that are left end, each
--- place holds its own number, as a new pass has it.
+-- index holds its own number, as a new pass has it.
 pub record IsReadyAnew (pass : Inside) : Type 0 where
   pub some : 0 < pass.left
   pub within : pass.left ≤ pass.blocks

@@ -3,7 +3,7 @@ use Rattle.std.specs.Prelude.{ℕ, ◌*◌, ◌/◌, ◌%◌, Bool, true, false,
 use Rattle.std.specs.List.{range_with_len}
 
 -- The blocks that words pick of a list: each word counts round what is left, the block that it
--- comes to is picked, and the last of the list moves into its place.
+-- comes to is picked, and the last of the list moves to its index.
 abbrev pub picked : List ℕ → List ℕ → List ℕ
 picked left [] = []
 picked left (w ∷ ws) =
@@ -15,7 +15,7 @@ abbrev pub blocks_of_pass : (ℕ → ℕ) → ℕ → ℕ → List ℕ
 blocks_of_pass words blocks p =
     picked (range_with_len 0 blocks) (map words (range_with_len (p * blocks) blocks))
 
--- The block that word k picks with a map: the one in its place of its pass.
+-- The block that word k picks with a map: the one at its turn in its pass.
 unfoldable pub block_with_map : (ℕ → ℕ) → ℕ → ℕ → ℕ
 block_with_map words blocks k = slice_index (blocks_of_pass words blocks (k / blocks)) (k % blocks)
 

@@ -23,6 +23,6 @@ chooser_before job k = chooser_of job.kind (pass_before (word job.seed) job.bloc
 
 -- The words and the chooser stand where the writes issued so far have brought them.
 pub record IsUnderWay (order : Inside) : Type 0 where
-  pub issued : order.issued ≤ order.job.total
-  pub words : order.words ≡ words_after order.job.seed (words_used order.job.kind order.issued)
-  pub chooser : order.chooser ≡ chooser_before order.job order.issued
+  pub issued : order.issued ≤ order.rec.total
+  pub words : order.words ≡ words_after order.rec.seed (words_used order.rec.kind order.issued)
+  pub chooser : order.chooser ≡ chooser_before order.rec order.issued

@@ -9,18 +9,18 @@ ghost use Rattle.write_order.specs.Filling.{with_number};
 use crate::stamp::{SECTOR, fill_sector, stamp};
 use fc_base::{JobRecord, Key, Seq, Verify};
 
-/// Whether these bytes are what write `seq` puts into this block, as [`fill_block`](crate::fill_block)
-/// fills it. It compares sector by sector and stops at the first that differs; no block is made, and
-/// no memory is taken.
+/// Whether these bytes are what write `seq` puts into this block, as
+/// [`fill_block`](crate::fill_block) fills it. It compares sector by sector and stops at the first
+/// that differs; no block is made, and no memory is taken.
 ///
 /// `bytes` is the whole block.
-pub fn holds_write(key: &Key, job: &JobRecord, seq: Seq, block: u32, bytes: &[u8]) -> bool
-    requires { length bytes.now ≡ job.now.bs }
-    ensures { result ≡ bytes_eq bytes.now (written_bytes key.now job.now seq block) }
+pub fn holds_write(key: &Key, rec: &JobRecord, seq: Seq, block: u32, bytes: &[u8]) -> bool
+    requires { length bytes.now ≡ rec.now.bs }
+    ensures { result ≡ bytes_eq bytes.now (written_bytes key.now rec.now seq block) }
 {
-    let sectors = job.bs() / 512;
-    match job.verify() {
-        Verify::Pattern => holds_pattern(job.pattern(), sectors, bytes),
+    let sectors = rec.bs() / 512;
+    match rec.verify() {
+        Verify::Pattern => holds_pattern(rec.pattern(), sectors, bytes),
         Verify::Stamp => holds_stamps(&stamp(*key, seq, block), sectors, bytes),
     }
 }
@@ -42,7 +42,8 @@ fn holds_pattern(pattern: u8, sectors: u32, bytes: &[u8]) -> bool
 /// Whether each sector is the stamp with the sector's number.
 fn holds_stamps(stamp: &[u8; SECTOR], sectors: u32, bytes: &[u8]) -> bool
     requires { length bytes.now ≡ sectors * SECTOR }
-    ensures { result ≡ bytes_eq bytes.now (flat_map (with_number stamp.now) (range_with_len 0 sectors)) }
+    ensures { result ≡ bytes_eq bytes.now
+        (flat_map (with_number stamp.now) (range_with_len 0 sectors)) }
 {
     let mut sector = [0; SECTOR];
     for number in 0..sectors {

@@ -21,13 +21,13 @@ enum Chooser {
 /// The writes of a job in their order: which block the next one goes to, and the place of the
 /// generator before it.
 ///
-/// A sequential job goes to its blocks in turn (fio's manual, I/O type: `rw`). A random one takes one
-/// word of xoshiro256++ a write, seeded with the job's seed (`randseed`), and picks with it from the
-/// blocks that its pass has left, or from all of them (`norandommap`). Which block a word picks is
-/// this project's own rule.
+/// A sequential job goes to its blocks in turn (fio's manual, I/O type: `rw`). A random one takes
+/// one word of xoshiro256++ a write, seeded with the job's seed (`randseed`), and picks with it
+/// from the blocks that its pass has left, or from all of them (`norandommap`). Which block a word
+/// picks is this project's own rule.
 #[derive(Debug, Drop)]
 pub struct Order {
-    job: JobRecord,
+    rec: JobRecord,
     issued: u64,
     words: Words,
     chooser: Chooser,
@@ -39,7 +39,7 @@ impl Model for Order {
 
     ghost Value = { Progress };
 
-    ghost view = { λ o. record { job = o.job; issued = o.issued } };
+    ghost view = { λ o. record { job = o.rec; issued = o.issued } };
 
     ghost invariant = { IsUnderWay };
 }
@@ -47,19 +47,19 @@ impl Model for Order {
 impl Order {
     /// The order of this job before its first write. Only a random job with a map takes memory: 4
     /// bytes for each of its blocks. None of the other calls takes any.
-    pub fn new(alloc: Global, job: &JobRecord) -> Result<Order, AllocError>
-        ensures start { IfOk result (λ o. o ≡ record { job = job.now; issued = 0 }) }
-        ensures without_map { job.now.kind ≢ Kind.RandomMap → IsOk result }
+    pub fn new(alloc: Global, rec: &JobRecord) -> Result<Order, AllocError>
+        ensures start { IfOk result (λ o. o ≡ record { job = rec.now; issued = 0 }) }
+        ensures without_map { rec.now.kind ≢ Kind.RandomMap → IsOk result }
     {
-        let chooser = match job.kind() {
+        let chooser = match rec.kind() {
             Kind::Sequential => Chooser::InTurn,
-            Kind::RandomMap => Chooser::WithMap(Pass::new(alloc, job.blocks())?),
+            Kind::RandomMap => Chooser::WithMap(Pass::new(alloc, rec.blocks())?),
             Kind::RandomFree => Chooser::WithoutMap,
         };
         Ok(Order {
-            job: *job,
+            rec: *rec,
             issued: 0,
-            words: Words::new(job.seed()),
+            words: Words::new(rec.seed()),
             chooser,
         })
     }
@@ -69,10 +69,10 @@ impl Order {
         ensures value { result ≡ next_block self.now }
         ensures range { IfSome result (λ block. block < self.now.job.blocks) }
     {
-        if self.issued == self.job.total() {
+        if self.issued == self.rec.total() {
             return None;
         }
-        let blocks = u64::from(self.job.blocks());
+        let blocks = u64::from(self.rec.blocks());
         let word = self.words.first();
         Some(match &self.chooser {
             Chooser::InTurn => (self.issued % blocks) as u32,
@@ -117,11 +117,11 @@ impl Order {
 
 /// The place of a job's generator after its first `n` writes, also past the job's end. It takes no
 /// memory, and as many steps as there are writes.
-pub fn place_of(job: &JobRecord, n: u64) -> [u64; 4]
-    ensures { result ≡ place job.now n }
+pub fn place_of(rec: &JobRecord, n: u64) -> [u64; 4]
+    ensures { result ≡ place rec.now n }
 {
-    let mut words = Words::new(job.seed());
-    if job.kind() != Kind::Sequential {
+    let mut words = Words::new(rec.seed());
+    if rec.kind() != Kind::Sequential {
         for _ in 0..n {
             words.advance();
         }

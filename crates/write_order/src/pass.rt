@@ -8,8 +8,8 @@ use std::marker::Model;
 
 /// The blocks that a pass has yet to write. When none is left, the next pass begins.
 ///
-/// The list names all blocks: first those that are left, and behind them what a new pass has in
-/// those places. So a new pass begins with no list to fill.
+/// The list names all blocks: first those that are left, and behind them what a new pass has
+/// at those indices. So a new pass begins with no list to fill.
 #[derive(Debug, Drop)]
 pub struct Pass {
     blocks: u32,
@@ -47,7 +47,8 @@ impl Pass {
 
     /// The block that the next word picks.
     pub fn pick(&self, word: u64) -> u32
-        ensures { (words : ℕ → ℕ) (k : ℕ) → self.now ≡ pass_before words self.now.blocks k → word ≡ words k
+        ensures { (words : ℕ → ℕ) (k : ℕ) → self.now ≡ pass_before words self.now.blocks k
+            → word ≡ words k
             → result ≡ block_with_map words self.now.blocks k }
     {
         self.list[index_of(self.left, word) as usize]
@@ -55,7 +56,8 @@ impl Pass {
 
     /// Goes on by the block that the next word picks, in the same few steps wherever the pass is.
     pub fn advance(&mut self, word: u64)
-        ensures { (words : ℕ → ℕ) (k : ℕ) → self.old ≡ pass_before words self.old.blocks k → word ≡ words k
+        ensures { (words : ℕ → ℕ) (k : ℕ) → self.old ≡ pass_before words self.old.blocks k
+            → word ≡ words k
             → self.new ≡ pass_before words self.old.blocks (k + 1) }
     {
         let index = index_of(self.left, word);
@@ -88,7 +90,7 @@ fn index_of(left: u32, word: u64) -> u32
     (word % u64::from(left)) as u32
 }
 
-/// Takes one block out: the last that is left moves into its place, and the place of the last gets
+/// Takes one block out: the last that is left moves to its index, and the index of the last gets
 /// what a new pass has there.
 fn take_out(list: &mut [u32], index: u32, last: u32)
     requires one_left { index ≤ last }

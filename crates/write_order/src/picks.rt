@@ -6,8 +6,9 @@ ghost use Rattle.write_order.specs.Picks.{blocks_picked};
 use crate::pass::Pass;
 use std::alloc::{AllocError, Global};
 
-/// The blocks that these words pick of so many, one for each word. With a map, each pass of `blocks`
-/// words names each block once; without one (fio's `norandommap`) each word picks from all of them.
+/// The blocks that these words pick of so many, one for each word. With a map, each pass of
+/// `blocks` words names each block once; without one (fio's `norandommap`) each word picks from all
+/// of them.
 ///
 /// The only error is want of memory: it takes room for the blocks that are picked, and with a map
 /// for the list of all.

@@ -14,18 +14,18 @@ pub(crate) const SECTOR: usize = 512;
 /// Fills the block of write `seq` with what that write puts there (fio's manual, Verification): the
 /// job's pattern in every byte, or a stamp in each sector of 512 bytes. The stamp's layout is this
 /// project's own: run (8 bytes), server (4), job (4), number of the write (8), block (8) and sector
-/// within the block (4), each high byte first, then 476 bytes that count up from the write's number,
-/// modulo 256.
+/// within the block (4), each high byte first, then 476 bytes that count up from the write's
+/// number, modulo 256.
 ///
 /// `bytes` is the whole block. No memory is taken.
-pub fn fill_block(key: Key, job: &JobRecord, seq: Seq, block: u32, bytes: &mut [u8])
-    requires { length bytes.old ≡ job.now.bs }
-    ensures bytes { bytes.new ≡ written_bytes key job.now seq block }
-    ensures of_write { block ≡ block_of job.now seq → bytes.new ≡ bytes_of key job.now seq }
+pub fn fill_block(key: Key, rec: &JobRecord, seq: Seq, block: u32, bytes: &mut [u8])
+    requires { length bytes.old ≡ rec.now.bs }
+    ensures bytes { bytes.new ≡ written_bytes key rec.now seq block }
+    ensures of_write { block ≡ block_of rec.now seq → bytes.new ≡ bytes_of key rec.now seq }
 {
-    match job.verify() {
-        Verify::Pattern => bytes.fill(job.pattern()),
-        Verify::Stamp => fill_stamps(&stamp(key, seq, block), job.bs() / 512, bytes),
+    match rec.verify() {
+        Verify::Pattern => bytes.fill(rec.pattern()),
+        Verify::Stamp => fill_stamps(&stamp(key, seq, block), rec.bs() / 512, bytes),
     }
 }
 
@@ -44,7 +44,7 @@ pub(crate) fn stamp(key: Key, seq: Seq, block: u32) -> [u8; SECTOR]
     sector
 }
 
-/// Puts a field at a place, and gives the place behind it, where the next one goes.
+/// Puts a field at an offset, and gives the offset behind it, where the next one goes.
 fn put(sector: &mut [u8], at: usize, field: &[u8]) -> usize
     requires { at + length field.now ≤ length sector.old }
     ensures next { result ≡ at + length field.now }

@@ -33,11 +33,11 @@ fn job(kind: Kind, seed: u64, blocks: u64, total: u64) -> Option<JobRecord> {
 
 /// Whether these are the first words of a seed's generator.
 fn has_words(seed: u64, words: [u64; 8]) -> bool {
-    let Some(job) = job(Kind::RandomFree, seed, 4, 6) else {
+    let Some(rec) = job(Kind::RandomFree, seed, 4, 6) else {
         return false;
     };
-    let [a, b, c, d] = place_of(&job, 0);
-    let [e, f, g, h] = place_of(&job, 4);
+    let [a, b, c, d] = place_of(&rec, 0);
+    let [e, f, g, h] = place_of(&rec, 4);
     [a, b, c, d, e, f, g, h] == words
 }
 
@@ -51,7 +51,7 @@ fn words_of_the_generator(rt: HostRuntime) {
 /// Whether this is the place after `n` writes.
 fn has_place(kind: Kind, seed: u64, n: u64, place: [u64; 4]) -> bool {
     match job(kind, seed, 7, 1_000_000) {
-        Some(job) => place_of(&job, n) == place,
+        Some(rec) => place_of(&rec, n) == place,
         None => false,
     }
 }
@@ -72,8 +72,8 @@ fn places_after_writes(rt: HostRuntime) {
 }
 
 /// Whether the next write goes to this block, and the generator stands where it has to.
-fn goes_to(order: &mut Order, job: &JobRecord, block: u32) -> bool {
-    if order.peek() != Some(block) || order.place() != place_of(job, order.issued()) {
+fn goes_to(order: &mut Order, rec: &JobRecord, block: u32) -> bool {
+    if order.peek() != Some(block) || order.place() != place_of(rec, order.issued()) {
         return false;
     }
     order.advance();
@@ -83,31 +83,31 @@ fn goes_to(order: &mut Order, job: &JobRecord, block: u32) -> bool {
 /// Whether a job writes to just these blocks, in this order.
 fn follows<T: Copy + Into<u32>>(
     alloc: Global,
-    job: &JobRecord,
+    rec: &JobRecord,
     written: &[T],
 ) -> Result<bool, AllocError> {
-    let mut order = Order::new(alloc, job)?;
+    let mut order = Order::new(alloc, rec)?;
     for block in written {
-        if !goes_to(&mut order, job, (*block).into()) {
+        if !goes_to(&mut order, rec, (*block).into()) {
             return Ok(false);
         }
     }
-    Ok(order.peek().is_none() && order.issued() == job.total())
+    Ok(order.peek().is_none() && order.issued() == rec.total())
 }
 
 #[test]
 fn blocks_of_the_three_orders(rt: HostRuntime) -> Result<(), Fail> {
     for (kind, seed, blocks, written) in BLOCKS {
-        let job = job(kind, seed, blocks, written.len() as u64).ok_or("within the limits")?;
-        assert!(rt; follows(rt.alloc(), &job, written)?, "{kind:?} of {blocks}");
+        let rec = job(kind, seed, blocks, written.len() as u64).ok_or("within the limits")?;
+        assert!(rt; follows(rt.alloc(), &rec, written)?, "{kind:?} of {blocks}");
     }
     Ok(())
 }
 
 #[test]
 fn two_passes_by_io_size(rt: HostRuntime) -> Result<(), Fail> {
-    let job = job(Kind::Sequential, 1, 4, 6).ok_or("within the limits")?;
-    assert!(rt; follows(rt.alloc(), &job, b"\x00\x01\x02\x03\x00\x01")?);
+    let rec = job(Kind::Sequential, 1, 4, 6).ok_or("within the limits")?;
+    assert!(rt; follows(rt.alloc(), &rec, b"\x00\x01\x02\x03\x00\x01")?);
     Ok(())
 }
 
@@ -127,20 +127,20 @@ fn picked_blocks(rt: HostRuntime) {
 }
 
 /// The words that the writes of a random job use up.
-fn words_of(alloc: Global, job: &JobRecord) -> Result<Vec<u64>, AllocError> {
+fn words_of(alloc: Global, rec: &JobRecord) -> Result<Vec<u64>, AllocError> {
     let mut words = Vec::new(alloc);
-    for n in 0..job.total() {
-        words.push(place_of(job, n)[0])?;
+    for n in 0..rec.total() {
+        words.push(place_of(rec, n)[0])?;
     }
     Ok(words)
 }
 
 /// Whether a random job writes to the blocks that `pick_blocks` picks.
 fn follows_picks(alloc: Global, kind: Kind) -> Result<bool, Fail> {
-    let job = job(kind, 42, 100, 300).ok_or("within the limits")?;
-    let words = words_of(alloc, &job)?;
+    let rec = job(kind, 42, 100, 300).ok_or("within the limits")?;
+    let words = words_of(alloc, &rec)?;
     let picked = pick_blocks(alloc, &words, 100, kind == Kind::RandomMap)?;
-    Ok(follows(alloc, &job, &picked)?)
+    Ok(follows(alloc, &rec, &picked)?)
 }
 
 #[test]
@@ -157,21 +157,21 @@ const KEY: Key = Key {
 };
 
 /// Whether the block of a write begins and ends with these bytes, where the block has one sector.
-fn is_framed(job: &JobRecord, seq: u64, block: u32, front: &[u8], back: &[u8]) -> bool {
+fn is_framed(rec: &JobRecord, seq: u64, block: u32, front: &[u8], back: &[u8]) -> bool {
     let mut bytes = [0xff; 512];
-    if job.bs() != 512 {
+    if rec.bs() != 512 {
         return false;
     }
-    fill_block(KEY, job, Seq(seq), block, &mut bytes);
+    fill_block(KEY, rec, Seq(seq), block, &mut bytes);
     bytes.starts_with(front) && bytes.ends_with(back)
 }
 
 #[test]
 fn bytes_of_a_stamp(rt: HostRuntime) -> Result<(), Fail> {
-    let job = JobRecord::make(JOB).ok_or("within the limits")?;
+    let rec = JobRecord::make(JOB).ok_or("within the limits")?;
     let front = b"\x00\x00\x00\x00\x00\x00\x00\x01\x00\x00\x00\x00\x00\x00\x00\x00\x00\x00\x00\x00\
           \x00\x00\x00\x05\x00\x00\x00\x00\x00\x00\x00\x01\x00\x00\x00\x00\x05\x06\x07\x08";
-    assert!(rt; is_framed(&job, 5, 1, front, b"\xdd\xde\xdf\xe0"));
+    assert!(rt; is_framed(&rec, 5, 1, front, b"\xdd\xde\xdf\xe0"));
     Ok(())
 }
 
@@ -212,15 +212,15 @@ fn is_full_of_stamps(bytes: &[u8], front: &[u8]) -> bool {
 fn bytes_of_writes(rt: HostRuntime) -> Result<(), Fail> {
     let mut room = [0; 65_536];
     for (key, verify, pattern, bs, seq, block, front) in FRONTS {
-        let job = JobRecord::make(JobParts {
+        let rec = JobRecord::make(JobParts {
             verify,
             pattern,
             bs,
             ..JOB
         })
         .ok_or("within the limits")?;
-        let bytes = &mut room[..job.bs() as usize];
-        fill_block(key, &job, Seq(seq), block, bytes);
+        let bytes = &mut room[..rec.bs() as usize];
+        fill_block(key, &rec, Seq(seq), block, bytes);
         let is_filled = match verify {
             Verify::Pattern => bytes.iter().all(|byte| *byte == pattern),
             Verify::Stamp => is_full_of_stamps(bytes, front),
@@ -238,18 +238,18 @@ fn bytes_of_writes(rt: HostRuntime) -> Result<(), Fail> {
 fn holds(verify: Verify, seq: u64, changed: Option<usize>) -> bool {
     let mut bytes = [0; 1024];
     let bs = 1024;
-    let Some(job) = JobRecord::make(JobParts { verify, bs, ..JOB }) else {
+    let Some(rec) = JobRecord::make(JobParts { verify, bs, ..JOB }) else {
         return false;
     };
-    if job.bs() != 1024 {
+    if rec.bs() != 1024 {
         return false;
     }
-    fill_block(KEY, &job, Seq(5), 1, &mut bytes);
+    fill_block(KEY, &rec, Seq(5), 1, &mut bytes);
     match changed {
         Some(at) if at < bytes.len() => bytes[at] ^= 1,
         _ => {}
     }
-    holds_write(&KEY, &job, Seq(seq), 1, &bytes)
+    holds_write(&KEY, &rec, Seq(seq), 1, &bytes)
 }
 
 #[test]

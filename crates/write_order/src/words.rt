@@ -47,7 +47,8 @@ impl Words {
 
     /// Goes on by one word.
     pub fn advance(&mut self)
-        ensures { (seed n : ℕ) → self.old ≡ words_after seed n → self.new ≡ words_after seed (n + 1) }
+        ensures { (seed n : ℕ) → self.old ≡ words_after seed n → self.new
+            ≡ words_after seed (n + 1) }
     {
         let [_, second, third, fourth] = self.next;
         self.next = [second, third, fourth, self.generator.next_word()];

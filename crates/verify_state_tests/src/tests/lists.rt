@@ -40,7 +40,7 @@ fn possible_lists(rt: HostRuntime) -> Result<(), Fail> {
     Ok(())
 }
 
-/// Other bytes in the place of as many.
+/// Other bytes over as many.
 fn put(bytes: &mut Vec<u8>, at: usize, number: &[u8]) -> Result<(), Fail> {
     for (i, byte) in number.iter().enumerate() {
         *bytes.get_mut(at.saturating_add(i)).ok_or("a byte")? = *byte;

@@ -1,5 +1,6 @@
 use Rattle.std.proofs.Common.{◌≡◌, ℕ, ◌+◌, ◌*◌, List, ◌++◌, replicate, ◌∙◌, ap, arith}
 use Rattle.std.proofs.lemmas.List.{replicate-append-replicate}
+use Rattle.disk_model.specs.declared.run.TheConstants.{RUN_BYTES}
 use Rattle.disk_model.proofs.run.zero_bytes.Goals as goal
 
 pub loop-preserved : goal.loop-preserved
@@ -12,5 +13,5 @@ loop-preserved c =
 
 pub returns : goal.returns
 returns c =
-    let all : 512 * c.loop.counter ≡ 65536 = omega (arith, c.loop-test.false, c.loop.auto.counter-end) in
+    let all : 512 * c.loop.counter ≡ RUN_BYTES = omega (arith, c.loop-test.false, c.loop.auto.counter-end) in
     c.loop.invariant ∙ ap (λ n. replicate n 0) all

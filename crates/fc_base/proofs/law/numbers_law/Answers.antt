@@ -1,4 +1,4 @@
-use Rattle.fc_base.proofs.NumberLemmas.{length_numbers_below, has_numbers_below}
+use Rattle.fc_base.specs.NumberLaws.{length_numbers_below, has_numbers_below}
 use Rattle.fc_base.proofs.law.numbers_law.Goals as goal
 
 pub returns-clause-count : goal.returns-clause-count

@@ -6,7 +6,7 @@ use Rattle.recheck.proofs.whole_disk.check_disk.Goals as goal
 
 pub returns-then-ended : goal.returns-then-ended
 returns-then-ended g c =
-    let e = expected_by c.args.key c.args.job.now (option_copied c.args.state) in
+    let e = expected_by c.args.key c.args.rec.now (option_copied c.args.state) in
     let kept = c.loop-block.invariant in
     let step = c.in-Ok-check_block.ensures in
     let start = g.D.Disk.file c.args.disk.now in
@@ -22,7 +22,7 @@ returns-then-ended g c =
 
 pub loop-block-preserved : goal.loop-block-preserved
 loop-block-preserved g c =
-    let e = expected_by c.args.key c.args.job.now (option_copied c.args.state) in
+    let e = expected_by c.args.key c.args.rec.now (option_copied c.args.state) in
     let kept = c.loop-block.invariant in
     let step = c.in-Ok-check_block.ensures in
     let start = g.D.Disk.file c.args.disk.now in

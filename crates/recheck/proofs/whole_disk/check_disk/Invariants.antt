@@ -9,12 +9,12 @@ use Rattle.recheck.proofs.whole_disk.check_disk.Given as goal
 
 abbrev pub invariant-loop-block : goal.invariant-loop-block
 invariant-loop-block g l = record {
-  expected : l.check.expected ≡ expected_by l.fn.key l.fn.job (option_copied l.fn.state);
+  expected : l.check.expected ≡ expected_by l.fn.key l.fn.rec (option_copied l.fn.state);
   fatal : l.check.fatal ≡ l.fn.fatal;
   next : l.check.next ≤ l.block;
   unended : has_ended l.check ≡ false;
-  seen : HasSeen l.check (held_by (g.D.Disk.file l.fn.disk) l.fn.job) (range_with_len 0 l.block);
+  seen : HasSeen l.check (held_by (g.D.Disk.file l.fn.disk) l.fn.rec) (range_with_len 0 l.block);
   power : 0 < l.check.found.checked → IsSome (g.D.Disk.file l.fn.disk).power;
   file : g.D.Disk.file l.disk ≡ g.D.Disk.file l.fn.disk;
-  bytes : length l.bytes.items ≡ l.fn.job.bs;
+  bytes : length l.bytes.items ≡ l.fn.rec.bs;
 }

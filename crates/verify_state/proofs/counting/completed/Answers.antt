@@ -1,6 +1,6 @@
 use Rattle.std.proofs.Common.{◌≡◌, ◌+◌, length, arith}
 use Rattle.fc_base.specs.Marks.{floor_of, marked_count, counted_by}
-use Rattle.fc_base.proofs.CountedByLemmas.{length_counted_by, few_counted}
+use Rattle.fc_base.specs.CountLaws.{length_counted_by, few_counted}
 use Rattle.verify_state.proofs.counting.completed.Goals as goal
 
 sum_is : (c : goal.After-from) → c.floor_of.result + c.from.result ≡ length (counted_by c.args.window c.args.issued c.args.marks.now)

@@ -1,7 +1,7 @@
 use Rattle.std.proofs.Common.{◌≡◌, ◌<◌, ◌≤◌, ◌∙◌, ltb, false, true, refl, sym, subst}
 use Rattle.std.proofs.lemmas.Bool.{lt-ltb, le-ltb}
 use Rattle.fc_base.specs.Marks.{floor_of}
-use Rattle.fc_base.proofs.CountedByLemmas.{has_counted_by}
+use Rattle.fc_base.specs.CountLaws.{has_counted_by}
 use Rattle.verify_state.proofs.counting.counts.Goals as goal
 
 pub returns-then-number-issued : goal.returns-then-number-issued

@@ -3,7 +3,7 @@ use Rattle.std.specs.Cmp.Lexicographic.{bytes_decides}
 use Rattle.std.proofs.lemmas.Bool.Decides.{same_from_decides}
 use Rattle.fc_base.specs.Counted.{has}
 use Rattle.fc_base.specs.Marks.{floor_of, marks_of, counted_by}
-use Rattle.fc_base.proofs.CountedByLemmas.{marks_again}
+use Rattle.fc_base.specs.CountLaws.{marks_again}
 use Rattle.verify_state.proofs.counting.counts_alike.Goals as goal
 
 pub returns : goal.returns

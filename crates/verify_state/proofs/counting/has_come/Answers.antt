@@ -1,7 +1,7 @@
 use Rattle.std.proofs.Common.{◌≡◌, ◌∙◌, arith, sym, false, true, length, refl, eqb}
 use Rattle.std.proofs.lemmas.Bool.{le-leb, lt-leb}
 use Rattle.fc_base.specs.Counted.{counted, uncounted}
-use Rattle.fc_base.proofs.CountedByLemmas.{counted_and_uncounted}
+use Rattle.fc_base.specs.CountLaws.{counted_and_uncounted}
 use Rattle.verify_state.proofs.CountLemmas.{comes}
 use Rattle.verify_state.proofs.counting.has_come.Goals as goal
 
@@ -10,7 +10,7 @@ overflow_sub-issued c = omega (arith, counted_and_uncounted c.window-window.resu
 
 pub returns-then-issued-completed : goal.returns-then-issued-completed
 returns-then-issued-completed c =
-    let job = c.args.job.now in
+    let job = c.args.rec.now in
     let list = c.args.list.now in
     let issued = c.args.issued in
     let counts : c.listed-completed.result ≡ length (counted job.window issued list) = rw (← c.window-window.ensures.value) c.listed-completed.ensures in
@@ -23,7 +23,7 @@ returns-then-issued-completed c =
 
 pub returns-else-issued-completed : goal.returns-else-issued-completed
 returns-else-issued-completed c =
-    let job = c.args.job.now in
+    let job = c.args.rec.now in
     let list = c.args.list.now in
     let issued = c.args.issued in
     let counts : c.listed-completed.result ≡ length (counted job.window issued list) = rw (← c.window-window.ensures.value) c.listed-completed.ensures in

@@ -1,6 +1,6 @@
 use Rattle.std.proofs.Common.{◌≡◌, ◌+◌, arith, sym, length}
 use Rattle.fc_base.specs.Counted.{counted}
-use Rattle.fc_base.proofs.CountedByLemmas.{counted_and_uncounted}
+use Rattle.fc_base.specs.CountLaws.{counted_and_uncounted}
 use Rattle.verify_state.proofs.CountLemmas.{length_counted}
 use Rattle.verify_state.proofs.counting.listed.Goals as goal
 

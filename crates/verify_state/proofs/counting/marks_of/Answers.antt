@@ -2,8 +2,8 @@ use Rattle.std.proofs.Common.{◌≡◌, ◌∙◌, ◌+◌, ◌&&◌, ltb, sym,
 use Rattle.std.proofs.lemmas.List.{take_all}
 use Rattle.fc_base.specs.Counted.{has, counted}
 use Rattle.fc_base.specs.Marks.{floor_of, is_marked}
-use Rattle.fc_base.proofs.MarkLemmas.{none_marked, marks_from_bits}
-use Rattle.fc_base.proofs.CountedByLemmas.{listed_from_floor}
+use Rattle.fc_base.specs.MarkLaws.{none_marked, marks_from_bits}
+use Rattle.fc_base.specs.CountLaws.{listed_from_floor}
 use Rattle.verify_state.proofs.counting.marks_of.Goals as goal
 
 pub loop-seq-init : goal.loop-seq-init

@@ -12,4 +12,4 @@ returns c =
     let six = joined bytes _ c.to_be_bytes-5.result _ _ five c.in_ok-extend_from_slice-6.ensures.items in
     joined bytes _ c.to_be_bytes-6.result _ _ six c.in_ok-extend_from_slice-7.ensures.items
     ∙ rw (c.kind_code.ensures, c.kind.ensures, c.verify_code.ensures, c.verify.ensures, c.pattern.ensures, c.to_be_bytes.ensures, c.bs.ensures.value, c.to_be_bytes-2.ensures, c.blocks-2.ensures.value, c.to_be_bytes-3.ensures, c.total.ensures.value, c.to_be_bytes-4.ensures, c.seed.ensures, c.to_be_bytes-5.ensures, c.depth.ensures.value, c.to_be_bytes-6.ensures, c.window.ensures.value) refl
-    ∙ ap (λ xs. bytes ++ xs) (sym (job_bytes_are c.args.job.now))
+    ∙ ap (λ xs. bytes ++ xs) (sym (job_bytes_are c.args.rec.now))

@@ -1,6 +1,6 @@
 use Rattle.std.proofs.Common.{not}
 use Rattle.fc_base.specs.Counted.{has}
-use Rattle.fc_base.proofs.NumberLemmas.{has_filter}
+use Rattle.fc_base.specs.NumberLaws.{has_filter}
 use Rattle.window.specs.History.{failures, in_flight}
 use Rattle.window.proofs.HistoryLemmas.{has_in_flight, done_issued}
 use Rattle.window.proofs.law.sets_law.Goals as goal

@@ -35,7 +35,7 @@ invariant_of-self-2 c =
       depth = ap (λ (x : Kept). x.depth) left ∙ i.depth;
       window = ap (λ (x : Kept). x.window) left ∙ i.window;
       order = let same : c.fail.new.self.issued ≡ c.self.inside.window.issued = ap (λ (x : Kept). x.issued) left in rw same i.order;
-      open_writes = rw (c.close.ensures.items, i.open_writes, opened) (closed c.self.inside.job k c.self.inside.window.open_writes);
+      open_writes = rw (c.close.ensures.items, i.open_writes, opened) (closed c.self.inside.rec k c.self.inside.window.open_writes);
       few = rw opened (omega (arith, i.few, without_is_shorter k c.self.inside.window.open_writes));
       room = rw c.close.ensures.room i.room;
       none_failed = λ e. cc;

@@ -27,7 +27,7 @@ invariant_of-self c =
     let opened : c.issue-seq.new.self.open_writes ≡ a.window.open_writes ++ a.window.issued ∷ [] = ap (λ (x : Kept). x.open_writes) left in
     let flying : c.issue-seq.new.self.in_flight ≡ a.window.in_flight ++ a.window.issued ∷ [] = ap (λ (x : Kept). x.in_flight) left in
     let next : c.issue-seq.new.self.issued ≡ a.window.issued + 1 = ap (λ (x : Kept). x.issued) left in
-    let block_is : c.in-Write.ticket.block ≡ block_of a.job a.window.issued = ap (λ (t : Ticket). t.block) n.ticket_is in
+    let block_is : c.in-Write.ticket.block ≡ block_of a.rec a.window.issued = ap (λ (t : Ticket). t.block) n.ticket_is in
     let unfailed = (or_parts a.stopped a.failed n.runs).1 in
     let seq_is : c.issue-seq.result ≡ c.in-Write.ticket.seq = c.issue-seq.ensures.number ∙ sym (ap (λ (t : Ticket). t.seq) n.ticket_is) in
     let adds = subst (λ k. window.Adds a.window c.issue-seq.new.self (issue k)) seq_is c.issue-seq.ensures.added in
@@ -36,7 +36,7 @@ invariant_of-self c =
       key = i.key;
       depth = ap (λ (x : Kept). x.depth) left ∙ i.depth;
       window = ap (λ (x : Kept). x.window) left ∙ i.window;
-      order = c.advance.ensures ∙ ap (λ (o : Progress). later o.job (o.issued + 1)) i.order ∙ ap (later a.job) (sym next);
+      order = c.advance.ensures ∙ ap (λ (o : Progress). later o.job (o.issued + 1)) i.order ∙ ap (later a.rec) (sym next);
       open_writes = rw (c.push_reserved.ensures.items, i.open_writes, opened, map-append, c.issue-seq.ensures.number, block_is);
       few = let fewer = leb-false _ _ n.free in rw (opened, length_push, ← i.none_failed unfailed) (omega (arith, fewer));
       room = rw c.push_reserved.ensures.capacity i.room;

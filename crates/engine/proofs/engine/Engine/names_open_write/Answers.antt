@@ -16,7 +16,7 @@ returns-then-eq c =
     let is_asked = λ (w : OpenWrite). eqb w.seq ticket.seq && eqb w.block ticket.block in
     let seen =
     c.has_write.ensures ∙ ap (list_any is_asked) (c.deref.ensures.value ∙ c.self.invariant.open_writes)
-    ∙ any_write a.job ticket.seq ticket.block a.window.open_writes
+    ∙ any_write a.rec ticket.seq ticket.block a.window.open_writes
     in
     let named : names_one_of (origin_in a) a.window.open_writes ticket ≡ c.has_write.result = rw same (sym seen) in
     sym named ∙ ap (λ (r : Running). names_one_of r.origin r.kept.open_writes ticket) c.self.view_is

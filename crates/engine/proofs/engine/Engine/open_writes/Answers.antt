@@ -8,5 +8,5 @@ pub overflow_cast-result : goal.overflow_cast-result
 overflow_cast-result c =
     let i = c.self.invariant in
     let items : vec_len c.self.inside.open ≡ length c.self.inside.open.items = search rules in
-    let mapped = ap length i.open_writes ∙ length-map c.self.inside.window.open_writes (open_write c.self.inside.job) in
-    omega (arith, items, mapped, i.few, depth_limit c.self.inside.job i.limits)
+    let mapped = ap length i.open_writes ∙ length-map c.self.inside.window.open_writes (open_write c.self.inside.rec) in
+    omega (arith, items, mapped, i.few, depth_limit c.self.inside.rec i.limits)

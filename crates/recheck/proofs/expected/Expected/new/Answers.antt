@@ -7,7 +7,7 @@ use Rattle.recheck.proofs.expected.Expected.new.Goals.{then-counts, else-counts+
 
 pub loop-k-preserved : goal.loop-k-preserved
 loop-k-preserved c =
-    let job = c.args.job.now in
+    let job = c.args.rec.now in
     let state = option_copied c.args.state in
     let k = c.loop-k.k in
     let lt : k < job.total = omega (arith, c.loop-k-test.true, c.issued_in-k-end.ensures, c.requires) in
@@ -26,4 +26,4 @@ loop-k-preserved c =
 
 pub returns : goal.returns
 returns c =
-    gone_all c.args.key c.args.job.now (option_copied c.args.state) c.loop-k.k c.loop-k.last.items c.loop-k.in_flight.items (omega (arith, c.loop-k-test.false, c.loop-k.auto.k-end, c.issued_in-k-end.ensures)) c.loop-k.invariant.gone
+    gone_all c.args.key c.args.rec.now (option_copied c.args.state) c.loop-k.k c.loop-k.last.items c.loop-k.in_flight.items (omega (arith, c.loop-k-test.false, c.loop-k.auto.k-end, c.issued_in-k-end.ensures)) c.loop-k.invariant.gone

@@ -5,6 +5,6 @@ use Rattle.recheck.proofs.expected.Expected.new.Given as goal
 
 abbrev pub invariant-loop-k : goal.invariant-loop-k
 invariant-loop-k l = record {
-  order : l.order ≡ record { job = l.fn.job; issued = l.k };
-  gone : Gone l.fn.job (option_copied l.fn.state) l.k l.last.items l.in_flight.items;
+  order : l.order ≡ record { job = l.fn.rec; issued = l.k };
+  gone : Gone l.fn.rec (option_copied l.fn.state) l.k l.last.items l.in_flight.items;
 }

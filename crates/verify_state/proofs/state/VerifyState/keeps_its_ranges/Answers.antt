@@ -1,7 +1,7 @@
 use Rattle.std.proofs.Common.{◌≡◌, ℕ, ◌<◌, ◌^◌, true, ap, sym, subst}
 use Rattle.fc_base.specs.JobParts.{is_within_limits}
 use Rattle.fc_base.specs.Marks.{counted_by}
-use Rattle.fc_base.proofs.CountedByLemmas.{marks_again}
+use Rattle.fc_base.specs.CountLaws.{marks_again}
 use Rattle.verify_state.specs.Inside.{state_of_fields, ends}
 use Rattle.verify_state.specs.State.{IsState, has_come_by, marks_in}
 use Rattle.verify_state.proofs.state.VerifyState.keeps_its_ranges.Goals as goal

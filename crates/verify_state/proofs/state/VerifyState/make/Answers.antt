@@ -1,7 +1,7 @@
 use Rattle.std.proofs.Common.{◌≡◌, ◌∙◌, ◌≤◌, true, ap, sym, subst, List, ℕ}
 use Rattle.fc_base.specs.Counted.{has, counted}
 use Rattle.fc_base.specs.Marks.{floor_of, marks_of}
-use Rattle.fc_base.proofs.CountedByLemmas.{counted_as_listed}
+use Rattle.fc_base.specs.CountLaws.{counted_as_listed}
 use Rattle.verify_state.specs.State.{State, state_by, has_come}
 use Rattle.verify_state.proofs.PieceLemmas.{listed_come}
 use Rattle.verify_state.proofs.state.VerifyState.make.Goals as goal

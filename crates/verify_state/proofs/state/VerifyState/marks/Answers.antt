@@ -1,5 +1,5 @@
 use Rattle.std.proofs.Common.{◌∙◌, sym}
-use Rattle.fc_base.proofs.CountedByLemmas.{marks_again}
+use Rattle.fc_base.specs.CountLaws.{marks_again}
 use Rattle.verify_state.specs.Inside.{ends}
 use Rattle.verify_state.proofs.state.VerifyState.marks.Goals as goal
 

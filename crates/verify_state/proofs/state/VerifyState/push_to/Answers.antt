@@ -1,6 +1,6 @@
 use Rattle.std.proofs.Common.{◌≡◌, ◌∙◌, ap, sym}
 use Rattle.std.specs.Int.{w64, to_be_bytes}
-use Rattle.fc_base.proofs.CountedByLemmas.{marks_again}
+use Rattle.fc_base.specs.CountLaws.{marks_again}
 use Rattle.verify_state.specs.Inside.{state_of_fields, ends}
 use Rattle.verify_state.specs.Spelling.{words}
 use Rattle.verify_state.specs.State.{State, floor_in, marks_in}

@@ -17,17 +17,17 @@ invariant_of-self c =
     let more = subst More (sym c.self.view_is) c.requires in
     elim c.match-self.branch [
       | in-InTurn w ↦
-          let kind = in_turn_is o.job.kind _ (sym w.in-InTurn.is ∙ known.chooser) in
-          let used : words_used o.job.kind o.issued ≡ words_used o.job.kind (o.issued + 1) = rw kind refl in
-          let before : InTurn ≡ chooser_before o.job (o.issued + 1) = rw kind refl in
-          goes_on o next _ _ w.self-inside-is more (known.words ∙ ap (words_after o.job.seed) used) (w.in-InTurn.is ∙ before)
+          let kind = in_turn_is o.rec.kind _ (sym w.in-InTurn.is ∙ known.chooser) in
+          let used : words_used o.rec.kind o.issued ≡ words_used o.rec.kind (o.issued + 1) = rw kind refl in
+          let before : InTurn ≡ chooser_before o.rec (o.issued + 1) = rw kind refl in
+          goes_on o next _ _ w.self-inside-is more (known.words ∙ ap (words_after o.rec.seed) used) (w.in-InTurn.is ∙ before)
       | in-WithMap w ↦
-          let pass = pass_goes_on o.job o.issued _ o.words o.chooser _ _ w.in-WithMap.is known.chooser known.words w.first.ensures w.advance.ensures in
-          let words = random_words_go_on o.job o.issued o.words _ (λ n. all_used o.job.kind n (inl pass.0)) known.words w.advance-in-WithMap.ensures in
+          let pass = pass_goes_on o.rec o.issued _ o.words o.chooser _ _ w.in-WithMap.is known.chooser known.words w.first.ensures w.advance.ensures in
+          let words = random_words_go_on o.rec o.issued o.words _ (λ n. all_used o.rec.kind n (inl pass.0)) known.words w.advance-in-WithMap.ensures in
           goes_on o next _ _ w.self-inside-is more words pass.1
       | in-WithoutMap w ↦
-          let kind = without_map_is o.job.kind _ (sym w.in-WithoutMap.is ∙ known.chooser) in
-          let words = random_words_go_on o.job o.issued o.words _ (λ n. all_used o.job.kind n (inr kind)) known.words w.advance-in-WithoutMap.ensures in
-          let before : WithoutMap ≡ chooser_before o.job (o.issued + 1) = rw kind refl in
+          let kind = without_map_is o.rec.kind _ (sym w.in-WithoutMap.is ∙ known.chooser) in
+          let words = random_words_go_on o.rec o.issued o.words _ (λ n. all_used o.rec.kind n (inr kind)) known.words w.advance-in-WithoutMap.ensures in
+          let before : WithoutMap ≡ chooser_before o.rec (o.issued + 1) = rw kind refl in
           goes_on o next _ _ w.self-inside-is more words (w.in-WithoutMap.is ∙ before)
     ]

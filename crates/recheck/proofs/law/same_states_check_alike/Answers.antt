@@ -1,5 +1,5 @@
 use Rattle.std.proofs.Common.{refl}
-use Rattle.recheck.proofs.laws.same_states_check_alike.Goals as goal
+use Rattle.recheck.proofs.law.same_states_check_alike.Goals as goal
 
 pub returns : goal.returns
 returns c a b same fatal key job held blocks = rw (same.issued, same.counted) refl

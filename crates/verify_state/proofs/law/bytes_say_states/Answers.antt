@@ -1,5 +1,5 @@
 use Rattle.verify_state.proofs.PieceLemmas.{are_bytes, keeps, said_by_list}
-use Rattle.verify_state.proofs.laws.bytes_say_states.Goals as goal
+use Rattle.verify_state.proofs.law.bytes_say_states.Goals as goal
 
 pub returns-clause-says_a_state : goal.returns-clause-says_a_state
 returns-clause-says_a_state c = λ bytes fits e. keeps bytes (are_bytes bytes fits) e

@@ -1,6 +1,6 @@
 use Rattle.std.proofs.Common.{refl}
 use Rattle.verify_state.specs.Misfit.{misfit}
-use Rattle.verify_state.proofs.laws.same_states_fit_alike.Goals as goal
+use Rattle.verify_state.proofs.law.same_states_fit_alike.Goals as goal
 
 pub returns : goal.returns
 unfolding misfit

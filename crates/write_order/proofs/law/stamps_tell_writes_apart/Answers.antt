@@ -1,6 +1,6 @@
 use Rattle.std.proofs.Common.{sym, ap, ◌∙◌, take}
 use Rattle.write_order.proofs.LawLemmas.{block_limits, same_stamps, first_sector_is}
-use Rattle.write_order.proofs.laws.stamps_tell_writes_apart.Goals as goal
+use Rattle.write_order.proofs.law.stamps_tell_writes_apart.Goals as goal
 
 pub returns-clause-sectors : goal.returns-clause-sectors
 returns-clause-sectors c = same_stamps

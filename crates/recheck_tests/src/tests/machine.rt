@@ -8,20 +8,20 @@ use std::alloc::Global;
 use std::process::Abort;
 use std::test::Fail;
 
-/// A job that is being written to a disk.
+/// An engine that writes its job to a disk.
 #[derive(Drop)]
-struct History {
+struct Machine {
     given: Given,
     engine: Engine,
     disk: MemDisk,
 }
 
-impl History {
-    fn new(alloc: Global, given: Given) -> Result<History, Fail> {
+impl Machine {
+    fn new(alloc: Global, given: Given) -> Result<Machine, Fail> {
         if !given.key.is_key() {
             return Err("a key that a state can have".into());
         }
-        Ok(History {
+        Ok(Machine {
             engine: Engine::new(alloc, 1, given.key, &given.job)?,
             disk: given.disk(alloc, 0)?,
             given,
@@ -93,14 +93,14 @@ fn report_and_last_block(alloc: Global, sectors: u128) -> Result<(CheckReport, u
         total: 8,
         ..JOB
     })?;
-    let mut history = History::new(alloc, given)?;
-    history.write_pairs(alloc, 2)?;
-    let block = history.leave_two_open(alloc, sectors)?;
-    Ok((history.cut_and_check(alloc)?, block))
+    let mut machine = Machine::new(alloc, given)?;
+    machine.write_pairs(alloc, 2)?;
+    let block = machine.leave_two_open(alloc, sectors)?;
+    Ok((machine.cut_and_check(alloc)?, block))
 }
 
 #[test]
-fn history_whose_last_write_landed_or_did_not(rt: HostRuntime) -> Result<(), Fail> {
+fn the_last_write_landed_or_did_not(rt: HostRuntime) -> Result<(), Fail> {
     let (none, _) = report_and_last_block(rt.alloc(), 0)?;
     let (all, _) = report_and_last_block(rt.alloc(), 3)?;
     assert!(rt; tells(&none, 4, &[], ReportEnd::Whole) && tells(&all, 4, &[], ReportEnd::Whole));
@@ -108,7 +108,7 @@ fn history_whose_last_write_landed_or_did_not(rt: HostRuntime) -> Result<(), Fai
 }
 
 #[test]
-fn history_whose_last_write_was_torn(rt: HostRuntime) -> Result<(), Fail> {
+fn the_last_write_was_torn(rt: HostRuntime) -> Result<(), Fail> {
     let (torn, block) = report_and_last_block(rt.alloc(), 1)?;
     assert!(rt; tells(&torn, 4, &[block], ReportEnd::Whole));
     Ok(())

@@ -1,5 +1,5 @@
 use Rattle.recheck.proofs.LossLemmas.{faults_are_losses, holders_are_no_faults}
-use Rattle.recheck.proofs.laws.faults_are_losses.Goals as goal
+use Rattle.recheck.proofs.law.faults_are_losses.Goals as goal
 
 pub returns-clause-losses : goal.returns-clause-losses
 returns-clause-losses c = faults_are_losses
