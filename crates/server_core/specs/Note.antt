@@ -3,7 +3,7 @@ use Rattle.std.specs.Prelude.{◌≡◌, ◌⊎◌, ℕ, ◌<◌, ◌^◌, List,
 use Rattle.std.specs.Int.{w64, to_be_bytes}
 use Rattle.server_core.specs.declared.note.Noted.{Noted}
 
--- A mark, the boot and the last run.
+-- The magic, the boot and the last run.
 abbrev pub spelling : Noted → List ℕ
 spelling n = codes "FCN1" ++ (to_be_bytes w64 n.boot ++ to_be_bytes w64 n.last_run)
 

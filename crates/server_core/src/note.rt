@@ -7,7 +7,7 @@ ghost use Rattle.server_core.specs.Note.{spelling, Reads, SaysOneThing};
 use fc_base::RunNo;
 
 /// The bytes with which each note begins.
-const MARK: &[u8; 4] = b"FCN1";
+const MAGIC: &[u8; 4] = b"FCN1";
 
 /// How many bytes a note has, where it has any.
 const LENGTH: usize = 20;
@@ -27,7 +27,7 @@ impl Noted {
         ensures { result ≡ spelling self }
     {
         let mut bytes = [0; LENGTH];
-        bytes[..4].copy_from_slice(MARK);
+        bytes[..4].copy_from_slice(MAGIC);
         bytes[4..12].copy_from_slice(&self.boot.to_be_bytes());
         bytes[12..].copy_from_slice(&self.last_run.0.to_be_bytes());
         bytes
@@ -43,7 +43,7 @@ impl Noted {
                 last_run: RunNo(0),
             });
         }
-        let numbers = bytes.strip_prefix(MARK)?;
+        let numbers = bytes.strip_prefix(MAGIC)?;
         if numbers.len() != 16 {
             return None;
         }

@@ -29,9 +29,8 @@ const MAGIC: &[u8] = b"FCV2";
 /// whose it is, what it writes, how many writes were issued, where the generator stands, and which
 /// writes had completed by then. All below its [`floor`](VerifyState::floor) had, since the window
 /// holds a write back until they have; of the numbers from the floor on, which are at most a
-/// window, the [`marks`](VerifyState::marks) tell.
-///
-/// A state is a plain value: it is taken, copied and compared without memory.
+/// window, the [`marks`](VerifyState::marks) tell. A state is a plain value: it is taken, copied and
+/// compared without memory.
 #[derive(Clone, Copy, Debug)]
 pub struct VerifyState {
     key: Key,
@@ -228,8 +227,7 @@ impl VerifyState {
         check_fit(self, &key, rec)
     }
 
-    /// The name under which the state is stored: `s0-a-0-verify.state` for job 0, named `a`, of
-    /// server 0.
+    /// The name under which it is stored: `s0-a-0-verify.state` for job 0, named `a`, of server 0.
     pub fn label(&self, alloc: Global, name: &str) -> Result<String, AllocError>
         ensures { IfOk result (λ text. string_bytes text ≡ label self.now.key name.now) }
     {
@@ -254,8 +252,7 @@ impl VerifyState {
         Ok(bytes)
     }
 
-    /// Adds the bytes of the state, layout 2, to others. Where memory runs out, some of them may be
-    /// there.
+    /// Adds the bytes of the state, layout 2, to others. Where memory runs out, some may be there.
     #[tactic(auto, unfolding(crate::specs::Spelling::spelling))]
     pub fn push_to(&self, bytes: &mut Vec<u8>) -> Result<(), AllocError>
         ensures { OnOk result (bytes.new.items ≡ bytes.old.items ++ spelling self.now) }
@@ -270,12 +267,11 @@ impl VerifyState {
         Ok(())
     }
 
-    /// The state that these bytes are, in layout 1 or 2. It takes no memory. The first fault is
-    /// told, in this order: fewer than 100 bytes ([`Fault::StateShort`]), another magic than the
-    /// two layouts' ([`Fault::StateBadMagic`]), a field out of its range
-    /// ([`Fault::StateBadField`]), fewer bytes than the layout asks for, more
-    /// ([`Fault::StateTrailing`]), completions or marks to which no job can have come
-    /// ([`Fault::Impossible`]).
+    /// The state that these bytes are, in layout 1 or 2, without memory; or the first fault, in
+    /// this order: fewer than 100 bytes ([`Fault::StateShort`]), another magic than the two
+    /// layouts' ([`Fault::StateBadMagic`]), a field out of its range ([`Fault::StateBadField`]),
+    /// fewer bytes than the layout asks for, more ([`Fault::StateTrailing`]), completions or marks
+    /// to which no job can have come ([`Fault::Impossible`]).
     pub fn decode(bytes: &[u8]) -> Result<VerifyState, Fault>
         ensures { Answers result bytes.now }
     {
@@ -290,8 +286,7 @@ impl VerifyState {
         Ok(VerifyState::with_marks(key, &rec, issued, place, marks))
     }
 
-    /// What every state keeps: the ranges of its fields, and that some job can have come to it.
-    /// There is nothing to run.
+    /// The ranges that every state keeps, and that some job can have come to it. Nothing runs.
     pub fn keeps_its_ranges(&self)
         ensures { IsState self.now }
     {
