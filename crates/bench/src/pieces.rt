@@ -3,10 +3,9 @@
 
 use crate::rounds::{ROUNDS, median};
 use crate::trouble::Trouble;
-use fc_base::{RunNo, ServerNo};
+use fc_base::{MAX_TEXT, RunNo, ServerNo};
 use messages::{
-    Assembly, Body, Frame, Frames, Node, Packet, PacketParts, Piece, TEXT_LIMIT, Text,
-    decode_frame, frames_of,
+    Assembly, Body, Frame, Frames, Node, Packet, PacketParts, Piece, Text, decode_frame, frames_of,
 };
 use std::alloc::Global;
 use std::time::CpuClock;
@@ -43,10 +42,10 @@ pub fn measure<R: AllocGlobal + Print + CpuClock>(rt: &R) -> Result<(), Trouble>
     ];
     for (name, work) in works {
         let nanos = time(rt, &load, work)?;
-        println!(rt; "{name}: {nanos} ns for a text of {TEXT_LIMIT} bytes")?;
+        println!(rt; "{name}: {nanos} ns for a text of {MAX_TEXT} bytes")?;
     }
     let nanos = time_copy(rt)?;
-    println!(rt; "copy: {nanos} ns for {TEXT_LIMIT} bytes")?;
+    println!(rt; "copy: {nanos} ns for {MAX_TEXT} bytes")?;
     Ok(())
 }
 
@@ -63,7 +62,7 @@ fn make_load(alloc: Global) -> Result<Load, Trouble> {
 
 /// A packet with the longest text.
 fn packet(alloc: Global) -> Result<Packet, Trouble> {
-    let bytes = vec![in alloc; b'x'; TEXT_LIMIT]?;
+    let bytes = vec![in alloc; b'x'; MAX_TEXT]?;
     let Ok(text) = Text::make(bytes) else {
         return Err(Trouble::NoPacket);
     };
@@ -152,8 +151,8 @@ fn time_copy<R: AllocGlobal + CpuClock>(rt: &R) -> Result<u128, Trouble> {
 
 /// The time of one copy, in the mean of a round. Each copies other bytes.
 fn time_copies<R: AllocGlobal + CpuClock>(rt: &R) -> Result<u128, Trouble> {
-    let mut source = vec![in rt.alloc(); 0u8; TEXT_LIMIT]?;
-    let mut target = vec![in rt.alloc(); 1u8; TEXT_LIMIT]?;
+    let mut source = vec![in rt.alloc(); 0u8; MAX_TEXT]?;
+    let mut target = vec![in rt.alloc(); 1u8; MAX_TEXT]?;
     let start = rt.process_cpu_time()?;
     for time in 0..TIMES {
         let byte = (time % 251) as u8;

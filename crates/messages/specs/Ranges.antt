@@ -1,6 +1,7 @@
 -- The ranges of what a body says.
 use Rattle.std.specs.Prelude.{ℕ, ◌^◌, Bool, ◌&&◌, ◌==◌, nat_le, nat_lt, List, length}
 use Rattle.fc_base.specs.Report.{is_report}
+use Rattle.fc_base.specs.declared.limits.TheConstants.{MAX_JOBS, MAX_TEXT}
 use Rattle.verify_state.specs.State.{IsState}
 use Rattle.messages.specs.declared.body.Body.{Body}
 use Rattle.messages.specs.declared.body.Body.TheVariants.{Jobs, JobsOk, Start, Started, Trigger, State, NoState, StateAck, Stop, Stopped, Verify, WantState, Saved, NoSaved, Report, Refused}
@@ -24,11 +25,11 @@ is_attempt n = nat_le 1 n && is_word n
 
 -- A job file has 1 to 16 jobs.
 abbrev pub is_jobs : ℕ → Bool
-is_jobs n = nat_le 1 n && nat_le n 16
+is_jobs n = nat_le 1 n && nat_le n MAX_JOBS
 
 -- A job's number is below 16.
 abbrev pub is_job : ℕ → Bool
-is_job n = nat_lt n 16
+is_job n = nat_lt n MAX_JOBS
 
 -- A job is one of so many.
 abbrev pub is_job_of : ℕ → ℕ → Bool
@@ -36,7 +37,7 @@ is_job_of job jobs = is_jobs jobs && nat_lt job jobs
 
 -- A job file has at most 16,384 bytes.
 abbrev pub is_text : List ℕ → Bool
-is_text text = nat_le (length text) 16384
+is_text text = nat_le (length text) MAX_TEXT
 
 -- A refusal names a job, and how many there are, where a state didn't fit; else both are 0.
 abbrev pub is_job_refused : Reason → ℕ → ℕ → Bool

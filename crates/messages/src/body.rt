@@ -6,8 +6,8 @@ use crate::kind::PacketKind;
 use crate::piece::Tag;
 use crate::ranges::{is_attempt, is_job, is_job_of, is_jobs, is_refusal, is_run};
 use crate::refusal::{Act, Refusal};
-use crate::text::{TEXT_LIMIT, Text};
-use fc_base::{Attempt, CheckReport, JobNo, Key, RunNo, ServerNo};
+use crate::text::Text;
+use fc_base::{Attempt, CheckReport, JobNo, Key, MAX_TEXT, RunNo, ServerNo};
 use verify_state::VerifyState;
 
 /// What a packet says, by kind, before its ranges are checked: a packet's own body keeps them. Runs
@@ -142,7 +142,7 @@ impl Body {
         ensures { result ≡ is_body self.now }
     {
         match self {
-            Body::Jobs { run, text } => is_run(*run) && text.as_slice().len() <= TEXT_LIMIT,
+            Body::Jobs { run, text } => is_run(*run) && text.as_slice().len() <= MAX_TEXT,
             Body::JobsOk { run, jobs } => is_run(*run) && is_jobs(*jobs),
             Body::Start { run }
             | Body::Started { run }
@@ -153,7 +153,7 @@ impl Body {
             Body::NoState { run, job, jobs } => is_run(*run) && is_job_of(*job, *jobs),
             Body::StateAck { run, job } => is_run(*run) && is_job(*job),
             Body::Verify { run, attempt, text } => {
-                is_run(*run) && is_attempt(*attempt) && text.as_slice().len() <= TEXT_LIMIT
+                is_run(*run) && is_attempt(*attempt) && text.as_slice().len() <= MAX_TEXT
             }
             Body::Saved { attempt, .. } => is_attempt(*attempt),
             Body::WantState { run, attempt, job } | Body::NoSaved { run, attempt, job } => {

@@ -36,5 +36,5 @@ pub use piece_law::{
 };
 pub use reading::{decode, decode_frame};
 pub use refusal::{Act, Asked, Reason, Refusal};
-pub use text::{TEXT_LIMIT, Text};
+pub use text::Text;
 pub use writing::{encode, encode_frame};

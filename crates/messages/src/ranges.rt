@@ -4,10 +4,7 @@ ghost use Rattle.std.specs.Prelude.{◌≡◌};
 ghost use Rattle.messages.specs.Ranges.{is_word, is_run, is_attempt, is_jobs, is_job, is_job_of, is_job_refused, is_attempt_refused, is_refusal};
 
 use crate::refusal::{Asked, Reason, Refusal};
-use fc_base::{Attempt, JobNo, RunNo};
-
-/// How many jobs a file may have.
-const JOBS_LIMIT: u32 = 16;
+use fc_base::{Attempt, JobNo, MAX_JOBS, RunNo};
 
 /// Every number of eight bytes may go with a reason.
 fn is_value(value: u64) -> bool
@@ -31,13 +28,13 @@ pub(crate) fn is_attempt(attempt: Attempt) -> bool
 pub(crate) fn is_jobs(jobs: u32) -> bool
     ensures { result ≡ is_jobs jobs }
 {
-    1 <= jobs && jobs <= JOBS_LIMIT
+    1 <= jobs && jobs <= MAX_JOBS
 }
 
 pub(crate) fn is_job(job: JobNo) -> bool
     ensures { result ≡ is_job job }
 {
-    job.0 < JOBS_LIMIT
+    job.0 < MAX_JOBS
 }
 
 pub(crate) fn is_job_of(job: JobNo, jobs: u32) -> bool

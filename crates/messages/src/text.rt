@@ -2,11 +2,9 @@
 
 ghost use Rattle.std.specs.Prelude.{◌≡◌, ◌≤◌, Ok, Err, if◌then◌else◌, nat_le, length, IfOk};
 
+use fc_base::MAX_TEXT;
 use std::alloc::{AllocError, Global};
 use std::marker::Model;
-
-/// How many bytes a text may have.
-pub const TEXT_LIMIT: usize = 16_384;
 
 /// A job file, of any bytes: at most 16,384 of them.
 #[derive(Debug, Drop)]
@@ -16,20 +14,21 @@ pub struct Text {
 
 impl Model for Text {
     ghost use Rattle.std.specs.Prelude.{List, ℕ, ◌≤◌, length};
+    ghost use Rattle.fc_base.specs.declared.limits.TheConstants.{MAX_TEXT};
 
     ghost Value = { List ℕ };
 
     ghost view = { λ t. t.bytes.items };
 
-    ghost invariant = { λ t. length t.bytes.items ≤ 16384 };
+    ghost invariant = { λ t. length t.bytes.items ≤ MAX_TEXT };
 }
 
 impl Text {
     /// The text of these bytes; where they are too many, they come back.
     pub fn make(bytes: Vec<u8>) -> Result<Text, Vec<u8>>
-        ensures { result ≡ (if nat_le (length bytes.items) 16384 then Ok bytes.items else Err bytes) }
+        ensures { result ≡ (if nat_le (length bytes.items) MAX_TEXT then Ok bytes.items else Err bytes) }
     {
-        if bytes.len() <= TEXT_LIMIT {
+        if bytes.len() <= MAX_TEXT {
             Ok(Text { bytes })
         } else {
             Err(bytes)
@@ -38,7 +37,7 @@ impl Text {
 
     /// The text of a copy of these bytes.
     pub fn copied(alloc: Global, bytes: &[u8]) -> Result<Text, AllocError>
-        requires { length bytes.now ≤ 16384 }
+        requires { length bytes.now ≤ MAX_TEXT }
         ensures { IfOk result (λ text. text ≡ bytes.now) }
     {
         Ok(Text {
@@ -49,7 +48,7 @@ impl Text {
     /// The bytes.
     pub fn as_slice(&self) -> &[u8]
         ensures value { result.now ≡ self.now }
-        ensures range { length result.now ≤ 16384 }
+        ensures range { length result.now ≤ MAX_TEXT }
     {
         &self.bytes
     }
@@ -57,7 +56,7 @@ impl Text {
     /// The bytes, with the memory that they lie in.
     pub fn into_vec(self) -> Vec<u8>
         ensures value { result.items ≡ self }
-        ensures range { length result.items ≤ 16384 }
+        ensures range { length result.items ≤ MAX_TEXT }
     {
         let Text { bytes } = self;
         bytes

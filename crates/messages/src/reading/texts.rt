@@ -6,8 +6,8 @@ ghost use Rattle.messages.specs.Bodies.{Reads, body_at};
 use crate::body::Body;
 use crate::bytes::split_u64;
 use crate::ranges::{is_attempt, is_run};
-use crate::text::{TEXT_LIMIT, Text};
-use fc_base::{Attempt, Fault, RunNo};
+use crate::text::Text;
+use fc_base::{Attempt, Fault, MAX_TEXT, RunNo};
 use std::alloc::Global;
 
 pub(super) fn jobs(alloc: Global, bytes: &[u8]) -> Result<Body, Fault>
@@ -18,7 +18,7 @@ pub(super) fn jobs(alloc: Global, bytes: &[u8]) -> Result<Body, Fault>
     }
     let (run, text) = split_u64(bytes);
     let run = RunNo(run);
-    if !is_run(run) || text.len() > TEXT_LIMIT {
+    if !is_run(run) || text.len() > MAX_TEXT {
         return Err(Fault::FrameBadField);
     }
     match Text::copied(alloc, text) {
@@ -36,7 +36,7 @@ pub(super) fn verify(alloc: Global, bytes: &[u8]) -> Result<Body, Fault>
     let (run, rest) = split_u64(bytes);
     let (attempt, text) = split_u64(rest);
     let (run, attempt) = (RunNo(run), Attempt(attempt));
-    if !is_run(run) || !is_attempt(attempt) || text.len() > TEXT_LIMIT {
+    if !is_run(run) || !is_attempt(attempt) || text.len() > MAX_TEXT {
         return Err(Fault::FrameBadField);
     }
     match Text::copied(alloc, text) {
