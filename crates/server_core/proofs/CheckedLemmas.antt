@@ -1,18 +1,22 @@
 -- What is kept of a check, behind one more request.
-use Rattle.std.proofs.Common.{◌≡◌, ◌≢◌, refl, sym, ap, ◌∙◌, ℕ, Bool, true, false, ◌&&◌, ◌==◌, List, [], ◌∷◌, length, Option, None, Some}
+use Rattle.std.proofs.Common.{◌≡◌, ◌≢◌, refl, sym, ap, subst, ◌∙◌, ℕ, zero, suc, ◌≤◌, arith, Bool, true, false, ◌&&◌, ◌==◌, List, [], ◌∷◌, length, Option, None, Some}
 use Rattle.std.specs.Prelude.{if◌then◌else◌, set, slice_get}
+use Rattle.std.specs.Option.{option_map}
+use Rattle.std.proofs.lemmas.Option.{slice_get_past}
 use Rattle.std.proofs.lemmas.Bool.{and_parts, eqb-true, ne_eqb, eq-eqb}
 use Rattle.fc_base.specs.declared.fault.Fault.{Fault}
+use Rattle.fc_base.specs.declared.fault.Fault.TheVariants.{NotInFlight}
 use Rattle.fc_base.specs.declared.report.ReportParts.{ReportParts}
 use Rattle.job_file.specs.declared.job.Job.{Job}
 use Rattle.verify_state.specs.State.{State}
 use Rattle.verify_state.specs.Misfit.{misfit}
 use Rattle.server_core.specs.Request.{Request, ToHold, ToPassFully, ToReport}
-use Rattle.server_core.specs.Check.{Check, Progress, Wanting, Full, With, Refused, Done, held, passed, reported, progress_after}
-use Rattle.server_core.specs.KeptCheck.{CheckKept, check_kept, job_progress, is_wanting, wants_in, ready_in, judged, judged_of}
-use Rattle.server_core.specs.Answers.{is_ready}
+use Rattle.server_core.specs.Check.{Check, Progress, Wanting, Full, With, Refused, Done, held, passed, reported, progress_after, progress_at, progress_in, check_goes_on}
+use Rattle.server_core.specs.KeptCheck.{CheckKept, check_kept, job_progress, is_wanting, wants_in, ready_in, ready_now, with_progress, judged, judged_of}
+use Rattle.server_core.specs.Stands.{OpenIs}
+use Rattle.server_core.specs.Answers.{is_ready, is_attempt, refused_by}
 use Rattle.server_core.specs.Kept.{numbered}
-use Rattle.server_core.proofs.NumberedLemmas.{same_numbered, set_one, get_at}
+use Rattle.server_core.proofs.NumberedLemmas.{same_numbered, set_one, get_at, length-numbered}
 
 -- A check behind one more request.
 abbrev pub and_then : Check → Request → Check
@@ -37,18 +41,18 @@ one kept c x i p is others here =
 
 -- ---- a job that waits for its state
 
-if_in : {A : Type 0} (s t : Bool) (x y : A) → s ≡ true → t ≡ true → (if s && t then x else y) ≡ x
+pub if_in : {A : Type 0} (s t : Bool) (x y : A) → s ≡ true → t ≡ true → (if s && t then x else y) ≡ x
 if_in s t x y e f = rw (e, f) refl
 
-if_out : {A : Type 0} (s t : Bool) (x y : A) → t ≡ false → (if s && t then x else y) ≡ y
+pub if_out : {A : Type 0} (s t : Bool) (x y : A) → t ≡ false → (if s && t then x else y) ≡ y
 if_out true t x y e = rw e refl
 if_out false t x y e = refl
 
-not_same : (i j : ℕ) → j ≢ i → (i == j) ≡ false
+pub not_same : (i j : ℕ) → j ≢ i → (i == j) ≡ false
 not_same i j ne = ne_eqb i j (λ e. ne (sym e))
 
 -- What is there where a job waits.
-kept_at : (kept : CheckKept) (c : Check) (i : ℕ) (job : Job) → kept ≡ check_kept c → slice_get c.jobs i ≡ Some job → slice_get kept.progress i ≡ Some (job_progress c i job)
+pub kept_at : (kept : CheckKept) (c : Check) (i : ℕ) (job : Job) → kept ≡ check_kept c → slice_get c.jobs i ≡ Some job → slice_get kept.progress i ≡ Some (job_progress c i job)
 kept_at kept c i job is at = ap (λ (k : CheckKept). slice_get k.progress i) is ∙ get_at (job_progress c) c.jobs i job at
 
 wanting : (p : Progress) → is_wanting (Some p) ≡ true → p ≡ Wanting
@@ -58,7 +62,7 @@ wanting (With s) e = cc
 wanting (Refused v) e = cc
 wanting (Done r) e = cc
 
-waits : (kept : CheckKept) (c : Check) (i : ℕ) (job : Job) → kept ≡ check_kept c → is_wanting (slice_get kept.progress i) ≡ true → slice_get c.jobs i ≡ Some job → job_progress c i job ≡ Wanting
+pub waits : (kept : CheckKept) (c : Check) (i : ℕ) (job : Job) → kept ≡ check_kept c → is_wanting (slice_get kept.progress i) ≡ true → slice_get c.jobs i ≡ Some job → job_progress c i job ≡ Wanting
 waits kept c i job is w at = wanting (job_progress c i job) (ap is_wanting (sym (kept_at kept c i job is at)) ∙ w)
 
 -- What doesn't wait stays, whatever is made of it.
@@ -68,7 +72,7 @@ stays_if true false w p q e here same = refl
 stays_if true true w p q e here same = same (sym (here refl) ∙ e)
 
 -- Where no job waits in this attempt, a request for one changes nothing.
-unchanged : (kept : CheckKept) (c : Check) (a j i : ℕ) (job : Job) (q : Progress) → kept ≡ check_kept c → wants_in kept a j ≡ false → slice_get c.jobs i ≡ Some job → (is_wanting (Some (job_progress c i job)) ≡ false → q ≡ job_progress c i job)
+pub unchanged : (kept : CheckKept) (c : Check) (a j i : ℕ) (job : Job) (q : Progress) → kept ≡ check_kept c → wants_in kept a j ≡ false → slice_get c.jobs i ≡ Some job → (is_wanting (Some (job_progress c i job)) ≡ false → q ≡ job_progress c i job)
     → (if (a == c.attempt) && (j == i) then q else job_progress c i job) ≡ job_progress c i job
 unchanged kept c a j i job q is wants at same =
     stays_if (a == c.attempt) (j == i) (is_wanting (slice_get kept.progress j)) (job_progress c i job) q (ap (λ (k : CheckKept). (a == k.attempt) && is_wanting (slice_get kept.progress j)) (sym is) ∙ wants)
@@ -110,8 +114,8 @@ unready r (Done q) e = refl
 
 pub report_step : (kept : CheckKept) (c : Check) (b a j : ℕ) (r : ReportParts) → kept ≡ check_kept c → c.boot ≡ b → ready_in kept a j ≡ true → record kept { progress = set kept.progress j (Done r) } ≡ check_kept (and_then c (ToReport b a j r))
 report_step kept c b a j r is boot ok =
-    let p = and_parts (a == kept.attempt) (is_ready (slice_get kept.progress j)) ok in
-    let at : (a == c.attempt) ≡ true = ap (λ (k : CheckKept). a == k.attempt) (sym is) ∙ p.0 in
+    let p = and_parts (kept.attempt == a) (is_ready (slice_get kept.progress j)) ok in
+    let at : (a == c.attempt) ≡ true = eq-eqb a c.attempt (sym (eqb-true c.attempt a (ap (λ (k : CheckKept). k.attempt == a) (sym is) ∙ p.0))) in
     one kept c (ToReport b a j r) j (Done r) is (λ i job ne. if_far (b == c.boot) (a == c.attempt) (j == i) (reported r (job_progress c i job)) (job_progress c i job) (not_same j i ne))
     (λ job has_it. sym (if_near (b == c.boot) (a == c.attempt) (j == j) (reported r (job_progress c j job)) (job_progress c j job) (eq-eqb b c.boot (sym boot)) at (eq-eqb j j refl)
         ∙ ready r (job_progress c j job) (ap is_ready (sym (kept_at kept c j job is has_it)) ∙ p.1)))
@@ -122,17 +126,31 @@ report_step kept c b a j r is boot ok =
     if_near : (s t u : Bool) (x y : Progress) → s ≡ true → t ≡ true → u ≡ true → (if s && (t && u) then x else y) ≡ x
     if_near s t u x y e f g = rw (e, f, g) refl
 
-pub no_report : (kept : CheckKept) (c : Check) (b a j : ℕ) (r : ReportParts) → kept ≡ check_kept c → ((b == c.boot) && ready_in kept a j) ≡ false → kept ≡ check_kept (and_then c (ToReport b a j r))
-no_report kept c b a j r is no_one =
-    idle kept c (ToReport b a j r) is (λ i job at. still (b == c.boot) (a == c.attempt) (j == i) (is_ready (slice_get kept.progress j)) (job_progress c i job)
-    (ap (λ (k : CheckKept). (b == c.boot) && ((a == k.attempt) && is_ready (slice_get kept.progress j))) (sym is) ∙ no_one)
-    (λ e. ap (λ n. is_ready (slice_get kept.progress n)) (eqb-true j i e) ∙ ap is_ready (kept_at kept c i job is at)))
+none_at : (f : ℕ → Job → Progress) (jobs : List Job) (i : ℕ) → slice_get jobs i ≡ None → slice_get (numbered f 0 jobs) i ≡ None
+none_at f jobs i e = slice_get_past (numbered f 0 jobs) i (subst (λ n. n ≤ i) (sym (length-numbered f 0 jobs)) (past jobs i e))
   where
-    still : (s t u v : Bool) (p : Progress) → (s && (t && v)) ≡ false → (u ≡ true → v ≡ is_ready (Some p)) → (if s && (t && u) then reported r p else p) ≡ p
-    still false t u v p e f = refl
-    still true false u v p e f = refl
-    still true true false v p e f = refl
-    still true true true v p e f = unready r p (sym (f refl) ∙ e)
+    past : (js : List Job) (n : ℕ) → slice_get js n ≡ None → length js ≤ n
+    past [] n e = omega arith
+    past (job ∷ js) zero e = cc
+    past (job ∷ js) (suc n) e = let le = past js n e in omega (arith, le)
+
+pub progress_kept : (kept : CheckKept) (c : Check) (i : ℕ) (o : Option Job) → kept ≡ check_kept c → slice_get c.jobs i ≡ o → slice_get kept.progress i ≡ progress_at c i o
+progress_kept kept c i None is e = ap (λ (k : CheckKept). slice_get k.progress i) is ∙ none_at (job_progress c) c.jobs i e
+progress_kept kept c i (Some job) is e = kept_at kept c i job is e
+
+pub ready_is : (me now_boot : ℕ) (kept : Option CheckKept) (c : Option Check) (a j : ℕ) → OpenIs me now_boot kept c → ready_now kept a j ≡ (is_attempt a c && is_ready (progress_in c j))
+ready_is me now_boot None None a j h = refl
+ready_is me now_boot (Some kept) (Some c) a j h =
+    ap (λ p. (kept.attempt == a) && is_ready p) (progress_kept kept c j (slice_get c.jobs j) h.is refl) ∙ ap (λ (k : CheckKept). (k.attempt == a) && is_ready (progress_at c j (slice_get c.jobs j))) h.is
+ready_is me now_boot None (Some c) a j h = absurd h
+ready_is me now_boot (Some kept) None a j h = absurd h
+
+pub report_kept : (me now_boot : ℕ) (kept : Option CheckKept) (c : Option Check) (a j : ℕ) (r : ReportParts) → OpenIs me now_boot kept c → ready_now kept a j ≡ true
+    → OpenIs me now_boot (option_map (with_progress j (Done r)) kept) (check_goes_on (ToReport now_boot a j r) c)
+report_kept me now_boot None None a j r h ok = tt
+report_kept me now_boot (Some kept) (Some c) a j r h ok = record { is = report_step kept c now_boot a j r h.is h.boot_is ok; server = h.server; boot_is = h.boot_is }
+report_kept me now_boot None (Some c) a j r h ok = absurd h
+report_kept me now_boot (Some kept) None a j r h ok = absurd h
 
 -- ---- a state
 
@@ -157,9 +175,10 @@ hold_step kept c a state p is h =
         some_is : {x : Progress} → Some x ≡ Some p → x ≡ p
         some_is e = cc
 
-held_stays : (m : Option Fault) (state : State) (p : Progress) → is_wanting (Some p) ≡ false → held m state p ≡ p
-held_stays m state Wanting e = cc
-held_stays m state Full e = refl
-held_stays m state (With s) e = refl
-held_stays m state (Refused v) e = refl
-held_stays m state (Done q) e = refl
+-- ---- a report that comes
+
+pub report_refused : (s t : Bool) → s ≡ true → t ≡ false → refused_by s t ≡ Some NotInFlight
+report_refused s t e f = rw (e, f) refl
+
+pub report_taken : (s t : Bool) → s ≡ true → t ≡ true → refused_by s t ≡ None
+report_taken s t e f = rw (e, f) refl

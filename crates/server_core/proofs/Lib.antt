@@ -38,3 +38,4 @@ pub mod CheckedLemmas
 pub mod CheckFrameLemmas
 pub mod IdleLemmas
 pub mod TextLemmas
+pub mod HeldChecks

@@ -1,5 +1,5 @@
 -- What a server keeps of its open check.
-use Rattle.std.specs.Prelude.{◌≡◌, ℕ, ◌==◌, ◌&&◌, Bool, true, false, List, ◌∷◌, Option, Some, None, length, slice_get, if◌then◌else◌}
+use Rattle.std.specs.Prelude.{◌≡◌, ℕ, ◌==◌, ◌&&◌, Bool, true, false, List, ◌∷◌, Option, Some, None, length, nat_lt, set, slice_get, if◌then◌else◌}
 use Rattle.fc_base.specs.Fault.{number_of}
 use Rattle.job_file.specs.declared.job.Job.{Job}
 use Rattle.messages.specs.declared.refusal.Refusal.{Refusal}
@@ -65,7 +65,12 @@ wants_in kept attempt job = (attempt == kept.attempt) && is_wanting (slice_get k
 
 -- The check of the job may be made, in this attempt.
 abbrev pub ready_in : CheckKept → ℕ → ℕ → Bool
-ready_in kept attempt job = (attempt == kept.attempt) && is_ready (slice_get kept.progress job)
+ready_in kept attempt job = (kept.attempt == attempt) && is_ready (slice_get kept.progress job)
+
+-- The same of the open check, if there is one.
+abbrev pub ready_now : Option CheckKept → ℕ → ℕ → Bool
+ready_now None attempt job = false
+ready_now (Some kept) attempt job = ready_in kept attempt job
 
 -- What a state makes of its job, which waits for one: it is held where it fits, and else refused.
 abbrev pub judged_of : ℕ → ℕ → State → Option Job → Option Progress
@@ -89,3 +94,17 @@ misfit_of kept j value = record {
   attempt = kept.attempt;
   value = value;
 }
+
+-- The same of the open check, if there is one.
+abbrev pub judged_now : ℕ → Option CheckKept → ℕ → State → Option Progress
+judged_now me None attempt state = None
+judged_now me (Some kept) attempt state = judged me kept attempt state
+
+-- The open check has a job with this number.
+abbrev pub has_job : Option CheckKept → ℕ → Bool
+has_job None j = false
+has_job (Some kept) j = nat_lt j (length kept.progress)
+
+-- A check where it is noted how far a job is.
+abbrev pub with_progress : ℕ → Progress → CheckKept → CheckKept
+with_progress j p kept = record kept { progress = set kept.progress j p }

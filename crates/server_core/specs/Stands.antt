@@ -1,5 +1,5 @@
 -- What a server keeps of its words.
-use Rattle.std.specs.Prelude.{◌≡◌, ◌⊎◌, ℕ, Bool, true, List, ◌∷◌, Option, Some, None, Result, Ok, Err}
+use Rattle.std.specs.Prelude.{◌≡◌, ◌⊎◌, ℕ, Bool, true, List, [], ◌∷◌, Option, Some, None, Result, Ok, Err}
 use Rattle.std.specs.declared.alloc.AllocError.{AllocError}
 use Rattle.fc_base.specs.declared.fault.Fault.{Fault}
 use Rattle.fc_base.specs.declared.fault.Fault.TheVariants.{NoMemory}
@@ -21,9 +21,10 @@ use Rattle.server_core.specs.Laws.{IsSet}
 use Rattle.server_core.specs.Request.{Request}
 use Rattle.server_core.specs.Run.{Work, goes_on}
 use Rattle.server_core.specs.Words.{Staged, stages, greater}
-use Rattle.server_core.specs.Check.{Check, opens, check_goes_on, or_opened}
-use Rattle.server_core.specs.Replies.{Now, replies}
-use Rattle.server_core.specs.Framed.{framed}
+use Rattle.server_core.specs.Replies.{progress_frame}
+use Rattle.server_core.specs.Check.{Check, Progress, opens, check_goes_on, or_opened}
+use Rattle.server_core.specs.Replies.{Now}
+use Rattle.server_core.specs.Answers.{refusal_of}
 use Rattle.server_core.specs.Kept.{Kept, RunIs}
 use Rattle.server_core.specs.KeptCheck.{CheckKept, check_kept}
 
@@ -91,9 +92,10 @@ abbrev pub unless : Option Fault → Result (Unit {0}) Fault
 unless None = Ok tt
 unless (Some fault) = Err fault
 
--- These bodies are sent.
-abbrev pub Sends : Now → List Body → List (List ℕ) → Type 0
-Sends now bodies frames = frames ≡ framed now.server bodies
+-- An answer to a request: it isn't refused, or memory ran out, or it is refused for that reason.
+abbrev pub IsAnswer : {A : Type 0} → Now → Request → Result A Fault → Type 0
+IsAnswer now x (Ok _) = refusal_of now x ≡ None
+IsAnswer now x (Err fault) = (fault ≡ NoMemory) ⊎ (refusal_of now x ≡ Some fault)
 
 -- The request is of a run, and names no attempt.
 abbrev pub IsOfRun : Asked → Type 0
@@ -127,3 +129,8 @@ told fault = fault_of fault
 -- P holds of each open check that is kept so.
 abbrev pub EachOpen : Option CheckKept → (ℕ → ℕ → Option Check → Type 0) → Type 0
 EachOpen kept P = (me now_boot : ℕ) (c : Option Check) → OpenIs me now_boot kept c → P me now_boot c
+
+-- What is said of a job of the open check that is so far; nothing, where none is open.
+abbrev pub frame_now : ℕ → Progress → Option Check → List Body
+frame_now j p None = []
+frame_now j p (Some c) = progress_frame c j p

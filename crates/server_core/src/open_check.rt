@@ -84,7 +84,7 @@ impl OpenCheck {
     pub fn is_ready(&self, attempt: Attempt, job: JobNo) -> bool
         ensures { result ≡ ready_in self.now attempt job }
     {
-        attempt == self.attempt
+        self.attempt == attempt
             && matches!(
                 self.progress(job),
                 Some(Progress::Full | Progress::With(_))

@@ -33,7 +33,7 @@ impl OpenCheck {
 
     /// What is said of a job whose check is so far.
     pub(crate) fn body_of(&self, job: JobNo, progress: &Progress) -> Option<Body>
-        requires { job < length self.now.jobs }
+        requires { job < length self.now.progress }
         ensures value { EachCheck self.now (λ c.
             listed result ≡ progress_frame c job (progress_of progress.now)) }
         ensures range { MatchOption result (Unit {0}) (λ body. IsTrue (is_body body)) }

@@ -1,0 +1,49 @@
+-- What a client that stands for a list knows of it.
+use Rattle.std.proofs.Common.{◌≡◌, refl, sym, ◌∙◌, ap, subst, ℕ, Bool, true, false, ◌&&◌, List, Option, None, Some}
+use Rattle.std.specs.Prelude.{not, is_none, is_some}
+use Rattle.fc_base.specs.declared.fault.Fault.{Fault}
+use Rattle.messages.specs.declared.packet.PacketParts.{PacketParts}
+use Rattle.client_core.specs.declared.call.Call.TheVariants.{Deliver}
+use Rattle.client_core.specs.declared.client.Client.{Client}
+use Rattle.disk_model.specs.Notes.{Note}
+use Rattle.client_core.specs.Stands.{StandsFor}
+use Rattle.client_core.specs.declared.noted.Noted.{Noted}
+use Rattle.client_core.specs.History.{Opening, Entry}
+use Rattle.client_core.specs.Refusals.{refusal_by}
+use Rattle.client_core.specs.Saves.{Addition, addition_by, unless_refused, due_by}
+use Rattle.client_core.specs.Words.{is_on, noted, would_save}
+use Rattle.client_core.proofs.Looked.{looks_at_all}
+
+both : (r : Option Fault) (a : Option Addition) → (is_none r && is_some a) ≡ is_some (unless_refused r a)
+both None a = refl
+both (Some f) a = refl
+
+would_by : (on : Bool) (servers : ℕ) (n m : Noted) (p : PacketParts) → (on ≡ true → m ≡ n) → (is_none (refusal_by on servers m (Deliver p)) && is_some (addition_by m p.body)) ≡ is_some (due_by on servers n (Deliver p))
+would_by true servers n m p e =
+    subst (λ x. (is_none (refusal_by true servers x (Deliver p)) && is_some (addition_by x p.body)) ≡ is_some (due_by true servers n (Deliver p))) (sym (e refl)) (both (refusal_by true servers n (Deliver p)) (addition_by n p.body))
+would_by false servers n m p e = refl
+
+not_not : (b : Bool) → not (not b) ≡ b
+not_not true = refl
+not_not false = refl
+
+pub stands_on : {T : Type 0} (note : T → Note) (client : Client T) (o : Opening) (past : List Entry) → StandsFor note client o past → not client.down ≡ is_on past
+stands_on note client o past s = ap not s.on ∙ not_not (is_on past)
+
+pub stands_known : {T : Type 0} (note : T → Note) (client : Client T) (o : Opening) (past : List Entry) → StandsFor note client o past → is_on past ≡ true → client.noted ≡ noted o past
+stands_known note client o past s on = s.knows ∙ ap (noted o) (looks_at_all past on)
+
+pub stands_would : {T : Type 0} (note : T → Note) (client : Client T) (o : Opening) (past : List Entry) (p : PacketParts) → StandsFor note client o past
+    → (is_none (refusal_by (not client.down) client.servers client.noted (Deliver p)) && is_some (addition_by client.noted p.body)) ≡ would_save o past (Deliver p)
+stands_would note client o past p s =
+    ap (λ on. is_none (refusal_by on client.servers client.noted (Deliver p)) && is_some (addition_by client.noted p.body)) (stands_on note client o past s)
+    ∙ (ap (λ n. is_none (refusal_by (is_on past) n client.noted (Deliver p)) && is_some (addition_by client.noted p.body)) s.servers
+    ∙ would_by (is_on past) o.servers (noted o past) client.noted p (stands_known note client o past s))
+
+pub none_if : (r : Option Fault) → is_some r ≡ false → is_none r ≡ true
+none_if None h = refl
+none_if (Some f) h = cc
+
+pub some_if : (r : Option Fault) → is_some r ≡ true → is_none r ≡ false
+some_if None h = cc
+some_if (Some f) h = refl

@@ -1,0 +1,66 @@
+-- What holds of each element of a list.
+use Rattle.std.proofs.Common.{◌≡◌, refl, ◌⊎◌, inl, inr, ℕ, zero, suc, ◌+◌, ◌<◌, ◌≤◌, arith, Bool, true, false, List, [], ◌∷◌, ◌++◌}
+use Rattle.std.specs.Prelude.{if◌then◌else◌, map, Contains}
+use Rattle.std.specs.List.{AllByRecursion, flat_map, range_with_len}
+use Rattle.std.proofs.lemmas.List.Elements.{All-contains, All-from_recursion, Contains-append_right, Contains-append_cases, Contains-push_cases}
+use Rattle.fc_base.specs.Counted.{numbers_below}
+
+pub all_append : {X : Type 0} (P : X → Type 0) (xs ys : List X) → AllByRecursion P xs → AllByRecursion P ys → AllByRecursion P (xs ++ ys)
+all_append P [] ys a b = b
+all_append P (x ∷ xs) ys a b = (a.0, all_append P xs ys a.1 b)
+
+pub all_flat : {X Y : Type 0} (P : Y → Type 0) (f : X → List Y) (xs : List X) → ((x : X) → AllByRecursion P (f x)) → AllByRecursion P (flat_map f xs)
+all_flat P f [] h = tt
+all_flat P f (x ∷ xs) h = all_append P (f x) (flat_map f xs) (h x) (all_flat P f xs h)
+
+pub all_map : {X Y : Type 0} (P : Y → Type 0) (f : X → Y) (xs : List X) → ((x : X) → P (f x)) → AllByRecursion P (map f xs)
+all_map P f [] h = tt
+all_map P f (x ∷ xs) h = (h x, all_map P f xs h)
+
+pub all_weaker : {X : Type 0} (P Q : X → Type 0) (xs : List X) → ((x : X) → P x → Q x) → AllByRecursion P xs → AllByRecursion Q xs
+all_weaker P Q [] f a = tt
+all_weaker P Q (x ∷ xs) f a = (f x a.0, all_weaker P Q xs f a.1)
+
+pub all_if : {X : Type 0} (P : X → Type 0) (b : Bool) (xs : List X) → AllByRecursion P xs → AllByRecursion P (if b then xs else [])
+all_if P true xs a = a
+all_if P false xs a = tt
+
+pub flat_of : {X Y : Type 0} (Q : X → Type 0) (P : Y → Type 0) (f : X → List Y) (xs : List X) → AllByRecursion Q xs → ((x : X) → Q x → AllByRecursion P (f x)) → AllByRecursion P (flat_map f xs)
+flat_of Q P f [] a h = tt
+flat_of Q P f (x ∷ xs) a h = all_append P (f x) (flat_map f xs) (h x a.0) (flat_of Q P f xs a.1 h)
+
+pub map_of : {X Y : Type 0} (Q : X → Type 0) (P : Y → Type 0) (f : X → Y) (xs : List X) → AllByRecursion Q xs → ((x : X) → Q x → P (f x)) → AllByRecursion P (map f xs)
+map_of Q P f [] a h = tt
+map_of Q P f (x ∷ xs) a h = (h x a.0, map_of Q P f xs a.1 h)
+
+pub all_where : {X : Type 0} (P : X → Type 0) (b : Bool) (xs : List X) → (b ≡ true → AllByRecursion P xs) → AllByRecursion P (if b then xs else [])
+all_where P true xs f = f refl
+all_where P false xs f = tt
+
+-- the numbers below n, and those from a on
+pub all_below : (n m : ℕ) → n ≤ m → AllByRecursion (λ x. x < m) (numbers_below n)
+all_below zero m l = tt
+all_below (suc n) m l = all_append (λ x. x < m) (numbers_below n) (n ∷ []) (all_below n m (omega arith)) (omega arith, tt)
+
+pub all_from : (a n : ℕ) → AllByRecursion (λ r. (a ≤ r) × (r < a + n)) (range_with_len a n)
+all_from a zero = tt
+all_from a (suc n) =
+    ((omega arith, omega arith), all_weaker (λ r. (a + 1 ≤ r) × (r < (a + 1) + n)) (λ r. (a ≤ r) × (r < a + suc n)) (range_with_len (a + 1) n) (λ r h. (let p = h.0 in omega arith, let p = h.1 in omega arith)) (all_from (a + 1) n))
+
+pub each_of : {X : Type 0} (P : X → Type 0) (xs : List X) (x : X) → AllByRecursion P xs → Contains xs x → P x
+each_of P xs x a h = All-contains P xs x (All-from_recursion P xs a) h
+
+pub none_in : {X : Type 0} (x : X) → Contains [] x → ⊥
+none_in x h = omega (arith, h.1)
+
+pub behind_one : {X : Type 0} (y : X) (xs : List X) (x : X) → Contains xs x → Contains (y ∷ xs) x
+behind_one y xs x h = Contains-append_right (y ∷ []) xs x h
+
+pub first_of : {X : Type 0} (x : X) (xs : List X) → Contains (x ∷ xs) x
+first_of x xs = (0, omega arith, refl)
+
+pub first_or_behind : {X : Type 0} (y : X) (xs : List X) (x : X) → Contains (y ∷ xs) x → (y ≡ x) ⊎ Contains xs x
+first_or_behind y xs x h = elim (Contains-append_cases (y ∷ []) xs x h) [ inl a ↦ inl (only y x a) | inr b ↦ inr b ]
+  where
+    only : {X : Type 0} (y x : X) → Contains (y ∷ []) x → y ≡ x
+    only y x h = elim (Contains-push_cases [] y x h) [ inl i ↦ absurd (none_in x i) | inr e ↦ e ]

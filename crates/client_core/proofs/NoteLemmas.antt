@@ -1,0 +1,170 @@
+-- What the bytes of a note say.
+use Rattle.std.proofs.Common.{◌≡◌, refl, sym, ◌∙◌, ap, subst, ◌⊎◌, inl, inr, ℕ, ◌-◌, ◌<◌, ◌≤◌, arith, true, false, ◌==◌, List, [], ◌∷◌, ◌++◌, length, None, Some, take, drop}
+use Rattle.std.specs.Prelude.{◌^◌, map, bytes_eq, codes}
+use Rattle.std.specs.List.{AllByRecursion, flat_map}
+use Rattle.std.specs.Int.{w32, w64, to_be_bytes, from_be_bytes}
+use Rattle.std.proofs.lemmas.List.{length-map, take-append-drop, length-take-le, length-drop}
+use Rattle.std.proofs.lemmas.Nat.{from_be_bytes-to_be_bytes_4, from_be_bytes-to_be_bytes_8, be_bytes_8, be_bytes_4}
+use Rattle.std.proofs.lemmas.Slice.Eq.{bytes_eq-Decides}
+use Rattle.verify_state.specs.State.{State, IsState}
+use Rattle.client_core.specs.Kept.{has_distinct_keys}
+use Rattle.client_core.specs.declared.noted.Noted.{Noted}
+use Rattle.client_core.specs.Note.{blank, counted_bytes, note_of, spelling, IsNoted, SayStates, Spells, Says, SaysOneThing, SaysWhatIsWritten}
+use Rattle.client_core.specs.Reading.{states_at, ReadsStates}
+use Rattle.client_core.specs.Words.{kept}
+use Rattle.std.proofs.lemmas.List.Folds.{flat_map-map}
+use Rattle.verify_state.specs.Spelling.{spelling as state_bytes}
+use Rattle.verify_state.specs.Laws.{SaysAState, ReadsBack}
+use Rattle.client_core.proofs.ReadingLemmas.{AreBytes, as_many, dropped, states_read, states_sound, taken}
+
+-- what stands behind the mark, the runs, the attempts and the number of states
+abbrev pub after_mark : List ℕ → List ℕ
+after_mark bytes = drop 4 bytes
+
+abbrev pub after_runs : List ℕ → List ℕ
+after_runs bytes = drop 8 (after_mark bytes)
+
+abbrev pub after_attempts : List ℕ → List ℕ
+after_attempts bytes = drop 8 (after_runs bytes)
+
+-- what bytes that aren't empty have to be, so as to say a note
+pub record IsRead (bytes : List ℕ) (n : Noted) : Type 0 where
+  pub mark : take 4 bytes ≡ codes "FCC1"
+  pub long : 24 ≤ length bytes
+  pub runs : from_be_bytes w64 (take 8 (after_mark bytes)) ≡ n.runs
+  pub attempts : from_be_bytes w64 (take 8 (after_runs bytes)) ≡ n.attempts
+  pub count : from_be_bytes w32 (take 4 (after_attempts bytes)) ≡ length n.kept
+  pub states : states_at (length n.kept) (drop 4 (after_attempts bytes)) ≡ Some n.kept
+
+spelled_read : (n : Noted) (parts : List (List ℕ)) → IsNoted n → SayStates parts n.kept → IsRead (note_of n.runs n.attempts parts) n
+unfolding note_of
+spelled_read n parts k h =
+    let l : length parts ≡ length n.kept = as_many parts n.kept h in
+    let few : length n.kept ≤ 1024 = k.count in
+    let small : length parts < 2 ^ 32 = omega arith in
+    record {
+      mark = refl;
+      long = omega arith;
+      runs = from_be_bytes-to_be_bytes_8 n.runs k.runs;
+      attempts = from_be_bytes-to_be_bytes_8 n.attempts k.attempts;
+      count = from_be_bytes-to_be_bytes_4 (length parts) small ∙ l;
+      states = subst (λ m. states_at m (flat_map counted_bytes parts) ≡ Some n.kept) l (states_read parts n.kept h);
+    }
+
+pub says_read : (bytes : List ℕ) (n : Noted) → Says bytes n → (bytes ≡ [] → ⊥) → IsRead bytes n
+says_read bytes n s some = by s.spelled
+  where
+    by : Spells bytes n ⊎ ((bytes ≡ []) × (n ≡ blank)) → IsRead bytes n
+    by (inl a) = subst (λ l. IsRead l n) (sym a.spelled) (spelled_read n a.parts s.note a.states)
+    by (inr a) = absurd (some a.0)
+
+-- no note but the blank one is empty
+not_empty : (runs attempts : ℕ) (parts : List (List ℕ)) → note_of runs attempts parts ≡ [] → ⊥
+unfolding note_of
+not_empty runs attempts parts e = cc
+
+blank_by : (bytes : List ℕ) (n : Noted) → bytes ≡ [] → Spells bytes n ⊎ ((bytes ≡ []) × (n ≡ blank)) → n ≡ blank
+blank_by bytes n e (inl a) = absurd (not_empty n.runs n.attempts a.parts (sym a.spelled ∙ e))
+blank_by bytes n e (inr a) = a.1
+
+pub says_blank : (n : Noted) → Says [] n → n ≡ blank
+says_blank n s = blank_by [] n refl s.spelled
+
+same_noted : (bytes : List ℕ) (n m : Noted) → IsRead bytes n → IsRead bytes m → n ≡ m
+same_noted bytes n m a b =
+    let r : n.runs ≡ m.runs = sym a.runs ∙ b.runs in
+    let t : n.attempts ≡ m.attempts = sym a.attempts ∙ b.attempts in
+    let c : length n.kept ≡ length m.kept = sym a.count ∙ b.count in
+    let s : Some n.kept ≡ Some m.kept = sym a.states ∙ (ap (λ k. states_at k (drop 4 (after_attempts bytes))) c ∙ b.states) in
+    let k : n.kept ≡ m.kept = cc in
+    λ i. record { runs = r i; attempts = t i; kept = k i }
+
+pub one_note : SaysOneThing
+one_note [] n m s t = says_blank n s ∙ sym (says_blank m t)
+one_note (b ∷ bytes) n m s t = same_noted (b ∷ bytes) n m (says_read (b ∷ bytes) n s (λ e. cc)) (says_read (b ∷ bytes) m t (λ e. cc))
+
+-- what is written says what it was written of
+written : ReadsBack → (states : List State) → AllByRecursion IsState states → SayStates (map state_bytes states) states
+written back [] h = tt
+written back (s ∷ states) h =
+    let r = back s h.0 in
+    let l : length (state_bytes s) ≡ 136 = r.long in
+    (record { short = omega arith; sound = r.sound; said = r.said }, written back states h.1)
+
+pub says_what_is_written : ReadsBack → SaysWhatIsWritten
+says_what_is_written back n k = record {
+  note = k;
+  spelled = inl (record { parts = map state_bytes n.kept; spelled = refl; states = written back n.kept k.states });
+}
+
+-- what is read says the note
+pub read_says : SaysAState → (bytes : List ℕ) (runs attempts count : ℕ) (kept : List State) → AreBytes bytes → take 4 bytes ≡ codes "FCC1" → 24 ≤ length bytes
+    → runs ≡ from_be_bytes w64 (take 8 (after_mark bytes)) → attempts ≡ from_be_bytes w64 (take 8 (after_runs bytes)) → count ≡ from_be_bytes w32 (take 4 (after_attempts bytes))
+    → runs < 2 ^ 64 → attempts < 2 ^ 64 → count ≤ 1024 → states_at count (drop 4 (after_attempts bytes)) ≡ Some kept → has_distinct_keys kept ≡ true → Says bytes (record { runs = runs; attempts = attempts; kept = kept })
+unfolding note_of
+read_says ranges bytes runs attempts count kept h mark long r a c low_runs low_attempts few states keys =
+    let one = dropped 4 bytes h in
+    let two = dropped 8 (after_mark bytes) one in
+    let three = dropped 8 (after_runs bytes) two in
+    let s = states_sound ranges count (drop 4 (after_attempts bytes)) kept (dropped 4 (after_attempts bytes) three) states in
+    let many : length s.parts ≡ length kept = as_many s.parts kept s.says in
+    let counts : length s.parts ≡ count = s.count in
+    let left : length (after_mark bytes) ≡ length bytes - 4 = length-drop 4 bytes in
+    let less : length (after_runs bytes) ≡ length (after_mark bytes) - 8 = length-drop 8 (after_mark bytes) in
+    let least : length (after_attempts bytes) ≡ length (after_runs bytes) - 8 = length-drop 8 (after_runs bytes) in
+    let eight : length (take 8 (after_mark bytes)) ≡ 8 = length-take-le 8 (after_mark bytes) (omega arith) in
+    let again : length (take 8 (after_runs bytes)) ≡ 8 = length-take-le 8 (after_runs bytes) (omega arith) in
+    let four : length (take 4 (after_attempts bytes)) ≡ 4 = length-take-le 4 (after_attempts bytes) (omega arith) in
+    let x : to_be_bytes w64 runs ≡ take 8 (after_mark bytes) = be_bytes_8 (take 8 (after_mark bytes)) runs eight (taken 8 (after_mark bytes) (omega arith) one) r in
+    let y : to_be_bytes w64 attempts ≡ take 8 (after_runs bytes) = be_bytes_8 (take 8 (after_runs bytes)) attempts again (taken 8 (after_runs bytes) (omega arith) two) a in
+    let z : to_be_bytes w32 (length s.parts) ≡ take 4 (after_attempts bytes) = ap (to_be_bytes w32) counts ∙ be_bytes_4 (take 4 (after_attempts bytes)) count four (taken 4 (after_attempts bytes) (omega arith) three) c in
+    let tail : to_be_bytes w32 (length s.parts) ++ flat_map counted_bytes s.parts ≡ after_attempts bytes =
+    ap (λ l. l ++ flat_map counted_bytes s.parts) z ∙ (ap (λ l. take 4 (after_attempts bytes) ++ l) (sym s.spelled) ∙ take-append-drop 4 (after_attempts bytes)) in
+    let middle : to_be_bytes w64 attempts ++ after_attempts bytes ≡ after_runs bytes = ap (λ l. l ++ after_attempts bytes) y ∙ take-append-drop 8 (after_runs bytes) in
+    let front : to_be_bytes w64 runs ++ after_runs bytes ≡ after_mark bytes = ap (λ l. l ++ after_runs bytes) x ∙ take-append-drop 8 (after_mark bytes) in
+    let whole : bytes ≡ codes "FCC1" ++ (to_be_bytes w64 runs ++ (to_be_bytes w64 attempts ++ (to_be_bytes w32 (length s.parts) ++ flat_map counted_bytes s.parts))) =
+    sym (take-append-drop 4 bytes) ∙ (ap (λ l. l ++ after_mark bytes) mark ∙ ap (λ l. codes "FCC1" ++ l) (sym front ∙ ap (λ l. to_be_bytes w64 runs ++ l) (sym middle ∙ ap (λ l. to_be_bytes w64 attempts ++ l) (sym tail)))) in
+    record {
+      note = record { runs = low_runs; attempts = low_attempts; count = omega arith; states = s.ranges; keys = keys };
+      spelled = inl (record { parts = s.parts; spelled = whole; states = s.says });
+    }
+
+-- what is put together is the spelling
+pub encoded : (n : Noted) (count : ℕ) (states : List State) (a b c d e f : List ℕ) → count ≡ length n.kept → states ≡ n.kept → a ≡ [] → b ≡ a ++ codes "FCC1" → c ≡ b ++ to_be_bytes w64 n.runs → d ≡ c ++ to_be_bytes w64 n.attempts
+    → e ≡ d ++ to_be_bytes w32 count → f ≡ e ++ flat_map (λ s. counted_bytes (state_bytes s)) states → f ≡ spelling n
+unfolding note_of
+encoded n count states a b c d e f many all a_is b_is c_is d_is e_is f_is =
+    let front : e ≡ (((([] ++ codes "FCC1") ++ to_be_bytes w64 n.runs) ++ to_be_bytes w64 n.attempts) ++ to_be_bytes w32 count) =
+    e_is ∙ ap (λ l. l ++ to_be_bytes w32 count) (d_is ∙ ap (λ l. l ++ to_be_bytes w64 n.attempts) (c_is ∙ ap (λ l. l ++ to_be_bytes w64 n.runs) (b_is ∙ ap (λ l. l ++ codes "FCC1") a_is))) in
+    let number : count ≡ length (map state_bytes n.kept) = many ∙ sym (length-map n.kept state_bytes) in
+    let tail : flat_map (λ s. counted_bytes (state_bytes s)) states ≡ flat_map counted_bytes (map state_bytes n.kept) = ap (λ l. flat_map (λ s. counted_bytes (state_bytes s)) l) all ∙ sym (flat_map-map counted_bytes state_bytes n.kept) in
+    f_is ∙ (ap (λ l. l ++ flat_map (λ s. counted_bytes (state_bytes s)) states) front
+    ∙ (ap (λ l. (((([] ++ codes "FCC1") ++ to_be_bytes w64 n.runs) ++ to_be_bytes w64 n.attempts) ++ to_be_bytes w32 count) ++ l) tail
+    ∙ ap (λ k. (((([] ++ codes "FCC1") ++ to_be_bytes w64 n.runs) ++ to_be_bytes w64 n.attempts) ++ to_be_bytes w32 k) ++ flat_map counted_bytes (map state_bytes n.kept)) number))
+
+-- ---- where nothing is said
+
+pub some_bytes : (bytes : List ℕ) → false ≡ (length bytes == 0) → bytes ≡ [] → ⊥
+some_bytes [] h e = cc
+some_bytes (b ∷ bytes) h e = cc
+
+pub no_mark : (bytes : List ℕ) (n : Noted) → (bytes ≡ [] → ⊥) → bytes_eq (take 4 bytes) (codes "FCC1") ≡ false → Says bytes n → ⊥
+no_mark bytes n some h s =
+    let m : bytes_eq (take 4 bytes) (codes "FCC1") ≡ true = (bytes_eq-Decides (take 4 bytes) (codes "FCC1")).1 (says_read bytes n s some).mark in
+    let e : true ≡ false = sym m ∙ h in
+    cc
+
+pub too_short : (bytes : List ℕ) (n : Noted) → (bytes ≡ [] → ⊥) → length bytes < 24 → Says bytes n → ⊥
+too_short bytes n some h s = let l : 24 ≤ length bytes = (says_read bytes n s some).long in absurd (omega arith)
+
+pub too_many : (bytes : List ℕ) (n : Noted) (count : ℕ) → (bytes ≡ [] → ⊥) → count ≡ from_be_bytes w32 (take 4 (after_attempts bytes)) → 1024 < count → Says bytes n → ⊥
+too_many bytes n count some c h s =
+    let e : count ≡ length n.kept = c ∙ (says_read bytes n s some).count in
+    let few : length n.kept ≤ 1024 = s.note.count in
+    absurd (omega arith)
+
+pub no_states : (bytes : List ℕ) (n : Noted) (count : ℕ) → (bytes ≡ [] → ⊥) → count ≡ from_be_bytes w32 (take 4 (after_attempts bytes)) → ReadsStates count (drop 4 (after_attempts bytes)) None → Says bytes n → ⊥
+no_states bytes n count some c h s =
+    let r = says_read bytes n s some in
+    let e : length n.kept ≡ count = sym r.count ∙ sym c in
+    h n.kept (subst (λ k. states_at k (drop 4 (after_attempts bytes)) ≡ Some n.kept) e r.states) s.note.keys

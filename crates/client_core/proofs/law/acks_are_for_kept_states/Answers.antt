@@ -1,0 +1,5 @@
+use Rattle.client_core.proofs.SentLemmas.{acks_are_for}
+use Rattle.client_core.proofs.law.acks_are_for_kept_states.Goals as goal
+
+pub returns : goal.returns
+returns c = acks_are_for

@@ -1,0 +1,225 @@
+-- What a client answers in a few lists that can be followed by hand.
+use Rattle.std.specs.Prelude.{◌≡◌, ℕ, true, false, List, [], ◌∷◌, map, is_some, Some, None, if◌then◌else◌}
+use Rattle.fc_base.specs.declared.fault.Fault.TheVariants.{Down, Conflict, NoSuchRun, Misdirected, NumbersSpent}
+use Rattle.fc_base.specs.declared.record.Kind.TheVariants.{Sequential}
+use Rattle.fc_base.specs.declared.record.Verify.TheVariants.{Stamp}
+use Rattle.fc_base.specs.declared.report.ReportParts.{ReportParts}
+use Rattle.fc_base.specs.declared.report.ReportEnd.TheVariants.{Whole}
+use Rattle.disk_model.specs.declared.left.Left.{Left}
+use Rattle.disk_model.specs.declared.left.Left.TheVariants.{NoSave, Saved, LostNew, LostOld}
+use Rattle.verify_state.specs.State.{State}
+use Rattle.messages.specs.declared.body.Body.{Body}
+use Rattle.messages.specs.declared.body.Body.TheVariants as bodies
+use Rattle.messages.specs.declared.refusal.Act.TheVariants as acts
+use Rattle.messages.specs.declared.refusal.Asked.{Asked}
+use Rattle.messages.specs.declared.refusal.Asked.TheVariants as asks
+use Rattle.messages.specs.declared.refusal.Reason.{Reason}
+use Rattle.messages.specs.declared.refusal.Reason.TheVariants as reasons
+use Rattle.client_core.specs.declared.call.Call.{Call}
+use Rattle.client_core.specs.declared.call.Call.TheVariants.{Begin, Trigger, Stop, Verify, Deliver, Tick}
+use Rattle.client_core.specs.declared.outcome.Outcome.TheVariants as outcomes
+use Rattle.client_core.specs.declared.outcome.RequestKind.TheVariants as kinds
+use Rattle.client_core.specs.Note.{blank}
+use Rattle.client_core.specs.History.{Opening, Entry, Met, Cut, Restart}
+use Rattle.client_core.specs.Words.{refusal, due, kept}
+use Rattle.client_core.specs.Life.{life}
+use Rattle.client_core.specs.Outcomes.{outcome, settled}
+use Rattle.client_core.specs.Packets.{packets}
+use Rattle.client_core.specs.Reports.{reports}
+use Rattle.client_core.specs.Laws.{from_server}
+
+-- One server, and a blank note.
+abbrev pub opened : Opening
+opened = record { servers = 1; noted = blank }
+
+-- The text of a job file: what it says is the server's matter.
+abbrev pub text : List ℕ
+text = 91 ∷ []
+
+-- Server 0 says this.
+abbrev pub said : Body → Call
+said body = Deliver (from_server body 0)
+
+-- It refuses a request of run 1, in this attempt.
+abbrev pub refused : Asked → Reason → ℕ → Call
+refused asked reason attempt =
+    said (bodies.Refused (record {
+      asked = asked;
+      reason = reason;
+      job = 0;
+      jobs = 0;
+      run = 1;
+      attempt = attempt;
+      value = 0;
+    }))
+
+-- A call that is answered: it saves where it has something to save.
+abbrev pub met : List Entry → Call → Entry
+met past c = Met c (if is_some (due opened past c) then Saved else NoSave)
+
+-- The list of these calls, the newest first, behind these entries.
+abbrev pub behind : List Entry → List Call → List Entry
+behind past [] = past
+behind past (c ∷ calls) = met (behind past calls) c ∷ behind past calls
+
+-- What is sent in answer to a call.
+abbrev pub sent : List Entry → Call → List Body
+sent past c = map (λ p. p.body) (packets opened past (met past c))
+
+-- The state of a job of run 1 that has issued so many of its two writes.
+abbrev pub state : ℕ → ℕ → State
+state job issued = record {
+  key = record { run = 1; server = 0; job = job };
+  job = record {
+    kind = Sequential;
+    verify = Stamp;
+    pattern = 0;
+    bs = 512;
+    blocks = 2;
+    total = 2;
+    seed = 1;
+    depth = 2;
+    window = 2;
+  };
+  issued = issued;
+  place = 1 ∷ 2 ∷ 3 ∷ 4 ∷ [];
+  counted = 0 ∷ [];
+}
+
+-- Run 1 is begun.
+abbrev pub begun : List Entry
+begun = behind (Restart ∷ []) (Begin text ∷ [])
+
+-- Its jobs are staged.
+abbrev pub staged : List Entry
+staged = behind begun (said (bodies.JobsOk 1 2) ∷ [])
+
+-- The jobs are sent until they are staged, and then the start, once, until it is answered; a server that
+-- lacks the jobs gets them again.
+pub record Begins : Type 0 where
+  pub jobs : sent (Restart ∷ []) (Begin text) ≡ bodies.Jobs 1 text ∷ []
+  pub again : sent begun Tick ≡ bodies.Jobs 1 text ∷ []
+  pub start : sent begun (said (bodies.JobsOk 1 2)) ≡ bodies.Start 1 ∷ []
+  pub once : sent staged (said (bodies.JobsOk 1 2)) ≡ []
+  pub start_again : sent staged Tick ≡ bodies.Start 1 ∷ []
+  pub lacks_jobs : sent staged (refused asks.Start reasons.NoJobs 0) ≡ bodies.Jobs 1 text ∷ []
+  pub good :
+      outcome opened (behind staged (said (bodies.Started 1) ∷ [])) kinds.Begin 1 0 ≡ outcomes.Good
+
+-- A server that is busy is asked again; any other refusal ends the request.
+pub record WaitsForTheBusy : Type 0 where
+  pub busy :
+      outcome opened (behind begun (refused asks.Jobs reasons.Busy 0 ∷ [])) kinds.Begin 1 0
+      ≡ outcomes.Open
+  pub ended :
+      outcome opened (behind begun (refused asks.Jobs reasons.BadJobs 0 ∷ [])) kinds.Begin 1 0
+      ≡ outcomes.Refused reasons.BadJobs
+
+-- Run 1 is triggered.
+abbrev pub triggered : List Entry
+triggered = behind begun (Trigger 1 acts.Cut ∷ [])
+
+-- The state of job 1 has come, and was kept.
+abbrev pub kept_one : List Entry
+kept_one = behind triggered (said (bodies.State 2 (state 1 2)) ∷ [])
+
+-- A state is kept and then acknowledged; it is acknowledged again without a save; another state of its
+-- key, and one of another server, are refused.
+pub record KeepsTheFirst : Type 0 where
+  pub acknowledged :
+      sent triggered (said (bodies.State 2 (state 1 2))) ≡ bodies.StateAck 1 1 ∷ []
+  pub kept :
+      kept opened kept_one (record { run = 1; server = 0; job = 1 }) ≡ Some (state 1 2)
+  pub saved_once : due opened kept_one (said (bodies.State 2 (state 1 2))) ≡ None
+  pub again : sent kept_one (said (bodies.State 2 (state 1 2))) ≡ bodies.StateAck 1 1 ∷ []
+  pub conflict : refusal opened kept_one (said (bodies.State 2 (state 1 1))) ≡ Some Conflict
+  pub misdirected :
+      refusal opened kept_one (Deliver (from_server (bodies.State 2 (state 0 2)) 1)) ≡ Some Misdirected
+
+-- A trigger is open until each job has an answer.
+pub record TriggersToTheEnd : Type 0 where
+  pub one : outcome opened kept_one kinds.Trigger 1 0 ≡ outcomes.Open
+  pub unsettled : settled opened kept_one 1 ≡ false
+  pub both :
+      outcome opened (behind kept_one (said (bodies.NoState 1 0 2) ∷ [])) kinds.Trigger 1 0
+      ≡ outcomes.Good
+  pub settled : settled opened (behind kept_one (said (bodies.NoState 1 0 2) ∷ [])) 1 ≡ true
+
+-- Run 1 is verified, in attempt 1.
+abbrev pub verifying : List Entry
+verifying = behind kept_one (Verify 1 text ∷ [])
+
+-- What the check of job 1 found.
+abbrev pub found : ReportParts
+found = record { checked = 1; faults = 0; first = []; end = Whole }
+
+-- A check gets each kept state that it asks for, and is told where there is none; its reports are kept,
+-- each once; it ends as a misfit where a state didn't fit.
+pub record Verifies : Type 0 where
+  pub kept : sent verifying (said (bodies.WantState 1 1 1)) ≡ bodies.Saved 1 (state 1 2) ∷ []
+  pub none : sent verifying (said (bodies.WantState 1 1 0)) ≡ bodies.NoSaved 1 1 0 ∷ []
+  pub report :
+      reports (life opened (behind verifying (said (bodies.Report 1 1 1 2 found)
+      ∷ said (bodies.Report 1 1 1 2 found) ∷ [])))
+      ≡ record { run = 1; attempt = 1; server = 0; job = 1; report = found } ∷ []
+  pub good :
+      outcome opened (behind verifying (said (bodies.Report 1 1 0 2 found)
+      ∷ said (bodies.Report 1 1 1 2 found) ∷ [])) kinds.Verify 1 0 ≡ outcomes.Good
+  pub misfit :
+      outcome opened (behind verifying (said (bodies.Report 1 1 1 2 found)
+      ∷ said (bodies.Refused (record {
+        asked = asks.Verify;
+        reason = reasons.Misfit;
+        job = 0;
+        jobs = 2;
+        run = 1;
+        attempt = 1;
+        value = 36;
+      }))
+      ∷ [])) kinds.Verify 1 0 ≡ outcomes.Refused reasons.Misfit
+
+-- A save of a begin that failed, and a restart.
+abbrev pub lost : Left → List Entry
+lost left = Restart ∷ (Met (Begin text) left ∷ (Restart ∷ []))
+
+-- A client whose save failed is down until it is restarted. The run's number is given again only where
+-- the note has the old bytes.
+pub record GoesDown : Type 0 where
+  pub sends_nothing : packets opened (Restart ∷ []) (Met (Begin text) LostNew) ≡ []
+  pub down : refusal opened (Met (Begin text) LostNew ∷ (Restart ∷ [])) Tick ≡ Some Down
+  pub next : sent (lost LostNew) (Begin text) ≡ bodies.Jobs 2 text ∷ []
+  pub again : sent (lost LostOld) (Begin text) ≡ bodies.Jobs 1 text ∷ []
+
+-- A state whose save failed is kept where the note has the new bytes, and is then acknowledged without a
+-- save.
+pub record KeepsWhatIsNoted : Type 0 where
+  pub acknowledged :
+      sent (Restart ∷ (Met (said (bodies.State 2 (state 1 2))) LostNew ∷ triggered))
+      (said (bodies.State 2 (state 1 2))) ≡ bodies.StateAck 1 1 ∷ []
+  pub saved :
+      due opened (Restart ∷ (Met (said (bodies.State 2 (state 1 2))) LostNew ∷ triggered))
+      (said (bodies.State 2 (state 1 2))) ≡ None
+
+-- A cut loses the requests, and neither numbers nor states.
+abbrev pub cut_off : List Entry
+cut_off = Restart ∷ (Cut ∷ verifying)
+
+pub record ForgetsByACut : Type 0 where
+  pub quiet : sent cut_off Tick ≡ []
+  pub next : sent cut_off (Begin text) ≡ bodies.Jobs 2 text ∷ []
+  pub kept : sent cut_off (said (bodies.WantState 1 1 1)) ≡ bodies.Saved 1 (state 1 2) ∷ []
+  pub known : refusal opened cut_off (Trigger 1 acts.Cut) ≡ None
+  pub unknown : refusal opened cut_off (Trigger 2 acts.Cut) ≡ Some NoSuchRun
+
+-- All open requests are sent again: by run the jobs or the start, the trigger and the stop, and then the
+-- verifies.
+pub record AsksAgainInOrder : Type 0 where
+  pub order :
+      sent (behind verifying (Stop 1 ∷ [])) Tick
+      ≡ bodies.Jobs 1 text ∷ (bodies.Trigger 1 acts.Cut ∷ (bodies.Stop 1 ∷ (bodies.Verify 1 1 text ∷ [])))
+
+-- Numbers are spent.
+pub record SpendsNumbers : Type 0 where
+  pub spent :
+      refusal (record { servers = 1; noted = record { runs = 18446744073709551615; attempts = 0; kept = [] } })
+      (Restart ∷ []) (Begin text) ≡ Some NumbersSpent

@@ -1,0 +1,16 @@
+-- What a client is opened with, and the list of what came to it since, the newest first.
+use Rattle.std.specs.Prelude.{ℕ}
+use Rattle.disk_model.specs.declared.left.Left.{Left}
+use Rattle.client_core.specs.declared.call.Call.{Call}
+use Rattle.client_core.specs.declared.noted.Noted.{Noted}
+
+-- How many servers a client drives, and what its note says at the opening.
+pub record Opening : Type 0 where
+  pub servers : ℕ
+  pub noted : Noted
+
+-- A call with what its save left in the note; a cut; a restart, which makes no save.
+pub data Entry : Type 0 where
+  Met : Call → Left → Entry
+  Cut : Entry
+  Restart : Entry

@@ -1,0 +1,201 @@
+-- What holds of every list of what came to a client.
+use Rattle.std.specs.Prelude.{◌≡◌, ◌⊎◌, ℕ, ◌<◌, ◌≤◌, Bool, true, false, not, ◌&&◌, List, [], ◌∷◌, ◌++◌, length, Some, Contains, IsTrue}
+use Rattle.std.specs.List.{AllByRecursion, flat_map}
+use Rattle.fc_base.specs.declared.numbers.Key.{Key}
+use Rattle.fc_base.specs.Counted.{is_distinct}
+use Rattle.disk_model.specs.declared.left.Left.{Left}
+use Rattle.verify_state.specs.State.{State}
+use Rattle.messages.specs.declared.packet.PacketParts.{PacketParts}
+use Rattle.messages.specs.declared.body.Body.{Body}
+use Rattle.messages.specs.declared.body.Body.TheVariants as bodies
+use Rattle.messages.specs.declared.node.Node.TheVariants as nodes
+use Rattle.messages.specs.Bodies.{kind_of}
+use Rattle.messages.specs.Kinds.{is_of_client}
+use Rattle.messages.specs.Laws.{IsPacket}
+use Rattle.client_core.specs.declared.call.Call.{Call}
+use Rattle.client_core.specs.declared.call.Call.TheVariants.{Tick}
+use Rattle.client_core.specs.declared.received.Received.{Received}
+use Rattle.client_core.specs.Kept.{kept_of}
+use Rattle.client_core.specs.declared.noted.Noted.{Noted}
+use Rattle.client_core.specs.Note.{IsNoted}
+use Rattle.client_core.specs.History.{Opening, Entry, Met}
+use Rattle.client_core.specs.Words.{is_on, noted, kept, looked}
+use Rattle.client_core.specs.Life.{Deed, Begins, Verifies, life, done}
+use Rattle.client_core.specs.Requests.{Served, trigger_at}
+use Rattle.client_core.specs.Reports.{has_report, reports}
+use Rattle.client_core.specs.Packets.{to_server, packets, sent}
+use Rattle.client_core.specs.Ranges.{packet_in, came, CameInRange, OpensInRange}
+
+-- A packet of a server to the client.
+abbrev pub from_server : Body → ℕ → PacketParts
+from_server body server = record { from = nodes.Server server; to = nodes.Client; body = body }
+
+-- A kept state is never replaced, whatever comes.
+abbrev pub FirstKeptStays : Type 0
+FirstKeptStays =
+    (o : Opening) (newer past : List Entry) (key : Key) (state : State) →
+    kept o past key ≡ Some state → kept o (newer ++ past) key ≡ Some state
+
+-- A state that is kept, and was not at the opening, came in a State from its server.
+abbrev pub KeptWasSent : Type 0
+KeptWasSent =
+    (o : Opening) (past : List Entry) (key : Key) (state : State) → kept o past key ≡ Some state →
+    (kept o [] key ≡ Some state)
+    ⊎ ((jobs : ℕ) × Contains (came past) (from_server (bodies.State jobs state) key.server))
+
+-- Each Saved that is sent has the kept state of its key.
+abbrev pub SavedIsKept : Type 0
+SavedIsKept =
+    (o : Opening) (past : List Entry) (entry : Entry) (p : PacketParts) (attempt : ℕ) (state : State) →
+    Contains (packets o past entry) p → p.body ≡ bodies.Saved attempt state
+    → kept o past state.key ≡ Some state
+
+-- A StateAck is sent only for a state that is kept by then, or to a server that says that there is
+-- none.
+abbrev pub AcksAreFor : Type 0
+AcksAreFor =
+    (o : Opening) (past : List Entry) (entry : Entry) (run server job : ℕ) →
+    Contains (packets o past entry) (to_server (bodies.StateAck run job) server) →
+    ((state : State)
+    × (kept o (entry ∷ past) (record { run = run; server = server; job = job }) ≡ Some state))
+    ⊎ ((jobs : ℕ) × Contains (packet_in entry) (from_server (bodies.NoState run job jobs) server))
+
+-- The run that a deed begins.
+abbrev pub run_in : Deed → List ℕ
+run_in (Begins run text) = run ∷ []
+run_in _ = []
+
+-- The attempt by which a deed verifies.
+abbrev pub attempt_in : Deed → List ℕ
+attempt_in (Verifies run attempt text) = attempt ∷ []
+attempt_in _ = []
+
+-- The runs that were begun, the newest first.
+abbrev pub runs_in : List Deed → List ℕ
+runs_in deeds = flat_map run_in deeds
+
+-- The attempts to verify, the newest first.
+abbrev pub attempts_in : List Deed → List ℕ
+attempts_in deeds = flat_map attempt_in deeds
+
+-- No number stands twice, all are above the first, and none is above the last.
+pub record AreFresh (first last : ℕ) (numbers : List ℕ) : Type 0 where
+  pub distinct : IsTrue (is_distinct numbers)
+  pub above : AllByRecursion (λ n. first < n) numbers
+  pub below : AllByRecursion (λ n. n ≤ last) numbers
+
+-- No run is given twice, whatever was cut and lost.
+abbrev pub RunsAreFresh : Type 0
+RunsAreFresh =
+    (o : Opening) (past : List Entry) →
+    AreFresh o.noted.runs (noted o past).runs (runs_in (done o past))
+
+-- No attempt is given twice.
+abbrev pub AttemptsAreFresh : Type 0
+AttemptsAreFresh =
+    (o : Opening) (past : List Entry) →
+    AreFresh o.noted.attempts (noted o past).attempts (attempts_in (done o past))
+
+-- All Jobs packets of a run carry the same text, to whichever servers they go.
+abbrev pub OneTextOfARun : Type 0
+OneTextOfARun =
+    (o : Opening) (past : List Entry) (p q : PacketParts) (run : ℕ) (text other : List ℕ) →
+    Contains (sent o past) p → p.body ≡ bodies.Jobs run text →
+    Contains (sent o past) q → q.body ≡ bodies.Jobs run other → text ≡ other
+
+-- All Verify packets of an attempt carry the same run and text.
+abbrev pub OneTextOfAnAttempt : Type 0
+OneTextOfAnAttempt =
+    (o : Opening) (past : List Entry) (p q : PacketParts) (attempt run run_there : ℕ)
+    (text other : List ℕ) →
+    Contains (sent o past) p → p.body ≡ bodies.Verify run attempt text →
+    Contains (sent o past) q → q.body ≡ bodies.Verify run_there attempt other →
+    (run ≡ run_there) × (text ≡ other)
+
+-- A client that is on answers its looks from all that came.
+abbrev pub LooksAtAll : Type 0
+LooksAtAll = (past : List Entry) → is_on past ≡ true → looked past ≡ past
+
+-- A tick asks again and changes nothing.
+abbrev pub TickOnlyLooks : Type 0
+TickOnlyLooks =
+    (o : Opening) (past : List Entry) (left : Left) →
+    (noted o (Met Tick left ∷ past) ≡ noted o past) × (life o (Met Tick left ∷ past) ≡ life o past)
+
+-- A note that keeps its ranges goes on to, where the packets that come keep theirs.
+abbrev pub NotesKeepRanges : Type 0
+NotesKeepRanges =
+    (o : Opening) (past : List Entry) → IsNoted o.noted → CameInRange past → IsNoted (noted o past)
+
+-- A state of the job is kept, or the server has said that there is none.
+abbrev pub HasAnswer : Noted → List PacketParts → ℕ → ℕ → ℕ → Type 0
+HasAnswer n packets run server job =
+    ((state : State)
+    × (kept_of (record { run = run; server = server; job = job }) n.kept ≡ Some state))
+    ⊎ ((jobs : ℕ) × Contains packets (from_server (bodies.NoState run job jobs) server))
+
+-- The server has said that the run has so many jobs.
+abbrev pub TellsJobs : List PacketParts → ℕ → ℕ → ℕ → Type 0
+TellsJobs packets run server jobs =
+    ((state : State) × (state.key.run ≡ run)
+    × Contains packets (from_server (bodies.State jobs state) server))
+    ⊎ ((job : ℕ) × Contains packets (from_server (bodies.NoState run job jobs) server))
+
+-- Each job that the run has at a server has an answer.
+pub record EndsWell (n : Noted) (packets : List PacketParts) (run server : ℕ) : Type 0 where
+  pub jobs : ℕ
+  pub told : TellsJobs packets run server jobs
+  pub each : (job : ℕ) → job < jobs → HasAnswer n packets run server job
+
+-- A trigger ends well at a server only so.
+abbrev pub TriggersEndWell : Type 0
+TriggersEndWell =
+    (o : Opening) (past : List Entry) (run server : ℕ) →
+    trigger_at run server (life o past) ≡ Served → EndsWell (noted o past) (came past) run server
+
+-- A packet of the client to one of so many servers, of a kind that the client sends.
+abbrev pub GoesToServer : ℕ → PacketParts → Type 0
+GoesToServer servers p =
+    (server : ℕ) × (server < servers) × (p ≡ to_server p.body server)
+    × IsTrue (is_of_client (kind_of p.body))
+
+-- What a client sends goes to a server that it drives, and is of a kind that clients send.
+abbrev pub PacketsGoToServers : Type 0
+PacketsGoToServers =
+    (o : Opening) (past : List Entry) (entry : Entry) (p : PacketParts) →
+    Contains (packets o past entry) p → GoesToServer o.servers p
+
+-- The packets that a client sends are within the ranges of packets, where what came is within its.
+abbrev pub PacketsAreInRange : Type 0
+PacketsAreInRange =
+    (o : Opening) (past : List Entry) (entry : Entry) →
+    OpensInRange o → CameInRange (entry ∷ past) → AllByRecursion IsPacket (packets o past entry)
+
+-- A tick.
+abbrev pub is_tick : Call → Bool
+is_tick Tick = true
+is_tick _ = false
+
+-- Any other call sends at most 8 packets.
+abbrev pub PacketsAreFew : Type 0
+PacketsAreFew =
+    (o : Opening) (past : List Entry) (c : Call) (left : Left) →
+    o.servers ≤ 8 → is_tick c ≡ false → length (packets o past (Met c left)) ≤ 8
+
+-- The reports of this life came from their servers.
+abbrev pub ReportsCame : Type 0
+ReportsCame =
+    (o : Opening) (past : List Entry) (r : Received) → Contains (reports (life o past)) r →
+    (jobs : ℕ)
+    × Contains (came past) (from_server (bodies.Report r.run r.attempt r.job jobs r.report) r.server)
+
+-- No two reports are of one attempt, server and job.
+abbrev pub has_distinct_reports : List Received → Bool
+has_distinct_reports [] = true
+has_distinct_reports (r ∷ rs) =
+    not (has_report r.attempt r.server r.job rs) && has_distinct_reports rs
+
+-- So it is with those of this life.
+abbrev pub OneReportEach : Type 0
+OneReportEach =
+    (o : Opening) (past : List Entry) → IsTrue (has_distinct_reports (reports (life o past)))

@@ -1,0 +1,68 @@
+-- What a client has done: its answered calls, the newest first.
+use Rattle.std.specs.Prelude.{ℕ, ◌+◌, ◌==◌, if◌then◌else◌, List, [], ◌∷◌, ◌++◌}
+use Rattle.messages.specs.declared.body.Body.{Body}
+use Rattle.messages.specs.declared.refusal.Act.{Act}
+use Rattle.messages.specs.declared.refusal.Act.TheVariants as acts
+use Rattle.messages.specs.Nodes.{node_number}
+use Rattle.client_core.specs.declared.call.Call.{Call}
+use Rattle.client_core.specs.declared.call.Call.TheVariants.{Begin, Trigger, Stop, Verify, Deliver, Tick}
+use Rattle.client_core.specs.declared.noted.Noted.{Noted}
+use Rattle.client_core.specs.History.{Opening, Entry, Met, Cut, Restart}
+use Rattle.client_core.specs.Words.{noted, is_answered}
+
+-- A run begins, is triggered or is stopped; an attempt verifies a run; a server says something.
+pub data Deed : Type 0 where
+  Begins : ℕ → List ℕ → Deed  -- run, text
+  Triggers : ℕ → Act → Deed  -- run, act
+  Stops : ℕ → Deed  -- run
+  Verifies : ℕ → ℕ → List ℕ → Deed  -- run, attempt, text
+  Hears : ℕ → Body → Deed  -- server, what it says
+
+-- What an answered call does: a new run or attempt has the number above those that were used.
+abbrev pub deeds_of : Noted → Call → List Deed
+deeds_of n (Begin text) = Begins (n.runs + 1) text ∷ []
+deeds_of n (Trigger run act) = Triggers run act ∷ []
+deeds_of n (Stop run) = Stops run ∷ []
+deeds_of n (Verify run text) = Verifies run (n.attempts + 1) text ∷ []
+deeds_of n (Deliver p) = Hears (node_number p.from) p.body ∷ []
+deeds_of n Tick = []
+
+-- All that was done since the last restart: requests, texts and reports are lost by a cut.
+abbrev pub life : Opening → List Entry → List Deed
+life o [] = []
+life o (Met c left ∷ past) =
+    if is_answered o past c left then deeds_of (noted o past) c ++ life o past else life o past
+life o (Cut ∷ past) = []
+life o (Restart ∷ past) = []
+
+-- All that was ever done.
+abbrev pub done : Opening → List Entry → List Deed
+done o [] = []
+done o (Met c left ∷ past) =
+    if is_answered o past c left then deeds_of (noted o past) c ++ done o past else done o past
+done o (Cut ∷ past) = done o past
+done o (Restart ∷ past) = done o past
+
+-- The text with which a run was last begun, empty where it wasn't.
+abbrev pub text_of : ℕ → List Deed → List ℕ
+text_of run [] = []
+text_of run (Begins r text ∷ deeds) = if r == run then text else text_of run deeds
+text_of run (_ ∷ deeds) = text_of run deeds
+
+-- The act of the last trigger of a run.
+abbrev pub act_of : ℕ → List Deed → Act
+act_of run [] = acts.None
+act_of run (Triggers r act ∷ deeds) = if r == run then act else act_of run deeds
+act_of run (_ ∷ deeds) = act_of run deeds
+
+-- The run that an attempt verifies, 0 where there is no such attempt.
+abbrev pub run_of : ℕ → List Deed → ℕ
+run_of attempt [] = 0
+run_of attempt (Verifies r a text ∷ deeds) = if a == attempt then r else run_of attempt deeds
+run_of attempt (_ ∷ deeds) = run_of attempt deeds
+
+-- The text by which an attempt verifies, empty where there is no such attempt.
+abbrev pub check_of : ℕ → List Deed → List ℕ
+check_of attempt [] = []
+check_of attempt (Verifies r a text ∷ deeds) = if a == attempt then text else check_of attempt deeds
+check_of attempt (_ ∷ deeds) = check_of attempt deeds

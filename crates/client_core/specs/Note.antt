@@ -1,0 +1,76 @@
+-- The durable note of a client: what it says, and its bytes.
+use Rattle.std.specs.Prelude.{◌≡◌, ◌⊎◌, ℕ, Bool, ◌&&◌, ◌==◌, ◌^◌, ◌<◌, ◌≤◌, List, [], ◌∷◌, ◌++◌, length, map, codes, Option, Some, None, IsTrue}
+use Rattle.std.specs.List.{flat_map, AllByRecursion}
+use Rattle.std.specs.Int.{w32, w64, to_be_bytes}
+use Rattle.verify_state.specs.State.{State, IsState}
+use Rattle.verify_state.specs.Spelling.{spelling as state_bytes}
+use Rattle.verify_state.specs.Reading.{faults_of, state_in}
+use Rattle.client_core.specs.declared.noted.Noted.{Noted}
+use Rattle.client_core.specs.Kept.{has_distinct_keys}
+
+-- What a blank note says.
+abbrev pub blank : Noted
+blank = record { runs = 0; attempts = 0; kept = [] }
+
+-- The note says that.
+abbrev pub is_blank : Noted → Bool
+is_blank n = (n.runs == 0) && ((n.attempts == 0) && (length n.kept == 0))
+
+-- The bytes of a state behind their number.
+abbrev pub counted_bytes : List ℕ → List ℕ
+counted_bytes bytes = to_be_bytes w32 (length bytes) ++ bytes
+
+-- A note with these bytes of states: the mark, the runs, the attempts, the number of states, and the
+-- states in their order.
+unfoldable pub note_of : ℕ → ℕ → List (List ℕ) → List ℕ
+note_of runs attempts states =
+    codes "FCC1" ++ (to_be_bytes w64 runs ++ (to_be_bytes w64 attempts
+    ++ (to_be_bytes w32 (length states) ++ flat_map counted_bytes states)))
+
+-- How a note is written: with each state in its one spelling.
+abbrev pub spelling : Noted → List ℕ
+spelling n = note_of n.runs n.attempts (map state_bytes n.kept)
+
+-- What every note keeps: numbers of eight bytes, and at most 1,024 states, all of different keys.
+pub record IsNoted (n : Noted) : Type 0 where
+  pub runs : n.runs < 2 ^ 64
+  pub attempts : n.attempts < 2 ^ 64
+  pub count : length n.kept ≤ 1024
+  pub states : AllByRecursion IsState n.kept
+  pub keys : IsTrue (has_distinct_keys n.kept)
+
+-- The bytes say this state, in whichever layout; their number has four bytes.
+pub record SaysState (bytes : List ℕ) (state : State) : Type 0 where
+  pub short : length bytes < 2 ^ 32
+  pub sound : faults_of bytes ≡ []
+  pub said : state_in bytes ≡ state
+
+-- Each says the state at its place.
+abbrev pub SayStates : List (List ℕ) → List State → Type 0
+SayStates [] [] = Unit {0}
+SayStates (bytes ∷ more) (state ∷ states) = SaysState bytes state × SayStates more states
+SayStates _ _ = ⊥
+
+-- The bytes are a note, and their states are these.
+pub record Spells (bytes : List ℕ) (n : Noted) : Type 0 where
+  pub parts : List (List ℕ)
+  pub spelled : bytes ≡ note_of n.runs n.attempts parts
+  pub states : SayStates parts n.kept
+
+-- The bytes say this note. No bytes at all are a blank one.
+pub record Says (bytes : List ℕ) (n : Noted) : Type 0 where
+  pub note : IsNoted n
+  pub spelled : Spells bytes n ⊎ ((bytes ≡ []) × (n ≡ blank))
+
+-- A reader gives what the bytes say, and nothing where they say nothing.
+abbrev pub Reads : List ℕ → Option Noted → Type 0
+Reads bytes (Some n) = Says bytes n
+Reads bytes None = (n : Noted) → Says bytes n → ⊥
+
+-- Bytes say one thing at most.
+abbrev pub SaysOneThing : Type 0
+SaysOneThing = (bytes : List ℕ) (n m : Noted) → Says bytes n → Says bytes m → n ≡ m
+
+-- What is written says what it was written of.
+abbrev pub SaysWhatIsWritten : Type 0
+SaysWhatIsWritten = (n : Noted) → IsNoted n → Says (spelling n) n

@@ -1,0 +1,120 @@
+-- The packets that a client sends.
+use Rattle.std.specs.Prelude.{ℕ, ◌+◌, Bool, true, false, if◌then◌else◌, List, [], ◌∷◌, ◌++◌, map, Option, Some, None}
+use Rattle.std.specs.List.{flat_map, range_with_len}
+use Rattle.fc_base.specs.Counted.{numbers_below}
+use Rattle.verify_state.specs.State.{State}
+use Rattle.messages.specs.declared.packet.PacketParts.{PacketParts}
+use Rattle.messages.specs.declared.body.Body.{Body}
+use Rattle.messages.specs.declared.body.Body.TheVariants as bodies
+use Rattle.messages.specs.declared.node.Node.TheVariants as nodes
+use Rattle.messages.specs.declared.refusal.Asked.{Asked}
+use Rattle.messages.specs.declared.refusal.Asked.TheVariants as asks
+use Rattle.messages.specs.declared.refusal.Reason.{Reason}
+use Rattle.messages.specs.declared.refusal.Reason.TheVariants as reasons
+use Rattle.messages.specs.Nodes.{node_number}
+use Rattle.client_core.specs.declared.call.Call.{Call}
+use Rattle.client_core.specs.declared.call.Call.TheVariants.{Begin, Trigger, Stop, Verify, Deliver, Tick}
+use Rattle.client_core.specs.Kept.{kept_of}
+use Rattle.client_core.specs.declared.noted.Noted.{Noted}
+use Rattle.client_core.specs.History.{Opening, Entry, Met, Cut, Restart}
+use Rattle.client_core.specs.Words.{noted, is_answered}
+use Rattle.client_core.specs.Life.{Deed, life, text_of, act_of, run_of, check_of}
+use Rattle.client_core.specs.declared.beginning.Beginning.TheVariants as begins
+use Rattle.client_core.specs.declared.beginning.Beginning.{Beginning}
+use Rattle.client_core.specs.Begins.{begin_at}
+use Rattle.client_core.specs.Requests as requests
+use Rattle.client_core.specs.Requests.{Request, trigger_at, stop_at, verify_at}
+
+-- A packet of the client to a server.
+abbrev pub to_server : Body → ℕ → PacketParts
+to_server body server = record { from = nodes.Client; to = nodes.Server server; body = body }
+
+-- The same to every server, in their order.
+abbrev pub to_all : ℕ → Body → List PacketParts
+to_all servers body = map (to_server body) (numbers_below servers)
+
+-- The start of a run, where its jobs were open.
+abbrev pub start_for : ℕ → ℕ → Beginning → List PacketParts
+start_for run server begins.Staging = to_server (bodies.Start run) server ∷ []
+start_for run server _ = []
+
+-- The jobs of a run again, where its start was open.
+abbrev pub jobs_for : ℕ → List ℕ → ℕ → Beginning → List PacketParts
+jobs_for run text server begins.Starting = to_server (bodies.Jobs run text) server ∷ []
+jobs_for run text server _ = []
+
+-- The server has no jobs of the run that it is to start.
+abbrev pub lacks_jobs : Asked → Reason → Bool
+lacks_jobs asks.Start reasons.NoJobs = true
+lacks_jobs _ _ = false
+
+-- The kept state that a check asks for, or that there is none.
+abbrev pub state_for : ℕ → ℕ → ℕ → ℕ → Option State → PacketParts
+state_for run attempt job server (Some state) = to_server (bodies.Saved attempt state) server
+state_for run attempt job server None = to_server (bodies.NoSaved run attempt job) server
+
+-- What is replied to a server, by what was kept and done before.
+abbrev pub replies : Noted → List Deed → ℕ → Body → List PacketParts
+replies n deeds server (bodies.JobsOk run jobs) = start_for run server (begin_at run server deeds)
+replies n deeds server (bodies.State jobs state) =
+    to_server (bodies.StateAck state.key.run state.key.job) server ∷ []
+replies n deeds server (bodies.NoState run job jobs) = to_server (bodies.StateAck run job) server ∷ []
+replies n deeds server (bodies.WantState run attempt job) =
+    state_for run attempt job server (kept_of (record { run = run; server = server; job = job }) n.kept) ∷ []
+replies n deeds server (bodies.Refused r) =
+    if lacks_jobs r.asked r.reason
+    then jobs_for r.run (text_of r.run deeds) server (begin_at r.run server deeds) else []
+replies n deeds server _ = []
+
+-- An open begin again: the jobs, or the start.
+abbrev pub begin_again : ℕ → List ℕ → ℕ → Beginning → List PacketParts
+begin_again run text server begins.Staging = to_server (bodies.Jobs run text) server ∷ []
+begin_again run text server begins.Starting = to_server (bodies.Start run) server ∷ []
+begin_again run text server _ = []
+
+-- Another open request again.
+abbrev pub again : Body → ℕ → Request → List PacketParts
+again body server (requests.Open told) = to_server body server ∷ []
+again body server _ = []
+
+-- The open requests of a run: its begin, its trigger and its stop, each by server.
+abbrev pub run_again : ℕ → List Deed → ℕ → List PacketParts
+run_again servers deeds run =
+    flat_map (λ s. begin_again run (text_of run deeds) s (begin_at run s deeds)) (numbers_below servers)
+    ++ (flat_map (λ s. again (bodies.Trigger run (act_of run deeds)) s (trigger_at run s deeds))
+    (numbers_below servers)
+    ++ flat_map (λ s. again (bodies.Stop run) s (stop_at run s deeds)) (numbers_below servers))
+
+-- The open verifies of an attempt, by server.
+abbrev pub attempt_again : ℕ → List Deed → ℕ → List PacketParts
+attempt_again servers deeds attempt =
+    flat_map (λ s. again (bodies.Verify (run_of attempt deeds) attempt (check_of attempt deeds)) s
+    (verify_at attempt s deeds)) (numbers_below servers)
+
+-- Every open request again: by run, and then the verifies by attempt.
+abbrev pub all_again : ℕ → Noted → List Deed → List PacketParts
+all_again servers n deeds =
+    flat_map (run_again servers deeds) (range_with_len 1 n.runs)
+    ++ flat_map (attempt_again servers deeds) (range_with_len 1 n.attempts)
+
+-- What an answered call sends, by what was noted and done before it.
+abbrev pub packets_for : ℕ → Noted → List Deed → Call → List PacketParts
+packets_for servers n deeds (Begin text) = to_all servers (bodies.Jobs (n.runs + 1) text)
+packets_for servers n deeds (Trigger run act) = to_all servers (bodies.Trigger run act)
+packets_for servers n deeds (Stop run) = to_all servers (bodies.Stop run)
+packets_for servers n deeds (Verify run text) =
+    to_all servers (bodies.Verify run (n.attempts + 1) text)
+packets_for servers n deeds (Deliver p) = replies n deeds (node_number p.from) p.body
+packets_for servers n deeds Tick = all_again servers n deeds
+
+-- The packets that an event sends.
+abbrev pub packets : Opening → List Entry → Entry → List PacketParts
+packets o past (Met c left) =
+    if is_answered o past c left then packets_for o.servers (noted o past) (life o past) c else []
+packets o past Cut = []
+packets o past Restart = []
+
+-- All packets that were ever sent, the oldest first.
+abbrev pub sent : Opening → List Entry → List PacketParts
+sent o [] = []
+sent o (entry ∷ past) = sent o past ++ packets o past entry

@@ -1,0 +1,27 @@
+-- What comes to a client within the ranges of packets.
+use Rattle.std.specs.Prelude.{◌≤◌, List, [], ◌∷◌, ◌++◌}
+use Rattle.std.specs.List.{AllByRecursion}
+use Rattle.messages.specs.declared.packet.PacketParts.{PacketParts}
+use Rattle.messages.specs.Laws.{IsPacket}
+use Rattle.client_core.specs.declared.call.Call.TheVariants.{Deliver}
+use Rattle.client_core.specs.Note.{IsNoted}
+use Rattle.client_core.specs.History.{Opening, Entry, Met}
+
+-- The packet that an event brings.
+abbrev pub packet_in : Entry → List PacketParts
+packet_in (Met (Deliver p) left) = p ∷ []
+packet_in _ = []
+
+-- The packets that came, the newest first.
+abbrev pub came : List Entry → List PacketParts
+came [] = []
+came (entry ∷ past) = packet_in entry ++ came past
+
+-- All that came is within its ranges.
+abbrev pub CameInRange : List Entry → Type 0
+CameInRange past = AllByRecursion IsPacket (came past)
+
+-- A client drives at most 8 servers, and its note keeps its ranges.
+pub record OpensInRange (o : Opening) : Type 0 where
+  pub servers : o.servers ≤ 8
+  pub note : IsNoted o.noted

@@ -1,0 +1,70 @@
+-- What a call adds to the note.
+use Rattle.std.specs.Prelude.{ℕ, ◌+◌, Bool, true, false, if◌then◌else◌, [], ◌∷◌, ◌++◌, Option, Some, None}
+use Rattle.fc_base.specs.declared.fault.Fault.{Fault}
+use Rattle.disk_model.specs.declared.left.Left.{Left}
+use Rattle.disk_model.specs.declared.left.Left.TheVariants.{NoSave, Saved}
+use Rattle.verify_state.specs.State.{State}
+use Rattle.messages.specs.declared.body.Body.{Body}
+use Rattle.messages.specs.declared.body.Body.TheVariants as bodies
+use Rattle.client_core.specs.declared.call.Call.{Call}
+use Rattle.client_core.specs.declared.call.Call.TheVariants.{Begin, Trigger, Stop, Verify, Deliver, Tick}
+use Rattle.client_core.specs.Kept.{kept_of}
+use Rattle.client_core.specs.declared.noted.Noted.{Noted}
+use Rattle.client_core.specs.Refusals.{refusal_by}
+
+-- One more run, one more attempt, or one more state.
+pub data Addition : Type 0 where
+  NextRun : Addition
+  NextAttempt : Addition
+  Keep : State → Addition
+
+-- The note with the addition.
+abbrev pub with_addition : Addition → Noted → Noted
+with_addition NextRun n = record { runs = n.runs + 1; attempts = n.attempts; kept = n.kept }
+with_addition NextAttempt n = record { runs = n.runs; attempts = n.attempts + 1; kept = n.kept }
+with_addition (Keep state) n =
+    record { runs = n.runs; attempts = n.attempts; kept = n.kept ++ state ∷ [] }
+
+-- A state is added where none of its key is kept.
+abbrev pub unless_kept : Option State → State → Option Addition
+unless_kept None state = Some (Keep state)
+unless_kept (Some kept) state = None
+
+-- What is added for what a server says.
+abbrev pub addition_by : Noted → Body → Option Addition
+addition_by n (bodies.State jobs state) = unless_kept (kept_of state.key n.kept) state
+addition_by n _ = None
+
+-- What is added for a call that isn't refused.
+abbrev pub addition_of : Noted → Call → Option Addition
+addition_of n (Begin text) = Some NextRun
+addition_of n (Trigger run act) = None
+addition_of n (Stop run) = None
+addition_of n (Verify run text) = Some NextAttempt
+addition_of n (Deliver p) = addition_by n p.body
+addition_of n Tick = None
+
+-- Nothing is added for a call that is refused.
+abbrev pub unless_refused : Option Fault → Option Addition → Option Addition
+unless_refused None addition = addition
+unless_refused (Some fault) addition = None
+
+-- What a call is due to add to the note.
+abbrev pub due_by : Bool → ℕ → Noted → Call → Option Addition
+due_by on servers n c = unless_refused (refusal_by on servers n c) (addition_of n c)
+
+-- An addition counts where the new bytes are there.
+abbrev pub noted_after : Bool → Option Addition → Noted → Noted
+noted_after new None n = n
+noted_after new (Some addition) n = if new then with_addition addition n else n
+
+-- What an answered call leaves: it saves where it adds something.
+abbrev pub left_by : Option Addition → Left
+left_by None = NoSave
+left_by (Some addition) = Saved
+
+-- The call left what an answered call leaves.
+abbrev pub is_answer : Option Addition → Left → Bool
+is_answer None NoSave = true
+is_answer (Some addition) Saved = true
+is_answer _ _ = false

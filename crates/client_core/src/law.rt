@@ -1,0 +1,92 @@
+//! What holds of every list of what came to a client. The functions have nothing to run.
+
+ghost use Rattle.client_core.specs.Laws.{FirstKeptStays, KeptWasSent, SavedIsKept, AcksAreFor, RunsAreFresh, AttemptsAreFresh, OneTextOfARun, OneTextOfAnAttempt, LooksAtAll, TickOnlyLooks, NotesKeepRanges, TriggersEndWell, PacketsGoToServers, PacketsAreInRange, PacketsAreFew, ReportsCame, OneReportEach};
+ghost use Rattle.client_core.specs.Examples.{Begins, WaitsForTheBusy, KeepsTheFirst, TriggersToTheEnd, Verifies, GoesDown, KeepsWhatIsNoted, ForgetsByACut, AsksAgainInOrder, SpendsNumbers};
+
+/// A kept state is never replaced.
+pub fn first_kept_stays()
+    ensures { FirstKeptStays }
+{}
+
+/// Each kept state was there at the opening, or came from its server.
+pub fn kept_was_sent()
+    ensures { KeptWasSent }
+{}
+
+/// Each state that is sent to a check is the kept one of its key.
+pub fn saved_is_kept()
+    ensures { SavedIsKept }
+{}
+
+/// A state is acknowledged only where it is kept, or where the server says that there is none.
+pub fn acks_are_for_kept_states()
+    ensures { AcksAreFor }
+{}
+
+/// No run and no attempt is given its number twice, whatever was cut and lost.
+pub fn numbers_are_fresh()
+    ensures runs { RunsAreFresh }
+    ensures attempts { AttemptsAreFresh }
+{}
+
+/// A run has one text, and so has an attempt, which has one run, too.
+pub fn one_text()
+    ensures runs { OneTextOfARun }
+    ensures attempts { OneTextOfAnAttempt }
+{}
+
+/// A client that is on answers its looks from all that came.
+pub fn looks_at_all()
+    ensures { LooksAtAll }
+{}
+
+/// A tick changes nothing.
+pub fn tick_only_looks()
+    ensures { TickOnlyLooks }
+{}
+
+/// A note keeps its ranges, where the packets that come keep theirs.
+pub fn notes_keep_ranges()
+    ensures { NotesKeepRanges }
+{}
+
+/// A trigger ends well at a server only once it has an answer for each job of the run there: a state
+/// that is kept, or that there is none.
+pub fn triggers_end_well()
+    ensures { TriggersEndWell }
+{}
+
+/// What a client sends goes to a server that it drives, and is of a kind that clients send.
+pub fn packets_go_to_servers()
+    ensures { PacketsGoToServers }
+{}
+
+/// The packets that a client sends are within the ranges of packets, where what came is within its.
+pub fn packets_are_in_range()
+    ensures { PacketsAreInRange }
+{}
+
+/// A call sends at most 8 packets, but for a tick.
+pub fn packets_are_few()
+    ensures { PacketsAreFew }
+{}
+
+/// Each report came from its server, and of each attempt, server and job one is kept.
+pub fn reports_came()
+    ensures came { ReportsCame }
+    ensures one_each { OneReportEach }
+{}
+
+/// Lists of calls that can be followed by hand, and what a client answers in them.
+pub fn examples()
+    ensures begins { Begins }
+    ensures waits { WaitsForTheBusy }
+    ensures keeps { KeepsTheFirst }
+    ensures triggers { TriggersToTheEnd }
+    ensures verifies { Verifies }
+    ensures goes_down { GoesDown }
+    ensures noted { KeepsWhatIsNoted }
+    ensures forgets { ForgetsByACut }
+    ensures order { AsksAgainInOrder }
+    ensures spends { SpendsNumbers }
+{}

@@ -1,0 +1,30 @@
+//! What a client answers, read from the list of all that came to it: the words of a client, and the
+//! laws that hold of every list.
+#![tactic(auto)]
+
+mod beginning;
+mod call;
+mod client;
+mod kept;
+mod law;
+mod noted;
+mod outcome;
+mod received;
+mod refusal;
+mod standing;
+
+pub use beginning::Beginning;
+pub use call::Call;
+pub use client::Client;
+pub use kept::{KEPT_LIMIT, Kept};
+pub use law::{
+    acks_are_for_kept_states, examples, first_kept_stays, kept_was_sent, looks_at_all,
+    notes_keep_ranges, numbers_are_fresh, one_text, packets_are_few, packets_are_in_range,
+    packets_go_to_servers, reports_came, saved_is_kept, tick_only_looks, triggers_end_well,
+};
+pub use noted::{Noted, notes_are_read_back, one_note};
+pub use outcome::{Outcome, RequestKind};
+pub use received::Received;
+
+#[cfg(test)]
+mod tests;

@@ -1,0 +1,25 @@
+//! How the requests of a client stand.
+
+use messages::Reason;
+
+/// The kinds of requests. A run is begun, triggered and stopped; an attempt verifies.
+#[derive(Clone, Copy, Debug, PartialEq, Eq)]
+pub enum RequestKind {
+    Begin,
+    Trigger,
+    Stop,
+    Verify,
+}
+
+/// How a request stands at a server.
+#[derive(Clone, Copy, Debug, PartialEq, Eq)]
+pub enum Outcome {
+    /// There is none since the client was restarted.
+    None,
+    /// It isn't answered yet.
+    Open,
+    /// It ended well.
+    Good,
+    /// It was refused.
+    Refused(Reason),
+}

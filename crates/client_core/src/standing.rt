@@ -1,0 +1,195 @@
+//! How a trigger, a stop or a verify stands at a server.
+
+ghost use Rattle.std.specs.Prelude.{◌≡◌, ◌≤◌, [], true, IsTrue};
+ghost use Rattle.std.specs.List.{list_all};
+ghost use Rattle.messages.specs.Ranges.{is_job_of, is_body, is_refusal};
+ghost use Rattle.client_core.specs.declared.outcome.Outcome.TheVariants as outcomes;
+ghost use Rattle.client_core.specs.Requests.{Request, Unasked, Open, told, answered, refused, check_refused, trigger_heard, stop_heard, verify_heard};
+ghost use Rattle.client_core.specs.Standing.{IsKept, all_told, with_answer};
+
+use crate::outcome::Outcome;
+use fc_base::{Attempt, RunNo};
+use messages::{Asked, Body, Reason, Refusal};
+
+/// How many jobs a run has at most.
+const JOBS: usize = 16;
+
+/// How a trigger, a stop or a verify stands at a server; where it is open, how many jobs there are, 0
+/// before the first answer, which of them have an answer, and whether one of these tells of a misfit.
+#[derive(Clone, Copy, Debug, PartialEq, Eq)]
+pub struct Standing {
+    outcome: Outcome,
+    jobs: u32,
+    told: [bool; JOBS],
+    misfit: bool,
+}
+
+impl Standing {
+    /// There was no request.
+    pub fn unasked() -> Standing
+        ensures kept { IsKept result Unasked }
+        ensures few { result.jobs ≤ 16 }
+    {
+        Standing {
+            outcome: Outcome::None,
+            jobs: 0,
+            told: [false; JOBS],
+            misfit: false,
+        }
+    }
+
+    /// It is open, and has no answer yet.
+    pub fn open() -> Standing
+        ensures kept { IsKept result (Open []) }
+        ensures few { result.jobs ≤ 16 }
+    {
+        Standing {
+            outcome: Outcome::Open,
+            jobs: 0,
+            told: [false; JOBS],
+            misfit: false,
+        }
+    }
+
+    /// How it stands.
+    pub fn outcome(&self) -> Outcome
+        ensures { result ≡ self.now.outcome }
+    {
+        self.outcome
+    }
+
+    /// What the server says, of a run that was triggered or of another.
+    pub fn hear_trigger(&mut self, run: RunNo, body: &Body)
+        requires body { IsTrue (is_body body.now) }
+        requires few { self.old.jobs ≤ 16 }
+        ensures kept { (q : Request) → IsKept self.old q → IsKept self.new (trigger_heard run body.now q) }
+        ensures few { self.new.jobs ≤ 16 }
+    {
+        match body {
+            Body::State { jobs, state } if state.key().run.0 == run.0 => {
+                self.tell(state.key().job.0, *jobs, false);
+            }
+            Body::NoState { run: of, job, jobs } if of.0 == run.0 => {
+                self.tell(job.0, *jobs, false);
+            }
+            Body::Refused(refusal) if refusal.run.0 == run.0 && refusal.asked == Asked::Trigger => {
+                self.refuse(refusal.reason);
+            }
+            _ => {}
+        }
+    }
+
+    /// What the server says, of a run that was stopped or of another.
+    pub fn hear_stop(&mut self, run: RunNo, body: &Body)
+        ensures kept { (q : Request) → IsKept self.old q → IsKept self.new (stop_heard run body.now q) }
+        ensures few { self.new.jobs ≡ self.old.jobs }
+    {
+        match body {
+            Body::Stopped { run: of } if of.0 == run.0 => self.end(),
+            Body::Refused(refusal) if refusal.run.0 == run.0 && refusal.asked == Asked::Stop => {
+                self.refuse(refusal.reason);
+            }
+            _ => {}
+        }
+    }
+
+    /// What the server says, of an attempt to verify this run or of another.
+    pub fn hear_verify(&mut self, run: RunNo, attempt: Attempt, body: &Body)
+        requires body { IsTrue (is_body body.now) }
+        requires few { self.old.jobs ≤ 16 }
+        ensures kept { (q : Request) → IsKept self.old q → IsKept self.new (verify_heard run attempt body.now q) }
+        ensures few { self.new.jobs ≤ 16 }
+    {
+        match body {
+            Body::Report {
+                run: of,
+                attempt: by,
+                job,
+                jobs,
+                ..
+            } if of.0 == run.0 && by.0 == attempt.0 => self.tell(job.0, *jobs, false),
+            Body::Refused(refusal)
+                if refusal.run.0 == run.0
+                    && refusal.attempt.0 == attempt.0
+                    && refusal.asked == Asked::Verify => {
+                self.refuse_check(refusal);
+            }
+            _ => {}
+        }
+    }
+
+    /// An answer for a job, which tells how many jobs there are, and whether a state didn't fit.
+    pub fn tell(&mut self, job: u32, jobs: u32, misfit: bool)
+        requires job { IsTrue (is_job_of job jobs) }
+        requires few { self.old.jobs ≤ 16 }
+        ensures kept { (q : Request) → IsKept self.old q → IsKept self.new (told (record { job = job; jobs = jobs; misfit = misfit }) q) }
+        ensures few { self.new.jobs ≤ 16 }
+    {
+        if let Outcome::Open = self.outcome {
+            self.answer(job, jobs, misfit);
+        }
+    }
+
+    /// An answer to an open request.
+    fn answer(&mut self, job: u32, jobs: u32, misfit: bool)
+        requires job { IsTrue (is_job_of job jobs) }
+        requires few { self.old.jobs ≤ 16 }
+        requires still { self.old.outcome ≡ outcomes.Open }
+        ensures value { self.new ≡ with_answer (record { job = job; jobs = jobs; misfit = misfit }) self.old }
+        ensures few { self.new.jobs ≤ 16 }
+    {
+        if self.jobs == 0 {
+            self.jobs = jobs;
+        }
+        self.told[job as usize] = true;
+        self.misfit = self.misfit || (misfit && job < self.jobs);
+        if are_all(&self.told[..self.jobs as usize]) {
+            self.outcome = if self.misfit {
+                Outcome::Refused(Reason::Misfit)
+            } else {
+                Outcome::Good
+            };
+        }
+    }
+
+    /// The one answer of a request that isn't asked for each job.
+    pub fn end(&mut self)
+        ensures kept { (q : Request) → IsKept self.old q → IsKept self.new (answered q) }
+        ensures few { self.new.jobs ≡ self.old.jobs }
+    {
+        if self.outcome == Outcome::Open {
+            self.outcome = Outcome::Good;
+        }
+    }
+
+    /// A refusal of a check: a misfit is an answer for its job.
+    fn refuse_check(&mut self, refusal: &Refusal)
+        requires refusal { IsTrue (is_refusal refusal.now) }
+        requires few { self.old.jobs ≤ 16 }
+        ensures kept { (q : Request) → IsKept self.old q → IsKept self.new (check_refused (record { job = refusal.now.job; jobs = refusal.now.jobs; misfit = true }) refusal.now.reason q) }
+        ensures few { self.new.jobs ≤ 16 }
+    {
+        if let Reason::Misfit = refusal.reason {
+            self.tell(refusal.job.0, refusal.jobs, true);
+        } else {
+            self.refuse(refusal.reason);
+        }
+    }
+
+    /// A refusal: a server that is busy is asked again, and a misfit ends no more than a job.
+    pub fn refuse(&mut self, reason: Reason)
+        ensures kept { (q : Request) → IsKept self.old q → IsKept self.new (refused reason q) }
+        ensures few { self.new.jobs ≡ self.old.jobs }
+    {
+        if self.outcome == Outcome::Open && reason != Reason::Busy && reason != Reason::Misfit {
+            self.outcome = Outcome::Refused(reason);
+        }
+    }
+}
+
+/// Whether each is true.
+fn are_all(answers: &[bool]) -> bool
+    ensures { result ≡ list_all (λ b. b) answers.now }
+{
+    answers.iter().all(|answer| *answer)
+}
