@@ -9,7 +9,7 @@ use Rattle.server_core.specs.Answers.{to_client}
 abbrev pub framed : ℕ → List Body → List (List ℕ)
 framed me bodies = flat_map spelled_frames (to_client me bodies)
 
--- A body, if there is one.
+-- The list of one body, or of none.
 abbrev pub listed : Option Body → List Body
 listed None = []
 listed (Some body) = body ∷ []

@@ -1,4 +1,4 @@
--- What a server keeps of its present run, and of its open check.
+-- What a server keeps of its present run.
 use Rattle.std.specs.Prelude.{◌≡◌, ℕ, ◌+◌, ◌<◌, IsTrue, Bool, true, List, [], ◌∷◌, Option, Some, None, is_some, if◌then◌else◌, Result, Ok, Err}
 use Rattle.fc_base.specs.declared.fault.Fault.{Fault}
 use Rattle.fc_base.specs.declared.fault.Fault.TheVariants.{NotInFlight}
@@ -35,8 +35,8 @@ end_kept None = None
 end_kept (Some (Triggered act before)) = Some (ends.Taken act)
 end_kept (Some Stopped) = Some ends.Stopped
 
--- What is kept of job j: an engine at the end of its history, whether its state is saved, the state that
--- was taken, and whether the client has told that it is kept.
+-- What is kept of job j: what an engine keeps of its history, whether a Trigger takes its state, the
+-- state that was taken, and whether the client has told that it is kept.
 abbrev pub job_kept : Work → ℕ → Job → JobRun
 job_kept w j job =
     let origin = origin_of w j job in
@@ -65,7 +65,7 @@ kept_of w = record {
   kept = jobs_kept w 0 w.jobs;
 }
 
--- A run is kept: just that of it, and it is one that a server can have.
+-- Just this is kept of the run, whose jobs are a set, and whose number and server are in their ranges.
 pub record RunIs (kept : Kept) (w : Work) : Type 0 where
   pub is : kept ≡ kept_of w
   pub jobs : IsSet w.jobs
@@ -77,15 +77,15 @@ abbrev pub state_or : Option State → Bool → State → Option State
 state_or (Some state) save now = Some state
 state_or None save now = if save then Some now else None
 
--- The state of a job.
+-- The state of a job: the one that was taken, else that of now, where the job saves one.
 abbrev pub state_kept : JobRun → Option State
 state_kept k = state_or k.taken k.save (state_now k.engine)
 
--- A job that issues no more writes.
+-- The same job, which issues no more writes.
 abbrev pub stopped_kept : JobRun → JobRun
 stopped_kept k = record k { engine = record k.engine { stopped = true } }
 
--- A job whose state is taken, and which issues no more writes.
+-- The same job, whose state is taken, and which issues no more writes.
 abbrev pub taken_kept : JobRun → JobRun
 taken_kept k = stopped_kept (record k { taken = state_kept k })
 
@@ -93,11 +93,11 @@ taken_kept k = stopped_kept (record k { taken = state_kept k })
 abbrev pub EachRun : Kept → (Work → Type 0) → Type 0
 EachRun kept P = (w : Work) → RunIs kept w → P w
 
--- A request goes on with each run of which this was kept.
+-- Behind this request, the new is kept of each run of which the old was kept.
 abbrev pub GoesOn : Kept → Kept → Request → Type 0
 GoesOn old new x = EachRun old (λ w. RunIs new (record w { since = x ∷ w.since }))
 
--- A ticket that names an open write is accepted.
+-- A ticket that names an open write is accepted, and any other is refused as not in flight.
 abbrev pub open_answer : Bool → Result (Unit {0}) Fault
 open_answer names = if names then Ok tt else Err NotInFlight
 
@@ -117,7 +117,8 @@ started me now_boot s = record {
   since = [];
 }
 
--- Of this run, with no request yet, this is kept.
+-- This is kept of the jobs of a run of which nothing was asked yet; they are a set, and its number and
+-- server are in their ranges.
 pub record Begins (number : ℕ) (jobs : List Job) (kept : List JobRun) (w : Work) : Type 0 where
   pub run_is : w.run ≡ number
   pub jobs_are : w.jobs ≡ jobs
@@ -127,7 +128,7 @@ pub record Begins (number : ℕ) (jobs : List Job) (kept : List JobRun) (w : Wor
   pub run : IsTrue (is_run number)
   pub server : w.server < 8
 
--- There is a run with no request yet of which this is kept.
+-- There is a run of which nothing was asked yet, and this is kept of its jobs.
 abbrev pub IsBegun : ℕ → List Job → List JobRun → Type 0
 IsBegun number jobs kept = ∥ ((w : Work) × Begins number jobs kept w) ∥₁
 
@@ -145,7 +146,7 @@ before_halt None since = since
 abbrev pub asked_before : Work → List Request
 asked_before w = before_halt (halted w.run w.since) w.since
 
--- What is said of a job with this state, or with none.
+-- What is said of a job: its state, or that it has none.
 abbrev pub said : ℕ → ℕ → ℕ → Option State → Body
 said run jobs j (Some state) = bodies.State jobs state
 said run jobs j None = bodies.NoState run j jobs

@@ -14,7 +14,7 @@ use Rattle.server_core.specs.Check.{Check, Progress, Wanting, Full, With, Refuse
 use Rattle.server_core.specs.Answers.{is_ready}
 use Rattle.server_core.specs.Kept.{numbered}
 
--- How far the check of a job is, as it is kept.
+-- How far the check of a job is, by what is kept of it.
 abbrev pub progress_of : kept.Progress → Progress
 progress_of kept_as.Wanting = Wanting
 progress_of kept_as.Full = Full
@@ -22,7 +22,7 @@ progress_of (kept_as.With state) = With state
 progress_of (kept_as.Refused fault) = Refused (number_of fault)
 progress_of (kept_as.Done report) = Done report
 
--- How far it is at first.
+-- How far the check of a job is at first.
 abbrev pub progress_begun : Job → Progress
 progress_begun job = begun job.load
 
@@ -31,7 +31,7 @@ abbrev pub is_wanting : Option Progress → Bool
 is_wanting (Some Wanting) = true
 is_wanting _ = false
 
--- A check as it is kept.
+-- A check as it is kept: its run, its attempt and its jobs, and how far the check of each is.
 pub record CheckKept : Type 0 where
   pub run : ℕ
   pub attempt : ℕ
@@ -55,7 +55,7 @@ check_kept c = record {
 abbrev pub EachCheck : CheckKept → (Check → Type 0) → Type 0
 EachCheck kept P = (c : Check) → kept ≡ check_kept c → P c
 
--- A request goes on with each check of which this was kept.
+-- Behind this request, the new is kept of each check of which the old was kept.
 abbrev pub GoesOn : CheckKept → CheckKept → Request → Type 0
 GoesOn old new x = EachCheck old (λ c. new ≡ check_kept (record c { since = x ∷ c.since }))
 
@@ -72,7 +72,7 @@ abbrev pub ready_now : Option CheckKept → ℕ → ℕ → Bool
 ready_now None attempt job = false
 ready_now (Some kept) attempt job = ready_in kept attempt job
 
--- What a state makes of its job.
+-- What a state makes of its job, which waits for one: it is held where it fits, and else refused.
 abbrev pub judged_of : ℕ → ℕ → State → Option Job → Option Progress
 judged_of me run state None = None
 judged_of me run state (Some job) =
@@ -83,7 +83,7 @@ abbrev pub judged : ℕ → CheckKept → ℕ → State → Option Progress
 judged me kept attempt state =
     if wants_in kept attempt state.key.job then judged_of me kept.run state (slice_get kept.jobs state.key.job) else None
 
--- The refusal of a state that doesn't fit job j, for this reason.
+-- The refusal of a state that doesn't fit job j, with the number of why.
 abbrev pub misfit_of : CheckKept → ℕ → ℕ → Refusal
 misfit_of kept j value = record {
   asked = Verify;

@@ -61,7 +61,7 @@ impl StagedSet {
     }
 
     /// What is kept of each job once the run begins: an engine that has issued nothing. All memory
-    /// that the run needs is taken here.
+    /// that the run is kept in is taken here.
     pub fn engines(
         &self,
         alloc: Global,
