@@ -4,14 +4,13 @@ use Rattle.std.specs.Prelude.{if◌then◌else◌, set, slice_get}
 use Rattle.std.specs.Option.{option_map}
 use Rattle.std.proofs.lemmas.Option.{slice_get_past}
 use Rattle.std.proofs.lemmas.Bool.{and_parts, eqb-true, ne_eqb, eq-eqb}
-use Rattle.fc_base.specs.declared.fault.Fault.{Fault}
 use Rattle.fc_base.specs.declared.fault.Fault.TheVariants.{NotInFlight}
 use Rattle.fc_base.specs.declared.report.ReportParts.{ReportParts}
 use Rattle.job_file.specs.declared.job.Job.{Job}
 use Rattle.verify_state.specs.State.{State}
 use Rattle.verify_state.specs.Misfit.{misfit}
 use Rattle.server_core.specs.Request.{Request, ToHold, ToPassFully, ToReport}
-use Rattle.server_core.specs.Check.{Check, Progress, Wanting, Full, With, Refused, Done, held, passed, reported, progress_after, progress_at, progress_in, check_goes_on}
+use Rattle.server_core.specs.Check.{Check, Progress, Wanting, Full, With, Refused, Done, held, passed, reported, progress_at, progress_in, check_goes_on}
 use Rattle.server_core.specs.KeptCheck.{CheckKept, check_kept, job_progress, is_wanting, wants_in, ready_in, ready_now, with_progress, judged, judged_of}
 use Rattle.server_core.specs.Stands.{OpenIs}
 use Rattle.server_core.specs.Answers.{is_ready, is_attempt, refused_by}
@@ -118,11 +117,12 @@ report_step kept c b a j r is boot ok =
     let at : (a == c.attempt) ≡ true = eq-eqb a c.attempt (sym (eqb-true c.attempt a (ap (λ (k : CheckKept). k.attempt == a) (sym is) ∙ p.0))) in
     one kept c (ToReport b a j r) j (Done r) is (λ i job ne. if_far (b == c.boot) (a == c.attempt) (j == i) (reported r (job_progress c i job)) (job_progress c i job) (not_same j i ne))
     (λ job has_it. sym (if_near (b == c.boot) (a == c.attempt) (j == j) (reported r (job_progress c j job)) (job_progress c j job) (eq-eqb b c.boot (sym boot)) at (eq-eqb j j refl)
-        ∙ ready r (job_progress c j job) (ap is_ready (sym (kept_at kept c j job is has_it)) ∙ p.1)))
+    ∙ ready r (job_progress c j job) (ap is_ready (sym (kept_at kept c j job is has_it)) ∙ p.1)))
   where
     if_far : (s t u : Bool) (x y : Progress) → u ≡ false → (if s && (t && u) then x else y) ≡ y
     if_far true t u x y e = if_out t u x y e
     if_far false t u x y e = refl
+
     if_near : (s t u : Bool) (x y : Progress) → s ≡ true → t ≡ true → u ≡ true → (if s && (t && u) then x else y) ≡ x
     if_near s t u x y e f g = rw (e, f, g) refl
 
@@ -162,12 +162,13 @@ hold_step kept c a state p is h =
     one kept c (ToHold a state) state.key.job p is
     (λ i job ne. if_out (a == c.attempt) (state.key.job == i) (held (misfit state (record { run = c.run; server = c.server; job = i }) job.rec) state (job_progress c i job)) (job_progress c i job) (not_same state.key.job i ne))
     (λ job has_it. sym (if_in (a == c.attempt) (state.key.job == state.key.job) (held (misfit state (record { run = c.run; server = c.server; job = state.key.job }) job.rec) state (job_progress c state.key.job job)) (job_progress c state.key.job job) at (eq-eqb state.key.job state.key.job refl)
-        ∙ ap (held (misfit state (record { run = c.run; server = c.server; job = state.key.job }) job.rec) state) (waits kept c state.key.job job is q.1 has_it)
-        ∙ judged_is job (ap (λ (k : CheckKept). judged_of c.server k.run state (slice_get k.jobs state.key.job)) (sym is) ∙ wants.1) has_it))
+    ∙ ap (held (misfit state (record { run = c.run; server = c.server; job = state.key.job }) job.rec) state) (waits kept c state.key.job job is q.1 has_it)
+    ∙ judged_is job (ap (λ (k : CheckKept). judged_of c.server k.run state (slice_get k.jobs state.key.job)) (sym is) ∙ wants.1) has_it))
   where
     first : (t : Bool) (o : Option Progress) → (if t then o else None) ≡ Some p → (t ≡ true) × (o ≡ Some p)
     first true o e = (refl, e)
     first false o e = cc
+
     judged_is : (job : Job) → judged_of c.server c.run state (slice_get c.jobs state.key.job) ≡ Some p → slice_get c.jobs state.key.job ≡ Some job
         → held (misfit state (record { run = c.run; server = c.server; job = state.key.job }) job.rec) state Wanting ≡ p
     judged_is job e has_it = some_is (sym (ap (judged_of c.server c.run state) has_it) ∙ e)

@@ -1,6 +1,6 @@
 -- What is kept of a run behind the end of a write.
-use Rattle.std.proofs.Common.{◌≡◌, ◌≢◌, refl, sym, ap, subst, ◌∙◌, ℕ, zero, suc, ◌≤◌, Bool, true, false, ◌&&◌, ◌==◌, List, [], ◌∷◌, ◌++◌, length, Option, None, Some}
-use Rattle.std.specs.Prelude.{if◌then◌else◌, not, set, slice_get, is_some, Result, Ok, Err}
+use Rattle.std.proofs.Common.{◌≡◌, ◌≢◌, refl, sym, ap, ◌∙◌, ℕ, zero, suc, ◌≤◌, Bool, true, false, ◌&&◌, ◌==◌, List, [], ◌∷◌, ◌++◌, length, Option, None, Some}
+use Rattle.std.specs.Prelude.{if◌then◌else◌, not, set, slice_get, Result, Ok, Err}
 use Rattle.std.proofs.lemmas.Bool.{ne_eqb, eq-eqb}
 use Rattle.fc_base.specs.Counted.{has}
 use Rattle.fc_base.specs.declared.fault.Fault.{Fault}
@@ -12,7 +12,7 @@ use Rattle.engine.specs.Running.{Origin, Running, running_of, StandsFor, EachHis
 use Rattle.engine.specs.Answers.{ticket_answer, names_one_of}
 use Rattle.server_core.specs.declared.event.WriteEnd.{WriteEnd}
 use Rattle.server_core.specs.declared.job_run.JobRun.{JobRun}
-use Rattle.server_core.specs.Request.{Request, ToEnd}
+use Rattle.server_core.specs.Request.{ToEnd}
 use Rattle.server_core.specs.Run.{Work, Halt, Triggered, Stopped, with_ticket, halted, is_halted, origin_of, history, goes_on}
 use Rattle.server_core.specs.Answers.{marks_by, marks, names_open_of}
 use Rattle.server_core.specs.Laws.{HistoriesAreLegal}
@@ -79,11 +79,10 @@ end_step legal kept w ticket end old new result h at told added same_origin same
     ∙ ap (λ r. running_of origin (is_halted w) (with_ticket r end ticket.seq past)) answer in
     let here : (other : Job) → job ≡ other → new ≡ job_kept (and_then w (ToEnd ticket end)) i other =
     λ other same. rest ∙ engine_row w (ToEnd ticket end) i job old new.engine (with_ticket (ticket_answer origin (window.open_writes past) ticket) end ticket.seq past) p.2 now (or_none (halted w.run w.since)) refl (unmarked w ticket end i)
-        ∙ ap (job_kept (and_then w (ToEnd ticket end)) i) same in
-    (
+    ∙ ap (job_kept (and_then w (ToEnd ticket end)) i) same in (
       λ boot. answer ∙ same_boot origin (window.open_writes past) ticket boot ∙ sym (ap (λ x. open_answer (names_open_of w ticket x)) p.1),
       one_row kept w (ToEnd ticket end) i new h (or_none (halted w.run w.since)) (λ j other ne. other_job w ticket end j other ne) (λ j ne. unmarked w ticket end j)
-      (λ other has_it. here other (same_some job other (sym p.1 ∙ has_it)))
+          (λ other has_it. here other (same_some job other (sym p.1 ∙ has_it))),
     )
   where
     same_some : (a b : Job) → Some a ≡ Some b → a ≡ b
@@ -92,10 +91,9 @@ end_step legal kept w ticket end old new result h at told added same_origin same
 pub no_end : (kept : Kept) (w : Work) (ticket : Ticket) (end : WriteEnd) → RunIs kept w → length kept.kept ≤ ticket.key.job
     → (Err NotInFlight ≡ open_answer (names_open_of w ticket (slice_get w.jobs ticket.key.job))) × RunIs kept (and_then w (ToEnd ticket end))
 no_end kept w ticket end h past =
-    let none = no_job kept w ticket.key.job h past in
-    (
+    let none = no_job kept w ticket.key.job h past in (
       sym (ap (λ x. open_answer (names_open_of w ticket x)) none),
-      idle kept w (ToEnd ticket end) h (or_none (halted w.run w.since)) (λ j job is. other_job w ticket end j job (other j job none is)) (λ j job is. unmarked w ticket end j)
+      idle kept w (ToEnd ticket end) h (or_none (halted w.run w.since)) (λ j job is. other_job w ticket end j job (other j job none is)) (λ j job is. unmarked w ticket end j),
     )
   where
     other : (j : ℕ) (job : Job) → slice_get w.jobs ticket.key.job ≡ None → slice_get w.jobs j ≡ Some job → j ≢ ticket.key.job
@@ -110,8 +108,8 @@ other_boot : (kept : Kept) (w : Work) (ticket : Ticket) (end : WriteEnd) → Run
 other_boot kept w ticket end h e =
     idle kept w (ToEnd ticket end) h (or_none (halted w.run w.since))
     (λ j job is.
-        ap (λ t. with_ticket (if not t then Err OldBoot else (if names_one_of (origin_of w j job) (window.open_writes (history (origin_of w j job) w.since)) ticket then Ok tt else Err NotInFlight)) end ticket.seq (history (origin_of w j job) w.since))
-        e)
+    ap (λ t. with_ticket (if not t then Err OldBoot else (if names_one_of (origin_of w j job) (window.open_writes (history (origin_of w j job) w.since)) ticket then Ok tt else Err NotInFlight)) end ticket.seq (history (origin_of w j job) w.since))
+    e)
     (λ j job is. unmarked w ticket end j)
 
 pub end_of_other_boot : (me now_boot : ℕ) (kept : Option Kept) (w : Option Work) (ticket : Ticket) (end : WriteEnd) → WorkIs me now_boot kept w → ticket.boot ≢ now_boot → WorkIs me now_boot kept (goes_on (ToEnd ticket end) w)

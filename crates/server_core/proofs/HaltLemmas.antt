@@ -1,6 +1,6 @@
 -- What is kept of a run behind its Trigger, its Stop, and the marks of its jobs.
-use Rattle.std.proofs.Common.{◌≡◌, ◌≢◌, refl, sym, ap, subst, ◌∙◌, ℕ, zero, suc, ◌+◌, ◌<◌, ◌≤◌, arith, Bool, true, false, ◌&&◌, ◌==◌, List, [], ◌∷◌, ◌++◌, length, Option, None, Some}
-use Rattle.std.specs.Prelude.{if◌then◌else◌, set, slice_get, is_some, map, take, drop}
+use Rattle.std.proofs.Common.{◌≡◌, refl, sym, ap, ◌∙◌, ℕ, Bool, List, [], ◌∷◌, ◌++◌, Option, None, Some}
+use Rattle.std.specs.Prelude.{if◌then◌else◌, slice_get, map}
 use Rattle.std.specs.Option.{option_or}
 use Rattle.std.proofs.lemmas.Bool.{eq-eqb}
 use Rattle.fc_base.specs.Counted.{has}
@@ -8,16 +8,13 @@ use Rattle.job_file.specs.declared.job.Job.{Job}
 use Rattle.window.specs.History as window
 use Rattle.messages.specs.declared.refusal.Act.{Act}
 use Rattle.messages.specs.declared.refusal.Act.TheVariants as acts
-use Rattle.verify_state.specs.State.{State}
-use Rattle.server_core.specs.declared.job_run.JobRun.{JobRun}
-use Rattle.server_core.specs.declared.job_run.End.{End}
 use Rattle.server_core.specs.declared.job_run.End.TheVariants as ends
-use Rattle.server_core.specs.Request.{Request, ToTrigger, ToStop, ToMark}
-use Rattle.server_core.specs.Run.{Work, Halt, Triggered, Stopped, halted, halts, is_halted, origin_of, history}
+use Rattle.server_core.specs.Request.{ToTrigger, ToStop}
+use Rattle.server_core.specs.Run.{Work, Halt, Triggered, Stopped, halted, halts, origin_of, history}
 use Rattle.server_core.specs.Taken.{job_state, saved_state}
 use Rattle.server_core.specs.Answers.{marks_by, marks}
-use Rattle.server_core.specs.Kept.{Kept, end_kept, job_kept, jobs_kept, kept_of, RunIs, stopped_kept, taken_kept}
-use Rattle.server_core.proofs.RowLemmas.{and_then, or_none, row, row_by, each_row, same_job_run}
+use Rattle.server_core.specs.Kept.{Kept, end_kept, RunIs, stopped_kept, taken_kept}
+use Rattle.server_core.proofs.RowLemmas.{and_then, row, row_by, each_row, same_job_run}
 
 pub writes : (b : Option Halt) → end_kept b ≡ None → b ≡ None
 writes None e = refl
@@ -47,8 +44,8 @@ take_step kept w act h e =
     ap (λ b. option_or b (halts w.run (ToTrigger w.run act) w.since)) none ∙ ap (λ t. if t then Some (Triggered act w.since) else None) (eq-eqb w.run w.run refl) in
     each_row kept w (ToTrigger w.run act) taken_kept (Some (Triggered act w.since)) h now
     (λ j job is. row_by w (ToTrigger w.run act) j job (Some (Triggered act w.since)) (history (origin_of w j job) w.since) (has (marks w.run w.since) j) now refl
-        (ap (λ ms. has (ms ++ marks w.run w.since) j) (no_marks (halted w.run w.since) w.run act).0)
-        ∙ taken_row w j job act (halted w.run w.since) (history (origin_of w j job) w.since) (has (marks w.run w.since) j) is refl none)
+    (ap (λ ms. has (ms ++ marks w.run w.since) j) (no_marks (halted w.run w.since) w.run act).0)
+    ∙ taken_row w j job act (halted w.run w.since) (history (origin_of w j job) w.since) (has (marks w.run w.since) j) is refl none)
 
 pub stop_step : (kept : Kept) (w : Work) → RunIs kept w → kept.end ≡ None → RunIs (record kept { end = Some ends.Stopped; kept = map stopped_kept kept.kept }) (and_then w (ToStop w.run))
 stop_step kept w h e =
@@ -57,5 +54,5 @@ stop_step kept w h e =
     ap (λ b. option_or b (halts w.run (ToStop w.run) w.since)) none ∙ ap (λ t. if t then Some Stopped else None) (eq-eqb w.run w.run refl) in
     each_row kept w (ToStop w.run) stopped_kept (Some Stopped) h now
     (λ j job is. row_by w (ToStop w.run) j job (Some Stopped) (history (origin_of w j job) w.since) (has (marks w.run w.since) j) now refl
-        (ap (λ ms. has (ms ++ marks w.run w.since) j) (no_marks (halted w.run w.since) w.run acts.None).1)
-        ∙ stopped_row w j job (halted w.run w.since) (history (origin_of w j job) w.since) (has (marks w.run w.since) j) none)
+    (ap (λ ms. has (ms ++ marks w.run w.since) j) (no_marks (halted w.run w.since) w.run acts.None).1)
+    ∙ stopped_row w j job (halted w.run w.since) (history (origin_of w j job) w.since) (has (marks w.run w.since) j) none)

@@ -1,5 +1,5 @@
 -- What a state that comes makes of a check.
-use Rattle.std.proofs.Common.{◌≡◌, refl, sym, ap, subst, ◌∙◌, ℕ, suc, ◌<◌, arith, Bool, true, false, ◌&&◌, ◌==◌, List, [], ◌∷◌, length, Option, None, Some}
+use Rattle.std.proofs.Common.{◌≡◌, refl, sym, ap, ◌∙◌, ℕ, arith, Bool, true, false, ◌&&◌, ◌==◌, List, [], length, Option, None, Some}
 use Rattle.std.specs.Prelude.{if◌then◌else◌, slice_get, nat_lt, MatchOption}
 use Rattle.std.proofs.lemmas.Bool.Decides.{nat_tests}
 use Rattle.std.specs.Option.{option_map}
@@ -7,16 +7,15 @@ use Rattle.std.proofs.lemmas.Bool.{and_parts, eq-eqb}
 use Rattle.std.proofs.lemmas.Option.{slice_get_within}
 use Rattle.fc_base.specs.declared.fault.Fault.{Fault}
 use Rattle.job_file.specs.declared.job.Job.{Job}
-use Rattle.messages.specs.declared.body.Body.{Body}
 use Rattle.verify_state.specs.State.{State}
 use Rattle.verify_state.specs.Misfit.{misfit}
 use Rattle.server_core.specs.declared.progress.Progress.{Progress as Stored}
 use Rattle.server_core.specs.Request.{ToHold}
-use Rattle.server_core.specs.Check.{Check, Progress, Wanting, Full, With, Refused, Done, held, progress_after, progress_by, check_goes_on}
+use Rattle.server_core.specs.Check.{Check, Progress, Wanting, Full, With, Refused, Done, held, check_goes_on}
 use Rattle.server_core.specs.Replies.{progress_frame, misfit_frame, reply_to_state_for, reply_to_state}
 use Rattle.server_core.specs.KeptCheck.{CheckKept, check_kept, job_progress, is_wanting, wants_in, with_progress, has_job, progress_of, judged, judged_of, judged_now}
 use Rattle.server_core.specs.Stands.{OpenIs, frame_now}
-use Rattle.server_core.proofs.CheckedLemmas.{and_then, idle, if_in, if_out, unchanged, kept_at, waits, progress_kept, hold_step}
+use Rattle.server_core.proofs.CheckedLemmas.{and_then, idle, if_in, unchanged, kept_at, waits, progress_kept, hold_step}
 
 held_stays : (m : Option Fault) (state : State) (p : Progress) → is_wanting (Some p) ≡ false → held m state p ≡ p
 held_stays m state Wanting e = cc
@@ -30,7 +29,7 @@ pub no_hold : (kept : CheckKept) (c : Check) (a : ℕ) (state : State) → kept 
 no_hold kept c a state is wants =
     idle kept c (ToHold a state) is
     (λ i job at. unchanged kept c a state.key.job i job (held (misfit state (record { run = c.run; server = c.server; job = i }) job.rec) state (job_progress c i job)) is wants at
-        (held_stays (misfit state (record { run = c.run; server = c.server; job = i }) job.rec) state (job_progress c i job)))
+    (held_stays (misfit state (record { run = c.run; server = c.server; job = i }) job.rec) state (job_progress c i job)))
 
 -- A job that waits is there.
 job_waits : (kept : CheckKept) (c : Check) (j : ℕ) (o : Option Job) → kept ≡ check_kept c → slice_get c.jobs j ≡ o → is_wanting (slice_get kept.progress j) ≡ true → (job : Job) × (o ≡ Some job)

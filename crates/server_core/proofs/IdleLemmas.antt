@@ -1,5 +1,5 @@
 -- Requests that change nothing of what is kept of a run.
-use Rattle.std.proofs.Common.{◌≡◌, refl, sym, ap, subst, ◌∙◌, ℕ, Bool, true, false, ◌&&◌, ◌==◌, List, [], ◌∷◌, ◌++◌, Option, None, Some}
+use Rattle.std.proofs.Common.{◌≡◌, refl, sym, ap, subst, ◌∙◌, ℕ, Bool, true, false, ◌&&◌, ◌==◌, [], ◌∷◌, ◌++◌, Option, None, Some}
 use Rattle.std.specs.Prelude.{if◌then◌else◌, is_none, not, length}
 use Rattle.std.specs.List.{list_all}
 use Rattle.std.proofs.lemmas.Bool.{eqb-true, eq-eqb}
@@ -7,9 +7,8 @@ use Rattle.std.specs.Option.{option_or}
 use Rattle.fc_base.specs.Counted.{has, numbers_below}
 use Rattle.messages.specs.declared.refusal.Act.{Act}
 use Rattle.messages.specs.declared.refusal.Act.TheVariants as acts
-use Rattle.server_core.specs.declared.job_run.End.{End}
 use Rattle.server_core.specs.Request.{Request, ToStage, ToStart, ToTrigger, ToMark, ToStop, ToVerify, ToHold, ToPassFully, ToIssue, ToEnd, ToReport, ToNobody}
-use Rattle.server_core.specs.Run.{Work, Halt, Triggered, Stopped, halts, halted, goes_on}
+use Rattle.server_core.specs.Run.{Work, Halt, Triggered, Stopped, halted, goes_on}
 use Rattle.server_core.specs.Answers.{marks_by, marks, is_marked, wants_cut, act_of}
 use Rattle.server_core.specs.Kept.{Kept, end_kept, RunIs}
 use Rattle.server_core.specs.Check.{Check, check_goes_on}
@@ -104,11 +103,10 @@ other_mark (Some (Triggered act before)) run r j e = ap (λ t. if t then j ∷ [
 pub no_mark : (kept : Kept) (w : Work) (r j : ℕ) → RunIs kept w → (kept.number == r) ≡ false → RunIs kept (and_then w (ToMark r j)) × (acts.None ≡ act_of (Some w) (ToMark r j))
 no_mark kept w r j h e =
     let other : (r == w.run) ≡ false = swapped r w.run ∙ ap (λ (k : Kept). k.number == r) (sym h.is) ∙ e in
-    let unmarked = other_mark (halted w.run w.since) w.run r j other in
-    (
+    let unmarked = other_mark (halted w.run w.since) w.run r j other in (
       idle kept w (ToMark r j) h (or_none (halted w.run w.since)) (λ i job is. refl) (λ i job is. marks_stay w (ToMark r j) i unmarked),
       sym (ap (λ ms. if wants_cut (halted w.run w.since) && (not (is_marked w) && list_all (has (ms ++ marks w.run w.since)) (numbers_below (length w.jobs))) then acts.Cut else acts.None) unmarked
-      ∙ never (wants_cut (halted w.run w.since)) (is_marked w))
+          ∙ never (wants_cut (halted w.run w.since)) (is_marked w)),
     )
   where
     never : (a b : Bool) → (if a && (not b && b) then acts.Cut else acts.None) ≡ acts.None

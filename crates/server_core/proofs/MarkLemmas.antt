@@ -1,22 +1,19 @@
 -- What is kept of a run behind a mark.
-use Rattle.std.proofs.Common.{◌≡◌, ◌≢◌, refl, sym, ap, subst, ◌∙◌, ℕ, zero, suc, ◌+◌, ◌<◌, ◌≤◌, arith, Bool, true, false, ◌&&◌, ◌||◌, ◌==◌, List, [], ◌∷◌, ◌++◌, length, Option, None, Some}
+use Rattle.std.proofs.Common.{◌≡◌, ◌≢◌, refl, sym, ap, ◌∙◌, ℕ, zero, suc, ◌+◌, ◌≤◌, arith, Bool, true, false, ◌&&◌, ◌||◌, List, [], ◌∷◌, ◌++◌, length, Option, None, Some}
 use Rattle.std.specs.Prelude.{if◌then◌else◌, not, set, slice_get, is_some}
 use Rattle.std.specs.List.{list_all}
 use Rattle.std.proofs.lemmas.Bool.{eq-eqb, ne_eqb}
 use Rattle.std.proofs.lemmas.List.Folds.{list_all-append}
-use Rattle.std.proofs.lemmas.Option.{slice_get_past}
 use Rattle.fc_base.specs.Counted.{has, numbers_below}
 use Rattle.job_file.specs.declared.job.Job.{Job}
 use Rattle.messages.specs.declared.refusal.Act.{Act}
 use Rattle.messages.specs.declared.refusal.Act.TheVariants as acts
 use Rattle.server_core.specs.declared.job_run.JobRun.{JobRun}
-use Rattle.server_core.specs.declared.job_run.End.{End}
-use Rattle.server_core.specs.declared.job_run.End.TheVariants as ends
 use Rattle.server_core.specs.Request.{Request, ToMark}
 use Rattle.server_core.specs.Run.{Work, Halt, Triggered, Stopped, halted, origin_of, history}
-use Rattle.server_core.specs.Answers.{marks_by, marks, is_marked, is_cut, wants_cut, completes, act_of}
+use Rattle.server_core.specs.Answers.{marks_by, marks, is_marked, is_cut, wants_cut, act_of}
 use Rattle.server_core.specs.Kept.{Kept, end_kept, job_kept, jobs_kept, RunIs, act_in}
-use Rattle.server_core.proofs.RowLemmas.{and_then, or_none, row, row_by, idle, job_here, one_row, same_job_run}
+use Rattle.server_core.proofs.RowLemmas.{and_then, or_none, row_by, idle, job_here, one_row, same_job_run}
 use Rattle.server_core.proofs.RunLemmas.{no_job}
 
 -- ---- all jobs are marked
@@ -95,8 +92,8 @@ mark_step kept w i old h taken at =
     let x = ToMark w.run i in
     one_row kept w x i (record old { marked = true }) h (or_none (halted w.run w.since)) (λ j job ne. refl) (λ j ne. ap (λ ms. has (ms ++ marks w.run w.since) j) mark ∙ other (marks w.run w.since) i j ne)
     (λ job is. same_job_run _ _ _ _ _ _ _ _ (ap (λ (k : JobRun). k.engine) p.2) (ap (λ (k : JobRun). k.save) p.2) (ap (λ (k : JobRun). k.taken) p.2) refl
-        ∙ sym (row_by w x i p.0 (halted w.run w.since) (history (origin_of w i p.0) w.since) true (or_none (halted w.run w.since)) refl (ap (λ ms. has (ms ++ marks w.run w.since) i) mark ∙ here (marks w.run w.since) i))
-        ∙ ap (job_kept (and_then w x) i) (same_some p.0 job (sym p.1 ∙ is)))
+    ∙ sym (row_by w x i p.0 (halted w.run w.since) (history (origin_of w i p.0) w.since) true (or_none (halted w.run w.since)) refl (ap (λ ms. has (ms ++ marks w.run w.since) i) mark ∙ here (marks w.run w.since) i))
+    ∙ ap (job_kept (and_then w x) i) (same_some p.0 job (sym p.1 ∙ is)))
   where
     same_some : (a b : Job) → Some a ≡ Some b → a ≡ b
     same_some a b e = cc
@@ -115,10 +112,9 @@ mark_past kept w i h taken past =
 
 pub mark_untaken : (kept : Kept) (w : Work) (i : ℕ) → RunIs kept w → is_some (act_in kept.end) ≡ false → RunIs kept (and_then w (ToMark w.run i)) × (acts.None ≡ act_of (Some w) (ToMark w.run i))
 mark_untaken kept w i h untaken =
-    let e = ap (λ (k : Kept). is_some (act_in k.end)) (sym h.is) ∙ untaken in
-    (
+    let e = ap (λ (k : Kept). is_some (act_in k.end)) (sym h.is) ∙ untaken in (
       idle kept w (ToMark w.run i) h (or_none (halted w.run w.since)) (λ j job is. refl) (λ j job is. ap (λ ms. has (ms ++ marks w.run w.since) j) (no_mark (halted w.run w.since) w.run i e)),
-      no_act (halted w.run w.since) (not (is_marked w) && is_marked (and_then w (ToMark w.run i))) e
+      no_act (halted w.run w.since) (not (is_marked w) && is_marked (and_then w (ToMark w.run i))) e,
     )
   where
     no_act : (b : Option Halt) (c : Bool) → is_some (act_in (end_kept b)) ≡ false → acts.None ≡ (if wants_cut b && c then acts.Cut else acts.None)

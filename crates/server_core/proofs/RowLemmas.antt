@@ -1,6 +1,6 @@
 -- What is kept of a run's jobs, behind one more request.
-use Rattle.std.proofs.Common.{◌≡◌, ◌≢◌, refl, sym, ap, subst, ◌∙◌, ℕ, zero, suc, ◌+◌, ◌<◌, ◌≤◌, arith, Bool, true, false, ◌==◌, List, [], ◌∷◌, ◌++◌, length, Option, None, Some}
-use Rattle.std.specs.Prelude.{if◌then◌else◌, set, slice_get, is_some, map, take, drop, get_or}
+use Rattle.std.proofs.Common.{◌≡◌, ◌≢◌, refl, sym, ap, subst, ◌∙◌, ℕ, zero, suc, ◌+◌, ◌<◌, arith, Bool, List, [], ◌∷◌, ◌++◌, length, Option, None, Some}
+use Rattle.std.specs.Prelude.{set, slice_get, is_some, map, take, drop, get_or}
 use Rattle.std.specs.Option.{option_or}
 use Rattle.std.proofs.lemmas.List.{map-id}
 use Rattle.std.proofs.lemmas.Option.{slice_get_read}
@@ -8,15 +8,15 @@ use Rattle.fc_base.specs.Counted.{has}
 use Rattle.job_file.specs.declared.job.Job.{Job}
 use Rattle.verify_state.specs.State.{State}
 use Rattle.window.specs.History as window
-use Rattle.engine.specs.Running.{Origin, Running, running_of}
+use Rattle.engine.specs.Running.{Running, running_of}
 use Rattle.server_core.specs.declared.job_run.JobRun.{JobRun}
 use Rattle.server_core.specs.declared.job_run.End.{End}
 use Rattle.server_core.specs.Request.{Request}
-use Rattle.server_core.specs.Run.{Work, Halt, halts, halted, with_request, origin_of, history}
+use Rattle.server_core.specs.Run.{Work, Halt, halted, origin_of, history}
 use Rattle.server_core.specs.Taken.{taken_by_halt}
-use Rattle.server_core.specs.Answers.{marks_by, marks}
+use Rattle.server_core.specs.Answers.{marks}
 use Rattle.server_core.proofs.NumberedLemmas.{plus_zero, map-numbered, set_one, job_of}
-use Rattle.server_core.specs.Kept.{Kept, end_kept, job_kept, jobs_kept, kept_of, RunIs}
+use Rattle.server_core.specs.Kept.{Kept, end_kept, job_kept, RunIs}
 
 -- A run behind one more request.
 abbrev pub and_then : Work → Request → Work

@@ -1,6 +1,6 @@
 -- What is kept of a run answers as the run does, and a request changes it as it changes the run.
-use Rattle.std.proofs.Common.{◌≡◌, ◌≢◌, refl, sym, ap, subst, ◌∙◌, ℕ, zero, suc, ◌+◌, ◌<◌, ◌≤◌, arith, Bool, true, false, ◌&&◌, ◌||◌, ◌==◌, List, [], ◌∷◌, ◌++◌, length, Option, None, Some}
-use Rattle.std.specs.Prelude.{if◌then◌else◌, not, nat_lt, set, slice_get, is_some, IsTrue}
+use Rattle.std.proofs.Common.{◌≡◌, ◌≢◌, refl, sym, ap, subst, ◌∙◌, ℕ, ◌+◌, ◌≤◌, Bool, true, false, ◌&&◌, ◌||◌, ◌==◌, List, [], ◌∷◌, ◌++◌, length, Option, None, Some}
+use Rattle.std.specs.Prelude.{if◌then◌else◌, nat_lt, set, slice_get, IsTrue}
 use Rattle.std.specs.List.{list_all, list_any}
 use Rattle.std.proofs.lemmas.Bool.{ne_eqb, eq-eqb}
 use Rattle.fc_base.specs.JobParts.{is_within_limits}
@@ -16,12 +16,12 @@ use Rattle.window.specs.History as window
 use Rattle.engine.specs.declared.issue.Issue.{Issue}
 use Rattle.engine.specs.declared.issue.Issue.TheVariants as issues
 use Rattle.engine.specs.Legal.{IsLegal}
-use Rattle.engine.specs.Running.{Origin, Running, running_of, StandsFor, Adds}
+use Rattle.engine.specs.Running.{Origin, Running, running_of, StandsFor}
 use Rattle.engine.specs.Answers.{answer_of, answer_to, after_answer, AddsAnswer, ended_of, has_ended}
 use Rattle.server_core.specs.declared.job_run.JobRun.{JobRun}
-use Rattle.server_core.specs.Request.{Request, ToIssue, ToEnd}
-use Rattle.server_core.specs.Run.{Work, Halt, Triggered, Stopped, with_issue, halted, is_halted, origin_of, origins_from, origins, history, has_open, have_ended}
-use Rattle.server_core.specs.Kept.{Kept, job_kept, jobs_kept, kept_of, RunIs}
+use Rattle.server_core.specs.Request.{ToIssue}
+use Rattle.server_core.specs.Run.{Work, Halt, Triggered, Stopped, with_issue, halted, is_halted, origin_of, origins_from, history, has_open, have_ended}
+use Rattle.server_core.specs.Kept.{Kept, job_kept, jobs_kept, RunIs}
 
 -- ---- what is kept of each job
 
@@ -97,13 +97,12 @@ issue_step legal kept w i old new answer h at e left added =
     let asked : history origin (ToIssue i ∷ w.since) ≡ with_issue answer past =
     if_true (with_issue (answer_to origin (is_halted w) past) past) past (eq-eqb i i refl) ∙ ap (λ a. with_issue a past) (sym told) in
     let here : (other : Job) → job ≡ other → record old { engine = new } ≡ job_kept (and_then w (ToIssue i)) i other =
-    λ other same. engine_row w (ToIssue i) i job old new (with_issue answer past) p.2 now (or_none (halted w.run w.since)) asked (unmarked w i i) ∙ ap (job_kept (and_then w (ToIssue i)) i) same in
-    (
+    λ other same. engine_row w (ToIssue i) i job old new (with_issue answer past) p.2 now (or_none (halted w.run w.since)) asked (unmarked w i i) ∙ ap (job_kept (and_then w (ToIssue i)) i) same in (
       told ∙ sym (ap (issue_of_job w i) p.1),
       one_row kept w (ToIssue i) i (record old { engine = new }) h (or_none (halted w.run w.since))
-      (λ j other ne. unasked w i j other ne)
-      (λ j ne. unmarked w i j)
-      (λ other has_it. here other (same_some job other (sym p.1 ∙ has_it)))
+          (λ j other ne. unasked w i j other ne)
+          (λ j ne. unmarked w i j)
+          (λ other has_it. here other (same_some job other (sym p.1 ∙ has_it))),
     )
   where
     same_some : (a b : Job) → Some a ≡ Some b → a ≡ b
@@ -114,10 +113,9 @@ no_job kept w i h past = slice_get_past w.jobs i (subst (λ n. n ≤ i) (ap (λ 
 
 pub no_issue : (kept : Kept) (w : Work) (i : ℕ) → RunIs kept w → length kept.kept ≤ i → (issues.Stopped ≡ issue_of_job w i (slice_get w.jobs i)) × RunIs kept (and_then w (ToIssue i))
 no_issue kept w i h past =
-    let none = no_job kept w i h past in
-    (
+    let none = no_job kept w i h past in (
       sym (ap (issue_of_job w i) none),
-      idle kept w (ToIssue i) h (or_none (halted w.run w.since)) (λ j job is. unasked w i j job (other j job none is)) (λ j job is. unmarked w i j)
+      idle kept w (ToIssue i) h (or_none (halted w.run w.since)) (λ j job is. unasked w i j job (other j job none is)) (λ j job is. unmarked w i j),
     )
   where
     other : (j : ℕ) (job : Job) → slice_get w.jobs i ≡ None → slice_get w.jobs j ≡ Some job → j ≢ i

@@ -1,12 +1,11 @@
 -- What a run says of the states of its jobs.
-use Rattle.std.proofs.Common.{◌≡◌, refl, sym, ap, subst, ◌∙◌, ℕ, zero, suc, ◌+◌, ◌<◌, ◌≤◌, arith, Bool, true, false, ◌&&◌, ◌==◌, List, [], ◌∷◌, ◌++◌, length, take, Option, None, Some, append_assoc}
-use Rattle.std.specs.Prelude.{if◌then◌else◌, nat_le, nat_lt, slice_get, is_some, map, IsTrue, get_or}
-use Rattle.std.specs.List.{flat_map}
+use Rattle.std.proofs.Common.{◌≡◌, refl, sym, ap, ◌∙◌, ℕ, zero, suc, ◌+◌, ◌<◌, ◌≤◌, arith, Bool, true, false, ◌&&◌, ◌==◌, List, [], ◌∷◌, ◌++◌, length, take, Option, None, Some, append_assoc}
+use Rattle.std.specs.Prelude.{if◌then◌else◌, nat_le, nat_lt, slice_get}
 use Rattle.std.proofs.Math.Logic.{∥∥₁_elim}
 use Rattle.std.specs.Coded.{Coded-set, coded_bool}
 use Rattle.std.proofs.lemmas.Bool.{leb-true, and_parts, eqb-true, eq-eqb}
 use Rattle.std.proofs.lemmas.Bool.Decides.{nat_tests}
-use Rattle.std.proofs.lemmas.List.{take_more, length-take-le, append-nil}
+use Rattle.std.proofs.lemmas.List.{take_more, length-take-le}
 use Rattle.std.proofs.lemmas.Option.{slice_get_within, get_or_from_slice_get}
 use Rattle.job_file.specs.declared.job.Job.{Job}
 use Rattle.messages.specs.declared.body.Body.{Body}
@@ -18,12 +17,11 @@ use Rattle.messages.specs.Ranges.{is_body, is_run, is_job_of}
 use Rattle.verify_state.specs.State.{State}
 use Rattle.server_core.specs.declared.job_run.JobRun.{JobRun}
 use Rattle.server_core.specs.Request.{Request}
-use Rattle.server_core.specs.Run.{Work, Halt, Triggered, Stopped, halted, is_halted, origin_of, history}
+use Rattle.server_core.specs.Run.{Work, Halt, Triggered, Stopped, halted, origin_of, history}
 use Rattle.server_core.specs.Taken.{job_state, saved_state}
-use Rattle.server_core.specs.Answers.{marks, to_client}
 use Rattle.server_core.specs.Replies.{state_frame, state_frames}
 use Rattle.server_core.specs.Framed.{framed}
-use Rattle.server_core.specs.Kept.{Kept, job_kept, jobs_kept, RunIs, state_kept, asked_before, before_halt, state_or, said}
+use Rattle.server_core.specs.Kept.{Kept, job_kept, RunIs, state_kept, asked_before, before_halt, state_or, said}
 use Rattle.server_core.proofs.RowLemmas.{row, job_here}
 use Rattle.server_core.proofs.NumberedLemmas.{length-numbered}
 

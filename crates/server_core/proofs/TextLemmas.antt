@@ -1,19 +1,16 @@
 -- The jobs that a text gives, as they are read.
-use Rattle.std.proofs.Common.{◌≡◌, ◌≢◌, ◌⊎◌, inl, inr, refl, sym, ap, ◌∙◌, ℕ, Bool, true, false, List, Option, None, Some}
-use Rattle.std.specs.Prelude.{Result, Ok, Err}
-use Rattle.fc_base.specs.declared.fault.Fault.{Fault}
+use Rattle.std.proofs.Common.{◌≡◌, ◌⊎◌, inl, inr, refl, sym, ap, ◌∙◌, ℕ, true, false, List, Some}
+use Rattle.std.specs.Prelude.{Ok, Err}
 use Rattle.fc_base.specs.declared.fault.Fault.TheVariants.{WrongPhase, NoMemory}
 use Rattle.fc_base.specs.Fault.{number_of}
 use Rattle.job_file.specs.declared.fault.JobFault.{JobFault}
 use Rattle.job_file.specs.declared.fault.JobFault.TheVariants as job_faults
-use Rattle.job_file.specs.declared.job.Job.{Job}
 use Rattle.job_file.specs.declared.job.JobSet.{JobSet}
 use Rattle.job_file.specs.declared.job.Phase.{Phase}
-use Rattle.job_file.specs.declared.job.Phase.TheVariants.{Read, Write}
 use Rattle.job_file.specs.Fault.{fault_of}
-use Rattle.job_file.specs.JobSet.{jobs_of, phase_in, refusal_of, Answers, IsSetOf}
+use Rattle.job_file.specs.JobSet.{refusal_of, Answers}
 use Rattle.server_core.specs.Stands.{told}
-use Rattle.server_core.specs.Texts.{is_phase, jobs_by, jobs_for}
+use Rattle.server_core.specs.Texts.{is_phase, jobs_for}
 
 pub given : (phase : Phase) (text : List ℕ) (set : JobSet) → Answers (Ok set) text → is_phase phase set.phase ≡ true → jobs_for phase text ≡ Ok set.jobs
 unfolding jobs_for

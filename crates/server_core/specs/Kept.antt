@@ -1,8 +1,7 @@
 -- What a server keeps of its present run.
-use Rattle.std.specs.Prelude.{◌≡◌, ℕ, ◌+◌, ◌<◌, IsTrue, Bool, true, List, [], ◌∷◌, Option, Some, None, is_some, if◌then◌else◌, Result, Ok, Err}
+use Rattle.std.specs.Prelude.{◌≡◌, ℕ, ◌+◌, ◌<◌, IsTrue, Bool, true, List, [], ◌∷◌, Option, Some, None, if◌then◌else◌, Result, Ok, Err}
 use Rattle.fc_base.specs.declared.fault.Fault.{Fault}
 use Rattle.fc_base.specs.declared.fault.Fault.TheVariants.{NotInFlight}
-use Rattle.std.specs.Option.{option_map}
 use Rattle.fc_base.specs.Counted.{has}
 use Rattle.job_file.specs.declared.job.Job.{Job}
 use Rattle.messages.specs.declared.body.Body.{Body}
@@ -10,7 +9,7 @@ use Rattle.messages.specs.declared.body.Body.TheVariants as bodies
 use Rattle.messages.specs.Ranges.{is_run}
 use Rattle.verify_state.specs.State.{State}
 use Rattle.messages.specs.declared.refusal.Act.{Act}
-use Rattle.engine.specs.Running.{Origin, Running, running_of}
+use Rattle.engine.specs.Running.{running_of}
 use Rattle.engine.specs.Taken.{state_now}
 use Rattle.server_core.specs.declared.job_run.JobRun.{JobRun}
 use Rattle.server_core.specs.declared.job_run.End.{End}

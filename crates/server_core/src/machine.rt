@@ -110,7 +110,12 @@ impl Machine {
     {
         match &self.run {
             Some(now) if now.is(run) => match now.end() {
-                Some(End::Stopped) => self.refuse(Asked::Trigger, Reason::Gone, run, self.last_run.0),
+                Some(End::Stopped) => self.refuse(
+                    Asked::Trigger,
+                    Reason::Gone,
+                    run,
+                    self.last_run.0,
+                ),
                 Some(End::Taken(_)) | None => now.state_frames(self.alloc, self.me),
             },
             _ => self.gone_or_unknown(Asked::Trigger, run),

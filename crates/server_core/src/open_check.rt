@@ -49,7 +49,11 @@ impl OpenCheck {
         requires few { length jobs ≤ 16 }
         requires progress { length progress.items ≡ length jobs }
         ensures { result ≡ record {
-            run = run; attempt = attempt; jobs = jobs; progress = map progress_of progress.items } }
+          run = run;
+          attempt = attempt;
+          jobs = jobs;
+          progress = map progress_of progress.items;
+        } }
     {
         OpenCheck {
             run,
@@ -85,10 +89,7 @@ impl OpenCheck {
         ensures { result ≡ ready_in self.now attempt job }
     {
         self.attempt == attempt
-            && matches!(
-                self.progress(job),
-                Some(Progress::Full | Progress::With(_))
-            )
+            && matches!(self.progress(job), Some(Progress::Full | Progress::With(_)))
     }
 
     /// What a state makes of the job that it is for, where that waits for one in this attempt.
@@ -115,7 +116,8 @@ impl OpenCheck {
     pub fn set(&mut self, job: JobNo, progress: Progress)
         requires { job < length self.old.progress }
         ensures { self.new ≡ record self.old {
-            progress = set self.old.progress job (progress_of progress) } }
+          progress = set self.old.progress job (progress_of progress);
+        } }
     {
         self.progress[index_of(job)] = progress;
     }

@@ -62,12 +62,7 @@ impl StagedSet {
 
     /// What is kept of each job once the run begins: an engine that has issued nothing. All memory
     /// that the run is kept in is taken here.
-    pub fn engines(
-        &self,
-        alloc: Global,
-        me: ServerNo,
-        boot: u64,
-    ) -> Result<Vec<JobRun>, AllocError>
+    pub fn engines(&self, alloc: Global, me: ServerNo, boot: u64) -> Result<Vec<JobRun>, AllocError>
         requires { me < 8 }
         ensures { IfOk result (λ kept. kept.items
             ≡ jobs_kept (started me boot self.now) 0 self.now.jobs) }
@@ -82,10 +77,7 @@ impl StagedSet {
                 job: JobNo(index as u32),
             };
             let job = &jobs[index];
-            kept.push(JobRun::new(
-                Engine::new(alloc, boot, key, &job.rec)?,
-                job.save,
-            ))?;
+            kept.push(JobRun::new(Engine::new(alloc, boot, key, &job.rec)?, job.save))?;
             index += 1;
         }
         Ok(kept)

@@ -46,11 +46,7 @@ pub(crate) fn issue(run: &mut Option<Run>, job: JobNo) -> Issue
 }
 
 /// Notes how a write of this boot ended. A ticket that names no open write is refused.
-pub(crate) fn end_write(
-    run: &mut Option<Run>,
-    ticket: Ticket,
-    end: WriteEnd,
-) -> Result<(), Fault>
+pub(crate) fn end_write(run: &mut Option<Run>, ticket: Ticket, end: WriteEnd) -> Result<(), Fault>
     ensures answer { EachWork run.old (λ me now_boot w. now_boot ≡ ticket.boot →
         result ≡ open_answer (names_open w ticket)) }
     ensures left { EachWork run.old

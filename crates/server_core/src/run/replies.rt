@@ -39,7 +39,12 @@ impl Run {
         ensures range { IsTrue (is_body result) }
     {
         let jobs = self.len();
-        body_of(self.number, jobs, JobNo(index as u32), self.kept[index].state())
+        body_of(
+            self.number,
+            jobs,
+            JobNo(index as u32),
+            self.kept[index].state(),
+        )
     }
 
     /// How many jobs it has.

@@ -1,4 +1,4 @@
-use Rattle.std.proofs.Common.{◌≡◌, ◌≢◌, sym, ◌∙◌}
+use Rattle.std.proofs.Common.{sym, ◌∙◌}
 use Rattle.server_core.proofs.EndLemmas.{end_of_other_boot, check_of_other_boot}
 use Rattle.server_core.proofs.machine.Machine.end_write.Goals as goal
 

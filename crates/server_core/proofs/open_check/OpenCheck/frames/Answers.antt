@@ -1,4 +1,4 @@
-use Rattle.std.proofs.Common.{ap, ◌∙◌, arith, length}
+use Rattle.std.proofs.Common.{ap, length}
 use Rattle.std.proofs.lemmas.Option.{slice_get_read}
 use Rattle.server_core.specs.KeptCheck.{CheckKept, progress_of}
 use Rattle.server_core.proofs.CheckFrameLemmas.{here, frames_more}

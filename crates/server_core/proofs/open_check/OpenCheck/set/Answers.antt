@@ -1,6 +1,5 @@
-use Rattle.std.proofs.Common.{ap, sym, ◌∙◌, ℕ, List, map, set}
+use Rattle.std.proofs.Common.{ap, ◌∙◌, map, set}
 use Rattle.std.proofs.lemmas.List.{map-set}
-use Rattle.server_core.specs.Check.{Progress}
 use Rattle.server_core.specs.KeptCheck.{CheckKept, progress_of}
 use Rattle.server_core.proofs.open_check.OpenCheck.set.Goals as goal
 

@@ -1,4 +1,4 @@
-use Rattle.std.proofs.Common.{◌≡◌, ◌≤◌, ap, sym, subst, ◌∙◌, arith, length}
+use Rattle.std.proofs.Common.{◌≡◌, ◌≤◌, ap, sym, subst, arith, length}
 use Rattle.std.specs.Prelude.{set, slice_get}
 use Rattle.std.proofs.Math.Logic.{∥∥₁_map}
 use Rattle.std.proofs.lemmas.Option.{slice_get_read}
@@ -8,7 +8,7 @@ use Rattle.server_core.specs.Answers.{names_open_of}
 use Rattle.server_core.specs.Kept.{Kept, RunIs, open_answer}
 use Rattle.server_core.specs.Inside.{kept_in}
 use Rattle.server_core.proofs.RowLemmas.{and_then}
-use Rattle.server_core.proofs.EndLemmas.{end_step, no_end, set_same}
+use Rattle.server_core.proofs.EndLemmas.{end_step, no_end}
 use Rattle.server_core.proofs.run.Run.end_write.Goals as goal
 
 step : (c : goal.After-self-1) (w : Work) → RunIs (kept_in c.self.inside) w

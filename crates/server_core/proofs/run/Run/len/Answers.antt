@@ -1,4 +1,4 @@
-use Rattle.std.proofs.Common.{ap, arith, ◌∙◌, length, List}
+use Rattle.std.proofs.Common.{ap, arith, length, List}
 use Rattle.job_file.specs.declared.job.Job.{Job}
 use Rattle.server_core.specs.Kept.{Kept}
 use Rattle.server_core.specs.Inside.{kept_in}

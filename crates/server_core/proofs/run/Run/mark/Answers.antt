@@ -1,6 +1,4 @@
 use Rattle.std.proofs.Common.{ap, sym, ◌∙◌}
-use Rattle.std.specs.List.{list_all}
-use Rattle.server_core.specs.declared.job_run.JobRun.{JobRun}
 use Rattle.server_core.specs.Kept.{Kept, act_in}
 use Rattle.server_core.proofs.MarkLemmas.{mark_acts, marked_rows}
 use Rattle.server_core.proofs.run.Run.mark.Goals as goal

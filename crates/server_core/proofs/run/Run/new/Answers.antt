@@ -1,4 +1,3 @@
-use Rattle.std.proofs.Common.{◌≡◌}
 use Rattle.std.proofs.Math.Logic.{∥∥₁_map}
 use Rattle.server_core.proofs.BegunLemmas.{begun}
 use Rattle.server_core.proofs.run.Run.new.Goals as goal

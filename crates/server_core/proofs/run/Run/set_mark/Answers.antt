@@ -1,5 +1,5 @@
-use Rattle.std.proofs.Common.{◌≡◌, ◌≤◌, true, ap, sym, subst, ◌∙◌, arith, length}
-use Rattle.std.specs.Prelude.{set, slice_get, is_some}
+use Rattle.std.proofs.Common.{true, ap, sym, subst, ◌∙◌, arith, length}
+use Rattle.std.specs.Prelude.{set, is_some}
 use Rattle.std.proofs.Math.Logic.{∥∥₁_map}
 use Rattle.std.proofs.lemmas.Option.{slice_get_read}
 use Rattle.server_core.specs.Request.{ToMark}

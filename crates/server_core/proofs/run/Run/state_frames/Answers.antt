@@ -1,6 +1,6 @@
-use Rattle.std.proofs.Common.{◌≡◌, ap, sym, subst, ◌∙◌, arith, length}
+use Rattle.std.proofs.Common.{ap, ◌∙◌, arith, length}
 use Rattle.std.proofs.lemmas.List.{take_all}
-use Rattle.server_core.specs.Kept.{Kept, RunIs, asked_before}
+use Rattle.server_core.specs.Kept.{Kept, asked_before}
 use Rattle.server_core.specs.Framed.{framed}
 use Rattle.server_core.specs.Replies.{state_frames}
 use Rattle.server_core.proofs.StateFrameLemmas.{frames_more, job_below, lengths}

@@ -1,2 +1,0 @@
-use Rattle.server_core.proofs.staged.StagedSet.start.Goals as goal
-
