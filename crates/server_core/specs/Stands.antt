@@ -87,7 +87,7 @@ after now x = record {
   check = or_opened (opens true now.server now.boot now.last now.run now.check x) (check_goes_on x now.check);
 }
 
--- A request that is refused for a reason, if there is one.
+-- Accepted, unless there is a reason to refuse it.
 abbrev pub unless : Option Fault → Result (Unit {0}) Fault
 unless None = Ok tt
 unless (Some fault) = Err fault

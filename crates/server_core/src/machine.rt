@@ -18,7 +18,7 @@ use fc_base::{Attempt, Fault, JobNo, RunNo, ServerNo};
 use messages::{Act, Asked, Body, Frames, Reason, Refusal};
 use std::alloc::{AllocError, Global};
 
-/// The words of a server, but for its note.
+/// What a server keeps of its words in memory.
 #[derive(Debug, Drop)]
 pub struct Machine {
     pub alloc: Global,
