@@ -39,3 +39,4 @@ pub mod CheckFrameLemmas
 pub mod IdleLemmas
 pub mod TextLemmas
 pub mod HeldChecks
+pub mod OpenedChecks

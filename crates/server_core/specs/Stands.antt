@@ -1,5 +1,5 @@
 -- What a server keeps of its words.
-use Rattle.std.specs.Prelude.{◌≡◌, ◌⊎◌, ℕ, true, List, [], Option, Some, None, Result, Ok, Err}
+use Rattle.std.specs.Prelude.{if◌then◌else◌, ◌≡◌, ◌⊎◌, ℕ, true, not, ◌&&◌, List, [], Option, Some, None, Result, Ok, Err}
 use Rattle.std.specs.declared.alloc.AllocError.{AllocError}
 use Rattle.fc_base.specs.declared.fault.Fault.{Fault}
 use Rattle.fc_base.specs.declared.fault.Fault.TheVariants.{NoMemory}
@@ -10,6 +10,9 @@ use Rattle.messages.specs.declared.refusal.Reason.{Reason}
 use Rattle.messages.specs.declared.refusal.Reason.TheVariants as reasons
 use Rattle.server_core.specs.declared.machine.Machine.{Machine}
 use Rattle.server_core.specs.declared.machine.stage.Staging.{Staging}
+use Rattle.server_core.specs.declared.machine.verify.Verifying.{Verifying}
+use Rattle.server_core.specs.Framed.{framed}
+use Rattle.job_file.specs.declared.job.Phase.TheVariants.{Read}
 use Rattle.fc_base.specs.Fault.{number_of}
 use Rattle.job_file.specs.declared.fault.JobFault.{JobFault}
 use Rattle.job_file.specs.declared.fault.JobFault.TheVariants as job_faults
@@ -19,10 +22,10 @@ use Rattle.job_file.specs.declared.job.Phase.{Phase}
 use Rattle.server_core.specs.Texts.{jobs_for}
 use Rattle.server_core.specs.Laws.{IsSet}
 use Rattle.server_core.specs.Request.{Request}
-use Rattle.server_core.specs.Run.{Work, goes_on}
+use Rattle.server_core.specs.Run.{Work, goes_on, is_open, is_unended}
 use Rattle.server_core.specs.Words.{Staged, stages, greater}
-use Rattle.server_core.specs.Replies.{progress_frame}
-use Rattle.server_core.specs.Check.{Check, Progress, opens, check_goes_on, or_opened}
+use Rattle.server_core.specs.Replies.{progress_frame, check_frames}
+use Rattle.server_core.specs.Check.{Check, Progress, opened, opens, check_goes_on, or_opened}
 use Rattle.server_core.specs.Replies.{Now}
 use Rattle.server_core.specs.Answers.{refusal_of}
 use Rattle.server_core.specs.Kept.{Kept, RunIs}
@@ -134,3 +137,24 @@ EachOpen kept P = (me now_boot : ℕ) (c : Option Check) → OpenIs me now_boot 
 abbrev pub frame_now : ℕ → Progress → Option Check → List Body
 frame_now j p None = []
 frame_now j p (Some c) = progress_frame c j p
+
+-- These frames are sent, and no check is opened.
+abbrev pub unopened : Result (List (List ℕ)) AllocError → Result Verifying Fault
+unopened (Ok frames) = Ok (record { frames = frames; new = None })
+unopened (Err _) = Err NoMemory
+
+-- What is said of the open check, where there is one.
+abbrev pub checked_again : Option Check → List Body
+checked_again None = []
+checked_again (Some c) = check_frames c
+
+-- The check that a Verify of the last run opens in a new attempt: one of reading jobs, where no write is
+-- open and no job of a writing run has yet to end.
+abbrev pub opened_anew : ℕ → ℕ → Option Work → ℕ → ℕ → List ℕ → Option Check
+opened_anew me now_boot run r a text =
+    if not (is_open run) && not (is_unended run) then opened me now_boot r a (jobs_for Read text) else None
+
+-- A check of these jobs is opened, and told.
+pub record Opened (me now_boot r a : ℕ) (jobs : List Job) (v : Verifying) : Type 0 where
+  pub check_is : OpenIs me now_boot v.new (opened me now_boot r a (Ok jobs))
+  pub frames_are : v.frames ≡ framed me (checked_again (opened me now_boot r a (Ok jobs)))

@@ -5,6 +5,7 @@ ghost use Rattle.messages.specs.Ranges.{is_run};
 
 mod check;
 mod stage;
+mod verify;
 
 use crate::event::WriteEnd;
 use crate::job_run::End;
