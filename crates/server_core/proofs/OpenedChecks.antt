@@ -1,15 +1,13 @@
 -- A check that is opened.
-use Rattle.std.proofs.Common.{◌≡◌, refl, sym, ap, ◌∙◌, ℕ, ◌+◌, List, [], ◌∷◌, map, Option, None, Some}
-use Rattle.std.specs.Prelude.{Ok}
+use Rattle.std.proofs.Common.{◌≡◌, refl, ap, ◌∙◌, ℕ, ◌+◌, List, [], ◌∷◌, map, Option, None, Some}
 use Rattle.std.specs.Option.{option_or}
 use Rattle.job_file.specs.declared.job.Job.{Job}
-use Rattle.server_core.specs.Check.{Check, Progress, opened, or_opened}
+use Rattle.server_core.specs.Check.{Check, Progress, or_opened}
 use Rattle.server_core.specs.Replies.{check_frames}
 use Rattle.server_core.specs.Framed.{framed}
 use Rattle.server_core.specs.Kept.{numbered}
 use Rattle.server_core.specs.KeptCheck.{CheckKept, check_kept, job_progress, progress_begun, EachCheck}
 use Rattle.server_core.specs.Stands.{OpenIs, Opened}
-use Rattle.server_core.specs.declared.machine.verify.Verifying.{Verifying}
 
 -- A check in which nothing was asked yet.
 abbrev pub fresh : ℕ → ℕ → ℕ → ℕ → List Job → Check

@@ -28,7 +28,7 @@ use Rattle.server_core.specs.Replies.{progress_frame, check_frames}
 use Rattle.server_core.specs.Check.{Check, Progress, opened, opens, check_goes_on, or_opened}
 use Rattle.server_core.specs.Replies.{Now}
 use Rattle.server_core.specs.Answers.{refusal_of}
-use Rattle.server_core.specs.Kept.{Kept, RunIs}
+use Rattle.server_core.specs.Kept.{Kept, RunIs, started}
 use Rattle.server_core.specs.KeptCheck.{CheckKept, check_kept}
 
 -- The present run of this server and boot is kept.
@@ -158,3 +158,19 @@ opened_anew me now_boot run r a text =
 pub record Opened (me now_boot r a : ℕ) (jobs : List Job) (v : Verifying) : Type 0 where
   pub check_is : OpenIs me now_boot v.new (opened me now_boot r a (Ok jobs))
   pub frames_are : v.frames ≡ framed me (checked_again (opened me now_boot r a (Ok jobs)))
+
+-- An answer, where want of memory is told as a fault.
+abbrev pub lacks : Result (List (List ℕ)) AllocError → Result (List (List ℕ)) Fault
+lacks (Ok frames) = Ok frames
+lacks (Err _) = Err NoMemory
+
+-- The words behind a Start that has recorded a staged run: the run begins, and any check is closed.
+abbrev pub begun_by : Now → Staged → Now
+begun_by now s = record {
+  server = now.server;
+  boot = now.boot;
+  last = s.run;
+  staged = None;
+  run = Some (started now.server now.boot s);
+  check = None;
+}

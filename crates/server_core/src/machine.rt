@@ -5,6 +5,7 @@ ghost use Rattle.messages.specs.Ranges.{is_run};
 
 mod check;
 mod stage;
+mod start;
 mod verify;
 
 use crate::event::WriteEnd;

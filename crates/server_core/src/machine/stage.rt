@@ -83,7 +83,7 @@ impl Machine {
     }
 
     /// How many jobs are staged for this run, if it is the staged one.
-    fn staged_jobs(&self, run: RunNo) -> Option<u32>
+    pub(super) fn staged_jobs(&self, run: RunNo) -> Option<u32>
         ensures value { result ≡ option_map (λ (s : Staged). length s.jobs) (for_run run self.now.staged) }
         ensures range { MatchOption result (Unit {0}) (λ jobs. IsTrue (is_jobs jobs)) }
     {

@@ -54,7 +54,7 @@ impl Machine {
             (λ v. v.frames ≡ framed now.server (replies now (ToVerify run attempt text.now)))) }
         ensures opened { EachNow self.now (λ now. IfOk result
             (λ v. OpenIs now.server now.boot v.new
-                (opens true now.server now.boot now.last now.run now.check (ToVerify run attempt text.now)))) }
+            (opens true now.server now.boot now.last now.run now.check (ToVerify run attempt text.now)))) }
         ensures memory { OnErr result (result ≡ Err NoMemory) }
     {
         if run > self.last_run {
@@ -80,7 +80,7 @@ impl Machine {
             (λ v. v.frames ≡ framed now.server (reply_to_new_check now run attempt text.now))) }
         ensures opened { EachNow self.now (λ now. IfOk result
             (λ v. OpenIs now.server now.boot v.new
-                (opened_anew now.server now.boot now.run run attempt text.now))) }
+            (opened_anew now.server now.boot now.run run attempt text.now))) }
         ensures memory { OnErr result (result ≡ Err NoMemory) }
     {
         if work::is_open(&self.run) || work::is_unended(&self.run) {
