@@ -27,7 +27,8 @@ use Rattle.disk_model.specs.declared.left.Left.{Left}
 use Rattle.disk_model.specs.declared.left.Left.TheVariants.{NoSave, Saved, LostNew, LostOld}
 use Rattle.disk_model.specs.Left.{is_lost}
 use Rattle.server_core.specs.History.{Opening, Entry, Met, Cut, Restart}
-use Rattle.server_core.specs.Request.{Request, ToStage, ToStart, ToTrigger, ToMark, ToStop, ToVerify, ToHold, ToPassFully, ToIssue, ToEnd, ToReport, ToNobody, is_client, is_server, asked_by, asked}
+use Rattle.messages.specs.Nodes.{is_client, is_server}
+use Rattle.server_core.specs.Request.{Request, ToStage, ToStart, ToTrigger, ToMark, ToStop, ToVerify, ToHold, ToPassFully, ToIssue, ToEnd, ToReport, ToNobody, asked_by, asked}
 use Rattle.server_core.specs.Run.{Work, is_open, origin_of, with_issue, with_ticket, with_request, history}
 use Rattle.server_core.specs.Words.{Staged, for_run, is_on, boot, is_due, work_after, last_run, staged, work, due}
 use Rattle.server_core.specs.Answers.{names_open_of, refused_by, refusal}

@@ -20,7 +20,8 @@ use Rattle.disk_model.specs.Left.{has_new}
 use Rattle.server_core.specs.declared.event.Event.{Event}
 use Rattle.server_core.specs.declared.event.Event.TheVariants.{Deliver, Issue, WriteDone, CheckDone}
 use Rattle.server_core.specs.History.{Opening, Entry, Met, Cut, Restart}
-use Rattle.server_core.specs.Request.{Request, ToStage, ToStart, ToTrigger, ToMark, ToStop, ToVerify, ToHold, ToPassFully, ToIssue, ToEnd, ToReport, ToNobody, is_client, is_server, asked_by, asked}
+use Rattle.messages.specs.Nodes.{is_client, is_server}
+use Rattle.server_core.specs.Request.{Request, ToStage, ToStart, ToTrigger, ToMark, ToStop, ToVerify, ToHold, ToPassFully, ToIssue, ToEnd, ToReport, ToNobody, asked_by, asked}
 use Rattle.server_core.specs.Texts.{jobs_by, jobs_for, is_phase}
 use Rattle.server_core.specs.Words.{Staged, recorded, last_run, due}
 use Rattle.server_core.specs.Laws.{IsSet, TextsGiveSets}

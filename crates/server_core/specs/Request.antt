@@ -3,8 +3,7 @@ use Rattle.std.specs.Prelude.{ℕ, Bool, true, false, ◌&&◌, ◌==◌, List, 
 use Rattle.fc_base.specs.declared.report.ReportParts.{ReportParts}
 use Rattle.verify_state.specs.State.{State}
 use Rattle.engine.specs.declared.issue.Ticket.{Ticket}
-use Rattle.messages.specs.declared.node.Node.{Node}
-use Rattle.messages.specs.declared.node.Node.TheVariants as nodes
+use Rattle.messages.specs.Nodes.{is_client, is_server}
 use Rattle.messages.specs.declared.body.Body.{Body}
 use Rattle.messages.specs.declared.body.Body.TheVariants as bodies
 use Rattle.messages.specs.declared.refusal.Act.{Act}
@@ -26,16 +25,6 @@ pub data Request : Type 0 where
   ToEnd : Ticket → WriteEnd → Request  -- this write, in this way
   ToReport : ℕ → ℕ → ℕ → ReportParts → Request  -- in this boot and attempt, of this job
   ToNobody : Request  -- it is not for this server
-
--- The node is the client.
-abbrev pub is_client : Node → Bool
-is_client (nodes.Server s) = false
-is_client nodes.Client = true
-
--- The node is the server with this number.
-abbrev pub is_server : ℕ → Node → Bool
-is_server me (nodes.Server s) = s == me
-is_server me nodes.Client = false
 
 -- What a packet of the client asks. The kinds that servers send ask nothing of one.
 abbrev pub asked_by : Body → Request
