@@ -40,3 +40,5 @@ pub mod IdleLemmas
 pub mod TextLemmas
 pub mod HeldChecks
 pub mod OpenedChecks
+pub mod UndueLemmas
+pub mod BodyParts

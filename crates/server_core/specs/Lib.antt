@@ -19,3 +19,4 @@ pub mod Framed
 pub mod KeptCheck
 pub mod InsideCheck
 pub mod Stands
+pub mod Handles

@@ -8,6 +8,7 @@ mod law;
 mod machine;
 mod note;
 mod open_check;
+mod outs;
 mod progress;
 mod replies;
 mod run;
@@ -26,6 +27,7 @@ pub use law::{
 pub use machine::Machine;
 pub use note::{Noted, one_note};
 pub use open_check::{OpenCheck, progress_of_jobs};
+pub use outs::Outs;
 pub use progress::Progress;
 pub use run::Run;
 pub use staged::StagedSet;

@@ -4,8 +4,10 @@ ghost use Rattle.std.specs.Prelude.{◌≡◌, ◌<◌, IsTrue, IfOk, OnErr};
 ghost use Rattle.messages.specs.Ranges.{is_run};
 
 mod check;
+mod deliver;
 mod stage;
 mod start;
+mod take;
 mod verify;
 
 use crate::event::WriteEnd;

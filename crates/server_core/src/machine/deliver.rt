@@ -1,0 +1,64 @@
+//! One event, but a Start that is due to record a run.
+
+ghost use Rattle.std.specs.Prelude.{◌≡◌, true};
+ghost use Rattle.messages.specs.Ranges.{is_body};
+ghost use Rattle.server_core.specs.declared.event.Event.TheVariants.{Deliver};
+ghost use Rattle.server_core.specs.Request.{asked, asked_by};
+ghost use Rattle.server_core.specs.Handles.{Handled, EachUndue};
+
+use super::Machine;
+use crate::event::Event;
+use crate::outs::Outs;
+use fc_base::Fault;
+use messages::{Body, Packet, PacketParts};
+
+impl Machine {
+    /// Takes one event. A Start has to be one that isn't due to record a run.
+    pub(crate) fn take(&mut self, event: Event) -> Result<Outs, Fault>
+        ensures { EachUndue self.old (asked self.old.me event)
+            (λ now. Handled now (asked self.old.me event) self.old self.new result) }
+    {
+        match event {
+            Event::Deliver(packet) => self.deliver(packet),
+            Event::Issue(job) => self.handle_issue(job),
+            Event::WriteDone(ticket, end) => self.handle_end(ticket, end),
+            Event::CheckDone {
+                boot,
+                attempt,
+                job,
+                report,
+            } => self.handle_report(boot, attempt, job, report),
+        }
+    }
+
+    /// Takes a packet, where it is for this server and from the client.
+    fn deliver(&mut self, packet: Packet) -> Result<Outs, Fault>
+        ensures { EachUndue self.old (asked self.old.me (Deliver packet))
+            (λ now. Handled now (asked self.old.me (Deliver packet)) self.old self.new result) }
+    {
+        let PacketParts { from, to, body } = packet.into_parts();
+        if !from.is_client() || !to.is_server(self.me) {
+            return Err(Fault::Misdirected);
+        }
+        self.serve(body)
+    }
+
+    /// Takes what the client says.
+    fn serve(&mut self, body: Body) -> Result<Outs, Fault>
+        requires { is_body body ≡ true }
+        ensures { EachUndue self.old (asked_by body)
+            (λ now. Handled now (asked_by body) self.old self.new result) }
+    {
+        match body {
+            Body::Jobs { run, text } => self.handle_jobs(run, &text),
+            Body::Start { run } => self.handle_start(run),
+            Body::Trigger { run, act } => self.handle_trigger(run, act),
+            Body::StateAck { run, job } => self.handle_mark(run, job),
+            Body::Stop { run } => self.handle_stop(run),
+            Body::Verify { run, attempt, text } => self.handle_verify(run, attempt, &text),
+            Body::Saved { attempt, state } => self.handle_state(attempt, &state),
+            Body::NoSaved { attempt, job, .. } => self.handle_no_state(attempt, job),
+            _ => Err(Fault::Misdirected),
+        }
+    }
+}
