@@ -42,3 +42,4 @@ pub mod HeldChecks
 pub mod OpenedChecks
 pub mod UndueLemmas
 pub mod BodyParts
+pub mod FollowLemmas

@@ -1,5 +1,5 @@
 -- A Start that records no run changes nothing of what is kept.
-use Rattle.std.proofs.Common.{◌≡◌, refl, sym, ap, ◌∙◌, ℕ, Bool, true, false, ◌&&◌, List, [], ◌++◌, length, Option, None, Some}
+use Rattle.std.proofs.Common.{◌≡◌, refl, sym, ap, ◌∙◌, ℕ, Bool, true, false, ◌&&◌, [], ◌++◌, length, Option, None, Some}
 use Rattle.std.specs.Prelude.{if◌then◌else◌, not, Err}
 use Rattle.std.specs.List.{list_all}
 use Rattle.fc_base.specs.Counted.{has, numbers_below}

@@ -1,12 +1,11 @@
 -- How a machine handles one event.
-use Rattle.std.specs.Prelude.{◌≡◌, ◌⊎◌, ℕ, true, List, Option, Some, None, Result, Ok, Err}
+use Rattle.std.specs.Prelude.{◌≡◌, ◌⊎◌, ℕ, true, List, Some, None, Result, Ok, Err}
 use Rattle.fc_base.specs.declared.fault.Fault.{Fault}
 use Rattle.fc_base.specs.declared.fault.Fault.TheVariants.{NoMemory}
 use Rattle.messages.specs.declared.refusal.Act.TheVariants as acts
-use Rattle.server_core.specs.declared.event.Event.{Event}
 use Rattle.server_core.specs.declared.machine.Machine.{Machine}
 use Rattle.server_core.specs.declared.outs.Outs.{Outs}
-use Rattle.server_core.specs.Request.{Request, asked}
+use Rattle.server_core.specs.Request.{Request}
 use Rattle.server_core.specs.Words.{is_due}
 use Rattle.server_core.specs.Replies.{Now, replies}
 use Rattle.server_core.specs.Answers.{refusal_of, issue_for, act_of}

@@ -20,3 +20,4 @@ pub mod KeptCheck
 pub mod InsideCheck
 pub mod Stands
 pub mod Handles
+pub mod Follows

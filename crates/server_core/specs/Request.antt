@@ -1,5 +1,5 @@
 -- What an event asks of a server.
-use Rattle.std.specs.Prelude.{ℕ, Bool, true, false, ◌&&◌, ◌==◌, List, if◌then◌else◌}
+use Rattle.std.specs.Prelude.{ℕ, ◌&&◌, List, if◌then◌else◌}
 use Rattle.fc_base.specs.declared.report.ReportParts.{ReportParts}
 use Rattle.verify_state.specs.State.{State}
 use Rattle.engine.specs.declared.issue.Ticket.{Ticket}

@@ -1,6 +1,7 @@
 //! What holds of every list of what came to a server. The functions have nothing to run.
 
 ghost use Rattle.server_core.specs.Laws.{TakenAtMostOnce, NumbersGrow, StartsOnce, PresentIsLast, LooksAtAll, HoldsTheTaken, SendsTheTaken, StatesTellJobs, NoStateIsUntaken, TakingsStay, TextsGiveSets, StagingsHaveSets, RunsHaveSets, ChecksHaveSets, HistoriesAreLegal, CountsTheDone, QuietWhileLast, QuietUntilChecked, WithWasHeard, CutsWhenKept, PacketsAreFew, PacketsAreInRange};
+ghost use Rattle.server_core.specs.Follows.{WordsFollow, StartsFollow};
 ghost use Rattle.server_core.specs.Examples.{StartsAndIssues, TakesOnce, ForgetsByACut, SavesBeforeItStarts, StopsForGood, ChecksTheLastRun, RefusesAMisfit};
 
 use engine::{legal_law, taken_law};
@@ -108,4 +109,11 @@ pub fn examples()
     ensures stops { StopsForGood }
     ensures checks { ChecksTheLastRun }
     ensures misfits { RefusesAMisfit }
+{}
+
+/// The words behind one more event are read from the words before it: those behind a request that
+/// records no run, and those behind a Start that has recorded one.
+pub fn words_follow()
+    ensures requests { WordsFollow }
+    ensures starts { StartsFollow }
 {}
