@@ -104,7 +104,7 @@ ready r (With s) e = refl
 ready r (Refused v) e = cc
 ready r (Done q) e = cc
 
-unready : (r : ReportParts) (p : Progress) → is_ready (Some p) ≡ false → reported r p ≡ p
+pub unready : (r : ReportParts) (p : Progress) → is_ready (Some p) ≡ false → reported r p ≡ p
 unready r Wanting e = refl
 unready r Full e = cc
 unready r (With s) e = cc

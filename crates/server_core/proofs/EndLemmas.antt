@@ -28,7 +28,7 @@ no_marks (Some (Triggered act before)) run ticket end = refl
 no_marks (Some Stopped) run ticket end = refl
 no_marks None run ticket end = refl
 
-unmarked : (w : Work) (ticket : Ticket) (end : WriteEnd) (j : ℕ) → has (marks w.run (ToEnd ticket end ∷ w.since)) j ≡ has (marks w.run w.since) j
+pub unmarked : (w : Work) (ticket : Ticket) (end : WriteEnd) (j : ℕ) → has (marks w.run (ToEnd ticket end ∷ w.since)) j ≡ has (marks w.run w.since) j
 unmarked w ticket end j = ap (λ ms. has (ms ++ marks w.run w.since) j) (no_marks (halted w.run w.since) w.run ticket end)
 
 -- A ticket of another job is refused.

@@ -151,6 +151,7 @@ abbrev pub IsUnchecked : Request → Type 0
 IsUnchecked (ToStage r text) = Unit {0}
 IsUnchecked (ToStart r) = Unit {0}
 IsUnchecked (ToVerify r a text) = Unit {0}
+IsUnchecked ToNobody = Unit {0}
 IsUnchecked _ = ⊥
 
 unchecked : (kept : CheckKept) (c : Check) (x : Request) → kept ≡ check_kept c → IsUnchecked x → kept ≡ check_kept (record c { since = x ∷ c.since })
@@ -165,7 +166,7 @@ unchecked kept c (ToPassFully a j) h e = absurd e
 unchecked kept c (ToIssue j) h e = absurd e
 unchecked kept c (ToEnd ticket end) h e = absurd e
 unchecked kept c (ToReport b a j report) h e = absurd e
-unchecked kept c ToNobody h e = absurd e
+unchecked kept c ToNobody h e = h
 
 pub check_elsewhere : (me now_boot : ℕ) (kept : Option CheckKept) (c : Option Check) (x : Request) → OpenIs me now_boot kept c → IsUnchecked x → OpenIs me now_boot kept (check_goes_on x c)
 check_elsewhere me now_boot None None x h e = tt

@@ -43,3 +43,4 @@ pub mod OpenedChecks
 pub mod UndueLemmas
 pub mod BodyParts
 pub mod FollowLemmas
+pub mod RefusedLemmas

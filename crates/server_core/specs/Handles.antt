@@ -39,3 +39,9 @@ EachUndue machine x P =
 -- These frames, and nothing else.
 abbrev pub sent_alone : List (List ℕ) → Outs
 sent_alone frames = record { frames = frames; issue = None; act = acts.None }
+
+-- A request that is refused leaves what is kept of the words behind it, too.
+abbrev pub RefusedStays : Type 0
+RefusedStays =
+    (machine : Machine) (now : Now) (x : Request) (fault : Fault) →
+    MachineIs machine now → refusal_of now x ≡ Some fault → MachineIs machine (after now x)

@@ -2,6 +2,7 @@
 
 ghost use Rattle.server_core.specs.Laws.{TakenAtMostOnce, NumbersGrow, StartsOnce, PresentIsLast, LooksAtAll, HoldsTheTaken, SendsTheTaken, StatesTellJobs, NoStateIsUntaken, TakingsStay, TextsGiveSets, StagingsHaveSets, RunsHaveSets, ChecksHaveSets, HistoriesAreLegal, CountsTheDone, QuietWhileLast, QuietUntilChecked, WithWasHeard, CutsWhenKept, PacketsAreFew, PacketsAreInRange};
 ghost use Rattle.server_core.specs.Follows.{WordsFollow, StartsFollow};
+ghost use Rattle.server_core.specs.Handles.{RefusedStays};
 ghost use Rattle.server_core.specs.Examples.{StartsAndIssues, TakesOnce, ForgetsByACut, SavesBeforeItStarts, StopsForGood, ChecksTheLastRun, RefusesAMisfit};
 
 use engine::{legal_law, taken_law};
@@ -116,4 +117,10 @@ pub fn examples()
 pub fn words_follow()
     ensures requests { WordsFollow }
     ensures starts { StartsFollow }
+{}
+
+/// A request that is refused changes nothing of what is kept, which is then kept of the words behind it,
+/// too.
+pub fn refused_stays()
+    ensures { RefusedStays }
 {}
