@@ -98,7 +98,7 @@ for_which r (Some t) s e = pick (t.run == r) e
     pick false e = cc
 
 -- What is due is staged.
-due_is_staged : (on : Bool) (last : ℕ) (found : Option Staged) (w : Option Work) (x : Request) (s : Staged) → is_due on last found w x ≡ Some s → found ≡ Some s
+pub due_is_staged : (on : Bool) (last : ℕ) (found : Option Staged) (w : Option Work) (x : Request) (s : Staged) → is_due on last found w x ≡ Some s → found ≡ Some s
 due_is_staged on last found w (ToStart r) s e = pick (on && (nat_lt last r && not (is_open w))) e
   where
     pick : (b : Bool) → (if b then for_run r found else None) ≡ Some s → found ≡ Some s

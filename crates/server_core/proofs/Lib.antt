@@ -44,3 +44,5 @@ pub mod UndueLemmas
 pub mod BodyParts
 pub mod FollowLemmas
 pub mod RefusedLemmas
+pub mod ServeLemmas
+pub mod StartedLemmas

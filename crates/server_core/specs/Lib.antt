@@ -21,3 +21,4 @@ pub mod InsideCheck
 pub mod Stands
 pub mod Handles
 pub mod Follows
+pub mod Serves

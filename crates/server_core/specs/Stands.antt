@@ -1,5 +1,5 @@
 -- What a server keeps of its words.
-use Rattle.std.specs.Prelude.{if◌then◌else◌, ◌≡◌, ◌⊎◌, ℕ, true, not, ◌&&◌, List, [], Option, Some, None, Result, Ok, Err}
+use Rattle.std.specs.Prelude.{if◌then◌else◌, is_some, ◌≡◌, ◌⊎◌, ℕ, true, not, ◌&&◌, List, [], Option, Some, None, Result, Ok, Err}
 use Rattle.std.specs.declared.alloc.AllocError.{AllocError}
 use Rattle.fc_base.specs.declared.fault.Fault.{Fault}
 use Rattle.fc_base.specs.declared.fault.Fault.TheVariants.{NoMemory}
@@ -21,9 +21,9 @@ use Rattle.job_file.specs.declared.job.Job.{Job}
 use Rattle.job_file.specs.declared.job.Phase.{Phase}
 use Rattle.server_core.specs.Texts.{jobs_for}
 use Rattle.server_core.specs.Laws.{IsSet}
-use Rattle.server_core.specs.Request.{Request}
+use Rattle.server_core.specs.Request.{Request, ToStart}
 use Rattle.server_core.specs.Run.{Work, goes_on, is_open, is_unended}
-use Rattle.server_core.specs.Words.{Staged, stages, greater}
+use Rattle.server_core.specs.Words.{Staged, stages, greater, is_due}
 use Rattle.server_core.specs.Replies.{progress_frame, check_frames}
 use Rattle.server_core.specs.Check.{Check, Progress, opened, opens, check_goes_on, or_opened}
 use Rattle.server_core.specs.Replies.{Now}
@@ -174,3 +174,8 @@ begun_by now s = record {
   run = Some (started now.server now.boot s);
   check = None;
 }
+
+-- The request is a Start of this run, which is due to be recorded; or none is due.
+abbrev pub IsDueFor : Now → Request → Option ℕ → Type 0
+IsDueFor now x None = is_due true now.last now.staged now.run x ≡ None
+IsDueFor now x (Some run) = (x ≡ ToStart run) × (is_some (is_due true now.last now.staged now.run x) ≡ true)

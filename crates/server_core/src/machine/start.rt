@@ -3,14 +3,15 @@
 ghost use Rattle.std.specs.Prelude.{◌≡◌, IsTrue, IfOk, OnErr, MatchOption, Err, Some, is_some, true};
 ghost use Rattle.fc_base.specs.declared.fault.Fault.TheVariants.{NoMemory};
 ghost use Rattle.messages.specs.Ranges.{is_run};
-ghost use Rattle.server_core.specs.Request.{ToStart};
+ghost use Rattle.server_core.specs.Request.{ToStart, asked};
 ghost use Rattle.server_core.specs.Words.{Staged, is_due};
 ghost use Rattle.server_core.specs.Replies.{present, replies};
 ghost use Rattle.server_core.specs.Framed.{framed};
 ghost use Rattle.server_core.specs.Kept.{jobs_kept, started};
-ghost use Rattle.server_core.specs.Stands.{MachineIs, EachNow, begun_by, lacks};
+ghost use Rattle.server_core.specs.Stands.{MachineIs, EachNow, IsDueFor, begun_by, lacks};
 
 use super::Machine;
+use crate::event::Event;
 use crate::job_run::JobRun;
 use crate::replies::only;
 use crate::work;
@@ -19,6 +20,25 @@ use messages::{Asked, Body, Frames, Reason};
 use std::alloc::AllocError;
 
 impl Machine {
+    /// The run that an event is due to record, if there is one.
+    pub(crate) fn due(&self, event: &Event) -> Option<RunNo>
+        ensures due { EachNow self.now
+            (λ now. IsDueFor now (asked self.now.me event.now) result) }
+        ensures range { MatchOption result (Unit {0}) (λ run. IsTrue (is_run run)) }
+    {
+        let Event::Deliver(packet) = event else {
+            return None;
+        };
+        packet.keeps_its_ranges();
+        if !packet.from().is_client() || !packet.to().is_server(self.me) {
+            return None;
+        }
+        match packet.body() {
+            Body::Start { run } if self.is_due(*run) => Some(*run),
+            _ => None,
+        }
+    }
+
     /// Whether a Start of this run is due to record it: the run is staged and above the last, and no
     /// write is open.
     pub(crate) fn is_due(&self, run: RunNo) -> bool

@@ -1,0 +1,119 @@
+-- A server takes an event as its list does.
+use Rattle.std.proofs.Common.{◌≡◌, ◌⊎◌, inl, inr, refl, sym, ap, subst, ◌∙◌, ℕ, Bool, true, false, ◌&&◌, ◌==◌, List, ◌∷◌, Option, None, Some}
+use Rattle.std.specs.Prelude.{if◌then◌else◌, not, Result, Ok, Err}
+use Rattle.std.specs.List.{flat_map}
+use Rattle.fc_base.specs.declared.fault.Fault.{Fault}
+use Rattle.fc_base.specs.declared.fault.Fault.TheVariants.{NoMemory, Down}
+use Rattle.fc_base.specs.declared.fault.FaultSort.{FaultSort}
+use Rattle.fc_base.specs.declared.fault.FaultSort.TheVariants as sorts
+use Rattle.fc_base.specs.Fault.{sort_of}
+use Rattle.disk_model.specs.declared.left.Left.TheVariants.{NoSave, Saved}
+use Rattle.disk_model.specs.Notes.{Note}
+use Rattle.messages.specs.FramesOf.{spelled_frames}
+use Rattle.server_core.specs.declared.event.Event.{Event}
+use Rattle.server_core.specs.declared.machine.Machine.{Machine}
+use Rattle.server_core.specs.declared.outs.Outs.{Outs}
+use Rattle.server_core.specs.declared.server.Server.{Server}
+use Rattle.server_core.specs.History.{Opening, Entry, Met}
+use Rattle.server_core.specs.Note.{Says}
+use Rattle.server_core.specs.Request.{Request, ToStage, ToStart, ToTrigger, ToMark, ToStop, ToVerify, ToHold, ToPassFully, ToIssue, ToEnd, ToReport, ToNobody, asked}
+use Rattle.server_core.specs.Words.{is_on, boot, last_run, due, is_due}
+use Rattle.server_core.specs.Replies.{Now, replies}
+use Rattle.server_core.specs.Answers.{now, refusal, refusal_of, refused_by, packets, to_client, sent_by, looked}
+use Rattle.server_core.specs.Handles.{Handled, Answered, Unanswered, EachUndue}
+use Rattle.server_core.specs.Stands.{MachineIs, EachNow, IsDueFor, after}
+use Rattle.server_core.specs.Serves.{StandsFor, Answers, Refuses, Lacks, Faults, Ends, saved_for, answered}
+use Rattle.server_core.proofs.WorkLemmas.{unsaved}
+use Rattle.server_core.proofs.Looked.{looked_on}
+use Rattle.server_core.proofs.FollowLemmas.{follows}
+use Rattle.server_core.proofs.RefusedLemmas.{refused_stays}
+
+is_up : (b : Bool) → false ≡ not b → b ≡ true
+is_up true e = refl
+is_up false e = cc
+
+-- What a server that is on keeps is kept of the words behind its list.
+pub keeps_now : {T : Type 0} (note : T → Note) (server : Server T) (o : Opening) (past : List Entry) → server.down ≡ false → StandsFor note server o past → (is_on past ≡ true) × MachineIs server.machine (now o past)
+keeps_now note server o past up s =
+    let on = is_up (is_on past) (sym up ∙ s.on) in
+    (on, subst (λ p. MachineIs server.machine (now o p)) (looked_on past on) s.keeps)
+
+-- It stands for the list with an event that made no save, where it keeps what is kept of the words behind it.
+pub stands_with : {T : Type 0} (note : T → Note) (server : Server T) (m : Machine) (o : Opening) (past : List Entry) (e : Event) → server.down ≡ false → StandsFor note server o past → is_on past ≡ true → due o past e ≡ None
+    → MachineIs m (after (now o past) (asked o.me e)) → StandsFor note (record { notes = server.notes; down = server.down; machine = m }) o (Met e NoSave ∷ past)
+stands_with note server m o past e up s on none k = record {
+  on = up ∙ sym (ap (λ b. not (b && true)) on);
+  durable = subst (λ n. Says (note server.notes).bytes (record { boot = boot o past; last_run = n })) (sym (unsaved (due o past e) (last_run o past))) s.durable;
+  keeps = subst (λ p. MachineIs m (now o p)) (sym (ap (λ b. if b then Met e NoSave ∷ past else looked past) on)) (subst (λ n. MachineIs m n) (sym (follows o past e on none)) k);
+}
+
+-- ---- refusals
+
+refused_sort : (s t : Bool) (fault : Fault) → refused_by s t ≡ Some fault → sort_of fault ≡ sorts.Refusal
+refused_sort false t fault e = ap sort_of (some_is e)
+  where
+    some_is : {a : Fault} → Some a ≡ Some fault → fault ≡ a
+    some_is e = cc
+refused_sort true false fault e = ap sort_of (some_is e)
+  where
+    some_is : {a : Fault} → Some a ≡ Some fault → fault ≡ a
+    some_is e = cc
+refused_sort true true fault e = cc
+
+refusal_sort : (words : Now) (x : Request) (fault : Fault) → refusal_of words x ≡ Some fault → sort_of fault ≡ sorts.Refusal
+refusal_sort words ToNobody fault e = ap sort_of (some_is e)
+  where
+    some_is : {a : Fault} → Some a ≡ Some fault → fault ≡ a
+    some_is e = cc
+refusal_sort words (ToEnd ticket end) fault e = refused_sort _ _ fault e
+refusal_sort words (ToReport b a j r) fault e = refused_sort _ _ fault e
+refusal_sort words (ToStage r text) fault e = cc
+refusal_sort words (ToStart r) fault e = cc
+refusal_sort words (ToTrigger r act) fault e = cc
+refusal_sort words (ToMark r j) fault e = cc
+refusal_sort words (ToStop r) fault e = cc
+refusal_sort words (ToVerify r a text) fault e = cc
+refusal_sort words (ToHold a state) fault e = cc
+refusal_sort words (ToPassFully a j) fault e = cc
+refusal_sort words (ToIssue j) fault e = cc
+
+-- ---- an event that is not due to record a run
+
+ends : {T : Type 0} (note : T → Note) (server : Server T) (m : Machine) (o : Opening) (past : List Entry) (e : Event) (result : Result Outs Fault) → server.down ≡ false → StandsFor note server o past → is_on past ≡ true → MachineIs server.machine (now o past)
+    → due o past e ≡ None → Handled (now o past) (asked o.me e) server.machine m result → Ends note o past e server (record { notes = server.notes; down = server.down; machine = m }) result
+ends note server m o past e (Ok outs) up s on k none a =
+    let free : refusal o past e ≡ None = ap (λ b. if b then refusal_of (now o past) (asked o.me e) else Some Down) on ∙ a.free in
+    record {
+      free = free;
+      frames_are = a.frames_are ∙ ap (λ r. flat_map spelled_frames (to_client o.me (sent_by false r (replies (now o past) (asked o.me e))))) (sym free)
+          ∙ ap (λ d. flat_map spelled_frames (packets o past (Met e (saved_for d)))) (sym none);
+      issue_is = a.issue_is;
+      act_is = a.act_is;
+      stands = subst (λ d. StandsFor note (record { notes = server.notes; down = server.down; machine = m }) o (Met e (saved_for d) ∷ past)) (sym none) (stands_with note server m o past e up s on none a.left);
+    }
+ends note server m o past e (Err fault) up s on k none u = by_why u.why
+  where
+    unchanged : StandsFor note (record { notes = server.notes; down = server.down; machine = m }) o past
+    unchanged = record { on = s.on; durable = s.durable; keeps = subst (λ x. MachineIs x (now o (looked past))) (sym u.same) s.keeps }
+    by_why : (fault ≡ NoMemory) ⊎ (refusal_of (now o past) (asked o.me e) ≡ Some fault) → Faults note o past e (sort_of fault) fault server (record { notes = server.notes; down = server.down; machine = m })
+    by_why (inl w) = subst (λ t. Faults note o past e t fault server (record { notes = server.notes; down = server.down; machine = m })) (sym (ap sort_of w)) (record { why = w; same_note = refl; unchanged = unchanged })
+    by_why (inr w) =
+        subst (λ t. Faults note o past e t fault server (record { notes = server.notes; down = server.down; machine = m })) (sym (refusal_sort (now o past) (asked o.me e) fault w))
+        (record {
+          why = ap (λ b. if b then refusal_of (now o past) (asked o.me e) else Some Down) on ∙ w;
+          same_note = refl;
+          unchanged = unchanged;
+          stands = stands_with note server m o past e up s on none (refused_stays m (now o past) (asked o.me e) fault (subst (λ x. MachineIs x (now o past)) (sym u.same) k) w);
+        })
+
+pub taken : {T : Type 0} (note : T → Note) (server : Server T) (m : Machine) (o : Opening) (past : List Entry) (e : Event) (result : Result Outs Fault) → server.down ≡ false → StandsFor note server o past
+    → EachNow server.machine (λ words. IsDueFor words (asked server.machine.me e) None)
+    → EachUndue server.machine (asked server.machine.me e) (λ words. Handled words (asked server.machine.me e) server.machine m result)
+    → Ends note o past e server (record { notes = server.notes; down = server.down; machine = m }) result
+taken note server m o past e result up s undue handled =
+    let k = keeps_now note server o past up s in
+    let me = k.1.me in
+    let words = now o past in
+    let none : due o past e ≡ None = ap (λ b. is_due b words.last words.staged words.run (asked o.me e)) k.0 ∙ ap (λ n. is_due true words.last words.staged words.run (asked n e)) (sym me) ∙ undue words k.1 in
+    ends note server m o past e result up s k.0 k.1 none
+    (subst (λ n. Handled words (asked n e) server.machine m result) me (handled words k.1 (undue words k.1)))

@@ -1,0 +1,157 @@
+-- A server takes a Start that is due as its list does.
+use Rattle.std.proofs.Common.{◌≡◌, ◌⊎◌, inl, inr, refl, sym, ap, subst, ◌∙◌, ℕ, ◌<◌, ◌^◌, Bool, true, false, ◌&&◌, ◌==◌, List, ◌∷◌, Option, None, Some}
+use Rattle.std.specs.Prelude.{if◌then◌else◌, not, nat_le, nat_lt, is_some, Result, Ok, Err}
+use Rattle.std.specs.List.{flat_map}
+use Rattle.std.proofs.lemmas.Bool.{and_parts, ltb-true, eqb-true}
+use Rattle.fc_base.specs.declared.fault.Fault.{Fault}
+use Rattle.fc_base.specs.declared.fault.Fault.TheVariants.{Down}
+use Rattle.fc_base.specs.declared.fault.FaultSort.{FaultSort}
+use Rattle.fc_base.specs.declared.fault.FaultSort.TheVariants as sorts
+use Rattle.fc_base.specs.Fault.{sort_of}
+use Rattle.disk_model.specs.declared.left.Left.TheVariants.{Saved, LostNew, LostOld}
+use Rattle.disk_model.specs.Notes.{Note}
+use Rattle.messages.specs.FramesOf.{spelled_frames}
+use Rattle.messages.specs.Ranges.{is_run, is_word}
+use Rattle.server_core.specs.declared.event.Event.{Event}
+use Rattle.server_core.specs.declared.outs.Outs.{Outs}
+use Rattle.server_core.specs.declared.server.Server.{Server}
+use Rattle.server_core.specs.History.{Opening, Entry, Met}
+use Rattle.server_core.specs.Note.{Says, spelling}
+use Rattle.server_core.specs.Request.{Request, ToStart, asked}
+use Rattle.server_core.specs.Run.{Work, is_open}
+use Rattle.server_core.specs.Words.{Staged, is_on, boot, last_run, due, is_due, for_run, recorded, work}
+use Rattle.server_core.specs.Replies.{Now, replies}
+use Rattle.server_core.specs.Answers.{now, refusal, refusal_of, packets, to_client, sent_by, issue_for, act_of, looked}
+use Rattle.server_core.specs.Framed.{framed}
+use Rattle.server_core.specs.Handles.{sent_alone}
+use Rattle.server_core.specs.Stands.{MachineIs, EachNow, IsDueFor, begun_by}
+use Rattle.server_core.specs.Serves.{StandsFor, Starts, Unstarted, Answers, Fails, Lacks, Faults, Ends, saved_for}
+use Rattle.server_core.proofs.FollowLemmas.{starts_follow}
+use Rattle.server_core.proofs.UndueLemmas.{no_act}
+use Rattle.server_core.proofs.ServeLemmas.{keeps_now}
+
+-- What is due of a Start is of its run.
+due_run : (last r : ℕ) (found : Option Staged) (w : Option Work) (s : Staged) → is_due true last found w (ToStart r) ≡ Some s → s.run ≡ r
+due_run last r found w s e = by_test (nat_lt last r && not (is_open w)) e
+  where
+    by_found : (o : Option Staged) → for_run r o ≡ Some s → s.run ≡ r
+    by_found None e = cc
+    by_found (Some t) e = pick (t.run == r) refl e
+      where
+        pick : (b : Bool) → (t.run == r) ≡ b → (if b then Some t else None) ≡ Some s → s.run ≡ r
+        pick false q e = cc
+        pick true q e = let same : t ≡ s = cc in ap (λ (x : Staged). x.run) (sym same) ∙ eqb-true t.run r q
+    by_test : (b : Bool) → (if b then for_run r found else None) ≡ Some s → s.run ≡ r
+    by_test true e = by_found found e
+    by_test false e = cc
+
+there : (o : Option Staged) → is_some o ≡ true → (s : Staged) × (o ≡ Some s)
+there None e = cc
+there (Some s) e = (s, refl)
+
+-- All that is known of a Start that is due.
+record IsStart (o : Opening) (past : List Entry) (e : Event) (run : ℕ) (s : Staged) : Type 0 where
+  on : is_on past ≡ true
+  asks : asked o.me e ≡ ToStart run
+  is : due o past e ≡ Some s
+  words : is_due true (now o past).last (now o past).staged (now o past).run (ToStart run) ≡ Some s
+  run_is : s.run ≡ run
+
+free_of : (o : Opening) (past : List Entry) (e : Event) (run : ℕ) (s : Staged) → IsStart o past e run s → refusal o past e ≡ None
+free_of o past e run s d = ap (λ b. if b then refusal_of (now o past) (asked o.me e) else Some Down) d.on ∙ ap (refusal_of (now o past)) d.asks
+
+-- The durable bytes say the boot and a run that was recorded.
+new_says : (bytes : List ℕ) (b mine last run : ℕ) → Says bytes (record { boot = b; last_run = last }) → mine ≡ b → run < 2 ^ 64 → (new : List ℕ) → new ≡ spelling (record { boot = mine; last_run = run }) → Says new (record { boot = b; last_run = run })
+new_says bytes b mine last run s same fits new is = record { boot_range = s.boot_range; last_range = fits; spelled = inl (is ∙ ap (λ n. spelling (record { boot = n; last_run = run })) same) }
+
+begun : {T : Type 0} (note : T → Note) (old new : Server T) (o : Opening) (past : List Entry) (e : Event) (run : ℕ) (s : Staged) (outs : Outs) → old.down ≡ false → StandsFor note old o past → MachineIs old.machine (now o past) → run < 2 ^ 64 → IsStart o past e run s
+    → Starts note run old new (Ok outs) → Answers note o past e new outs
+begun note old new o past e run s outs up stands k fits d p =
+    let q = p.2 (now o past) s k d.words in
+    let free = free_of o past e run s d in
+    let last : last_run o (Met e Saved ∷ past) ≡ run = ap (λ x. recorded Saved x (last_run o past)) d.is ∙ d.run_is in
+    let bytes : (note new.notes).bytes ≡ spelling (record { boot = old.machine.boot; last_run = run }) = ap (λ (n : Note). n.bytes) p.0 in
+    let says = new_says (note old.notes).bytes (boot o past) old.machine.boot (last_run o past) run stands.durable k.boot_is fits (note new.notes).bytes bytes in
+    record {
+      free = free;
+      frames_are = ap (λ (x : Outs). x.frames) q.0 ∙ ap (λ x. framed o.me (replies (now o past) x)) (sym d.asks)
+          ∙ ap (λ r. flat_map spelled_frames (to_client o.me (sent_by false r (replies (now o past) (asked o.me e))))) (sym free)
+          ∙ ap (λ x. flat_map spelled_frames (packets o past (Met e (saved_for x)))) (sym d.is);
+      issue_is = ap (λ (x : Outs). x.issue) q.0 ∙ ap (issue_for (work o past)) (sym d.asks);
+      act_is = ap (λ (x : Outs). x.act) q.0 ∙ no_act (work o past) run ∙ ap (act_of (work o past)) (sym d.asks);
+      stands = subst (λ x. StandsFor note new o (Met e (saved_for x) ∷ past)) (sym d.is)
+          (record {
+            on = p.1 ∙ up ∙ sym (ap (λ b. not (b && true)) d.on);
+            durable = subst (λ n. Says (note new.notes).bytes (record { boot = boot o past; last_run = n })) (sym last) says;
+            keeps = subst (λ l. MachineIs new.machine (now o l)) (sym (ap (λ b. if b then Met e Saved ∷ past else looked past) d.on)) (subst (λ n. MachineIs new.machine n) (sym (starts_follow o past e s d.is)) q.1);
+          });
+    }
+
+unbegun : {T : Type 0} (note : T → Note) (old new : Server T) (o : Opening) (past : List Entry) (e : Event) (run : ℕ) (s : Staged) (t : FaultSort) (fault : Fault) → old.down ≡ false → StandsFor note old o past → MachineIs old.machine (now o past) → run < 2 ^ 64 → IsStart o past e run s
+    → Unstarted note run t fault old new → Faults note o past e t fault old new
+unbegun note old new o past e run s sorts.Memory fault up stands k fits d u = record {
+  why = u.0;
+  same_note = u.1;
+  unchanged = record {
+    on = u.2 ∙ stands.on;
+    durable = subst (λ (n : Note). Says n.bytes (record { boot = boot o past; last_run = last_run o past })) (sym u.1) stands.durable;
+    keeps = subst (λ m. MachineIs m (now o (looked past))) (sym u.3) stands.keeps;
+  };
+}
+unbegun note old new o past e run s sorts.Refusal fault up stands k fits d u = absurd u
+unbegun note old new o past e run s sorts.Save fault up stands k fits d u = by_bytes u.1
+  where
+    by_bytes : ((note new.notes).bytes ≡ (note old.notes).bytes) ⊎ ((note new.notes).bytes ≡ spelling (record { boot = old.machine.boot; last_run = run })) → Fails note o past e old new
+    by_bytes (inl same) = record {
+      cause = u.0;
+      free = free_of o past e run s d;
+      began = s;
+      makes_one = d.is;
+      left = LostOld;
+      lost = refl;
+      stands = record {
+        on = u.2 ∙ sym (ap (λ b. not (b && false)) d.on);
+        durable = subst (λ n. Says (note new.notes).bytes (record { boot = boot o past; last_run = n })) (sym (ap (λ x. recorded LostOld x (last_run o past)) d.is))
+            (subst (λ bs. Says bs (record { boot = boot o past; last_run = last_run o past })) (sym same) stands.durable);
+        keeps = subst (λ l. MachineIs new.machine (now o l)) (sym (ap (λ b. if b then past else looked past) d.on)) (subst (λ m. MachineIs m (now o past)) (sym u.3) k);
+      };
+    }
+    by_bytes (inr new_bytes) = record {
+      cause = u.0;
+      free = free_of o past e run s d;
+      began = s;
+      makes_one = d.is;
+      left = LostNew;
+      lost = refl;
+      stands = record {
+        on = u.2 ∙ sym (ap (λ b. not (b && false)) d.on);
+        durable = subst (λ n. Says (note new.notes).bytes (record { boot = boot o past; last_run = n })) (sym (ap (λ x. recorded LostNew x (last_run o past)) d.is ∙ d.run_is))
+            (new_says (note old.notes).bytes (boot o past) old.machine.boot (last_run o past) run stands.durable k.boot_is fits (note new.notes).bytes new_bytes);
+        keeps = subst (λ l. MachineIs new.machine (now o l)) (sym (ap (λ b. if b then past else looked past) d.on)) (subst (λ m. MachineIs m (now o past)) (sym u.3) k);
+      };
+    }
+
+ends : {T : Type 0} (note : T → Note) (old new : Server T) (o : Opening) (past : List Entry) (e : Event) (run : ℕ) (s : Staged) (result : Result Outs Fault) → old.down ≡ false → StandsFor note old o past → MachineIs old.machine (now o past) → run < 2 ^ 64 → IsStart o past e run s
+    → Starts note run old new result → Ends note o past e old new result
+ends note old new o past e run s (Ok outs) up stands k fits d p = begun note old new o past e run s outs up stands k fits d p
+ends note old new o past e run s (Err fault) up stands k fits d u = unbegun note old new o past e run s (sort_of fault) fault up stands k fits d u
+
+pub started : {T : Type 0} (note : T → Note) (old new : Server T) (o : Opening) (past : List Entry) (e : Event) (run : ℕ) (result : Result Outs Fault) → old.down ≡ false → StandsFor note old o past → is_run run ≡ true
+    → EachNow old.machine (λ words. IsDueFor words (asked old.machine.me e) (Some run)) → Starts note run old new result → Ends note o past e old new result
+started note old new o past e run result up stands range is p =
+    let k = keeps_now note old o past up stands in
+    let words = now o past in
+    let d = is words k.1 in
+    let asks : asked o.me e ≡ ToStart run = ap (λ n. asked n e) (sym k.1.me) ∙ d.0 in
+    let found = there (is_due true words.last words.staged words.run (asked old.machine.me e)) d.1 in
+    let told : is_due true words.last words.staged words.run (ToStart run) ≡ Some found.0 = ap (is_due true words.last words.staged words.run) (sym d.0) ∙ found.1 in
+    let fits = ltb-true run (2 ^ 64) (and_parts (nat_le 1 run) (is_word run) range).1 in
+    ends note old new o past e run found.0 result up stands k.1 fits
+    (record {
+      on = k.0;
+      asks = asks;
+      is = ap (λ b. is_due b words.last words.staged words.run (asked o.me e)) k.0 ∙ ap (is_due true words.last words.staged words.run) asks ∙ told;
+      words = told;
+      run_is = due_run words.last run words.staged words.run found.0 told;
+    })
+    p

@@ -1,0 +1,106 @@
+-- Which lists a server stands for, and how a step ends.
+use Rattle.std.specs.Prelude.{◌≡◌, ◌⊎◌, ℕ, ◌<◌, true, not, List, ◌∷◌, Option, Some, None, Result, Ok, Err}
+use Rattle.std.specs.List.{flat_map}
+use Rattle.fc_base.specs.declared.fault.Fault.{Fault}
+use Rattle.fc_base.specs.declared.fault.Fault.TheVariants.{NoMemory}
+use Rattle.fc_base.specs.declared.fault.FaultSort.{FaultSort}
+use Rattle.fc_base.specs.declared.fault.FaultSort.TheVariants as sorts
+use Rattle.fc_base.specs.Fault.{sort_of}
+use Rattle.disk_model.specs.declared.left.Left.{Left}
+use Rattle.disk_model.specs.declared.left.Left.TheVariants.{NoSave, Saved}
+use Rattle.disk_model.specs.Left.{is_lost}
+use Rattle.disk_model.specs.Notes.{Note}
+use Rattle.messages.specs.FramesOf.{spelled_frames}
+use Rattle.server_core.specs.declared.event.Event.{Event}
+use Rattle.server_core.specs.declared.outs.Outs.{Outs}
+use Rattle.server_core.specs.declared.server.Server.{Server}
+use Rattle.server_core.specs.History.{Opening, Entry, Met}
+use Rattle.server_core.specs.Note.{Says, spelling}
+use Rattle.server_core.specs.Request.{ToStart}
+use Rattle.server_core.specs.Words.{Staged, is_on, boot, last_run, due, is_due}
+use Rattle.server_core.specs.Replies.{Now, replies}
+use Rattle.server_core.specs.Answers.{now, refusal, packets, issue, act, looked}
+use Rattle.server_core.specs.Framed.{framed}
+use Rattle.server_core.specs.Handles.{sent_alone}
+use Rattle.server_core.specs.Stands.{MachineIs, begun_by}
+
+-- A server stands for a list where it is on or down as the list says, where the durable bytes say what
+-- the list says, and where it keeps what the list said before the first failed save.
+pub record StandsFor {T : Type 0} (note : T → Note) (server : Server T) (o : Opening) (past : List Entry) : Type 0 where
+  pub on : server.down ≡ not (is_on past)
+  pub durable : Says (note server.notes).bytes (record { boot = boot o past; last_run = last_run o past })
+  pub keeps : MachineIs server.machine (now o (looked past))
+
+-- A Start that is due isn't answered: memory ran out, and nothing changes; or the device failed, and the
+-- durable bytes are the new or the old, and the server is down.
+abbrev pub Unstarted : {T : Type 0} → (T → Note) → ℕ → FaultSort → Fault → Server T → Server T → Type 0
+Unstarted note run sorts.Memory fault old new =
+    (fault ≡ NoMemory) × (note new.notes ≡ note old.notes) × (new.down ≡ old.down) × (new.machine ≡ old.machine)
+Unstarted note run sorts.Save fault old new =
+    ((note old.notes).failures < (note new.notes).failures)
+    × (((note new.notes).bytes ≡ (note old.notes).bytes)
+    ⊎ ((note new.notes).bytes ≡ spelling (record { boot = old.machine.boot; last_run = run })))
+    × (new.down ≡ true) × (new.machine ≡ old.machine)
+Unstarted note run sorts.Refusal fault old new = ⊥
+
+-- How a Start that is due ends: the run is durable and begins, or it isn't answered.
+abbrev pub Starts : {T : Type 0} → (T → Note) → ℕ → Server T → Server T → Result Outs Fault → Type 0
+Starts note run old new (Ok outs) =
+    (note new.notes ≡ record (note old.notes) { bytes = spelling (record { boot = old.machine.boot; last_run = run }) })
+    × (new.down ≡ old.down)
+    × ((words : Now) (s : Staged) → MachineIs old.machine words
+        → is_due true words.last words.staged words.run (ToStart run) ≡ Some s
+        → (outs ≡ sent_alone (framed words.server (replies words (ToStart run))))
+        × MachineIs new.machine (begun_by words s))
+Starts note run old new (Err fault) = Unstarted note run (sort_of fault) fault old new
+
+-- What an answered event's save left: none was made, where nothing was due.
+abbrev pub saved_for : Option Staged → Left
+saved_for None = NoSave
+saved_for (Some s) = Saved
+
+-- What an answered event leaves in the list: a Start that is due was saved.
+abbrev pub answered : Opening → List Entry → Event → Entry
+answered o past e = Met e (saved_for (due o past e))
+
+-- The event isn't refused, its answers are those of the list, and it is added.
+pub record Answers {T : Type 0} (note : T → Note) (o : Opening) (past : List Entry) (e : Event) (new : Server T) (outs : Outs) : Type 0 where
+  pub free : refusal o past e ≡ None
+  pub frames_are : outs.frames ≡ flat_map spelled_frames (packets o past (answered o past e))
+  pub issue_is : outs.issue ≡ issue o past e
+  pub act_is : outs.act ≡ act o past e
+  pub stands : StandsFor note new o (answered o past e ∷ past)
+
+-- The event is refused for this reason, and nothing changes; the refused event may also stand in the list.
+pub record Refuses {T : Type 0} (note : T → Note) (o : Opening) (past : List Entry) (e : Event) (fault : Fault) (old new : Server T) : Type 0 where
+  pub why : refusal o past e ≡ Some fault
+  pub same_note : note new.notes ≡ note old.notes
+  pub unchanged : StandsFor note new o past
+  pub stands : StandsFor note new o (Met e NoSave ∷ past)
+
+-- The device failed in the save of a run that was due: it is durable, or it isn't.
+pub record Fails {T : Type 0} (note : T → Note) (o : Opening) (past : List Entry) (e : Event) (old new : Server T) : Type 0 where
+  pub cause : (note old.notes).failures < (note new.notes).failures
+  pub free : refusal o past e ≡ None
+  pub began : Staged
+  pub makes_one : due o past e ≡ Some began
+  pub left : Left
+  pub lost : is_lost left ≡ true
+  pub stands : StandsFor note new o (Met e left ∷ past)
+
+-- For want of memory nothing changes.
+pub record Lacks {T : Type 0} (note : T → Note) (o : Opening) (past : List Entry) (fault : Fault) (old new : Server T) : Type 0 where
+  pub why : fault ≡ NoMemory
+  pub same_note : note new.notes ≡ note old.notes
+  pub unchanged : StandsFor note new o past
+
+-- How an event that isn't answered ends, by the sort of its fault.
+abbrev pub Faults : {T : Type 0} → (T → Note) → Opening → List Entry → Event → FaultSort → Fault → Server T → Server T → Type 0
+Faults note o past e sorts.Memory fault old new = Lacks note o past fault old new
+Faults note o past e sorts.Save fault old new = Fails note o past e old new
+Faults note o past e sorts.Refusal fault old new = Refuses note o past e fault old new
+
+-- How a step ends.
+abbrev pub Ends : {T : Type 0} → (T → Note) → Opening → List Entry → Event → Server T → Server T → Result Outs Fault → Type 0
+Ends note o past e old new (Ok outs) = Answers note o past e new outs
+Ends note o past e old new (Err fault) = Faults note o past e (sort_of fault) fault old new
