@@ -46,3 +46,4 @@ pub mod FollowLemmas
 pub mod RefusedLemmas
 pub mod ServeLemmas
 pub mod StartedLemmas
+pub mod RestartLemmas

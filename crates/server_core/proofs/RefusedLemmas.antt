@@ -1,5 +1,5 @@
 -- A request that is refused leaves what is kept of the words behind it.
-use Rattle.std.proofs.Common.{◌≡◌, ◌≢◌, refl, sym, ap, subst, ◌∙◌, ℕ, Bool, true, false, ◌&&◌, ◌==◌, List, [], ◌∷◌, Option, None, Some}
+use Rattle.std.proofs.Common.{◌≡◌, refl, sym, ap, subst, ◌∙◌, ℕ, Bool, true, false, ◌&&◌, ◌==◌, List, ◌∷◌, Option, None, Some}
 use Rattle.std.specs.Prelude.{if◌then◌else◌, not, slice_get, Ok, Err}
 use Rattle.std.proofs.lemmas.Bool.{eqb-true, eqb-false, eq-eqb}
 use Rattle.fc_base.specs.declared.fault.Fault.{Fault}
@@ -70,6 +70,7 @@ no_report kept c b a j r is no_one =
       where
         itself : (n : ℕ) → (n == n) ≡ true
         itself n = eq-eqb n n refl
+
     still : (s t t' u v : Bool) (p : Progress) → (t ≡ true → t' ≡ true) → (s && (t' && v)) ≡ false → (u ≡ true → v ≡ is_ready (Some p)) → (if s && (t && u) then reported r p else p) ≡ p
     still false t t' u v p m e f = refl
     still true false t' u v p m e f = refl

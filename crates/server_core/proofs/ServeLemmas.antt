@@ -1,13 +1,12 @@
 -- A server takes an event as its list does.
-use Rattle.std.proofs.Common.{◌≡◌, ◌⊎◌, inl, inr, refl, sym, ap, subst, ◌∙◌, ℕ, Bool, true, false, ◌&&◌, ◌==◌, List, ◌∷◌, Option, None, Some}
+use Rattle.std.proofs.Common.{◌≡◌, ◌⊎◌, inl, inr, refl, sym, ap, subst, ◌∙◌, Bool, true, false, ◌&&◌, List, ◌∷◌, None, Some}
 use Rattle.std.specs.Prelude.{if◌then◌else◌, not, Result, Ok, Err}
 use Rattle.std.specs.List.{flat_map}
 use Rattle.fc_base.specs.declared.fault.Fault.{Fault}
 use Rattle.fc_base.specs.declared.fault.Fault.TheVariants.{NoMemory, Down}
-use Rattle.fc_base.specs.declared.fault.FaultSort.{FaultSort}
 use Rattle.fc_base.specs.declared.fault.FaultSort.TheVariants as sorts
 use Rattle.fc_base.specs.Fault.{sort_of}
-use Rattle.disk_model.specs.declared.left.Left.TheVariants.{NoSave, Saved}
+use Rattle.disk_model.specs.declared.left.Left.TheVariants.{NoSave}
 use Rattle.disk_model.specs.Notes.{Note}
 use Rattle.messages.specs.FramesOf.{spelled_frames}
 use Rattle.server_core.specs.declared.event.Event.{Event}
@@ -20,9 +19,9 @@ use Rattle.server_core.specs.Request.{Request, ToStage, ToStart, ToTrigger, ToMa
 use Rattle.server_core.specs.Words.{is_on, boot, last_run, due, is_due}
 use Rattle.server_core.specs.Replies.{Now, replies}
 use Rattle.server_core.specs.Answers.{now, refusal, refusal_of, refused_by, packets, to_client, sent_by, looked}
-use Rattle.server_core.specs.Handles.{Handled, Answered, Unanswered, EachUndue}
+use Rattle.server_core.specs.Handles.{Handled, EachUndue}
 use Rattle.server_core.specs.Stands.{MachineIs, EachNow, IsDueFor, after}
-use Rattle.server_core.specs.Serves.{StandsFor, Answers, Refuses, Lacks, Faults, Ends, saved_for, answered}
+use Rattle.server_core.specs.Serves.{StandsFor, Faults, Ends, saved_for}
 use Rattle.server_core.proofs.WorkLemmas.{unsaved}
 use Rattle.server_core.proofs.Looked.{looked_on}
 use Rattle.server_core.proofs.FollowLemmas.{follows}
@@ -95,6 +94,7 @@ ends note server m o past e (Err fault) up s on k none u = by_why u.why
   where
     unchanged : StandsFor note (record { notes = server.notes; down = server.down; machine = m }) o past
     unchanged = record { on = s.on; durable = s.durable; keeps = subst (λ x. MachineIs x (now o (looked past))) (sym u.same) s.keeps }
+
     by_why : (fault ≡ NoMemory) ⊎ (refusal_of (now o past) (asked o.me e) ≡ Some fault) → Faults note o past e (sort_of fault) fault server (record { notes = server.notes; down = server.down; machine = m })
     by_why (inl w) = subst (λ t. Faults note o past e t fault server (record { notes = server.notes; down = server.down; machine = m })) (sym (ap sort_of w)) (record { why = w; same_note = refl; unchanged = unchanged })
     by_why (inr w) =

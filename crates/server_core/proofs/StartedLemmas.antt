@@ -17,15 +17,14 @@ use Rattle.server_core.specs.declared.outs.Outs.{Outs}
 use Rattle.server_core.specs.declared.server.Server.{Server}
 use Rattle.server_core.specs.History.{Opening, Entry, Met}
 use Rattle.server_core.specs.Note.{Says, spelling}
-use Rattle.server_core.specs.Request.{Request, ToStart, asked}
+use Rattle.server_core.specs.Request.{ToStart, asked}
 use Rattle.server_core.specs.Run.{Work, is_open}
 use Rattle.server_core.specs.Words.{Staged, is_on, boot, last_run, due, is_due, for_run, recorded, work}
-use Rattle.server_core.specs.Replies.{Now, replies}
+use Rattle.server_core.specs.Replies.{replies}
 use Rattle.server_core.specs.Answers.{now, refusal, refusal_of, packets, to_client, sent_by, issue_for, act_of, looked}
 use Rattle.server_core.specs.Framed.{framed}
-use Rattle.server_core.specs.Handles.{sent_alone}
-use Rattle.server_core.specs.Stands.{MachineIs, EachNow, IsDueFor, begun_by}
-use Rattle.server_core.specs.Serves.{StandsFor, Starts, Unstarted, Answers, Fails, Lacks, Faults, Ends, saved_for}
+use Rattle.server_core.specs.Stands.{MachineIs, EachNow, IsDueFor}
+use Rattle.server_core.specs.Serves.{StandsFor, Starts, Unstarted, Answers, Fails, Faults, Ends, saved_for}
 use Rattle.server_core.proofs.FollowLemmas.{starts_follow}
 use Rattle.server_core.proofs.UndueLemmas.{no_act}
 use Rattle.server_core.proofs.ServeLemmas.{keeps_now}
@@ -41,6 +40,7 @@ due_run last r found w s e = by_test (nat_lt last r && not (is_open w)) e
         pick : (b : Bool) → (t.run == r) ≡ b → (if b then Some t else None) ≡ Some s → s.run ≡ r
         pick false q e = cc
         pick true q e = let same : t ≡ s = cc in ap (λ (x : Staged). x.run) (sym same) ∙ eqb-true t.run r q
+
     by_test : (b : Bool) → (if b then for_run r found else None) ≡ Some s → s.run ≡ r
     by_test true e = by_found found e
     by_test false e = cc

@@ -1,8 +1,8 @@
 -- Which lists a server stands for, and how a step ends.
-use Rattle.std.specs.Prelude.{◌≡◌, ◌⊎◌, ℕ, ◌<◌, true, not, List, ◌∷◌, Option, Some, None, Result, Ok, Err}
+use Rattle.std.specs.Prelude.{◌≡◌, ◌⊎◌, ℕ, ◌+◌, ◌-◌, ◌^◌, ◌<◌, true, not, List, ◌∷◌, Option, Some, None, Result, Ok, Err}
 use Rattle.std.specs.List.{flat_map}
 use Rattle.fc_base.specs.declared.fault.Fault.{Fault}
-use Rattle.fc_base.specs.declared.fault.Fault.TheVariants.{NoMemory}
+use Rattle.fc_base.specs.declared.fault.Fault.TheVariants.{NoMemory, LoadFault, SaveFault, BadNote, NumbersSpent}
 use Rattle.fc_base.specs.declared.fault.FaultSort.{FaultSort}
 use Rattle.fc_base.specs.declared.fault.FaultSort.TheVariants as sorts
 use Rattle.fc_base.specs.Fault.{sort_of}
@@ -14,7 +14,8 @@ use Rattle.messages.specs.FramesOf.{spelled_frames}
 use Rattle.server_core.specs.declared.event.Event.{Event}
 use Rattle.server_core.specs.declared.outs.Outs.{Outs}
 use Rattle.server_core.specs.declared.server.Server.{Server}
-use Rattle.server_core.specs.History.{Opening, Entry, Met}
+use Rattle.server_core.specs.History.{Opening, Entry, Met, Restart}
+use Rattle.server_core.specs.declared.note.Noted.{Noted}
 use Rattle.server_core.specs.Note.{Says, spelling}
 use Rattle.server_core.specs.Request.{ToStart}
 use Rattle.server_core.specs.Words.{Staged, is_on, boot, last_run, due, is_due}
@@ -49,9 +50,9 @@ Starts note run old new (Ok outs) =
     (note new.notes ≡ record (note old.notes) { bytes = spelling (record { boot = old.machine.boot; last_run = run }) })
     × (new.down ≡ old.down)
     × ((words : Now) (s : Staged) → MachineIs old.machine words
-        → is_due true words.last words.staged words.run (ToStart run) ≡ Some s
-        → (outs ≡ sent_alone (framed words.server (replies words (ToStart run))))
-        × MachineIs new.machine (begun_by words s))
+    → is_due true words.last words.staged words.run (ToStart run) ≡ Some s
+    → (outs ≡ sent_alone (framed words.server (replies words (ToStart run))))
+    × MachineIs new.machine (begun_by words s))
 Starts note run old new (Err fault) = Unstarted note run (sort_of fault) fault old new
 
 -- What an answered event's save left: none was made, where nothing was due.
@@ -104,3 +105,37 @@ Faults note o past e sorts.Refusal fault old new = Refuses note o past e fault o
 abbrev pub Ends : {T : Type 0} → (T → Note) → Opening → List Entry → Event → Server T → Server T → Result Outs Fault → Type 0
 Ends note o past e old new (Ok outs) = Answers note o past e new outs
 Ends note o past e old new (Err fault) = Faults note o past e (sort_of fault) fault old new
+
+-- For each list whose words the note said, the server stands for it with the restart.
+abbrev pub Restarts : {T : Type 0} → (T → Note) → ℕ → T → Server T → Type 0
+Restarts note me notes server =
+    (o : Opening) (past : List Entry) → o.me ≡ me
+    → Says (note notes).bytes (record { boot = boot o past; last_run = last_run o past })
+    → StandsFor note server o (Restart Saved ∷ past)
+
+-- The bytes are the old ones, or those of the next boot.
+abbrev pub IsHalfSaved : List ℕ → List ℕ → Type 0
+IsHalfSaved old new =
+    (new ≡ old)
+    ⊎ ((n : Noted) × Says old n × (new ≡ spelling (record { boot = n.boot + 1; last_run = n.last_run })))
+
+-- Why a server isn't opened: the device failed, the bytes are no note, the boots are used up, memory ran
+-- out, or the save failed; and what the notes then hold.
+abbrev pub NotOpened : Note → Note → Fault → Type 0
+NotOpened old new LoadFault = (old.failures < new.failures) × (new.bytes ≡ old.bytes)
+NotOpened old new BadNote = (new ≡ old) × ((n : Noted) → Says old.bytes n → ⊥)
+NotOpened old new NumbersSpent = (new ≡ old) × ((n : Noted) → Says old.bytes n → n.boot ≡ 2 ^ 64 - 1)
+NotOpened old new NoMemory = new ≡ old
+NotOpened old new SaveFault = (old.failures < new.failures) × IsHalfSaved old.bytes new.bytes
+NotOpened old new _ = ⊥
+
+-- What a note says is read, where a boot is left; else nothing of the note changes but the count of
+-- failures.
+abbrev pub IsRead : Note → Note → Result Noted Fault → Type 0
+IsRead old new (Ok n) = (new ≡ old) × Says old.bytes n × (n.boot < 2 ^ 64 - 1)
+IsRead old new (Err fault) = NotOpened old new fault
+
+-- How a restart ends.
+abbrev pub Opens : {T : Type 0} → (T → Note) → ℕ → T → Result (Server T) (T × Fault) → Type 0
+Opens note me notes (Ok server) = Restarts note me notes server
+Opens note me notes (Err e) = NotOpened (note notes) (note e.0) e.1

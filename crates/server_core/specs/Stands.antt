@@ -179,3 +179,14 @@ begun_by now s = record {
 abbrev pub IsDueFor : Now → Request → Option ℕ → Type 0
 IsDueFor now x None = is_due true now.last now.staged now.run x ≡ None
 IsDueFor now x (Some run) = (x ≡ ToStart run) × (is_some (is_due true now.last now.staged now.run x) ≡ true)
+
+-- The words of a server that was just restarted.
+abbrev pub blank : ℕ → ℕ → ℕ → Now
+blank me now_boot last = record {
+  server = me;
+  boot = now_boot;
+  last = last;
+  staged = None;
+  run = None;
+  check = None;
+}

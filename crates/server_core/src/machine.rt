@@ -40,8 +40,24 @@ impl Machine {
     ghost use Rattle.server_core.specs.Answers.{issue_of, act_of, refusal_of};
     ghost use Rattle.server_core.specs.Replies.{replies, refuse, gone_or_unknown};
     ghost use Rattle.server_core.specs.Framed.{framed};
-    ghost use Rattle.server_core.specs.Stands.{MachineIs, EachNow, after, unless, IsOfRun, IsOfText};
+    ghost use Rattle.server_core.specs.Stands.{MachineIs, EachNow, after, blank, unless, IsOfRun, IsOfText};
     ghost use Rattle.messages.specs.declared.refusal.Act.{Act};
+
+    /// That of a server which was just restarted.
+    pub(crate) fn new(alloc: Global, me: ServerNo, boot: u64, last_run: RunNo) -> Machine
+        requires { me < 8 }
+        ensures { MachineIs result (blank me boot last_run) }
+    {
+        Machine {
+            alloc,
+            me,
+            boot,
+            last_run,
+            staged: None,
+            run: None,
+            check: None,
+        }
+    }
 
     /// Issues the next write of a job, or says why none is issued.
     pub(crate) fn issue(&mut self, job: JobNo) -> Issue

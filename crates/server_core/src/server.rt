@@ -1,15 +1,17 @@
 //! A server over its durable note.
 
-ghost use Rattle.std.specs.Prelude.{◌≡◌, IsTrue, List};
+ghost use Rattle.std.specs.Prelude.{◌≡◌, ◌<◌, IsTrue, List};
+ghost use Rattle.server_core.specs.Serves.{IsRead};
 ghost use Rattle.messages.specs.Ranges.{is_run};
 
 use crate::event::Event;
 use crate::machine::Machine;
-use crate::note::Noted;
+use crate::note::{Noted, one_note};
 use crate::outs::Outs;
 use disk_model::Notes;
-use fc_base::{Fault, RunNo};
+use fc_base::{Fault, RunNo, ServerNo};
 use messages::Act;
+use std::alloc::Global;
 
 /// A server.
 #[derive(Drop)]
@@ -21,7 +23,59 @@ pub struct Server<N> {
 
 impl<N: Notes> Server<N> {
     ghost use Rattle.server_core.specs.History.{Opening, Entry};
-    ghost use Rattle.server_core.specs.Serves.{StandsFor, Starts, Ends};
+    ghost use Rattle.server_core.specs.Note.{Says};
+    ghost use Rattle.server_core.specs.Words.{is_on, boot, last_run};
+    ghost use Rattle.server_core.specs.Serves.{StandsFor, Starts, Ends, Opens};
+
+    /// Opens the server with this number over its note, where it saves the next boot before it answers;
+    /// a blank note has none yet. Where it isn't opened, the notes come back.
+    ///
+    /// `LoadFault`, `BadNote`, `NumbersSpent` after the last boot, `NoMemory`: the notes hold what they
+    /// held. `SaveFault`: they hold that, or the next boot.
+    pub fn restart(alloc: Global, me: ServerNo, notes: N) -> Result<Server<N>, (N, Fault)>
+        requires { me < 8 }
+        ensures { Opens N.note me notes result }
+    {
+        one_note();
+        let mut notes = notes;
+        let noted = match read(&mut notes) {
+            Ok(noted) => noted,
+            Err(fault) => return Err((notes, fault)),
+        };
+        let Noted { boot, last_run } = noted;
+        let boot = boot + 1;
+        let bytes = Noted { boot, last_run }.encode();
+        match notes.save(&bytes) {
+            Ok(()) => Ok(Server {
+                notes,
+                down: false,
+                machine: Machine::new(alloc, me, boot, last_run),
+            }),
+            Err(Fault::NoMemory) => Err((notes, Fault::NoMemory)),
+            Err(_) => Err((notes, Fault::SaveFault)),
+        }
+    }
+
+    /// The notes of a server that is taken off.
+    pub fn off(self) -> N
+        ensures { (o : Opening) (past : List Entry) → StandsFor N.note self o past →
+            Says (N.note result).bytes (record { boot = boot o past; last_run = last_run o past }) }
+    {
+        let Server {
+            notes,
+            down: _,
+            machine: _,
+        } = self;
+        notes
+    }
+
+    /// Whether it is on: no save has failed since it was restarted.
+    pub fn on(&self) -> bool
+        ensures { (o : Opening) (past : List Entry) → StandsFor N.note self.now o past →
+            result ≡ is_on past }
+    {
+        !self.down
+    }
 
     /// Takes one event. A Start that is due is recorded before it is answered.
     ///
@@ -67,5 +121,20 @@ impl<N: Notes> Server<N> {
                 Err(fault)
             }
         }
+    }
+}
+
+/// What a note says, where its boots aren't used up.
+fn read<N: Notes>(notes: &mut N) -> Result<Noted, Fault>
+    ensures { IsRead (N.note notes.old) (N.note notes.new) result }
+{
+    match notes.load() {
+        Ok(bytes) => match Noted::decode(&bytes) {
+            Some(noted) if noted.boot == u64::MAX => Err(Fault::NumbersSpent),
+            Some(noted) => Ok(noted),
+            None => Err(Fault::BadNote),
+        },
+        Err(Fault::NoMemory) => Err(Fault::NoMemory),
+        Err(_) => Err(Fault::LoadFault),
     }
 }

@@ -10,13 +10,11 @@ abbrev note_of : ℕ → List ℕ → Note
 note_of failures bytes = record { bytes = bytes; failures = failures }
 
 pub returns-in-Ok : goal.returns-in-Ok
-returns-in-Ok g c =
-    (
-      c.in-Ok.ensures ∙ ap (note_of (g.N.Notes.note c.args.self.now.notes).failures) c.encode.ensures,
-      refl,
-      λ words s h d.
-          (
-            ap sent_alone (c.in_ok-frames.ensures.sent words h),
-            c.begin.ensures words h s (due_is_staged true words.last words.staged words.run (ToStart c.args.run) s d)
-          )
-    )
+returns-in-Ok g c = (
+  c.in-Ok.ensures ∙ ap (note_of (g.N.Notes.note c.args.self.now.notes).failures) c.encode.ensures,
+  refl,
+  λ words s h d. (
+    ap sent_alone (c.in_ok-frames.ensures.sent words h),
+    c.begin.ensures words h s (due_is_staged true words.last words.staged words.run (ToStart c.args.run) s d),
+  ),
+)
