@@ -191,16 +191,20 @@ abbrev pub number_of_check : Option Check → ℕ
 number_of_check None = 0
 number_of_check (Some c) = c.attempt
 
+-- What a server with these words shows of itself.
+abbrev pub status_of : Now → Status
+status_of n = record {
+  boot = n.boot;
+  last_run = n.last;
+  staged = number_staged n.staged;
+  run = number_of_run n.run;
+  stage = stage_of n.run;
+  attempt = number_of_check n.check;
+}
+
 -- What a server shows of itself.
 abbrev pub status : Opening → List Entry → Status
-status o past = record {
-  boot = boot o past;
-  last_run = last_run o past;
-  staged = number_staged (staged o past);
-  run = number_of_run (work o past);
-  stage = stage_of (work o past);
-  attempt = number_of_check (check o past);
-}
+status o past = status_of (now o past)
 
 -- Job j of a run, where there is one.
 abbrev pub job_of_run : Option Work → ℕ → Option Job

@@ -5,6 +5,7 @@ ghost use Rattle.messages.specs.Ranges.{is_run};
 
 mod check;
 mod deliver;
+mod look;
 mod stage;
 mod start;
 mod take;

@@ -70,6 +70,13 @@ impl OpenCheck {
         self.attempt
     }
 
+    /// A job of it.
+    pub fn job(&self, job: JobNo) -> Option<&Job>
+        ensures { option_copied result ≡ slice_get self.now.jobs job }
+    {
+        self.jobs.as_slice().get(index_of(job))
+    }
+
     /// How far the check of a job is, where there is such a job.
     pub fn progress(&self, job: JobNo) -> Option<&Progress>
         ensures { option_map progress_of (option_copied result) ≡ slice_get self.now.progress job }

@@ -3,6 +3,7 @@
 ghost use Rattle.std.specs.Prelude.{◌≡◌, ◌<◌, ◌≤◌, ◌==◌, ℕ, true, ◌∷◌, map, length, Some, None, slice_get, nat_lt, OnErr, is_none, is_some, not, ◌&&◌, if◌then◌else◌};
 ghost use Rattle.messages.specs.declared.refusal.Act.TheVariants as acts;
 ghost use Rattle.std.specs.List.{list_all, list_any};
+ghost use Rattle.std.specs.Option.{option_copied};
 ghost use Rattle.engine.specs.Answers.{ended_of};
 ghost use Rattle.server_core.specs.declared.job_run.JobRun.{JobRun};
 ghost use Rattle.server_core.specs.Kept.{taken_kept, stopped_kept, act_in};
@@ -13,7 +14,7 @@ use crate::event::WriteEnd;
 use crate::job_run::{End, JobRun, index_in, index_of};
 use engine::{Issue, Ticket};
 use fc_base::{Fault, JobNo, RunNo};
-use job_file::Jobs;
+use job_file::{Job, Jobs};
 use messages::Act;
 use std::marker::Model;
 
@@ -69,6 +70,13 @@ impl Run {
         ensures { result ≡ self.now.end }
     {
         self.end
+    }
+
+    /// A job of it.
+    pub fn job(&self, job: JobNo) -> Option<&Job>
+        ensures { option_copied result ≡ slice_get self.now.jobs job }
+    {
+        self.jobs.as_slice().get(index_of(job))
     }
 
     /// Whether it is this run.

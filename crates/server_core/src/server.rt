@@ -1,6 +1,7 @@
 //! A server over its durable note.
 
 ghost use Rattle.std.specs.Prelude.{◌≡◌, ◌<◌, IsTrue, List};
+ghost use Rattle.std.specs.Option.{option_copied};
 ghost use Rattle.server_core.specs.Serves.{IsRead};
 ghost use Rattle.messages.specs.Ranges.{is_run};
 
@@ -8,8 +9,10 @@ use crate::event::Event;
 use crate::machine::Machine;
 use crate::note::{Noted, one_note};
 use crate::outs::Outs;
+use crate::status::Status;
 use disk_model::Notes;
-use fc_base::{Fault, RunNo, ServerNo};
+use fc_base::{Fault, JobNo, RunNo, ServerNo};
+use job_file::Job;
 use messages::Act;
 use std::alloc::Global;
 
@@ -25,6 +28,7 @@ impl<N: Notes> Server<N> {
     ghost use Rattle.server_core.specs.History.{Opening, Entry};
     ghost use Rattle.server_core.specs.Note.{Says};
     ghost use Rattle.server_core.specs.Words.{is_on, boot, last_run};
+    ghost use Rattle.server_core.specs.Answers.{looked, status, run_job, check_job};
     ghost use Rattle.server_core.specs.Serves.{StandsFor, Starts, Ends, Opens};
 
     /// Opens the server with this number over its note, where it saves the next boot before it answers;
@@ -75,6 +79,38 @@ impl<N: Notes> Server<N> {
             result ≡ is_on past }
     {
         !self.down
+    }
+
+    /// Its number.
+    pub fn me(&self) -> ServerNo
+        ensures { (o : Opening) (past : List Entry) → StandsFor N.note self.now o past →
+            result ≡ o.me }
+    {
+        self.machine.me
+    }
+
+    /// How far it is: up to a failed save, where one has failed.
+    pub fn status(&self) -> Status
+        ensures { (o : Opening) (past : List Entry) → StandsFor N.note self.now o past →
+            result ≡ status o (looked past) }
+    {
+        self.machine.status()
+    }
+
+    /// A job of the present run: of that up to a failed save, where one has failed.
+    pub fn run_job(&self, job: JobNo) -> Option<&Job>
+        ensures { (o : Opening) (past : List Entry) → StandsFor N.note self.now o past →
+            option_copied result ≡ run_job o (looked past) job }
+    {
+        self.machine.run_job(job)
+    }
+
+    /// A job of the open check: of that up to a failed save, where one has failed.
+    pub fn check_job(&self, job: JobNo) -> Option<&Job>
+        ensures { (o : Opening) (past : List Entry) → StandsFor N.note self.now o past →
+            option_copied result ≡ check_job o (looked past) job }
+    {
+        self.machine.check_job(job)
     }
 
     /// Takes one event. A Start that is due is recorded before it is answered.

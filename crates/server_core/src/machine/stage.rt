@@ -66,7 +66,7 @@ impl Machine {
     }
 
     /// The staged run, 0 where there is none.
-    fn staged_run(&self) -> RunNo
+    pub(super) fn staged_run(&self) -> RunNo
         ensures { result ≡ number_staged self.now.staged }
     {
         match &self.staged {
