@@ -20,6 +20,7 @@ pub mod RangeLemmas
 pub mod ReplyLemmas
 pub mod RunReplyLemmas
 pub mod SetLemmas
+pub mod ShownLemmas
 pub mod StartLemmas
 pub mod StateLemmas
 pub mod StayLemmas

@@ -17,6 +17,7 @@ use fc_base::{Fault, JobNo, RunNo};
 use job_file::{Job, Jobs};
 use messages::Act;
 use std::marker::Model;
+use verify_state::VerifyState;
 
 /// The present run: that of the last Start that was accepted since the server was restarted.
 #[derive(Debug, Drop)]
@@ -41,6 +42,7 @@ impl Model for Run {
 
 impl Run {
     ghost use Rattle.server_core.specs.Run.{Work, has_open, have_ended, is_halted, halted};
+    ghost use Rattle.server_core.specs.Taken.{taken_by_halt};
     ghost use Rattle.server_core.specs.Answers.{issue_of_job, names_open_of, act_of};
     ghost use Rattle.server_core.specs.Request.{Request, ToIssue, ToEnd, ToTrigger, ToMark, ToStop};
     ghost use Rattle.server_core.specs.Kept.{RunIs, EachRun, GoesOn, open_answer, IsBegun, EachBegun};
@@ -77,6 +79,19 @@ impl Run {
         ensures { option_copied result ≡ slice_get self.now.jobs job }
     {
         self.jobs.as_slice().get(index_of(job))
+    }
+
+    /// The state that was taken of a job.
+    pub fn taken(&self, job: JobNo) -> Option<&VerifyState>
+        ensures { EachRun self.now
+            (λ w. option_copied result ≡ taken_by_halt w job (halted w.run w.since)) }
+    {
+        let index = index_of(job);
+        if index < self.kept.as_slice().len() {
+            self.kept[index].taken.as_ref()
+        } else {
+            None
+        }
     }
 
     /// Whether it is this run.

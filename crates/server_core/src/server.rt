@@ -15,6 +15,7 @@ use fc_base::{Fault, JobNo, RunNo, ServerNo};
 use job_file::Job;
 use messages::Act;
 use std::alloc::Global;
+use verify_state::VerifyState;
 
 /// A server.
 #[derive(Drop)]
@@ -29,6 +30,7 @@ impl<N: Notes> Server<N> {
     ghost use Rattle.server_core.specs.Note.{Says};
     ghost use Rattle.server_core.specs.Words.{is_on, boot, last_run};
     ghost use Rattle.server_core.specs.Answers.{looked, status, run_job, check_job};
+    ghost use Rattle.server_core.specs.Taken.{taken};
     ghost use Rattle.server_core.specs.Serves.{StandsFor, Starts, Ends, Opens};
 
     /// Opens the server with this number over its note, where it saves the next boot before it answers;
@@ -103,6 +105,14 @@ impl<N: Notes> Server<N> {
             option_copied result ≡ run_job o (looked past) job }
     {
         self.machine.run_job(job)
+    }
+
+    /// The state that was taken of a job of the present run: up to a failed save, where one has failed.
+    pub fn taken(&self, job: JobNo) -> Option<&VerifyState>
+        ensures { (o : Opening) (past : List Entry) → StandsFor N.note self.now o past →
+            option_copied result ≡ taken o (looked past) job }
+    {
+        self.machine.taken(job)
     }
 
     /// A job of the open check: of that up to a failed save, where one has failed.

@@ -4,6 +4,7 @@ ghost use Rattle.std.specs.Prelude.{◌≡◌};
 ghost use Rattle.std.specs.Option.{option_copied};
 ghost use Rattle.server_core.specs.Answers.{status_of, stage_of, number_of_run, number_of_check, job_of_run, job_of_check};
 ghost use Rattle.server_core.specs.Stands.{EachNow, EachWork, EachOpen};
+ghost use Rattle.server_core.specs.Taken.{taken_in};
 
 use super::Machine;
 use crate::job_run::End;
@@ -12,6 +13,7 @@ use crate::run::Run;
 use crate::status::{Stage, Status};
 use fc_base::{Attempt, JobNo, RunNo};
 use job_file::Job;
+use verify_state::VerifyState;
 
 impl Machine {
     /// How far it is.
@@ -33,6 +35,13 @@ impl Machine {
         ensures { EachNow self.now (λ now. option_copied result ≡ job_of_run now.run job) }
     {
         self.run.as_ref()?.job(job)
+    }
+
+    /// The state that was taken of a job of the present run.
+    pub(crate) fn taken(&self, job: JobNo) -> Option<&VerifyState>
+        ensures { EachNow self.now (λ now. option_copied result ≡ taken_in now.run job) }
+    {
+        self.run.as_ref()?.taken(job)
     }
 
     /// A job of the open check.
