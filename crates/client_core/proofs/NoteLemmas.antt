@@ -2,10 +2,11 @@
 use Rattle.std.proofs.Common.{◌≡◌, refl, sym, ◌∙◌, ap, subst, ◌⊎◌, inl, inr, ℕ, ◌-◌, ◌<◌, ◌≤◌, arith, true, false, ◌==◌, List, [], ◌∷◌, ◌++◌, length, None, Some, take, drop}
 use Rattle.std.specs.Prelude.{◌^◌, map, bytes_eq, codes}
 use Rattle.std.specs.List.{AllByRecursion, flat_map}
-use Rattle.std.specs.Int.{w32, w64, to_be_bytes, from_be_bytes}
+use Rattle.std.specs.Int.{w32, w64}
 use Rattle.std.proofs.lemmas.List.{length-map, take-append-drop, length-take-le, length-drop}
 use Rattle.std.proofs.lemmas.Nat.{from_be_bytes-to_be_bytes_4, from_be_bytes-to_be_bytes_8, be_bytes_8, be_bytes_4}
 use Rattle.std.proofs.lemmas.Slice.Eq.{bytes_eq-Decides}
+use Rattle.fc_base.specs.Layouts.{bytes_of, number_in}
 use Rattle.verify_state.specs.State.{State, IsState}
 use Rattle.client_core.specs.Kept.{has_distinct_keys}
 use Rattle.client_core.specs.declared.noted.Noted.{Noted}
@@ -18,11 +19,11 @@ use Rattle.verify_state.specs.Laws.{SaysAState, ReadsBack}
 use Rattle.client_core.proofs.ReadingLemmas.{AreBytes, as_many, dropped, states_read, states_sound, taken}
 
 -- what stands behind the mark, the runs, the attempts and the number of states
-abbrev pub after_mark : List ℕ → List ℕ
-after_mark bytes = drop 4 bytes
+abbrev pub after_magic : List ℕ → List ℕ
+after_magic bytes = drop 4 bytes
 
 abbrev pub after_runs : List ℕ → List ℕ
-after_runs bytes = drop 8 (after_mark bytes)
+after_runs bytes = drop 8 (after_magic bytes)
 
 abbrev pub after_attempts : List ℕ → List ℕ
 after_attempts bytes = drop 8 (after_runs bytes)
@@ -31,13 +32,13 @@ after_attempts bytes = drop 8 (after_runs bytes)
 pub record IsRead (bytes : List ℕ) (n : Noted) : Type 0 where
   pub mark : take 4 bytes ≡ codes "FCC1"
   pub long : 24 ≤ length bytes
-  pub runs : from_be_bytes w64 (take 8 (after_mark bytes)) ≡ n.runs
-  pub attempts : from_be_bytes w64 (take 8 (after_runs bytes)) ≡ n.attempts
-  pub count : from_be_bytes w32 (take 4 (after_attempts bytes)) ≡ length n.kept
+  pub runs : number_in w64 (after_magic bytes) ≡ n.runs
+  pub attempts : number_in w64 (after_runs bytes) ≡ n.attempts
+  pub count : number_in w32 (after_attempts bytes) ≡ length n.kept
   pub states : states_at (length n.kept) (drop 4 (after_attempts bytes)) ≡ Some n.kept
 
 spelled_read : (n : Noted) (parts : List (List ℕ)) → IsNoted n → SayStates parts n.kept → IsRead (note_of n.runs n.attempts parts) n
-unfolding note_of
+unfolding note_of bytes_of number_in
 spelled_read n parts k h =
     let l : length parts ≡ length n.kept = as_many parts n.kept h in
     let few : length n.kept ≤ 1024 = k.count in
@@ -60,7 +61,7 @@ says_read bytes n s some = by s.spelled
 
 -- no note but the blank one is empty
 not_empty : (runs attempts : ℕ) (parts : List (List ℕ)) → note_of runs attempts parts ≡ [] → ⊥
-unfolding note_of
+unfolding note_of bytes_of number_in
 not_empty runs attempts parts e = cc
 
 blank_by : (bytes : List ℕ) (n : Noted) → bytes ≡ [] → Spells bytes n ⊎ ((bytes ≡ []) × (n ≡ blank)) → n ≡ blank
@@ -99,48 +100,48 @@ says_what_is_written back n k = record {
 
 -- what is read says the note
 pub read_says : SaysAState → (bytes : List ℕ) (runs attempts count : ℕ) (kept : List State) → AreBytes bytes → take 4 bytes ≡ codes "FCC1" → 24 ≤ length bytes
-    → runs ≡ from_be_bytes w64 (take 8 (after_mark bytes)) → attempts ≡ from_be_bytes w64 (take 8 (after_runs bytes)) → count ≡ from_be_bytes w32 (take 4 (after_attempts bytes))
+    → runs ≡ number_in w64 (after_magic bytes) → attempts ≡ number_in w64 (after_runs bytes) → count ≡ number_in w32 (after_attempts bytes)
     → runs < 2 ^ 64 → attempts < 2 ^ 64 → count ≤ 1024 → states_at count (drop 4 (after_attempts bytes)) ≡ Some kept → has_distinct_keys kept ≡ true → Says bytes (record { runs = runs; attempts = attempts; kept = kept })
-unfolding note_of
+unfolding note_of bytes_of number_in
 read_says ranges bytes runs attempts count kept h mark long r a c low_runs low_attempts few states keys =
     let one = dropped 4 bytes h in
-    let two = dropped 8 (after_mark bytes) one in
+    let two = dropped 8 (after_magic bytes) one in
     let three = dropped 8 (after_runs bytes) two in
     let s = states_sound ranges count (drop 4 (after_attempts bytes)) kept (dropped 4 (after_attempts bytes) three) states in
     let many : length s.parts ≡ length kept = as_many s.parts kept s.says in
     let counts : length s.parts ≡ count = s.count in
-    let left : length (after_mark bytes) ≡ length bytes - 4 = length-drop 4 bytes in
-    let less : length (after_runs bytes) ≡ length (after_mark bytes) - 8 = length-drop 8 (after_mark bytes) in
+    let left : length (after_magic bytes) ≡ length bytes - 4 = length-drop 4 bytes in
+    let less : length (after_runs bytes) ≡ length (after_magic bytes) - 8 = length-drop 8 (after_magic bytes) in
     let least : length (after_attempts bytes) ≡ length (after_runs bytes) - 8 = length-drop 8 (after_runs bytes) in
-    let eight : length (take 8 (after_mark bytes)) ≡ 8 = length-take-le 8 (after_mark bytes) (omega arith) in
+    let eight : length (take 8 (after_magic bytes)) ≡ 8 = length-take-le 8 (after_magic bytes) (omega arith) in
     let again : length (take 8 (after_runs bytes)) ≡ 8 = length-take-le 8 (after_runs bytes) (omega arith) in
     let four : length (take 4 (after_attempts bytes)) ≡ 4 = length-take-le 4 (after_attempts bytes) (omega arith) in
-    let x : to_be_bytes w64 runs ≡ take 8 (after_mark bytes) = be_bytes_8 (take 8 (after_mark bytes)) runs eight (taken 8 (after_mark bytes) (omega arith) one) r in
-    let y : to_be_bytes w64 attempts ≡ take 8 (after_runs bytes) = be_bytes_8 (take 8 (after_runs bytes)) attempts again (taken 8 (after_runs bytes) (omega arith) two) a in
-    let z : to_be_bytes w32 (length s.parts) ≡ take 4 (after_attempts bytes) = ap (to_be_bytes w32) counts ∙ be_bytes_4 (take 4 (after_attempts bytes)) count four (taken 4 (after_attempts bytes) (omega arith) three) c in
-    let tail : to_be_bytes w32 (length s.parts) ++ flat_map counted_bytes s.parts ≡ after_attempts bytes =
+    let x : bytes_of w64 runs ≡ take 8 (after_magic bytes) = be_bytes_8 (take 8 (after_magic bytes)) runs eight (taken 8 (after_magic bytes) (omega arith) one) r in
+    let y : bytes_of w64 attempts ≡ take 8 (after_runs bytes) = be_bytes_8 (take 8 (after_runs bytes)) attempts again (taken 8 (after_runs bytes) (omega arith) two) a in
+    let z : bytes_of w32 (length s.parts) ≡ take 4 (after_attempts bytes) = ap (bytes_of w32) counts ∙ be_bytes_4 (take 4 (after_attempts bytes)) count four (taken 4 (after_attempts bytes) (omega arith) three) c in
+    let tail : bytes_of w32 (length s.parts) ++ flat_map counted_bytes s.parts ≡ after_attempts bytes =
     ap (λ l. l ++ flat_map counted_bytes s.parts) z ∙ (ap (λ l. take 4 (after_attempts bytes) ++ l) (sym s.spelled) ∙ take-append-drop 4 (after_attempts bytes)) in
-    let middle : to_be_bytes w64 attempts ++ after_attempts bytes ≡ after_runs bytes = ap (λ l. l ++ after_attempts bytes) y ∙ take-append-drop 8 (after_runs bytes) in
-    let front : to_be_bytes w64 runs ++ after_runs bytes ≡ after_mark bytes = ap (λ l. l ++ after_runs bytes) x ∙ take-append-drop 8 (after_mark bytes) in
-    let whole : bytes ≡ codes "FCC1" ++ (to_be_bytes w64 runs ++ (to_be_bytes w64 attempts ++ (to_be_bytes w32 (length s.parts) ++ flat_map counted_bytes s.parts))) =
-    sym (take-append-drop 4 bytes) ∙ (ap (λ l. l ++ after_mark bytes) mark ∙ ap (λ l. codes "FCC1" ++ l) (sym front ∙ ap (λ l. to_be_bytes w64 runs ++ l) (sym middle ∙ ap (λ l. to_be_bytes w64 attempts ++ l) (sym tail)))) in
+    let middle : bytes_of w64 attempts ++ after_attempts bytes ≡ after_runs bytes = ap (λ l. l ++ after_attempts bytes) y ∙ take-append-drop 8 (after_runs bytes) in
+    let front : bytes_of w64 runs ++ after_runs bytes ≡ after_magic bytes = ap (λ l. l ++ after_runs bytes) x ∙ take-append-drop 8 (after_magic bytes) in
+    let whole : bytes ≡ codes "FCC1" ++ (bytes_of w64 runs ++ (bytes_of w64 attempts ++ (bytes_of w32 (length s.parts) ++ flat_map counted_bytes s.parts))) =
+    sym (take-append-drop 4 bytes) ∙ (ap (λ l. l ++ after_magic bytes) mark ∙ ap (λ l. codes "FCC1" ++ l) (sym front ∙ ap (λ l. bytes_of w64 runs ++ l) (sym middle ∙ ap (λ l. bytes_of w64 attempts ++ l) (sym tail)))) in
     record {
       note = record { runs = low_runs; attempts = low_attempts; count = omega arith; states = s.ranges; keys = keys };
       spelled = inl (record { parts = s.parts; spelled = whole; states = s.says });
     }
 
 -- what is put together is the spelling
-pub encoded : (n : Noted) (count : ℕ) (states : List State) (a b c d e f : List ℕ) → count ≡ length n.kept → states ≡ n.kept → a ≡ [] → b ≡ a ++ codes "FCC1" → c ≡ b ++ to_be_bytes w64 n.runs → d ≡ c ++ to_be_bytes w64 n.attempts
-    → e ≡ d ++ to_be_bytes w32 count → f ≡ e ++ flat_map (λ s. counted_bytes (state_bytes s)) states → f ≡ spelling n
-unfolding note_of
+pub encoded : (n : Noted) (count : ℕ) (states : List State) (a b c d e f : List ℕ) → count ≡ length n.kept → states ≡ n.kept → a ≡ [] → b ≡ a ++ codes "FCC1" → c ≡ b ++ bytes_of w64 n.runs → d ≡ c ++ bytes_of w64 n.attempts
+    → e ≡ d ++ bytes_of w32 count → f ≡ e ++ flat_map (λ s. counted_bytes (state_bytes s)) states → f ≡ spelling n
+unfolding note_of bytes_of number_in
 encoded n count states a b c d e f many all a_is b_is c_is d_is e_is f_is =
-    let front : e ≡ (((([] ++ codes "FCC1") ++ to_be_bytes w64 n.runs) ++ to_be_bytes w64 n.attempts) ++ to_be_bytes w32 count) =
-    e_is ∙ ap (λ l. l ++ to_be_bytes w32 count) (d_is ∙ ap (λ l. l ++ to_be_bytes w64 n.attempts) (c_is ∙ ap (λ l. l ++ to_be_bytes w64 n.runs) (b_is ∙ ap (λ l. l ++ codes "FCC1") a_is))) in
+    let front : e ≡ (((([] ++ codes "FCC1") ++ bytes_of w64 n.runs) ++ bytes_of w64 n.attempts) ++ bytes_of w32 count) =
+    e_is ∙ ap (λ l. l ++ bytes_of w32 count) (d_is ∙ ap (λ l. l ++ bytes_of w64 n.attempts) (c_is ∙ ap (λ l. l ++ bytes_of w64 n.runs) (b_is ∙ ap (λ l. l ++ codes "FCC1") a_is))) in
     let number : count ≡ length (map state_bytes n.kept) = many ∙ sym (length-map n.kept state_bytes) in
     let tail : flat_map (λ s. counted_bytes (state_bytes s)) states ≡ flat_map counted_bytes (map state_bytes n.kept) = ap (λ l. flat_map (λ s. counted_bytes (state_bytes s)) l) all ∙ sym (flat_map-map counted_bytes state_bytes n.kept) in
     f_is ∙ (ap (λ l. l ++ flat_map (λ s. counted_bytes (state_bytes s)) states) front
-    ∙ (ap (λ l. (((([] ++ codes "FCC1") ++ to_be_bytes w64 n.runs) ++ to_be_bytes w64 n.attempts) ++ to_be_bytes w32 count) ++ l) tail
-    ∙ ap (λ k. (((([] ++ codes "FCC1") ++ to_be_bytes w64 n.runs) ++ to_be_bytes w64 n.attempts) ++ to_be_bytes w32 k) ++ flat_map counted_bytes (map state_bytes n.kept)) number))
+    ∙ (ap (λ l. (((([] ++ codes "FCC1") ++ bytes_of w64 n.runs) ++ bytes_of w64 n.attempts) ++ bytes_of w32 count) ++ l) tail
+    ∙ ap (λ k. (((([] ++ codes "FCC1") ++ bytes_of w64 n.runs) ++ bytes_of w64 n.attempts) ++ bytes_of w32 k) ++ flat_map counted_bytes (map state_bytes n.kept)) number))
 
 -- ---- where nothing is said
 
@@ -148,8 +149,8 @@ pub some_bytes : (bytes : List ℕ) → false ≡ (length bytes == 0) → bytes 
 some_bytes [] h e = cc
 some_bytes (b ∷ bytes) h e = cc
 
-pub no_mark : (bytes : List ℕ) (n : Noted) → (bytes ≡ [] → ⊥) → bytes_eq (take 4 bytes) (codes "FCC1") ≡ false → Says bytes n → ⊥
-no_mark bytes n some h s =
+pub no_magic : (bytes : List ℕ) (n : Noted) → (bytes ≡ [] → ⊥) → bytes_eq (take 4 bytes) (codes "FCC1") ≡ false → Says bytes n → ⊥
+no_magic bytes n some h s =
     let m : bytes_eq (take 4 bytes) (codes "FCC1") ≡ true = (bytes_eq-Decides (take 4 bytes) (codes "FCC1")).1 (says_read bytes n s some).mark in
     let e : true ≡ false = sym m ∙ h in
     cc
@@ -157,13 +158,13 @@ no_mark bytes n some h s =
 pub too_short : (bytes : List ℕ) (n : Noted) → (bytes ≡ [] → ⊥) → length bytes < 24 → Says bytes n → ⊥
 too_short bytes n some h s = let l : 24 ≤ length bytes = (says_read bytes n s some).long in absurd (omega arith)
 
-pub too_many : (bytes : List ℕ) (n : Noted) (count : ℕ) → (bytes ≡ [] → ⊥) → count ≡ from_be_bytes w32 (take 4 (after_attempts bytes)) → 1024 < count → Says bytes n → ⊥
+pub too_many : (bytes : List ℕ) (n : Noted) (count : ℕ) → (bytes ≡ [] → ⊥) → count ≡ number_in w32 (after_attempts bytes) → 1024 < count → Says bytes n → ⊥
 too_many bytes n count some c h s =
     let e : count ≡ length n.kept = c ∙ (says_read bytes n s some).count in
     let few : length n.kept ≤ 1024 = s.note.count in
     absurd (omega arith)
 
-pub no_states : (bytes : List ℕ) (n : Noted) (count : ℕ) → (bytes ≡ [] → ⊥) → count ≡ from_be_bytes w32 (take 4 (after_attempts bytes)) → ReadsStates count (drop 4 (after_attempts bytes)) None → Says bytes n → ⊥
+pub no_states : (bytes : List ℕ) (n : Noted) (count : ℕ) → (bytes ≡ [] → ⊥) → count ≡ number_in w32 (after_attempts bytes) → ReadsStates count (drop 4 (after_attempts bytes)) None → Says bytes n → ⊥
 no_states bytes n count some c h s =
     let r = says_read bytes n s some in
     let e : length n.kept ≡ count = sym r.count ∙ sym c in

@@ -46,7 +46,7 @@ verify_faults true true false d h = cc
 verify_faults true false c d h = cc
 verify_faults false b c d h = cc
 
-room_fault : (d full : Bool) → when d Conflict ++ when full TableFull ≡ [] → (d ≡ false) × (full ≡ false)
+pub room_fault : (d full : Bool) → when d Conflict ++ when full TableFull ≡ [] → (d ≡ false) × (full ≡ false)
 room_fault false false h = (refl, refl)
 room_fault false true h = cc
 room_fault true full h = cc
@@ -57,15 +57,15 @@ more_room kept s h =
     let l : length kept < 1024 = grind (arith, nat_tests) in
     omega arith
 
-one_run : (new : Bool) (n : Noted) → n.runs + 1 < 2 ^ 64 → IsNoted n → IsNoted (noted_after new (Some NextRun) n)
+pub one_run : (new : Bool) (n : Noted) → n.runs + 1 < 2 ^ 64 → IsNoted n → IsNoted (noted_after new (Some NextRun) n)
 one_run true n h k = record { runs = h; attempts = k.attempts; count = k.count; states = k.states; keys = k.keys }
 one_run false n h k = k
 
-one_attempt : (new : Bool) (n : Noted) → n.attempts + 1 < 2 ^ 64 → IsNoted n → IsNoted (noted_after new (Some NextAttempt) n)
+pub one_attempt : (new : Bool) (n : Noted) → n.attempts + 1 < 2 ^ 64 → IsNoted n → IsNoted (noted_after new (Some NextAttempt) n)
 one_attempt true n h k = record { runs = k.runs; attempts = h; count = k.count; states = k.states; keys = k.keys }
 one_attempt false n h k = k
 
-one_state : (new : Bool) (n : Noted) (x : Option State) (s : State) → kept_of s.key n.kept ≡ x → differs s x ≡ false → lacks_room n.kept x ≡ false → IsState s → IsNoted n → IsNoted (noted_after new (unless_kept x s) n)
+pub one_state : (new : Bool) (n : Noted) (x : Option State) (s : State) → kept_of s.key n.kept ≡ x → differs s x ≡ false → lacks_room n.kept x ≡ false → IsState s → IsNoted n → IsNoted (noted_after new (unless_kept x s) n)
 one_state new n (Some kept) s e d f h k = k
 one_state true n None s e d f h k = record {
   runs = k.runs;
@@ -76,7 +76,7 @@ one_state true n None s e d f h k = record {
 }
 one_state false n None s e d f h k = k
 
-body_step : (new : Bool) (n : Noted) (body : Body) → faults_of_body n body ≡ [] → KeepsState body → IsNoted n → IsNoted (noted_after new (addition_by n body) n)
+pub body_step : (new : Bool) (n : Noted) (body : Body) → faults_of_body n body ≡ [] → KeepsState body → IsNoted n → IsNoted (noted_after new (addition_by n body) n)
 body_step new n (bodies.State jobs s) e h k =
     let x = kept_of s.key n.kept in
     let f = room_fault (differs s x) (lacks_room n.kept x) e in

@@ -44,7 +44,7 @@ run_within r last a b c =
     let y : nat_lt r (2 ^ 64) ≡ true = grind (arith, nat_tests) in
     rw (x, y) refl
 
-begun_in_range : (n : Noted) (run : ℕ) → is_begun n run ≡ true → n.runs < 2 ^ 64 → is_run run ≡ true
+pub begun_in_range : (n : Noted) (run : ℕ) → is_begun n run ≡ true → n.runs < 2 ^ 64 → is_run run ≡ true
 unfolding is_begun
 begun_in_range n run h l =
     let p = and_parts (nat_le 1 run) (nat_le run n.runs) h in
@@ -54,7 +54,7 @@ begun_in_range n run h l =
     let d : run ≤ n.runs = grind (arith, nat_tests) in
     run_within run n.runs c d l
 
-next_in_range : (used : ℕ) → has_next used ≡ true → is_run (used + 1) ≡ true
+pub next_in_range : (used : ℕ) → has_next used ≡ true → is_run (used + 1) ≡ true
 next_in_range used h = run_within (used + 1) (used + 1) (omega arith) (omega arith) (next_left used h)
 
 run_faults : (a b : Bool) → slice_get (when (not a) Down ++ when (not b) NoSuchRun) 0 ≡ None → b ≡ true

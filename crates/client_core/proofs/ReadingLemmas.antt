@@ -2,7 +2,7 @@
 use Rattle.std.proofs.Common.{◌≡◌, refl, sym, ◌∙◌, ap, subst, inl, inr, ℕ, zero, suc, ◌+◌, ◌-◌, ◌<◌, ◌≤◌, arith, Bool, true, false, List, [], ◌∷◌, ◌++◌, length, Option, None, Some, length-append, take, drop, get_or}
 use Rattle.std.specs.Prelude.{if◌then◌else◌, is_none, is_some, nat_lt, ◌^◌, slice_get}
 use Rattle.std.specs.List.{AllByRecursion, flat_map}
-use Rattle.std.specs.Int.{w32, to_be_bytes, from_be_bytes}
+use Rattle.std.specs.Int.{w32, from_be_bytes}
 use Rattle.std.proofs.lemmas.Bool.{and_parts, cases_lt}
 use Rattle.std.proofs.lemmas.Bool.Decides.{nat_tests}
 use Rattle.std.proofs.lemmas.List.{append_assoc, take-append-drop, get_or-drop, get_or-take, get_or_past, length-take-le}
@@ -11,6 +11,7 @@ use Rattle.std.proofs.lemmas.Nat.{from_be_bytes-to_be_bytes_4, be_bytes_4}
 use Rattle.fc_base.specs.declared.numbers.Key.{Key}
 use Rattle.fc_base.specs.declared.fault.Fault.{Fault}
 use Rattle.fc_base.specs.Keys.{is_same_key}
+use Rattle.fc_base.specs.Layouts.{bytes_of, number_in}
 use Rattle.verify_state.specs.State.{State, IsState}
 use Rattle.client_core.specs.Kept.{kept_of, has_distinct_keys}
 use Rattle.client_core.specs.Note.{counted_bytes, SaysState, SayStates}
@@ -37,10 +38,10 @@ state_first b rest n s e sound said =
     subst (λ m. state_behind m (b ++ rest) ≡ Some (s, rest)) (sym e) (rw (l, t, d, sound, said) refl)
 
 first_read : (b rest : List ℕ) (s : State) → SaysState b s → first_state (counted_bytes b ++ rest) ≡ Some (s, rest)
-unfolding first_state
+unfolding first_state bytes_of number_in
 first_read b rest s h =
-    let l : nat_lt (length (counted_bytes b ++ rest)) 4 ≡ false = short_of (to_be_bytes w32 (length b)) (b ++ rest) in
-    rw l (state_first b rest (from_be_bytes w32 (to_be_bytes w32 (length b))) s (from_be_bytes-to_be_bytes_4 (length b) h.short) h.sound h.said)
+    let l : nat_lt (length (counted_bytes b ++ rest)) 4 ≡ false = short_of (bytes_of w32 (length b)) (b ++ rest) in
+    rw l (state_first b rest (from_be_bytes w32 (bytes_of w32 (length b))) s (from_be_bytes-to_be_bytes_4 (length b) h.short) h.sound h.said)
 
 pub states_read : (parts : List (List ℕ)) (states : List State) → SayStates parts states → states_at (length parts) (flat_map counted_bytes parts) ≡ Some states
 states_read [] [] h = refl
@@ -112,19 +113,20 @@ behind_is ranges n bytes rest s false e low h g =
     (take n bytes, whole, m, record { short = omega arith; sound = q.0; said = q.1 }, subst IsState q.1 r)
 
 first_is : SaysAState → (bytes rest : List ℕ) (s : State) (b : Bool) → nat_lt (length bytes) 4 ≡ b → AreBytes bytes
-    → (if b then None else state_behind (from_be_bytes w32 (take 4 bytes)) (drop 4 bytes)) ≡ Some (s, rest) → IsFirst bytes s rest
+    → (if b then None else state_behind (number_in w32 bytes) (drop 4 bytes)) ≡ Some (s, rest) → IsFirst bytes s rest
+unfolding number_in bytes_of
 first_is ranges bytes rest s true e h g = cc
 first_is ranges bytes rest s false e h g =
-    let n = from_be_bytes w32 (take 4 bytes) in
+    let n = number_in w32 bytes in
     let l : 4 ≤ length bytes = grind (arith, nat_tests) in
     let m : length (take 4 bytes) ≡ 4 = length-take-le 4 bytes l in
     let four = taken 4 bytes (omega arith) h in
     let p = behind_is ranges n (drop 4 bytes) rest s (nat_lt (length (drop 4 bytes)) n) refl (below_word (take 4 bytes) four) (dropped 4 bytes h) g in
-    let number : to_be_bytes w32 n ≡ take 4 bytes = be_bytes_4 (take 4 bytes) n m four refl in
-    let counted : to_be_bytes w32 (length p.0) ≡ take 4 bytes = ap (to_be_bytes w32) p.2 ∙ number in
+    let number : bytes_of w32 n ≡ take 4 bytes = be_bytes_4 (take 4 bytes) n m four refl in
+    let counted : bytes_of w32 (length p.0) ≡ take 4 bytes = ap (bytes_of w32) p.2 ∙ number in
     record {
       part = p.0;
-      spelled = sym (take-append-drop 4 bytes) ∙ (ap (λ l. take 4 bytes ++ l) p.1 ∙ (ap (λ l. l ++ (p.0 ++ rest)) (sym counted) ∙ sym (append_assoc (to_be_bytes w32 (length p.0)) p.0 rest)));
+      spelled = sym (take-append-drop 4 bytes) ∙ (ap (λ l. take 4 bytes ++ l) p.1 ∙ (ap (λ l. l ++ (p.0 ++ rest)) (sym counted) ∙ sym (append_assoc (bytes_of w32 (length p.0)) p.0 rest)));
       says = p.3;
       ranges = p.4;
     }
@@ -192,10 +194,10 @@ all_none true c = refl
 all_none false true = refl
 all_none false false = refl
 
-pub no_state : (bytes : List ℕ) (f : Fault) → slice_get (faults_of (take (from_be_bytes w32 (take 4 bytes)) (drop 4 bytes))) 0 ≡ Some f → None ≡ first_state bytes
+pub no_state : (bytes : List ℕ) (f : Fault) → slice_get (faults_of (take (number_in w32 bytes) (drop 4 bytes))) 0 ≡ Some f → None ≡ first_state bytes
 unfolding first_state
 no_state bytes f h =
-    let n = from_be_bytes w32 (take 4 bytes) in
+    let n = number_in w32 bytes in
     let part = take n (drop 4 bytes) in
     let e : unless_faulty (faults_of part) (state_in part) ≡ None = faulty (faults_of part) f (state_in part) h in
     rw e (all_none (nat_lt (length bytes) 4) (nat_lt (length (drop 4 bytes)) n))

@@ -12,6 +12,7 @@ use Rattle.client_core.specs.Requests.{Telling, Request, jobs_told, tells_of, te
 use Rattle.client_core.specs.Requests as requests
 use Rattle.client_core.specs.declared.outcome.Outcome.TheVariants as outcomes
 use Rattle.client_core.specs.declared.standing.Standing.{Standing}
+use Rattle.client_core.specs.Outcomes.{request_outcome}
 use Rattle.client_core.specs.Standing.{IsOpen, IsKept, jobs_with, all_told, outcome_with, with_answer}
 
 -- the number of jobs with one more answer
@@ -83,14 +84,14 @@ ends s t ts true true e f = e
 ends s t ts true false e f = e
 ends s t ts false misfit e f = f refl
 
-answers : (t : Telling) (s : Standing) (ts : List Telling) → 1 ≤ t.jobs → t.jobs ≤ 16 → s.jobs ≤ 16 → length s.told ≡ 16 → IsOpen s ts → IsKept (with_answer t s) (told t (requests.Open ts))
-answers t s ts some few room long w =
+answers : (t : Telling) (s : Standing) (ts : List Telling) → 1 ≤ t.jobs → t.jobs ≤ 16 → length s.told ≡ 16 → IsOpen s ts → IsKept (with_answer t s) (told t (requests.Open ts))
+answers t s ts some few long w =
     let more = slice_set s.told t.job true in
     let m = jobs_with s.jobs t.jobs in
     let n = jobs_told (t ∷ ts) in
     let jobs : m ≡ n = told_jobs t ts s.jobs w.jobs w.any in
     let as_long : length more ≡ length s.told = same_length s.told t.job in
-    let least : m ≤ 16 = below (s.jobs == 0) t.jobs s.jobs few room in
+    let least : m ≤ 16 = below (s.jobs == 0) t.jobs s.jobs few w.few in
     let fits : n ≤ length more = subst (λ k. k ≤ length more) jobs (omega arith) in
     let told_of : (job : ℕ) → job < length more → slice_index_or more job false ≡ tells_of (t ∷ ts) job =
     λ job l. set_at s.told t.job job (omega arith) ∙ ap (λ y. (t.job == job) || y) (w.told_of job (omega arith)) in
@@ -101,6 +102,7 @@ answers t s ts some few room long w =
     (λ e. record {
       open_yet = outcome ∙ ap (λ y. outcome_with y (has_misfit (t ∷ ts))) e;
       jobs = jobs;
+      few = least;
       any = inr (still_some t ts some w.any);
       told_of = told_of;
       misfit = bad;
@@ -110,16 +112,16 @@ answers t s ts some few room long w =
     below true x y h k = h
     below false x y h k = k
 
-pub tells : (t : Telling) (s : Standing) (q : Request) → is_job_of t.job t.jobs ≡ true → s.jobs ≤ 16 → length s.told ≡ 16 → s.outcome ≡ outcomes.Open → IsKept s q → IsKept (with_answer t s) (told t q)
-tells t s (requests.Open ts) ranges room long o k =
+pub tells : (t : Telling) (s : Standing) (q : Request) → is_job_of t.job t.jobs ≡ true → length s.told ≡ 16 → s.outcome ≡ outcomes.Open → IsKept s q → IsKept (with_answer t s) (told t q)
+tells t s (requests.Open ts) ranges long o k =
     let p = and_parts (is_jobs t.jobs) (nat_lt t.job t.jobs) ranges in
     let q = and_parts (nat_le 1 t.jobs) (nat_le t.jobs 16) p.0 in
     let a : nat_le 1 t.jobs ≡ true = q.0 in
     let b : nat_le t.jobs 16 ≡ true = q.1 in
-    answers t s ts (grind (arith, nat_tests)) (grind (arith, nat_tests)) room long k
-tells t s requests.Unasked ranges room long o k = let e : outcomes.Open ≡ outcomes.None = sym o ∙ k in cc
-tells t s requests.Served ranges room long o k = let e : outcomes.Open ≡ outcomes.Good = sym o ∙ k in cc
-tells t s (requests.Denied reason) ranges room long o k = let e : outcomes.Open ≡ outcomes.Refused reason = sym o ∙ k in cc
+    answers t s ts (grind (arith, nat_tests)) (grind (arith, nat_tests)) long k
+tells t s requests.Unasked ranges long o k = let e : outcomes.Open ≡ outcomes.None = sym o ∙ k in cc
+tells t s requests.Served ranges long o k = let e : outcomes.Open ≡ outcomes.Good = sym o ∙ k in cc
+tells t s (requests.Denied reason) ranges long o k = let e : outcomes.Open ≡ outcomes.Refused reason = sym o ∙ k in cc
 
 -- where no place is set, none is
 none_set : (bs : List Bool) → list_any (λ b. b) bs ≡ false → (j : ℕ) → slice_index_or bs j false ≡ false
@@ -134,3 +136,10 @@ sixteen =
 
 pub unset : (j : ℕ) → slice_index_or sixteen j false ≡ false
 unset j = none_set sixteen refl j
+
+-- how what is kept of a request stands is how the request does
+pub outcome_kept : (s : Standing) (q : Request) → IsKept s q → s.outcome ≡ request_outcome q
+outcome_kept s (requests.Open ts) k = k.open_yet
+outcome_kept s requests.Unasked k = k
+outcome_kept s requests.Served k = k
+outcome_kept s (requests.Denied reason) k = k

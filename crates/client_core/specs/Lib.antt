@@ -1,9 +1,12 @@
 pub mod Begins
+pub mod Ends
 pub mod Examples
+pub mod Framed
 pub mod History
 pub mod Kept
 pub mod Laws
 pub mod Life
+pub mod Lives
 pub mod Note
 pub mod Outcomes
 pub mod Packets
@@ -16,4 +19,5 @@ pub mod Saves
 pub mod Standing
 pub mod Stands
 pub mod Table
+pub mod Told
 pub mod Words

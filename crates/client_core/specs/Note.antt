@@ -1,7 +1,8 @@
 -- The durable note of a client: what it says, and its bytes.
 use Rattle.std.specs.Prelude.{◌≡◌, ◌⊎◌, ℕ, Bool, ◌&&◌, ◌==◌, ◌^◌, ◌<◌, ◌≤◌, List, [], ◌∷◌, ◌++◌, length, map, codes, Option, Some, None, IsTrue}
 use Rattle.std.specs.List.{flat_map, AllByRecursion}
-use Rattle.std.specs.Int.{w32, w64, to_be_bytes}
+use Rattle.std.specs.Int.{w32, w64}
+use Rattle.fc_base.specs.Layouts.{bytes_of}
 use Rattle.verify_state.specs.State.{State, IsState}
 use Rattle.verify_state.specs.Spelling.{spelling as state_bytes}
 use Rattle.verify_state.specs.Reading.{faults_of, state_in}
@@ -18,14 +19,14 @@ is_blank n = (n.runs == 0) && ((n.attempts == 0) && (length n.kept == 0))
 
 -- The bytes of a state behind their number.
 abbrev pub counted_bytes : List ℕ → List ℕ
-counted_bytes bytes = to_be_bytes w32 (length bytes) ++ bytes
+counted_bytes bytes = bytes_of w32 (length bytes) ++ bytes
 
--- A note with these bytes of states: the mark, the runs, the attempts, the number of states, and the
+-- A note with these bytes of states: the magic, the runs, the attempts, the number of states, and the
 -- states in their order.
 unfoldable pub note_of : ℕ → ℕ → List (List ℕ) → List ℕ
 note_of runs attempts states =
-    codes "FCC1" ++ (to_be_bytes w64 runs ++ (to_be_bytes w64 attempts
-    ++ (to_be_bytes w32 (length states) ++ flat_map counted_bytes states)))
+    codes "FCC1" ++ (bytes_of w64 runs ++ (bytes_of w64 attempts
+    ++ (bytes_of w32 (length states) ++ flat_map counted_bytes states)))
 
 -- How a note is written: with each state in its one spelling.
 abbrev pub spelling : Noted → List ℕ

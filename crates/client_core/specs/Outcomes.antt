@@ -48,8 +48,12 @@ has_ended outcomes.Open = false
 has_ended outcomes.Good = true
 has_ended (outcomes.Refused reason) = true
 
--- The trigger of a run has ended at every server: a local trigger waits for it.
+-- The trigger of a run has ended at each of so many servers.
+abbrev pub all_ended : ℕ → List Deed → ℕ → Bool
+all_ended run deeds servers =
+    list_all (λ server. has_ended (request_outcome (trigger_at run server deeds)))
+    (numbers_below servers)
+
+-- It has ended at every server: a local trigger waits for it.
 abbrev pub settled : Opening → List Entry → ℕ → Bool
-settled o past run =
-    list_all (λ server. has_ended (request_outcome (trigger_at run server (life o past))))
-    (numbers_below o.servers)
+settled o past run = all_ended run (life o past) o.servers

@@ -1,8 +1,9 @@
 -- How the states of a note are read.
 use Rattle.std.specs.Prelude.{◌≡◌, ℕ, zero, suc, nat_lt, List, [], ◌∷◌, length, take, drop, Option, Some, None, IsTrue, if◌then◌else◌}
 use Rattle.std.specs.Option.{option_map, option_and_then}
-use Rattle.std.specs.Int.{w32, from_be_bytes}
+use Rattle.std.specs.Int.{w32}
 use Rattle.fc_base.specs.declared.fault.Fault.{Fault}
+use Rattle.fc_base.specs.Layouts.{number_in}
 use Rattle.verify_state.specs.State.{State}
 use Rattle.verify_state.specs.Reading.{faults_of, state_in}
 use Rattle.client_core.specs.Kept.{has_distinct_keys}
@@ -21,7 +22,7 @@ state_behind n bytes =
 -- The first state, whose length stands before it, and what stands behind it.
 unfoldable pub first_state : List ℕ → Option (State × List ℕ)
 first_state bytes =
-    if nat_lt (length bytes) 4 then None else state_behind (from_be_bytes w32 (take 4 bytes)) (drop 4 bytes)
+    if nat_lt (length bytes) 4 then None else state_behind (number_in w32 bytes) (drop 4 bytes)
 
 -- So many states, and nothing behind them.
 abbrev pub states_at : ℕ → List ℕ → Option (List State)

@@ -21,11 +21,16 @@ has_report attempt server job reports =
 abbrev pub with_report : Received → List Received → List Received
 with_report r reports = if has_report r.attempt r.server r.job reports then reports else reports ++ r ∷ []
 
+-- A report counts for its attempt: it is of the run that this verifies, and of a job that counts.
+abbrev pub report_counts : ℕ → ℕ → ℕ → ℕ → ℕ → List Deed → Bool
+report_counts run attempt server job jobs deeds =
+    (run == run_of attempt deeds)
+    && counts_for (record { job = job; jobs = jobs; misfit = false }) (verify_at attempt server deeds)
+
 -- A report is kept where it counts for its attempt.
 abbrev pub reports_heard : List Deed → ℕ → Body → List Received → List Received
 reports_heard deeds server (bodies.Report run attempt job jobs report) reports =
-    if (run == run_of attempt deeds)
-    && counts_for (record { job = job; jobs = jobs; misfit = false }) (verify_at attempt server deeds)
+    if report_counts run attempt server job jobs deeds
     then with_report (record { run = run; attempt = attempt; server = server; job = job; report = report })
     reports
     else reports
@@ -36,3 +41,7 @@ abbrev pub reports : List Deed → List Received
 reports [] = []
 reports (Hears server body ∷ deeds) = reports_heard deeds server body (reports deeds)
 reports (_ ∷ deeds) = reports deeds
+
+-- What a server said of it, which told how many jobs there are.
+abbrev pub said : Received → ℕ → Body
+said r jobs = bodies.Report r.run r.attempt r.job jobs r.report

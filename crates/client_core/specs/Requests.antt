@@ -23,6 +23,11 @@ pub data Request : Type 0 where
   Served : Request  -- it ended well
   Denied : Reason → Request  -- it was refused
 
+-- It isn't answered yet.
+abbrev pub is_open : Request → Bool
+is_open (Open told) = true
+is_open _ = false
+
 -- How many jobs there are: what the first answer told.
 abbrev pub jobs_told : List Telling → ℕ
 jobs_told [] = 0

@@ -8,11 +8,12 @@ use Rattle.client_core.specs.declared.standing.Standing.{Standing}
 use Rattle.client_core.specs.Requests as requests
 use Rattle.client_core.specs.Requests.{Request, Telling, jobs_told, tells_of, has_misfit}
 
--- What is kept of an open request: how many jobs there are, which of them have an answer, and whether one
--- that counts tells of a misfit.
+-- What is kept of an open request: how many jobs there are, at most 16, which of them have an answer, and
+-- whether one that counts tells of a misfit.
 pub record IsOpen (s : Standing) (told : List Telling) : Type 0 where
   pub open_yet : s.outcome ≡ outcomes.Open
   pub jobs : s.jobs ≡ jobs_told told
+  pub few : s.jobs ≤ 16
   pub any : (told ≡ []) ⊎ (1 ≤ jobs_told told)
   pub told_of : (job : ℕ) → job < length s.told → slice_index_or s.told job false ≡ tells_of told job
   pub misfit : s.misfit ≡ has_misfit told

@@ -7,17 +7,20 @@ use Rattle.client_core.specs.declared.noted.Noted.{Noted}
 use Rattle.client_core.specs.declared.client.Client.{Client}
 use Rattle.client_core.specs.Note.{Says}
 use Rattle.client_core.specs.History.{Opening, Entry, Restart}
+use Rattle.client_core.specs.Life.{life}
+use Rattle.client_core.specs.Lives.{LifeIs}
 use Rattle.client_core.specs.Words.{is_on, noted, looked}
 
 -- A client stands for a list where it is on as the list says, drives as many servers, at most 8, where
--- the durable bytes say what the list says, and where it knows of its note what it knew before the first
--- failed save.
+-- the durable bytes say what the list says, and where it knows of its note, and keeps of its requests,
+-- what it did before the first failed save.
 pub record StandsFor {T : Type 0} (note : T → Note) (client : Client T) (o : Opening) (past : List Entry) : Type 0 where
   pub on : client.down ≡ not (is_on past)
   pub servers : client.servers ≡ o.servers
   pub few : o.servers ≤ 8
   pub durable : Says (note client.notes).bytes (noted o past)
   pub knows : client.noted ≡ noted o (looked past)
+  pub lives : LifeIs client.life (life o (looked past))
 
 -- For each list of which the durable bytes say what it says, the client stands for that list with a
 -- restart. They say something, so there is such a list: the empty one. They stay as they were.

@@ -7,26 +7,40 @@ ghost use Rattle.client_core.specs.Note.{Says, is_blank};
 ghost use Rattle.client_core.specs.declared.call.Call.TheVariants.{Deliver};
 ghost use Rattle.client_core.specs.Refusals.{refusal_by};
 ghost use Rattle.client_core.specs.Words.{is_on, noted, kept, looked, would_save};
-ghost use Rattle.client_core.specs.Stands.{StandsFor, Restarts};
 
+mod begin;
+mod deliver;
+mod look;
+mod save;
+mod tick;
+mod trigger;
+mod verify;
+
+use crate::life::Life;
 use crate::noted::{Noted, one_note};
 use crate::refusal::{adds, fault_of, is_for_client};
+use crate::servers::Servers;
 use disk_model::Notes;
 use fc_base::{Fault, Key};
 use messages::Packet;
 use std::alloc::Global;
 use verify_state::VerifyState;
 
-/// A client: its durable note, how many servers it drives, and what it knows of its note.
+/// A client: its durable note, how many servers it drives, what it knows of its note, and what it keeps
+/// of its requests.
 #[derive(Drop)]
 pub struct Client<N> {
+    alloc: Global,
     notes: N,
-    servers: u32,
+    servers: Servers,
     down: bool,
     noted: Noted,
+    life: Life,
 }
 
 impl<N: Notes> Client<N> {
+    ghost use Rattle.client_core.specs.Stands.{StandsFor, Restarts};
+
     /// Opens a client of so many servers over its note, and saves nothing. The notes come back where it
     /// can't: [`Fault::LoadFault`], the device failed; [`Fault::BadNote`], the bytes are no note;
     /// [`Fault::NoMemory`].
@@ -42,12 +56,18 @@ impl<N: Notes> Client<N> {
             Err(fault) => return Err((notes, fault)),
         };
         match Noted::decode(alloc, &bytes) {
-            Ok(Some(noted)) => Ok(Client {
-                notes,
-                servers,
-                down: false,
-                noted,
-            }),
+            Ok(Some(noted)) => {
+                let servers = Servers::new(servers);
+                let life = Life::new(alloc);
+                Ok(Client {
+                    alloc,
+                    notes,
+                    servers,
+                    down: false,
+                    noted,
+                    life,
+                })
+            }
             Ok(None) => Err((notes, Fault::BadNote)),
             Err(_) => Err((notes, Fault::NoMemory)),
         }
@@ -58,10 +78,12 @@ impl<N: Notes> Client<N> {
         ensures { (o : Opening) (past : List Entry) → StandsFor N.note self o past → Says (N.note result).bytes (noted o past) }
     {
         let Client {
+            alloc: _,
             notes,
             servers: _,
             down: _,
             noted: _,
+            life: _,
         } = self;
         notes
     }
@@ -109,7 +131,7 @@ impl<N: Notes> Client<N> {
         if self.down {
             return Some(Fault::Down);
         }
-        if !is_for_client(self.servers, packet) {
+        if !is_for_client(self.servers.count(), packet) {
             return Some(Fault::Misdirected);
         }
         fault_of(&self.noted, packet.body())

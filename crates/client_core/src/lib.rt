@@ -2,16 +2,24 @@
 //! laws that hold of every list.
 #![tactic(auto)]
 
+mod again;
+mod attempt_asked;
 mod beginning;
 mod call;
 mod client;
+mod frames;
 mod kept;
 mod law;
+mod life;
 mod noted;
 mod outcome;
 mod received;
 mod refusal;
+mod replies;
+mod run_asked;
+mod servers;
 mod standing;
+mod told;
 
 pub use beginning::Beginning;
 pub use call::Call;

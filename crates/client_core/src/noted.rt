@@ -3,19 +3,19 @@
 ghost use Rattle.std.specs.Prelude.{◌≡◌, ◌+◌, ◌≤◌, ◌++◌, length, drop, take, map, Some, OnOk, IfOk, IfNone};
 ghost use Rattle.std.specs.List.{flat_map};
 ghost use Rattle.std.specs.Option.{option_map};
-ghost use Rattle.std.specs.Int.{w32, w64, from_be_bytes};
 ghost use Rattle.verify_state.specs.Spelling.{spelling as state_bytes};
 ghost use Rattle.client_core.specs.Note.{spelling, blank, is_blank, counted_bytes, Reads, SaysOneThing, SaysWhatIsWritten};
 ghost use Rattle.client_core.specs.Reading.{first_state, ReadsStates};
 
 use crate::kept::{KEPT_LIMIT, Kept};
+use fc_base::{put_u32, put_u64, split_u32, split_u64};
 use std::alloc::{AllocError, Global};
 use verify_state::{VerifyState, bytes_say_states, one_spelling};
 
 /// The bytes with which each note begins.
-const MARK: &[u8; 4] = b"FCC1";
+const MAGIC: &[u8; 4] = b"FCC1";
 
-/// How many bytes stand behind the mark and before the states.
+/// How many bytes stand behind the magic and before the states.
 const NUMBERS: usize = 20;
 
 /// How many bytes a state is written in.
@@ -56,11 +56,11 @@ impl Noted {
         ensures { IfOk result (λ bytes. bytes.items ≡ spelling self.now) }
     {
         let states = self.kept.as_slice();
-        let mut bytes = Vec::with_capacity(alloc, MARK.len() + NUMBERS + 140 * self.kept.len())?;
-        bytes.extend_from_slice(MARK)?;
-        bytes.extend_from_slice(&self.runs.to_be_bytes())?;
-        bytes.extend_from_slice(&self.attempts.to_be_bytes())?;
-        bytes.extend_from_slice(&(self.kept.len() as u32).to_be_bytes())?;
+        let mut bytes = Vec::with_capacity(alloc, MAGIC.len() + NUMBERS + 140 * self.kept.len())?;
+        bytes.extend_from_slice(MAGIC)?;
+        put_u64(&mut bytes, self.runs)?;
+        put_u64(&mut bytes, self.attempts)?;
+        put_u32(&mut bytes, self.kept.len() as u32)?;
         put_states(&mut bytes, states)?;
         Ok(bytes)
     }
@@ -74,15 +74,15 @@ impl Noted {
         if bytes.is_empty() {
             return Ok(Some(Noted::blank(alloc)));
         }
-        let Some(rest) = bytes.strip_prefix(MARK) else {
+        let Some(rest) = bytes.strip_prefix(MAGIC) else {
             return Ok(None);
         };
         if rest.len() < NUMBERS {
             return Ok(None);
         }
-        let (runs, rest) = split_long(rest);
-        let (attempts, rest) = split_long(rest);
-        let (count, states) = split_short(rest);
+        let (runs, rest) = split_u64(rest);
+        let (attempts, rest) = split_u64(rest);
+        let (count, states) = split_u32(rest);
         if count as usize > KEPT_LIMIT {
             return Ok(None);
         }
@@ -113,34 +113,8 @@ fn put_state(out: &mut Vec<u8>, state: &VerifyState) -> Result<(), AllocError>
 {
     state.keeps_its_ranges();
     one_spelling();
-    out.extend_from_slice(&STATE_LENGTH.to_be_bytes())?;
+    put_u32(out, STATE_LENGTH)?;
     state.push_to(out)
-}
-
-/// The number in the first eight bytes, and what stands behind them.
-fn split_long(bytes: &[u8]) -> (u64, &[u8])
-    requires { 8 ≤ length bytes.now }
-    ensures number { result.0 ≡ from_be_bytes w64 (take 8 bytes.now) }
-    ensures rest { result.1.now ≡ drop 8 bytes.now }
-    ensures len { length result.1.now + 8 ≡ length bytes.now }
-{
-    let (number, rest) = bytes.split_at(8);
-    let number = u64::from_be_bytes([
-        number[0], number[1], number[2], number[3], number[4], number[5], number[6], number[7],
-    ]);
-    (number, rest)
-}
-
-/// The number in the first four bytes, and what stands behind them.
-fn split_short(bytes: &[u8]) -> (u32, &[u8])
-    requires { 4 ≤ length bytes.now }
-    ensures number { result.0 ≡ from_be_bytes w32 (take 4 bytes.now) }
-    ensures rest { result.1.now ≡ drop 4 bytes.now }
-    ensures len { length result.1.now + 4 ≡ length bytes.now }
-{
-    let (number, rest) = bytes.split_at(4);
-    let number = u32::from_be_bytes([number[0], number[1], number[2], number[3]]);
-    (number, rest)
 }
 
 /// So many states and nothing behind them, `None` where the bytes aren't that, or two states are of one
@@ -184,7 +158,7 @@ fn first_state(bytes: &[u8]) -> Option<First<'_>>
     if bytes.len() < 4 {
         return None;
     }
-    let (length, rest) = split_short(bytes);
+    let (length, rest) = split_u32(bytes);
     let length = length as usize;
     if rest.len() < length {
         return None;

@@ -1,14 +1,16 @@
 //! Which packets a client takes, and which of them it saves.
 
-ghost use Rattle.std.specs.Prelude.{◌≡◌, is_some, slice_get};
+ghost use Rattle.std.specs.Prelude.{◌≡◌, IsTrue, MatchOption, None, Some, is_some, slice_get, true};
 ghost use Rattle.messages.specs.Nodes.{node_number};
-ghost use Rattle.client_core.specs.Refusals.{is_server_of, is_own, is_for_client, faults_of_body};
-ghost use Rattle.client_core.specs.Saves.{addition_by};
+ghost use Rattle.messages.specs.Ranges.{is_run, is_text};
+ghost use Rattle.client_core.specs.Refusals.{is_server_of, is_own, is_for_client, is_begun, has_next, faults_of_body};
+ghost use Rattle.client_core.specs.Saves.{Keep, addition_by};
 
 use crate::kept::KEPT_LIMIT;
 use crate::noted::Noted;
-use fc_base::Fault;
+use fc_base::{Fault, MAX_TEXT, RunNo};
 use messages::{Body, Node, Packet};
+use verify_state::VerifyState;
 
 /// Whether the packet is for a client of so many servers, from one of them, of a kind that servers send,
 /// and has no state but the sender's.
@@ -40,6 +42,31 @@ fn is_own(from: Node, body: &Body) -> bool
     }
 }
 
+/// Whether there is a number above those that were used.
+#[tactic(auto, unfolding(crate::specs::Refusals::has_next))]
+pub(crate) fn has_next(used: u64) -> bool
+    ensures { result ≡ has_next used }
+{
+    used < u64::MAX
+}
+
+/// Whether the run was begun.
+#[tactic(auto, unfolding(crate::specs::Refusals::is_begun))]
+pub(crate) fn is_begun(noted: &Noted, run: RunNo) -> bool
+    ensures begun { result ≡ is_begun noted.now run }
+    ensures range { result ≡ true → IsTrue (is_run run) }
+{
+    let runs = noted.runs;
+    run.0 >= 1 && run.0 <= runs
+}
+
+/// Whether the text is not too long.
+pub(crate) fn is_text(text: &[u8]) -> bool
+    ensures { result ≡ is_text text.now }
+{
+    text.len() <= MAX_TEXT
+}
+
 /// Why what a server says is refused: another state of the key is kept, or there is no room for one more.
 pub(crate) fn fault_of(noted: &Noted, body: &Body) -> Option<Fault>
     ensures { result ≡ slice_get (faults_of_body noted.now body.now) 0 }
@@ -61,5 +88,16 @@ pub(crate) fn adds(noted: &Noted, body: &Body) -> bool
     match body {
         Body::State { state, .. } => !noted.kept.has(state.key()),
         _ => false,
+    }
+}
+
+/// The state that is to be kept: what a server says is a state of a key of which none is.
+pub(crate) fn new_state(noted: &Noted, body: &Body) -> Option<VerifyState>
+    ensures { MatchOption result (addition_by noted.now body.now ≡ None)
+        (λ s. addition_by noted.now body.now ≡ Some (Keep s)) }
+{
+    match body {
+        Body::State { state, .. } if !noted.kept.has(state.key()) => Some(*state),
+        _ => None,
     }
 }

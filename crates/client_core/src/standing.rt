@@ -1,10 +1,11 @@
 //! How a trigger, a stop or a verify stands at a server.
 
-ghost use Rattle.std.specs.Prelude.{◌≡◌, ◌≤◌, [], true, IsTrue};
+ghost use Rattle.std.specs.Prelude.{◌≡◌, [], false, true, IsTrue};
 ghost use Rattle.std.specs.List.{list_all};
 ghost use Rattle.messages.specs.Ranges.{is_job_of, is_body, is_refusal};
 ghost use Rattle.client_core.specs.declared.outcome.Outcome.TheVariants as outcomes;
-ghost use Rattle.client_core.specs.Requests.{Request, Unasked, Open, told, answered, refused, check_refused, trigger_heard, stop_heard, verify_heard};
+ghost use Rattle.client_core.specs.Requests.{Request, Unasked, Open, is_open, told, answered, refused, check_refused, trigger_heard, stop_heard, verify_heard};
+ghost use Rattle.client_core.specs.Reports.{counts_for};
 ghost use Rattle.client_core.specs.Standing.{IsKept, all_told, with_answer};
 
 use crate::outcome::Outcome;
@@ -27,8 +28,7 @@ pub struct Standing {
 impl Standing {
     /// There was no request.
     pub fn unasked() -> Standing
-        ensures kept { IsKept result Unasked }
-        ensures few { result.jobs ≤ 16 }
+        ensures { IsKept result Unasked }
     {
         Standing {
             outcome: Outcome::None,
@@ -40,8 +40,7 @@ impl Standing {
 
     /// It is open, and has no answer yet.
     pub fn open() -> Standing
-        ensures kept { IsKept result (Open []) }
-        ensures few { result.jobs ≤ 16 }
+        ensures { IsKept result (Open []) }
     {
         Standing {
             outcome: Outcome::Open,
@@ -58,12 +57,25 @@ impl Standing {
         self.outcome
     }
 
+    /// Whether it is open.
+    pub fn is_open(&self) -> bool
+        ensures { (q : Request) → IsKept self.now q → result ≡ is_open q }
+    {
+        self.outcome == Outcome::Open
+    }
+
+    /// Whether an answer for this job, which tells how many jobs there are, counts.
+    pub fn counts(&self, job: u32, jobs: u32) -> bool
+        ensures { (q : Request) → IsKept self.now q → result ≡ counts_for (record { job = job; jobs = jobs; misfit = false }) q }
+    {
+        let jobs = if self.jobs == 0 { jobs } else { self.jobs };
+        self.outcome == Outcome::Open && job < jobs
+    }
+
     /// What the server says, of a run that was triggered or of another.
     pub fn hear_trigger(&mut self, run: RunNo, body: &Body)
-        requires body { IsTrue (is_body body.now) }
-        requires few { self.old.jobs ≤ 16 }
-        ensures kept { (q : Request) → IsKept self.old q → IsKept self.new (trigger_heard run body.now q) }
-        ensures few { self.new.jobs ≤ 16 }
+        requires { IsTrue (is_body body.now) }
+        ensures { (q : Request) → IsKept self.old q → IsKept self.new (trigger_heard run body.now q) }
     {
         match body {
             Body::State { jobs, state } if state.key().run.0 == run.0 => {
@@ -81,8 +93,7 @@ impl Standing {
 
     /// What the server says, of a run that was stopped or of another.
     pub fn hear_stop(&mut self, run: RunNo, body: &Body)
-        ensures kept { (q : Request) → IsKept self.old q → IsKept self.new (stop_heard run body.now q) }
-        ensures few { self.new.jobs ≡ self.old.jobs }
+        ensures { (q : Request) → IsKept self.old q → IsKept self.new (stop_heard run body.now q) }
     {
         match body {
             Body::Stopped { run: of } if of.0 == run.0 => self.end(),
@@ -95,10 +106,8 @@ impl Standing {
 
     /// What the server says, of an attempt to verify this run or of another.
     pub fn hear_verify(&mut self, run: RunNo, attempt: Attempt, body: &Body)
-        requires body { IsTrue (is_body body.now) }
-        requires few { self.old.jobs ≤ 16 }
-        ensures kept { (q : Request) → IsKept self.old q → IsKept self.new (verify_heard run attempt body.now q) }
-        ensures few { self.new.jobs ≤ 16 }
+        requires { IsTrue (is_body body.now) }
+        ensures { (q : Request) → IsKept self.old q → IsKept self.new (verify_heard run attempt body.now q) }
     {
         match body {
             Body::Report {
@@ -121,9 +130,7 @@ impl Standing {
     /// An answer for a job, which tells how many jobs there are, and whether a state didn't fit.
     pub fn tell(&mut self, job: u32, jobs: u32, misfit: bool)
         requires job { IsTrue (is_job_of job jobs) }
-        requires few { self.old.jobs ≤ 16 }
-        ensures kept { (q : Request) → IsKept self.old q → IsKept self.new (told (record { job = job; jobs = jobs; misfit = misfit }) q) }
-        ensures few { self.new.jobs ≤ 16 }
+        ensures { (q : Request) → IsKept self.old q → IsKept self.new (told (record { job = job; jobs = jobs; misfit = misfit }) q) }
     {
         if let Outcome::Open = self.outcome {
             self.answer(job, jobs, misfit);
@@ -133,17 +140,15 @@ impl Standing {
     /// An answer to an open request.
     fn answer(&mut self, job: u32, jobs: u32, misfit: bool)
         requires job { IsTrue (is_job_of job jobs) }
-        requires few { self.old.jobs ≤ 16 }
         requires still { self.old.outcome ≡ outcomes.Open }
-        ensures value { self.new ≡ with_answer (record { job = job; jobs = jobs; misfit = misfit }) self.old }
-        ensures few { self.new.jobs ≤ 16 }
+        ensures { self.new ≡ with_answer (record { job = job; jobs = jobs; misfit = misfit }) self.old }
     {
         if self.jobs == 0 {
             self.jobs = jobs;
         }
         self.told[job as usize] = true;
         self.misfit = self.misfit || (misfit && job < self.jobs);
-        if are_all(&self.told[..self.jobs as usize]) {
+        if are_all(&self.told[..JOBS.min(self.jobs as usize)]) {
             self.outcome = if self.misfit {
                 Outcome::Refused(Reason::Misfit)
             } else {
@@ -154,8 +159,7 @@ impl Standing {
 
     /// The one answer of a request that isn't asked for each job.
     pub fn end(&mut self)
-        ensures kept { (q : Request) → IsKept self.old q → IsKept self.new (answered q) }
-        ensures few { self.new.jobs ≡ self.old.jobs }
+        ensures { (q : Request) → IsKept self.old q → IsKept self.new (answered q) }
     {
         if self.outcome == Outcome::Open {
             self.outcome = Outcome::Good;
@@ -165,9 +169,7 @@ impl Standing {
     /// A refusal of a check: a misfit is an answer for its job.
     fn refuse_check(&mut self, refusal: &Refusal)
         requires refusal { IsTrue (is_refusal refusal.now) }
-        requires few { self.old.jobs ≤ 16 }
-        ensures kept { (q : Request) → IsKept self.old q → IsKept self.new (check_refused (record { job = refusal.now.job; jobs = refusal.now.jobs; misfit = true }) refusal.now.reason q) }
-        ensures few { self.new.jobs ≤ 16 }
+        ensures { (q : Request) → IsKept self.old q → IsKept self.new (check_refused (record { job = refusal.now.job; jobs = refusal.now.jobs; misfit = true }) refusal.now.reason q) }
     {
         if let Reason::Misfit = refusal.reason {
             self.tell(refusal.job.0, refusal.jobs, true);
@@ -178,8 +180,7 @@ impl Standing {
 
     /// A refusal: a server that is busy is asked again, and a misfit ends no more than a job.
     pub fn refuse(&mut self, reason: Reason)
-        ensures kept { (q : Request) → IsKept self.old q → IsKept self.new (refused reason q) }
-        ensures few { self.new.jobs ≡ self.old.jobs }
+        ensures { (q : Request) → IsKept self.old q → IsKept self.new (refused reason q) }
     {
         if self.outcome == Outcome::Open && reason != Reason::Busy && reason != Reason::Misfit {
             self.outcome = Outcome::Refused(reason);

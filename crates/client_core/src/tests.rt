@@ -1,6 +1,8 @@
 //! What no clause shows: that the note has the bytes that others computed, and that each call answers
 //! with ample memory.
 
+mod calls;
+
 use crate::client::Client;
 use crate::noted::Noted;
 use disk_model::{MemNotes, Notes};

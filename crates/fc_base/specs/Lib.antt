@@ -7,6 +7,7 @@ pub mod Faults
 pub mod JobParts
 pub mod Keys
 pub mod Laws
+pub mod Layouts
 pub mod MarkLaws
 pub mod Marks
 pub mod NumberLaws

@@ -13,6 +13,7 @@
 //! by which a verify state counts writes.
 #![tactic(auto)]
 
+mod bytes;
 mod counted;
 mod fault;
 mod law;
@@ -22,6 +23,7 @@ mod numbers;
 mod record;
 mod report;
 
+pub use bytes::{put_u8, put_u32, put_u64, split_u8, split_u32, split_u64};
 pub use counted::is_counted;
 pub use fault::{Fault, FaultSort};
 pub use law::{examples, numbers_law};

@@ -1,7 +1,7 @@
 -- Blocks read one by one.
 use Rattle.std.proofs.Common.{◌≡◌, ℕ, suc, ◌+◌, ◌-◌, ◌<◌, drop, List, ◌∷◌, refl, arith}
 use Rattle.std.specs.Int.{w32}
-use Rattle.messages.specs.Layouts.{number_in, blocks_in}
+use Rattle.fc_base.specs.Layouts.{number_in, blocks_in}
 
 -- The first of the blocks that are left.
 pub blocks_in-next : (count i : ℕ) (bytes : List ℕ) → i < count → blocks_in (count - i) bytes ≡ number_in w32 bytes ∷ blocks_in (count - (i + 1)) (drop 4 bytes)

@@ -10,7 +10,7 @@ use Rattle.messages.specs.declared.body.Body.{Body}
 use Rattle.messages.specs.declared.body.Body.TheVariants.{Jobs, JobsOk, Start, Started, Trigger, State, NoState, StateAck, Stop, Stopped, Verify, WantState, Saved, NoSaved, Report, Refused}
 use Rattle.messages.specs.declared.kind.PacketKind.{PacketKind}
 use Rattle.messages.specs.declared.kind.PacketKind.TheVariants as kinds
-use Rattle.messages.specs.Layouts.{number_in, size, spelled, numbers}
+use Rattle.fc_base.specs.Layouts.{number_in, size, spelled, numbers}
 use Rattle.messages.specs.Ranges.{is_run, is_attempt, is_job_of, is_text, is_body, KeepsState}
 use Rattle.messages.specs.Bodies.{kind_of, layout, numbers_of, tail_of, spelled_body, length_of, length_limit, takes_all, body_of, is_whole, whole, body_at}
 use Rattle.messages.specs.Choices.{asked_numbered, reason_numbered}

@@ -5,6 +5,7 @@ use Rattle.std.specs.List.{list_all}
 use Rattle.std.specs.Int.{w32}
 use Rattle.std.proofs.lemmas.Bool.Decides.{nat_tests}
 use Rattle.std.proofs.lemmas.List.{drop_at}
+use Rattle.fc_base.specs.declared.limits.TheConstants.{MAX_BLOCKS}
 use Rattle.fc_base.specs.Ascending.{is_block}
 use Rattle.fc_base.specs.declared.report.ReportParts.{ReportParts}
 use Rattle.fc_base.specs.declared.report.ReportEnd.{ReportEnd}
@@ -16,7 +17,7 @@ use Rattle.messages.specs.declared.refusal.Asked.{Asked}
 use Rattle.messages.specs.declared.refusal.Asked.TheVariants as asks
 use Rattle.messages.specs.declared.refusal.Reason.{Reason}
 use Rattle.messages.specs.declared.refusal.Reason.TheVariants as reasons
-use Rattle.messages.specs.Layouts.{bytes_of, spelled_blocks, blocks_in}
+use Rattle.fc_base.specs.Layouts.{bytes_of, spelled_blocks, blocks_in}
 use Rattle.messages.specs.Ranges.{is_word, is_run, is_attempt, is_jobs, is_job, is_job_of, is_text, is_job_refused, is_attempt_refused, is_body, KeepsState}
 use Rattle.messages.specs.Bodies.{kind_of, layout, numbers_of, tail_of, spelled_body, length_of, takes_all, body_of, whole, body_at, end_at}
 use Rattle.verify_state.specs.Laws.{ReadsBack}
@@ -79,7 +80,7 @@ at_fits r (ends.ReadFault b) h = grind (arith, nat_tests)
 
 counts_fit : (r : ReportParts) → has_counts r ≡ true → (r.checked < 4294967296) × (r.faults < 4294967296)
 counts_fit r h =
-    let parts = both (nat_le r.faults r.checked) (nat_le r.checked 65536) h in
+    let parts = both (nat_le r.faults r.checked) (nat_le r.checked MAX_BLOCKS) h in
     let one = parts.0 in
     let two = parts.1 in
     (grind (arith, nat_tests), grind (arith, nat_tests))
@@ -138,7 +139,7 @@ blocks_again : (bs : List ℕ) → list_all is_block bs ≡ true → blocks_in (
 blocks_again [] h = refl
 blocks_again (b ∷ bs) h =
     let parts = both (is_block b) (list_all is_block bs) h in
-    let below = lt_of b 65536 parts.0 in
+    let below = lt_of b MAX_BLOCKS parts.0 in
     let one = wide32.again b (spelled_blocks bs) (omega arith) in
     let behind = drop_at (bytes_of w32 b) (spelled_blocks bs) 4 (length-bytes_of w32 b) in
     rw (one, behind, blocks_again bs parts.1) refl

@@ -19,7 +19,7 @@ use Rattle.messages.specs.declared.frame.FrameKind.TheVariants as sorts
 use Rattle.messages.specs.Kinds.{number_of, kind_numbered}
 use Rattle.messages.specs.Nodes.{node_numbered, is_node}
 use Rattle.messages.specs.Ranges.{is_run, is_attempt, is_job}
-use Rattle.messages.specs.Layouts.{spelled, numbers}
+use Rattle.fc_base.specs.Layouts.{spelled, numbers}
 use Rattle.messages.specs.Bodies.{kind_of, length_of, spelled_body}
 use Rattle.messages.specs.Packets.{header, header_faults, spelling}
 use Rattle.messages.specs.Laws.{IsPacket}

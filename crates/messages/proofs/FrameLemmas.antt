@@ -7,7 +7,7 @@ use Rattle.messages.specs.declared.packet.PacketParts.{PacketParts}
 use Rattle.messages.specs.declared.body.Body.{Body}
 use Rattle.messages.specs.declared.node.Node.{Node}
 use Rattle.messages.specs.Nodes.{is_node}
-use Rattle.messages.specs.Layouts.{bytes_of}
+use Rattle.fc_base.specs.Layouts.{bytes_of}
 use Rattle.messages.specs.Ranges.{is_body}
 use Rattle.messages.specs.Packets.{header_of}
 use Rattle.messages.specs.Bodies.{kind_of, length_of}

@@ -14,7 +14,7 @@ use Rattle.messages.specs.declared.reading.Ends.{Ends}
 use Rattle.messages.specs.declared.reading.frames.PieceFields.{PieceFields}
 use Rattle.messages.specs.Kinds.{kind_numbered}
 use Rattle.messages.specs.Nodes.{is_node}
-use Rattle.messages.specs.Layouts.{numbers}
+use Rattle.fc_base.specs.Layouts.{numbers}
 use Rattle.messages.specs.Bodies.{Reads}
 use Rattle.messages.specs.PieceRanges.{is_tag_in_range, is_place, is_piece}
 use Rattle.messages.specs.FrameBytes.{piece_layout, sort_numbered, frame_limit, in_ranges, piece_with, piece_said, frame_said, frame_at, frame_faults, FrameAnswers}

@@ -19,7 +19,7 @@ use Rattle.messages.specs.declared.frame.FrameKind.{FrameKind}
 use Rattle.messages.specs.declared.frame.FrameKind.TheVariants as sorts
 use Rattle.messages.specs.Kinds.{kind_numbered}
 use Rattle.messages.specs.Nodes.{node_numbered}
-use Rattle.messages.specs.Layouts.{spelled, numbers}
+use Rattle.fc_base.specs.Layouts.{spelled, numbers}
 use Rattle.messages.specs.Bodies.{length_of, length_limit, body_at}
 use Rattle.messages.specs.Packets.{header, header_at, header_faults, is_packet_kind, body_limit, packet_at, faults_of}
 use Rattle.messages.specs.Laws.{IsBytes, Says, OnlyPacketsAreRead}

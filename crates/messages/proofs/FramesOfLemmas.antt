@@ -13,7 +13,7 @@ use Rattle.messages.specs.declared.frame.Frame.TheVariants.{Piece}
 use Rattle.messages.specs.Bodies.{length_of, spelled_body}
 use Rattle.messages.specs.Packets.{header, header_of, spelling}
 use Rattle.messages.specs.Nodes.{node_number}
-use Rattle.messages.specs.Layouts.{spelled}
+use Rattle.fc_base.specs.Layouts.{spelled}
 use Rattle.messages.specs.Pieces.{is_cut, tag_in, tag_of, places_from, places, bytes_at, cut_at, piece_at, pieces_of}
 use Rattle.messages.specs.FrameBytes.{piece_layout, piece_numbers, piece_header, piece_spelling, frame_spelling}
 use Rattle.messages.specs.FramesOf.{parted, spelled_piece, spelled_frames, AreFew}

@@ -8,7 +8,7 @@ use Rattle.fc_base.specs.declared.fault.Fault.TheVariants.{FrameShort, FrameBadM
 use Rattle.fc_base.specs.Faults.{when}
 use Rattle.messages.specs.declared.node.Node.{Node}
 use Rattle.messages.specs.Nodes.{node_number, node_numbered, is_node}
-use Rattle.messages.specs.Layouts.{spelled, numbers}
+use Rattle.fc_base.specs.Layouts.{spelled, numbers}
 use Rattle.messages.specs.Packets.{header, header_at, has_magic, header_faults}
 use Rattle.messages.proofs.LayoutLemmas.{IsBytes, AreWide, wide8, wide32, spelled-numbers}
 use Rattle.messages.proofs.ChoiceLemmas.{node_again, node_is}

@@ -13,7 +13,7 @@ use Rattle.messages.specs.declared.packet.PacketParts.{PacketParts}
 use Rattle.messages.specs.Kinds.{number_of, kind_numbered}
 use Rattle.messages.specs.Nodes.{node_numbered, is_node}
 use Rattle.messages.specs.Ranges.{is_body, KeepsState}
-use Rattle.messages.specs.Layouts.{spelled, numbers}
+use Rattle.fc_base.specs.Layouts.{spelled, numbers}
 use Rattle.messages.specs.Bodies.{kind_of, length_of, spelled_body, body_at}
 use Rattle.messages.specs.Packets.{is_packet, header, header_of, spelling, header_at, header_faults, is_packet_kind, body_limit, packet_at}
 use Rattle.messages.specs.Laws.{IsPacket, holds_layout_1, SpellingsAreRead, OnlyPacketsAreRead, NoneBeginsAnother, LengthsAreBounded}

@@ -4,7 +4,7 @@ use Rattle.std.specs.Int.{Width, w8, w32, w64, byte_len, bytes_high_first, from_
 use Rattle.std.proofs.lemmas.Bool.{cases_lt}
 use Rattle.std.proofs.lemmas.List.{take_at, drop_at, take-append-drop, length-append, length-take, length-drop, drop-drop, get_or-drop, get_or-take, get_or_past}
 use Rattle.std.proofs.lemmas.Nat.{be_bytes_4, be_bytes_8, from_be_bytes-to_be_bytes_4, from_be_bytes-to_be_bytes_8}
-use Rattle.messages.specs.Layouts.{bytes_of, number_in, size, spelled, numbers, spelled_blocks, blocks_in}
+use Rattle.fc_base.specs.Layouts.{bytes_of, number_in, size, spelled, numbers, spelled_blocks, blocks_in}
 
 abbrev pub IsBytes : List ℕ → Type 0
 IsBytes bytes = (i : ℕ) → get_or bytes i 0 < 256

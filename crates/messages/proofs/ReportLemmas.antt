@@ -12,7 +12,7 @@ use Rattle.messages.specs.declared.body.Body.{Body}
 use Rattle.messages.specs.declared.body.Body.TheVariants.{Report}
 use Rattle.messages.specs.declared.kind.PacketKind.TheVariants as kinds
 use Rattle.messages.specs.declared.reading.report.ReportFields.{ReportFields}
-use Rattle.messages.specs.Layouts.{numbers, spelled_blocks, blocks_in}
+use Rattle.fc_base.specs.Layouts.{numbers, spelled_blocks, blocks_in}
 use Rattle.messages.specs.Ranges.{is_run, is_attempt, is_job_of, is_body}
 use Rattle.messages.specs.Bodies.{layout, length_of, end_numbered, body_of, whole, body_at}
 use Rattle.messages.proofs.LayoutLemmas.{length-blocks_in, length-spelled_blocks}

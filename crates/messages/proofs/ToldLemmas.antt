@@ -12,7 +12,7 @@ use Rattle.messages.specs.declared.kind.PacketKind.TheVariants as kinds
 use Rattle.messages.specs.declared.refusal.Asked.{Asked}
 use Rattle.messages.specs.declared.refusal.Reason.{Reason}
 use Rattle.messages.specs.Choices.{act_numbered, asked_numbered, reason_numbered}
-use Rattle.messages.specs.Layouts.{size, numbers, blocks_in}
+use Rattle.fc_base.specs.Layouts.{size, numbers, blocks_in}
 use Rattle.messages.specs.Ranges.{is_body, KeepsState}
 use Rattle.messages.specs.Bodies.{kind_of, layout, numbers_of, tail_of, spelled_body, length_of, takes_all, body_of, body_at, end_numbered, state_said}
 use Rattle.verify_state.specs.Laws.{IsSpelled, SaysAState}

@@ -14,7 +14,7 @@ use Rattle.messages.specs.declared.body.Body.TheVariants.{Jobs, JobsOk, Start, S
 use Rattle.messages.specs.declared.kind.PacketKind.{PacketKind}
 use Rattle.messages.specs.declared.kind.PacketKind.TheVariants as kinds
 use Rattle.messages.specs.Choices.{act_number, act_numbered, asked_number, asked_numbered, reason_number, reason_numbered}
-use Rattle.messages.specs.Layouts.{size, spelled, numbers, spelled_blocks, blocks_in}
+use Rattle.fc_base.specs.Layouts.{size, spelled, numbers, spelled_blocks, blocks_in}
 use Rattle.messages.specs.Ranges.{is_body}
 
 -- The kind of a body.

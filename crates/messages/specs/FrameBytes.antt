@@ -14,7 +14,7 @@ use Rattle.messages.specs.declared.frame.FrameKind.{FrameKind}
 use Rattle.messages.specs.declared.frame.FrameKind.TheVariants as sorts
 use Rattle.messages.specs.Kinds.{number_of, kind_numbered}
 use Rattle.messages.specs.Nodes.{node_number, node_numbered}
-use Rattle.messages.specs.Layouts.{spelled, numbers}
+use Rattle.fc_base.specs.Layouts.{spelled, numbers}
 use Rattle.messages.specs.Bodies.{body_at, length_of}
 use Rattle.messages.specs.Packets.{header, header_at, header_faults, spelling}
 use Rattle.messages.specs.PieceRanges.{is_piece}

@@ -2,9 +2,11 @@
 use Rattle.std.specs.Prelude.{◌≡◌, ◌≤◌, ℕ, List, [], Some, IsTrue}
 use Rattle.messages.specs.declared.frame.Frame.{Frame}
 use Rattle.messages.specs.declared.frame.Frame.TheVariants.{Whole, Piece}
+use Rattle.messages.specs.declared.packet.PacketParts.{PacketParts}
 use Rattle.messages.specs.Bodies.{length_of}
 use Rattle.messages.specs.Laws.{IsPacket, IsBytes, Says}
 use Rattle.messages.specs.PieceRanges.{is_piece}
+use Rattle.messages.specs.FramesOf.{spelled_frames, AreFew}
 use Rattle.messages.specs.FrameBytes.{piece_spelling, frame_spelling, frame_at, frame_faults, IsShort}
 
 -- Every frame is in its ranges.
@@ -24,3 +26,7 @@ SaysFrame bytes (Piece q) = IsTrue (is_piece q) × (piece_spelling q ≡ bytes)
 -- Bytes without a fault say a frame.
 abbrev pub OnlyFramesAreRead : Type 0
 OnlyFramesAreRead = (bytes : List ℕ) → IsBytes bytes → frame_faults bytes ≡ [] → (f : Frame) × (frame_at bytes ≡ Some f) × SaysFrame bytes f
+
+-- The frames of each packet are few.
+abbrev pub FramesAreFew : Type 0
+FramesAreFew = (p : PacketParts) → IsPacket p → AreFew p (spelled_frames p)

@@ -7,7 +7,7 @@ use Rattle.messages.specs.declared.reading.Header.{Header}
 use Rattle.messages.specs.declared.reading.HeaderFields.{HeaderFields}
 use Rattle.messages.specs.declared.reading.Ends.{Ends}
 use Rattle.messages.specs.Nodes.{node_numbered, is_node}
-use Rattle.messages.specs.Layouts.{numbers}
+use Rattle.fc_base.specs.Layouts.{numbers}
 use Rattle.messages.specs.Packets.{header, header_at, has_magic, header_faults}
 
 -- The numbers of a header.

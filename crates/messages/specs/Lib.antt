@@ -2,7 +2,6 @@ pub mod Kinds
 pub mod Nodes
 pub mod Choices
 pub mod Ranges
-pub mod Layouts
 pub mod Bodies
 pub mod Packets
 pub mod PieceRanges
@@ -16,3 +15,4 @@ pub mod Tags
 pub mod Assemblies
 pub mod PieceLaws
 pub mod FrameLaws
+pub mod Hearing

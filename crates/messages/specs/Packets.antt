@@ -10,7 +10,7 @@ use Rattle.messages.specs.declared.body.Body.{Body}
 use Rattle.messages.specs.declared.node.Node.{Node}
 use Rattle.messages.specs.Kinds.{number_of, kind_numbered}
 use Rattle.messages.specs.Nodes.{node_number, node_numbered, is_node}
-use Rattle.messages.specs.Layouts.{spelled, numbers}
+use Rattle.fc_base.specs.Layouts.{spelled, numbers}
 use Rattle.messages.specs.Ranges.{is_body}
 use Rattle.messages.specs.Bodies.{kind_of, length_of, spelled_body, body_at}
 

@@ -3,7 +3,6 @@
 
 mod assembly;
 mod body;
-mod bytes;
 mod chunk;
 mod frame;
 mod frames;
@@ -31,7 +30,7 @@ pub use node::Node;
 pub use packet::{Packet, PacketParts};
 pub use piece::{Piece, PieceParts, Tag};
 pub use piece_law::{
-    frames_are_read_back, only_frames_are_read, only_sent_comes_together,
+    frames_are_few, frames_are_read_back, only_frames_are_read, only_sent_comes_together,
     only_whole_bodies_are_given, pieces_come_together,
 };
 pub use reading::{decode, decode_frame};

@@ -1,6 +1,6 @@
 //! The laws of pieces.
 
-ghost use Rattle.messages.specs.FrameLaws.{FramesAreRead, OnlyFramesAreRead};
+ghost use Rattle.messages.specs.FrameLaws.{FramesAreFew, FramesAreRead, OnlyFramesAreRead};
 ghost use Rattle.messages.specs.PieceLaws.{PiecesGiveTheBytes, PiecesGiveThePacket, OnlyWholeBodiesAreGiven, OnlySentComesTogether, OnlySentIsGiven};
 
 use crate::law::one_spelling;
@@ -42,4 +42,12 @@ pub fn only_frames_are_read()
     verify_state::one_spelling();
     verify_state::bytes_say_states();
     one_spelling();
+}
+
+/// The frames of a packet are at most 17, of at most 1,073 bytes each, and together they have at most 49 bytes each beyond
+/// its body.
+pub fn frames_are_few()
+    ensures { FramesAreFew }
+{
+    verify_state::one_spelling();
 }

@@ -2,7 +2,7 @@
 
 ghost use Rattle.std.specs.Prelude.{◌≡◌, ◌≤◌, ◌∷◌, [], length, drop, Some, None, IfOk, if◌then◌else◌};
 ghost use Rattle.messages.specs.Ranges.{is_body};
-ghost use Rattle.messages.specs.Layouts.{numbers};
+ghost use Rattle.fc_base.specs.Layouts.{numbers};
 ghost use Rattle.messages.specs.Bodies.{Reads, body_at};
 ghost use Rattle.messages.specs.Kinds.{kind_numbered};
 ghost use Rattle.messages.specs.Packets.{Answers, header, body_limit};
@@ -16,13 +16,12 @@ mod states;
 mod texts;
 
 use crate::body::Body;
-use crate::bytes::{split_u8, split_u32};
 use crate::kind::PacketKind;
 use crate::law::one_spelling;
 use crate::node::Node;
 use crate::packet::{Packet, PacketParts};
 use crate::writing::{HEADER, VERSION};
-use fc_base::Fault;
+use fc_base::{Fault, split_u8, split_u32};
 pub use frames::decode_frame;
 use std::alloc::Global;
 

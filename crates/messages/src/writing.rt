@@ -4,7 +4,7 @@ ghost use Rattle.std.specs.Prelude.{◌≡◌, ℕ, ◌+◌, ◌≤◌, ◌∷�
 ghost use Rattle.std.specs.Int.{w8, w32};
 ghost use Rattle.fc_base.specs.Report.{is_report};
 ghost use Rattle.messages.specs.declared.body.Body.TheVariants.{Jobs, State, Verify, Saved, Report, Refused};
-ghost use Rattle.messages.specs.Layouts.{bytes_of, spelled, spelled_blocks};
+ghost use Rattle.fc_base.specs.Layouts.{bytes_of, spelled, spelled_blocks};
 ghost use Rattle.messages.specs.Kinds.{number_of};
 ghost use Rattle.messages.specs.Nodes.{node_number};
 ghost use Rattle.messages.specs.Bodies.{spelled_body, length_of, end_number, end_at};
@@ -13,13 +13,12 @@ ghost use Rattle.messages.specs.Packets.{header, header_of, spelling};
 mod pieces;
 
 use crate::body::Body;
-use crate::bytes::{put_u8, put_u32, put_u64};
 use crate::kind::PacketKind;
 use crate::node::Node;
 use crate::packet::Packet;
 use crate::refusal::Refusal;
 use crate::text::Text;
-use fc_base::{Attempt, JobNo, ReportEnd, ReportParts, RunNo};
+use fc_base::{Attempt, JobNo, ReportEnd, ReportParts, RunNo, put_u8, put_u32, put_u64};
 pub use pieces::encode_frame;
 pub(crate) use pieces::{PIECE_HEAD, put_piece};
 use std::alloc::{AllocError, Global};

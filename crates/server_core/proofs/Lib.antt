@@ -48,3 +48,8 @@ pub mod RefusedLemmas
 pub mod ServeLemmas
 pub mod StartedLemmas
 pub mod RestartLemmas
+pub mod HearingLemmas
+pub mod FrameEndLemmas
+pub mod UnsavedLemmas
+pub mod ShortLemmas
+pub mod SentLemmas

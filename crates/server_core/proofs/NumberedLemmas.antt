@@ -1,6 +1,7 @@
 -- What is kept of numbered jobs.
 use Rattle.std.proofs.Common.{◌≡◌, ◌≢◌, refl, sym, ap, ◌∙◌, ℕ, zero, suc, ◌+◌, ◌≤◌, arith, List, [], ◌∷◌, ◌++◌, length, take, Some}
 use Rattle.std.specs.Prelude.{set, slice_get, map, get_or}
+use Rattle.std.specs.Option.{option_map}
 use Rattle.std.proofs.lemmas.List.{map-id, take_more, length-take-le}
 use Rattle.job_file.specs.declared.job.Job.{Job}
 use Rattle.server_core.specs.Kept.{numbered}
@@ -79,6 +80,15 @@ get_numbered f k (first ∷ jobs) (suc i) job is = get_numbered f (k + 1) jobs i
 
 pub get_at : {A : Type 0} (f : ℕ → Job → A) (jobs : List Job) (i : ℕ) (job : Job) → slice_get jobs i ≡ Some job → slice_get (numbered f 0 jobs) i ≡ Some (f i job)
 get_at f jobs i job is = get_numbered f 0 jobs i job is ∙ ap (λ n. Some (f n job)) (plus_zero i)
+
+-- What is there is given for the job that is there, if there is one.
+each_numbered : {A : Type 0} (f : ℕ → Job → A) (k : ℕ) (jobs : List Job) (i : ℕ) → slice_get (numbered f k jobs) i ≡ option_map (f (k + i)) (slice_get jobs i)
+each_numbered f k [] i = refl
+each_numbered f k (first ∷ jobs) zero = ap (λ n. Some (f n first)) (sym (zero_more k))
+each_numbered f k (first ∷ jobs) (suc i) = each_numbered f (k + 1) jobs i ∙ ap (λ n. option_map (f n) (slice_get jobs i)) (next k i)
+
+pub each_at : {A : Type 0} (f : ℕ → Job → A) (jobs : List Job) (i : ℕ) → slice_get (numbered f 0 jobs) i ≡ option_map (f i) (slice_get jobs i)
+each_at f jobs i = each_numbered f 0 jobs i ∙ ap (λ n. option_map (f n) (slice_get jobs i)) (plus_zero i)
 
 -- One more.
 more_numbered : {A : Type 0} (f : ℕ → Job → A) (k : ℕ) (jobs : List Job) (job : Job) → numbered f k (jobs ++ job ∷ []) ≡ numbered f k jobs ++ f (k + length jobs) job ∷ []

@@ -1,7 +1,7 @@
 -- A server takes an event as its list does.
-use Rattle.std.proofs.Common.{◌≡◌, ◌⊎◌, inl, inr, refl, sym, ap, subst, ◌∙◌, Bool, true, false, ◌&&◌, List, ◌∷◌, None, Some}
-use Rattle.std.specs.Prelude.{if◌then◌else◌, not, Result, Ok, Err}
-use Rattle.std.specs.List.{flat_map}
+use Rattle.std.proofs.Common.{◌≡◌, ◌⊎◌, inl, inr, refl, sym, ap, subst, ◌∙◌, ℕ, Bool, true, false, ◌&&◌, List, ◌∷◌, Option, None, Some}
+use Rattle.std.specs.Prelude.{if◌then◌else◌, not, is_some, Result, Ok, Err}
+use Rattle.std.specs.List.{AllByRecursion, flat_map}
 use Rattle.fc_base.specs.declared.fault.Fault.{Fault}
 use Rattle.fc_base.specs.declared.fault.Fault.TheVariants.{NoMemory, Down}
 use Rattle.fc_base.specs.declared.fault.FaultSort.TheVariants as sorts
@@ -9,10 +9,11 @@ use Rattle.fc_base.specs.Fault.{sort_of}
 use Rattle.disk_model.specs.declared.left.Left.TheVariants.{NoSave}
 use Rattle.disk_model.specs.Notes.{Note}
 use Rattle.messages.specs.FramesOf.{spelled_frames}
+use Rattle.messages.specs.Laws.{IsPacket}
 use Rattle.server_core.specs.declared.event.Event.{Event}
 use Rattle.server_core.specs.declared.machine.Machine.{Machine}
 use Rattle.server_core.specs.declared.outs.Outs.{Outs}
-use Rattle.server_core.specs.declared.server.Server.{Server}
+use Rattle.server_core.specs.declared.packet_server.PacketServer.{PacketServer}
 use Rattle.server_core.specs.History.{Opening, Entry, Met}
 use Rattle.server_core.specs.Note.{Says}
 use Rattle.server_core.specs.Request.{Request, ToStage, ToStart, ToTrigger, ToMark, ToStop, ToVerify, ToHold, ToPassFully, ToIssue, ToEnd, ToReport, ToNobody, asked}
@@ -21,7 +22,10 @@ use Rattle.server_core.specs.Replies.{Now, replies}
 use Rattle.server_core.specs.Answers.{now, refusal, refusal_of, refused_by, packets, to_client, sent_by, looked}
 use Rattle.server_core.specs.Handles.{Handled, EachUndue}
 use Rattle.server_core.specs.Stands.{MachineIs, EachNow, IsDueFor, after}
-use Rattle.server_core.specs.Serves.{StandsFor, Faults, Ends, saved_for}
+use Rattle.server_core.specs.Bounds.{AreShort, FramesAreShort}
+use Rattle.server_core.specs.Laws.{PacketsAreInRange}
+use Rattle.server_core.specs.Ranges.{IsInRange, OpensInRange, CameInRange}
+use Rattle.server_core.specs.Serves.{StandsFor, Faults, Ends, saved_for, answered}
 use Rattle.server_core.proofs.WorkLemmas.{unsaved}
 use Rattle.server_core.proofs.Looked.{looked_on}
 use Rattle.server_core.proofs.FollowLemmas.{follows}
@@ -32,13 +36,13 @@ is_up true e = refl
 is_up false e = cc
 
 -- What a server that is on keeps is kept of the words behind its list.
-pub keeps_now : {T : Type 0} (note : T → Note) (server : Server T) (o : Opening) (past : List Entry) → server.down ≡ false → StandsFor note server o past → (is_on past ≡ true) × MachineIs server.machine (now o past)
+pub keeps_now : {T : Type 0} (note : T → Note) (server : PacketServer T) (o : Opening) (past : List Entry) → server.down ≡ false → StandsFor note server o past → (is_on past ≡ true) × MachineIs server.machine (now o past)
 keeps_now note server o past up s =
     let on = is_up (is_on past) (sym up ∙ s.on) in
     (on, subst (λ p. MachineIs server.machine (now o p)) (looked_on past on) s.keeps)
 
 -- It stands for the list with an event that made no save, where it keeps what is kept of the words behind it.
-pub stands_with : {T : Type 0} (note : T → Note) (server : Server T) (m : Machine) (o : Opening) (past : List Entry) (e : Event) → server.down ≡ false → StandsFor note server o past → is_on past ≡ true → due o past e ≡ None
+pub stands_with : {T : Type 0} (note : T → Note) (server : PacketServer T) (m : Machine) (o : Opening) (past : List Entry) (e : Event) → server.down ≡ false → StandsFor note server o past → is_on past ≡ true → due o past e ≡ None
     → MachineIs m (after (now o past) (asked o.me e)) → StandsFor note (record { notes = server.notes; down = server.down; machine = m }) o (Met e NoSave ∷ past)
 stands_with note server m o past e up s on none k = record {
   on = up ∙ sym (ap (λ b. not (b && true)) on);
@@ -76,21 +80,38 @@ refusal_sort words (ToHold a state) fault e = cc
 refusal_sort words (ToPassFully a j) fault e = cc
 refusal_sort words (ToIssue j) fault e = cc
 
+-- ---- what is sent
+
+-- What is known of all that a server sends in answer to this event.
+pub record IsSendable (o : Opening) (past : List Entry) (e : Event) : Type 0 where
+  pub short : OpensInRange o → CameInRange past → AreShort (flat_map spelled_frames (packets o past (answered o past e)))
+  pub ranges : OpensInRange o → CameInRange past → AllByRecursion IsPacket (packets o past (answered o past e))
+
+pub sendable : FramesAreShort → PacketsAreInRange → (o : Opening) (past : List Entry) (e : Event) → IsInRange e → IsSendable o past e
+sendable frames ranges o past e h = record {
+  short = λ i k. frames o past (answered o past e) i (h, k);
+  ranges = λ i k. ranges o past (answered o past e) i (h, k);
+}
+
 -- ---- an event that is not due to record a run
 
-ends : {T : Type 0} (note : T → Note) (server : Server T) (m : Machine) (o : Opening) (past : List Entry) (e : Event) (result : Result Outs Fault) → server.down ≡ false → StandsFor note server o past → is_on past ≡ true → MachineIs server.machine (now o past)
-    → due o past e ≡ None → Handled (now o past) (asked o.me e) server.machine m result → Ends note o past e server (record { notes = server.notes; down = server.down; machine = m }) result
-ends note server m o past e (Ok outs) up s on k none a =
+ends : {T : Type 0} (note : T → Note) (server : PacketServer T) (m : Machine) (o : Opening) (past : List Entry) (e : Event) (result : Result Outs Fault) → server.down ≡ false → StandsFor note server o past → is_on past ≡ true → MachineIs server.machine (now o past)
+    → due o past e ≡ None → IsSendable o past e → Handled (now o past) (asked o.me e) server.machine m result → Ends note o past e server (record { notes = server.notes; down = server.down; machine = m }) result
+ends note server m o past e (Ok outs) up s on k none can a =
     let free : refusal o past e ≡ None = ap (λ b. if b then refusal_of (now o past) (asked o.me e) else Some Down) on ∙ a.free in
+    let frames : outs.frames ≡ flat_map spelled_frames (packets o past (answered o past e)) =
+    a.frames_are ∙ ap (λ r. flat_map spelled_frames (to_client o.me (sent_by false r (replies (now o past) (asked o.me e))))) (sym free)
+    ∙ ap (λ d. flat_map spelled_frames (packets o past (Met e (saved_for d)))) (sym none) in
     record {
       free = free;
-      frames_are = a.frames_are ∙ ap (λ r. flat_map spelled_frames (to_client o.me (sent_by false r (replies (now o past) (asked o.me e))))) (sym free)
-          ∙ ap (λ d. flat_map spelled_frames (packets o past (Met e (saved_for d)))) (sym none);
+      frames_are = frames;
       issue_is = a.issue_is;
       act_is = a.act_is;
+      short = λ i h. subst AreShort (sym frames) (can.short i h);
+      ranges = can.ranges;
       stands = subst (λ d. StandsFor note (record { notes = server.notes; down = server.down; machine = m }) o (Met e (saved_for d) ∷ past)) (sym none) (stands_with note server m o past e up s on none a.left);
     }
-ends note server m o past e (Err fault) up s on k none u = by_why u.why
+ends note server m o past e (Err fault) up s on k none can u = by_why u.why
   where
     unchanged : StandsFor note (record { notes = server.notes; down = server.down; machine = m }) o past
     unchanged = record { on = s.on; durable = s.durable; keeps = subst (λ x. MachineIs x (now o (looked past))) (sym u.same) s.keeps }
@@ -106,14 +127,28 @@ ends note server m o past e (Err fault) up s on k none u = by_why u.why
           stands = stands_with note server m o past e up s on none (refused_stays m (now o past) (asked o.me e) fault (subst (λ x. MachineIs x (now o past)) (sym u.same) k) w);
         })
 
-pub taken : {T : Type 0} (note : T → Note) (server : Server T) (m : Machine) (o : Opening) (past : List Entry) (e : Event) (result : Result Outs Fault) → server.down ≡ false → StandsFor note server o past
+pub taken : {T : Type 0} (note : T → Note) (server : PacketServer T) (m : Machine) (o : Opening) (past : List Entry) (e : Event) (result : Result Outs Fault) → server.down ≡ false → StandsFor note server o past
     → EachNow server.machine (λ words. IsDueFor words (asked server.machine.me e) None)
     → EachUndue server.machine (asked server.machine.me e) (λ words. Handled words (asked server.machine.me e) server.machine m result)
-    → Ends note o past e server (record { notes = server.notes; down = server.down; machine = m }) result
-taken note server m o past e result up s undue handled =
+    → ((o : Opening) (past : List Entry) → IsSendable o past e) → Ends note o past e server (record { notes = server.notes; down = server.down; machine = m }) result
+taken note server m o past e result up s undue handled can =
     let k = keeps_now note server o past up s in
     let me = k.1.me in
     let words = now o past in
     let none : due o past e ≡ None = ap (λ b. is_due b words.last words.staged words.run (asked o.me e)) k.0 ∙ ap (λ n. is_due true words.last words.staged words.run (asked n e)) (sym me) ∙ undue words k.1 in
-    ends note server m o past e result up s k.0 k.1 none
+    ends note server m o past e result up s k.0 k.1 none (can o past)
     (subst (λ n. Handled words (asked n e) server.machine m result) me (handled words k.1 (undue words k.1)))
+
+-- ---- whether a packet would make a save
+
+is_due_at : (words : Now) (x : Request) (run : Option ℕ) → IsDueFor words x run → is_some run ≡ is_some (is_due true words.last words.staged words.run x)
+is_due_at words x None d = ap is_some (sym d)
+is_due_at words x (Some r) d = sym d.1
+
+pub saves_where_due : {T : Type 0} (note : T → Note) (server : PacketServer T) (o : Opening) (past : List Entry) (e : Event) (run : Option ℕ) → server.down ≡ false → StandsFor note server o past
+    → EachNow server.machine (λ words. IsDueFor words (asked server.machine.me e) run) → is_some run ≡ is_some (due o past e)
+saves_where_due note server o past e run up s d =
+    let k = keeps_now note server o past up s in
+    let words = now o past in
+    is_due_at words (asked server.machine.me e) run (d words k.1) ∙ ap (λ n. is_some (is_due true words.last words.staged words.run (asked n e))) k.1.me
+    ∙ ap (λ b. is_some (is_due b words.last words.staged words.run (asked o.me e))) (sym k.0)

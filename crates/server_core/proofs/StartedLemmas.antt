@@ -14,7 +14,7 @@ use Rattle.messages.specs.FramesOf.{spelled_frames}
 use Rattle.messages.specs.Ranges.{is_run, is_word}
 use Rattle.server_core.specs.declared.event.Event.{Event}
 use Rattle.server_core.specs.declared.outs.Outs.{Outs}
-use Rattle.server_core.specs.declared.server.Server.{Server}
+use Rattle.server_core.specs.declared.packet_server.PacketServer.{PacketServer}
 use Rattle.server_core.specs.History.{Opening, Entry, Met}
 use Rattle.server_core.specs.Note.{Says, spelling}
 use Rattle.server_core.specs.Request.{ToStart, asked}
@@ -24,10 +24,11 @@ use Rattle.server_core.specs.Replies.{replies}
 use Rattle.server_core.specs.Answers.{now, refusal, refusal_of, packets, to_client, sent_by, issue_for, act_of, looked}
 use Rattle.server_core.specs.Framed.{framed}
 use Rattle.server_core.specs.Stands.{MachineIs, EachNow, IsDueFor}
-use Rattle.server_core.specs.Serves.{StandsFor, Starts, Unstarted, Answers, Fails, Faults, Ends, saved_for}
+use Rattle.server_core.specs.Bounds.{AreShort}
+use Rattle.server_core.specs.Serves.{StandsFor, Starts, Unstarted, Answers, Fails, Faults, Ends, saved_for, answered}
 use Rattle.server_core.proofs.FollowLemmas.{starts_follow}
 use Rattle.server_core.proofs.UndueLemmas.{no_act}
-use Rattle.server_core.proofs.ServeLemmas.{keeps_now}
+use Rattle.server_core.proofs.ServeLemmas.{keeps_now, IsSendable}
 
 -- What is due of a Start is of its run.
 due_run : (last r : ℕ) (found : Option Staged) (w : Option Work) (s : Staged) → is_due true last found w (ToStart r) ≡ Some s → s.run ≡ r
@@ -64,19 +65,23 @@ free_of o past e run s d = ap (λ b. if b then refusal_of (now o past) (asked o.
 new_says : (bytes : List ℕ) (b mine last run : ℕ) → Says bytes (record { boot = b; last_run = last }) → mine ≡ b → run < 2 ^ 64 → (new : List ℕ) → new ≡ spelling (record { boot = mine; last_run = run }) → Says new (record { boot = b; last_run = run })
 new_says bytes b mine last run s same fits new is = record { boot_range = s.boot_range; last_range = fits; spelled = inl (is ∙ ap (λ n. spelling (record { boot = n; last_run = run })) same) }
 
-begun : {T : Type 0} (note : T → Note) (old new : Server T) (o : Opening) (past : List Entry) (e : Event) (run : ℕ) (s : Staged) (outs : Outs) → old.down ≡ false → StandsFor note old o past → MachineIs old.machine (now o past) → run < 2 ^ 64 → IsStart o past e run s
-    → Starts note run old new (Ok outs) → Answers note o past e new outs
-begun note old new o past e run s outs up stands k fits d p =
+begun : {T : Type 0} (note : T → Note) (old new : PacketServer T) (o : Opening) (past : List Entry) (e : Event) (run : ℕ) (s : Staged) (outs : Outs) → old.down ≡ false → StandsFor note old o past → MachineIs old.machine (now o past) → run < 2 ^ 64 → IsStart o past e run s
+    → IsSendable o past e → Starts note run old new (Ok outs) → Answers note o past e new outs
+begun note old new o past e run s outs up stands k fits d can p =
     let q = p.2 (now o past) s k d.words in
     let free = free_of o past e run s d in
     let last : last_run o (Met e Saved ∷ past) ≡ run = ap (λ x. recorded Saved x (last_run o past)) d.is ∙ d.run_is in
     let bytes : (note new.notes).bytes ≡ spelling (record { boot = old.machine.boot; last_run = run }) = ap (λ (n : Note). n.bytes) p.0 in
     let says = new_says (note old.notes).bytes (boot o past) old.machine.boot (last_run o past) run stands.durable k.boot_is fits (note new.notes).bytes bytes in
+    let frames : outs.frames ≡ flat_map spelled_frames (packets o past (answered o past e)) =
+    ap (λ (x : Outs). x.frames) q.0 ∙ ap (λ x. framed o.me (replies (now o past) x)) (sym d.asks)
+    ∙ ap (λ r. flat_map spelled_frames (to_client o.me (sent_by false r (replies (now o past) (asked o.me e))))) (sym free)
+    ∙ ap (λ x. flat_map spelled_frames (packets o past (Met e (saved_for x)))) (sym d.is) in
     record {
       free = free;
-      frames_are = ap (λ (x : Outs). x.frames) q.0 ∙ ap (λ x. framed o.me (replies (now o past) x)) (sym d.asks)
-          ∙ ap (λ r. flat_map spelled_frames (to_client o.me (sent_by false r (replies (now o past) (asked o.me e))))) (sym free)
-          ∙ ap (λ x. flat_map spelled_frames (packets o past (Met e (saved_for x)))) (sym d.is);
+      frames_are = frames;
+      short = λ i h. subst AreShort (sym frames) (can.short i h);
+      ranges = can.ranges;
       issue_is = ap (λ (x : Outs). x.issue) q.0 ∙ ap (issue_for (work o past)) (sym d.asks);
       act_is = ap (λ (x : Outs). x.act) q.0 ∙ no_act (work o past) run ∙ ap (act_of (work o past)) (sym d.asks);
       stands = subst (λ x. StandsFor note new o (Met e (saved_for x) ∷ past)) (sym d.is)
@@ -87,7 +92,7 @@ begun note old new o past e run s outs up stands k fits d p =
           });
     }
 
-unbegun : {T : Type 0} (note : T → Note) (old new : Server T) (o : Opening) (past : List Entry) (e : Event) (run : ℕ) (s : Staged) (t : FaultSort) (fault : Fault) → old.down ≡ false → StandsFor note old o past → MachineIs old.machine (now o past) → run < 2 ^ 64 → IsStart o past e run s
+unbegun : {T : Type 0} (note : T → Note) (old new : PacketServer T) (o : Opening) (past : List Entry) (e : Event) (run : ℕ) (s : Staged) (t : FaultSort) (fault : Fault) → old.down ≡ false → StandsFor note old o past → MachineIs old.machine (now o past) → run < 2 ^ 64 → IsStart o past e run s
     → Unstarted note run t fault old new → Faults note o past e t fault old new
 unbegun note old new o past e run s sorts.Memory fault up stands k fits d u = record {
   why = u.0;
@@ -131,14 +136,14 @@ unbegun note old new o past e run s sorts.Save fault up stands k fits d u = by_b
       };
     }
 
-ends : {T : Type 0} (note : T → Note) (old new : Server T) (o : Opening) (past : List Entry) (e : Event) (run : ℕ) (s : Staged) (result : Result Outs Fault) → old.down ≡ false → StandsFor note old o past → MachineIs old.machine (now o past) → run < 2 ^ 64 → IsStart o past e run s
-    → Starts note run old new result → Ends note o past e old new result
-ends note old new o past e run s (Ok outs) up stands k fits d p = begun note old new o past e run s outs up stands k fits d p
-ends note old new o past e run s (Err fault) up stands k fits d u = unbegun note old new o past e run s (sort_of fault) fault up stands k fits d u
+ends : {T : Type 0} (note : T → Note) (old new : PacketServer T) (o : Opening) (past : List Entry) (e : Event) (run : ℕ) (s : Staged) (result : Result Outs Fault) → old.down ≡ false → StandsFor note old o past → MachineIs old.machine (now o past) → run < 2 ^ 64 → IsStart o past e run s
+    → IsSendable o past e → Starts note run old new result → Ends note o past e old new result
+ends note old new o past e run s (Ok outs) up stands k fits d can p = begun note old new o past e run s outs up stands k fits d can p
+ends note old new o past e run s (Err fault) up stands k fits d can u = unbegun note old new o past e run s (sort_of fault) fault up stands k fits d u
 
-pub started : {T : Type 0} (note : T → Note) (old new : Server T) (o : Opening) (past : List Entry) (e : Event) (run : ℕ) (result : Result Outs Fault) → old.down ≡ false → StandsFor note old o past → is_run run ≡ true
-    → EachNow old.machine (λ words. IsDueFor words (asked old.machine.me e) (Some run)) → Starts note run old new result → Ends note o past e old new result
-started note old new o past e run result up stands range is p =
+pub started : {T : Type 0} (note : T → Note) (old new : PacketServer T) (o : Opening) (past : List Entry) (e : Event) (run : ℕ) (result : Result Outs Fault) → old.down ≡ false → StandsFor note old o past → is_run run ≡ true
+    → EachNow old.machine (λ words. IsDueFor words (asked old.machine.me e) (Some run)) → Starts note run old new result → IsSendable o past e → Ends note o past e old new result
+started note old new o past e run result up stands range is p can =
     let k = keeps_now note old o past up stands in
     let words = now o past in
     let d = is words k.1 in
@@ -154,4 +159,4 @@ started note old new o past e run result up stands range is p =
       words = told;
       run_is = due_run words.last run words.staged words.run found.0 told;
     })
-    p
+    can p

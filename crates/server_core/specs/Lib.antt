@@ -22,3 +22,10 @@ pub mod Stands
 pub mod Handles
 pub mod Follows
 pub mod Serves
+pub mod Hearing
+pub mod FrameAnswers
+pub mod FrameEnds
+pub mod Bounds
+pub mod Sent
+pub mod OpenCheck
+pub mod Memory

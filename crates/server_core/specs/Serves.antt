@@ -1,6 +1,6 @@
--- Which lists a server stands for, and how a step ends.
+-- Which lists a server that takes packets stands for, and how its step ends.
 use Rattle.std.specs.Prelude.{◌≡◌, ◌⊎◌, ℕ, ◌+◌, ◌-◌, ◌^◌, ◌<◌, true, not, List, ◌∷◌, Option, Some, None, Result, Ok, Err}
-use Rattle.std.specs.List.{flat_map}
+use Rattle.std.specs.List.{AllByRecursion, flat_map}
 use Rattle.fc_base.specs.declared.fault.Fault.{Fault}
 use Rattle.fc_base.specs.declared.fault.Fault.TheVariants.{NoMemory, LoadFault, SaveFault, BadNote, NumbersSpent}
 use Rattle.fc_base.specs.declared.fault.FaultSort.{FaultSort}
@@ -11,9 +11,10 @@ use Rattle.disk_model.specs.declared.left.Left.TheVariants.{NoSave, Saved}
 use Rattle.disk_model.specs.Left.{is_lost}
 use Rattle.disk_model.specs.Notes.{Note}
 use Rattle.messages.specs.FramesOf.{spelled_frames}
+use Rattle.messages.specs.Laws.{IsPacket}
 use Rattle.server_core.specs.declared.event.Event.{Event}
 use Rattle.server_core.specs.declared.outs.Outs.{Outs}
-use Rattle.server_core.specs.declared.server.Server.{Server}
+use Rattle.server_core.specs.declared.packet_server.PacketServer.{PacketServer}
 use Rattle.server_core.specs.History.{Opening, Entry, Met, Restart}
 use Rattle.server_core.specs.declared.note.Noted.{Noted}
 use Rattle.server_core.specs.Note.{Says, spelling}
@@ -21,20 +22,22 @@ use Rattle.server_core.specs.Request.{ToStart}
 use Rattle.server_core.specs.Words.{Staged, is_on, boot, last_run, due, is_due}
 use Rattle.server_core.specs.Replies.{Now, replies}
 use Rattle.server_core.specs.Answers.{now, refusal, packets, issue, act, looked}
+use Rattle.server_core.specs.Bounds.{AreShort}
+use Rattle.server_core.specs.Ranges.{OpensInRange, CameInRange}
 use Rattle.server_core.specs.Framed.{framed}
 use Rattle.server_core.specs.Handles.{sent_alone}
 use Rattle.server_core.specs.Stands.{MachineIs, begun_by}
 
 -- A server stands for a list where it is on or down as the list says, where the durable bytes say what
 -- the list says, and where it keeps what the list said before the first failed save.
-pub record StandsFor {T : Type 0} (note : T → Note) (server : Server T) (o : Opening) (past : List Entry) : Type 0 where
+pub record StandsFor {T : Type 0} (note : T → Note) (server : PacketServer T) (o : Opening) (past : List Entry) : Type 0 where
   pub on : server.down ≡ not (is_on past)
   pub durable : Says (note server.notes).bytes (record { boot = boot o past; last_run = last_run o past })
   pub keeps : MachineIs server.machine (now o (looked past))
 
 -- A Start that is due isn't answered: memory ran out, and nothing changes; or the device failed, and the
 -- durable bytes are the new or the old, and the server is down.
-abbrev pub Unstarted : {T : Type 0} → (T → Note) → ℕ → FaultSort → Fault → Server T → Server T → Type 0
+abbrev pub Unstarted : {T : Type 0} → (T → Note) → ℕ → FaultSort → Fault → PacketServer T → PacketServer T → Type 0
 Unstarted note run sorts.Memory fault old new =
     (fault ≡ NoMemory) × (note new.notes ≡ note old.notes) × (new.down ≡ old.down) × (new.machine ≡ old.machine)
 Unstarted note run sorts.Save fault old new =
@@ -45,7 +48,7 @@ Unstarted note run sorts.Save fault old new =
 Unstarted note run sorts.Refusal fault old new = ⊥
 
 -- How a Start that is due ends: the run is durable and begins, or it isn't answered.
-abbrev pub Starts : {T : Type 0} → (T → Note) → ℕ → Server T → Server T → Result Outs Fault → Type 0
+abbrev pub Starts : {T : Type 0} → (T → Note) → ℕ → PacketServer T → PacketServer T → Result Outs Fault → Type 0
 Starts note run old new (Ok outs) =
     (note new.notes ≡ record (note old.notes) { bytes = spelling (record { boot = old.machine.boot; last_run = run }) })
     × (new.down ≡ old.down)
@@ -64,23 +67,26 @@ saved_for (Some s) = Saved
 abbrev pub answered : Opening → List Entry → Event → Entry
 answered o past e = Met e (saved_for (due o past e))
 
--- The event isn't refused, its answers are those of the list, and it is added.
-pub record Answers {T : Type 0} (note : T → Note) (o : Opening) (past : List Entry) (e : Event) (new : Server T) (outs : Outs) : Type 0 where
+-- The event isn't refused, its answers are those of the list, and it is added; and where what came
+-- before keeps its ranges, the packets that are sent keep theirs, and their frames are few and short.
+pub record Answers {T : Type 0} (note : T → Note) (o : Opening) (past : List Entry) (e : Event) (new : PacketServer T) (outs : Outs) : Type 0 where
   pub free : refusal o past e ≡ None
   pub frames_are : outs.frames ≡ flat_map spelled_frames (packets o past (answered o past e))
   pub issue_is : outs.issue ≡ issue o past e
   pub act_is : outs.act ≡ act o past e
+  pub short : OpensInRange o → CameInRange past → AreShort outs.frames
+  pub ranges : OpensInRange o → CameInRange past → AllByRecursion IsPacket (packets o past (answered o past e))
   pub stands : StandsFor note new o (answered o past e ∷ past)
 
 -- The event is refused for this reason, and nothing changes; the refused event may also stand in the list.
-pub record Refuses {T : Type 0} (note : T → Note) (o : Opening) (past : List Entry) (e : Event) (fault : Fault) (old new : Server T) : Type 0 where
+pub record Refuses {T : Type 0} (note : T → Note) (o : Opening) (past : List Entry) (e : Event) (fault : Fault) (old new : PacketServer T) : Type 0 where
   pub why : refusal o past e ≡ Some fault
   pub same_note : note new.notes ≡ note old.notes
   pub unchanged : StandsFor note new o past
   pub stands : StandsFor note new o (Met e NoSave ∷ past)
 
 -- The device failed in the save of a run that was due: it is durable, or it isn't.
-pub record Fails {T : Type 0} (note : T → Note) (o : Opening) (past : List Entry) (e : Event) (old new : Server T) : Type 0 where
+pub record Fails {T : Type 0} (note : T → Note) (o : Opening) (past : List Entry) (e : Event) (old new : PacketServer T) : Type 0 where
   pub cause : (note old.notes).failures < (note new.notes).failures
   pub free : refusal o past e ≡ None
   pub began : Staged
@@ -90,24 +96,24 @@ pub record Fails {T : Type 0} (note : T → Note) (o : Opening) (past : List Ent
   pub stands : StandsFor note new o (Met e left ∷ past)
 
 -- For want of memory nothing changes.
-pub record Lacks {T : Type 0} (note : T → Note) (o : Opening) (past : List Entry) (fault : Fault) (old new : Server T) : Type 0 where
+pub record Lacks {T : Type 0} (note : T → Note) (o : Opening) (past : List Entry) (fault : Fault) (old new : PacketServer T) : Type 0 where
   pub why : fault ≡ NoMemory
   pub same_note : note new.notes ≡ note old.notes
   pub unchanged : StandsFor note new o past
 
 -- How an event that isn't answered ends, by the sort of its fault.
-abbrev pub Faults : {T : Type 0} → (T → Note) → Opening → List Entry → Event → FaultSort → Fault → Server T → Server T → Type 0
+abbrev pub Faults : {T : Type 0} → (T → Note) → Opening → List Entry → Event → FaultSort → Fault → PacketServer T → PacketServer T → Type 0
 Faults note o past e sorts.Memory fault old new = Lacks note o past fault old new
 Faults note o past e sorts.Save fault old new = Fails note o past e old new
 Faults note o past e sorts.Refusal fault old new = Refuses note o past e fault old new
 
 -- How a step ends.
-abbrev pub Ends : {T : Type 0} → (T → Note) → Opening → List Entry → Event → Server T → Server T → Result Outs Fault → Type 0
+abbrev pub Ends : {T : Type 0} → (T → Note) → Opening → List Entry → Event → PacketServer T → PacketServer T → Result Outs Fault → Type 0
 Ends note o past e old new (Ok outs) = Answers note o past e new outs
 Ends note o past e old new (Err fault) = Faults note o past e (sort_of fault) fault old new
 
 -- For each list whose words the note said, the server stands for it with the restart.
-abbrev pub Restarts : {T : Type 0} → (T → Note) → ℕ → T → Server T → Type 0
+abbrev pub Restarts : {T : Type 0} → (T → Note) → ℕ → T → PacketServer T → Type 0
 Restarts note me notes server =
     (o : Opening) (past : List Entry) → o.me ≡ me
     → Says (note notes).bytes (record { boot = boot o past; last_run = last_run o past })
@@ -136,6 +142,6 @@ IsRead old new (Ok n) = (new ≡ old) × Says old.bytes n × (n.boot < 2 ^ 64 - 
 IsRead old new (Err fault) = NotOpened old new fault
 
 -- How a restart ends.
-abbrev pub Opens : {T : Type 0} → (T → Note) → ℕ → T → Result (Server T) (T × Fault) → Type 0
+abbrev pub Opens : {T : Type 0} → (T → Note) → ℕ → T → Result (PacketServer T) (T × Fault) → Type 0
 Opens note me notes (Ok server) = Restarts note me notes server
 Opens note me notes (Err e) = NotOpened (note notes) (note e.0) e.1

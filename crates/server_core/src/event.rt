@@ -1,4 +1,6 @@
-//! What comes to a server.
+//! What a server hears.
+
+ghost use Rattle.server_core.specs.Ranges.{IsInRange};
 
 use engine::Ticket;
 use fc_base::{Attempt, CheckReport, JobNo};
@@ -13,7 +15,8 @@ pub enum WriteEnd {
     Failed,
 }
 
-/// What comes to a server: from the client, or from the workers that carry out its writes and checks.
+/// What a server hears: packets, which come whole or in pieces, and what the workers that carry out its
+/// writes and checks ask and tell.
 #[derive(Debug, Drop)]
 pub enum Event {
     /// A packet is delivered.
@@ -29,4 +32,19 @@ pub enum Event {
         job: JobNo,
         report: CheckReport,
     },
+}
+
+impl Event {
+    /// The ranges that what is heard keeps, for proofs: nothing runs.
+    pub(crate) fn keeps_its_ranges(&self)
+        ensures { IsInRange self.now }
+    {
+        match self {
+            Event::Deliver(packet) => packet.keeps_its_ranges(),
+            Event::CheckDone { report, .. } => {
+                let _in_range = report.parts();
+            }
+            _ => {}
+        }
+    }
 }

@@ -1,10 +1,12 @@
 //! What holds of every list of what came to a server. The functions have nothing to run.
 
 ghost use Rattle.server_core.specs.Laws.{TakenAtMostOnce, NumbersGrow, StartsOnce, PresentIsLast, LooksAtAll, HoldsTheTaken, SendsTheTaken, StatesTellJobs, NoStateIsUntaken, TakingsStay, TextsGiveSets, StagingsHaveSets, RunsHaveSets, ChecksHaveSets, HistoriesAreLegal, CountsTheDone, QuietWhileLast, QuietUntilChecked, WithWasHeard, CutsWhenKept, PacketsAreFew, PacketsAreInRange};
+ghost use Rattle.server_core.specs.Bounds.{FramesAreShort};
 ghost use Rattle.server_core.specs.Follows.{WordsFollow, StartsFollow};
 ghost use Rattle.server_core.specs.Handles.{RefusedStays};
 ghost use Rattle.server_core.specs.Examples.{StartsAndIssues, TakesOnce, ForgetsByACut, SavesBeforeItStarts, StopsForGood, ChecksTheLastRun, RefusesAMisfit};
 
+use crate::sent_law::packets_go_to_client;
 use engine::{legal_law, taken_law};
 use job_file::{jobs_are_within_limits, jobs_fit};
 use window::counting_law;
@@ -99,6 +101,18 @@ pub fn packets_are_in_range()
 {
     legal_histories();
     counting_law();
+}
+
+/// What a server sends in answer to one event is at most 16 frames of at most 1,073 bytes, where what came is within its
+/// ranges.
+pub fn frames_are_short()
+    ensures { FramesAreShort }
+{
+    few_packets();
+    packets_are_in_range();
+    packets_go_to_client();
+    messages::frames_are_few();
+    messages::lengths_are_bounded();
 }
 
 /// Lists of events that can be followed by hand, and what a server answers in them.

@@ -42,6 +42,7 @@ impl Machine {
     ghost use Rattle.server_core.specs.Replies.{replies, refuse, gone_or_unknown};
     ghost use Rattle.server_core.specs.Framed.{framed};
     ghost use Rattle.server_core.specs.Stands.{MachineIs, EachNow, after, blank, unless, IsOfRun, IsOfText};
+    ghost use Rattle.server_core.specs.Memory.{TakesNone};
     ghost use Rattle.messages.specs.declared.refusal.Act.{Act};
 
     /// That of a server which was just restarted.
@@ -75,11 +76,15 @@ impl Machine {
             (λ now. result ≡ unless (refusal_of now (ToEnd ticket end))) }
         ensures left { EachNow self.old (λ now. MachineIs self.new (after now (ToEnd ticket end))) }
         ensures same { OnErr result (self.new ≡ self.old) }
+        ensures memory { TakesNone result }
     {
         if ticket.boot != self.boot {
             return Err(Fault::OldBoot);
         }
-        work::end_write(&mut self.run, ticket, end)
+        match work::end_write(&mut self.run, ticket, end) {
+            Ok(()) => Ok(()),
+            Err(_) => Err(Fault::NotInFlight),
+        }
     }
 
     /// Takes the states of this run, where it is the present one and writes. Taken states are sent

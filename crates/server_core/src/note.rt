@@ -1,10 +1,9 @@
 //! What outlasts a cut: the bytes of a server's note.
 
-ghost use Rattle.std.specs.Prelude.{◌≡◌, length};
-ghost use Rattle.std.specs.Int.{w64, from_be_bytes};
+ghost use Rattle.std.specs.Prelude.{◌≡◌};
 ghost use Rattle.server_core.specs.Note.{spelling, Reads, SaysOneThing};
 
-use fc_base::RunNo;
+use fc_base::{RunNo, split_u64};
 
 /// The bytes with which each note begins.
 const MAGIC: &[u8; 4] = b"FCN1";
@@ -47,22 +46,13 @@ impl Noted {
         if numbers.len() != 16 {
             return None;
         }
-        let (boot, last_run) = numbers.split_at(8);
+        let (boot, rest) = split_u64(numbers);
+        let (last_run, _) = split_u64(rest);
         Some(Noted {
-            boot: number_in(boot),
-            last_run: RunNo(number_in(last_run)),
+            boot,
+            last_run: RunNo(last_run),
         })
     }
-}
-
-/// The number in eight bytes.
-fn number_in(bytes: &[u8]) -> u64
-    requires { length bytes.now ≡ 8 }
-    ensures { result ≡ from_be_bytes w64 bytes.now }
-{
-    u64::from_be_bytes([
-        bytes[0], bytes[1], bytes[2], bytes[3], bytes[4], bytes[5], bytes[6], bytes[7],
-    ])
 }
 
 /// Bytes say one thing at most.

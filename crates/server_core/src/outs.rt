@@ -1,5 +1,8 @@
 //! What a step hands out.
 
+ghost use Rattle.std.specs.Prelude.{◌≡◌};
+ghost use Rattle.server_core.specs.Handles.{sent_alone};
+
 use engine::Issue;
 use messages::{Act, Frames};
 
@@ -12,4 +15,17 @@ pub struct Outs {
     pub issue: Option<Issue>,
     /// What the caller is asked to do.
     pub act: Act,
+}
+
+impl Outs {
+    /// These frames, and nothing else.
+    pub(crate) fn sent(frames: Frames) -> Outs
+        ensures { result ≡ sent_alone frames }
+    {
+        Outs {
+            frames,
+            issue: None,
+            act: Act::None,
+        }
+    }
 }

@@ -1,37 +1,44 @@
 //! A server over its durable note.
 
-ghost use Rattle.std.specs.Prelude.{◌≡◌, ◌<◌, IsTrue, List};
-ghost use Rattle.std.specs.Option.{option_copied};
-ghost use Rattle.server_core.specs.Serves.{IsRead};
-ghost use Rattle.messages.specs.Ranges.{is_run};
+ghost use Rattle.std.specs.Prelude.{◌≡◌, ◌<◌, false, List, Some, None, OnErr};
+ghost use Rattle.std.specs.Option.{option_copied, option_map};
+ghost use Rattle.messages.specs.declared.frame.Frame.TheVariants.{Piece as OfPiece};
+ghost use Rattle.server_core.specs.declared.input.Input.TheVariants.{Deliver};
+ghost use Rattle.server_core.specs.Hearing.{is_piece_for};
 
 use crate::event::Event;
-use crate::machine::Machine;
-use crate::note::{Noted, one_note};
+use crate::input::Input;
 use crate::outs::Outs;
+use crate::packet_server::PacketServer;
+use crate::progress::Progress;
 use crate::status::Status;
 use disk_model::Notes;
-use fc_base::{Fault, JobNo, RunNo, ServerNo};
+use fc_base::{Fault, JobNo, ServerNo};
 use job_file::Job;
-use messages::Act;
+use messages::{Assembly, Frame, Frames, Piece};
 use std::alloc::Global;
 use verify_state::VerifyState;
 
 /// A server.
 #[derive(Drop)]
 pub struct Server<N> {
-    notes: N,
-    down: bool,
-    machine: Machine,
+    alloc: Global,
+    core: PacketServer<N>,
+    pieces: Assembly,
 }
 
 impl<N: Notes> Server<N> {
-    ghost use Rattle.server_core.specs.History.{Opening, Entry};
+    ghost use Rattle.server_core.specs.History.{Opening};
     ghost use Rattle.server_core.specs.Note.{Says};
     ghost use Rattle.server_core.specs.Words.{is_on, boot, last_run};
     ghost use Rattle.server_core.specs.Answers.{looked, status, run_job, check_job};
+    ghost use Rattle.server_core.specs.Check.{progress};
+    ghost use Rattle.server_core.specs.KeptCheck.{progress_of};
     ghost use Rattle.server_core.specs.Taken.{taken};
-    ghost use Rattle.server_core.specs.Serves.{StandsFor, Starts, Ends, Opens};
+    ghost use Rattle.server_core.specs.Hearing.{FrameEntry, packets_heard};
+    ghost use Rattle.server_core.specs.FrameAnswers.{would_save};
+    ghost use Rattle.server_core.specs.FrameEnds.{StandsFor, Ends, Opens};
+    ghost use Rattle.server_core.specs.Memory.{WritesTakeNone};
 
     /// Opens the server with this number over its note, where it saves the next boot before it answers;
     /// a blank note has none yet. Where it isn't opened, the notes come back.
@@ -42,145 +49,193 @@ impl<N: Notes> Server<N> {
         requires { me < 8 }
         ensures { Opens N.note me notes result }
     {
-        one_note();
-        let mut notes = notes;
-        let noted = match read(&mut notes) {
-            Ok(noted) => noted,
-            Err(fault) => return Err((notes, fault)),
-        };
-        let Noted { boot, last_run } = noted;
-        let boot = boot + 1;
-        let bytes = Noted { boot, last_run }.encode();
-        match notes.save(&bytes) {
-            Ok(()) => Ok(Server {
-                notes,
-                down: false,
-                machine: Machine::new(alloc, me, boot, last_run),
-            }),
-            Err(Fault::NoMemory) => Err((notes, Fault::NoMemory)),
-            Err(_) => Err((notes, Fault::SaveFault)),
-        }
+        let core = PacketServer::restart(alloc, me, notes)?;
+        let pieces = Assembly::new(alloc);
+        Ok(Server {
+            alloc,
+            core,
+            pieces,
+        })
     }
 
     /// The notes of a server that is taken off.
     pub fn off(self) -> N
-        ensures { (o : Opening) (past : List Entry) → StandsFor N.note self o past →
-            Says (N.note result).bytes (record { boot = boot o past; last_run = last_run o past }) }
+        ensures { (o : Opening) (past : List FrameEntry) → StandsFor N.note self o past →
+            Says (N.note result).bytes (record {
+              boot = boot o (packets_heard o past);
+              last_run = last_run o (packets_heard o past);
+            }) }
     {
         let Server {
-            notes,
-            down: _,
-            machine: _,
+            alloc: _,
+            core,
+            pieces: _,
         } = self;
-        notes
+        core.off()
     }
 
     /// Whether it is on: no save has failed since it was restarted.
     pub fn on(&self) -> bool
-        ensures { (o : Opening) (past : List Entry) → StandsFor N.note self.now o past →
-            result ≡ is_on past }
+        ensures { (o : Opening) (past : List FrameEntry) → StandsFor N.note self.now o past →
+            result ≡ is_on (packets_heard o past) }
     {
-        !self.down
+        self.core.on()
     }
 
     /// Its number.
     pub fn me(&self) -> ServerNo
-        ensures { (o : Opening) (past : List Entry) → StandsFor N.note self.now o past →
+        ensures { (o : Opening) (past : List FrameEntry) → StandsFor N.note self.now o past →
             result ≡ o.me }
     {
-        self.machine.me
+        self.core.me()
     }
 
-    /// How far it is: up to a failed save, where one has failed.
+    /// How far it is: up to a failed save, where one has failed. Its boot and its last run are those of
+    /// the note.
     pub fn status(&self) -> Status
-        ensures { (o : Opening) (past : List Entry) → StandsFor N.note self.now o past →
-            result ≡ status o (looked past) }
+        ensures { (o : Opening) (past : List FrameEntry) → StandsFor N.note self.now o past →
+            result ≡ status o (looked (packets_heard o past)) }
     {
-        self.machine.status()
+        self.core.status()
     }
 
     /// A job of the present run: of that up to a failed save, where one has failed.
     pub fn run_job(&self, job: JobNo) -> Option<&Job>
-        ensures { (o : Opening) (past : List Entry) → StandsFor N.note self.now o past →
-            option_copied result ≡ run_job o (looked past) job }
+        ensures { (o : Opening) (past : List FrameEntry) → StandsFor N.note self.now o past →
+            option_copied result ≡ run_job o (looked (packets_heard o past)) job }
     {
-        self.machine.run_job(job)
+        self.core.run_job(job)
     }
 
     /// The state that was taken of a job of the present run: up to a failed save, where one has failed.
     pub fn taken(&self, job: JobNo) -> Option<&VerifyState>
-        ensures { (o : Opening) (past : List Entry) → StandsFor N.note self.now o past →
-            option_copied result ≡ taken o (looked past) job }
+        ensures { (o : Opening) (past : List FrameEntry) → StandsFor N.note self.now o past →
+            option_copied result ≡ taken o (looked (packets_heard o past)) job }
     {
-        self.machine.taken(job)
+        self.core.taken(job)
     }
 
     /// A job of the open check: of that up to a failed save, where one has failed.
     pub fn check_job(&self, job: JobNo) -> Option<&Job>
-        ensures { (o : Opening) (past : List Entry) → StandsFor N.note self.now o past →
-            option_copied result ≡ check_job o (looked past) job }
+        ensures { (o : Opening) (past : List FrameEntry) → StandsFor N.note self.now o past →
+            option_copied result ≡ check_job o (looked (packets_heard o past)) job }
     {
-        self.machine.check_job(job)
+        self.core.check_job(job)
     }
 
-    /// Takes one event. A Start that is due is recorded before it is answered.
-    ///
-    /// `Down`: a save has failed, and nothing changes until the server is restarted. `NoMemory`:
-    /// nothing changes. `SaveFault`: the device failed, and the server is down. Any other fault is a
-    /// refusal, which changes nothing.
-    pub fn step(&mut self, event: Event) -> Result<Outs, Fault>
-        ensures { (o : Opening) (past : List Entry) → StandsFor N.note self.old o past →
-            Ends N.note o past event self.old self.new result }
+    /// How far the check of a job is, where it is one of the open check: of that up to a failed save, where
+    /// one has failed.
+    pub fn check_progress(&self, job: JobNo) -> Option<&Progress>
+        ensures { (o : Opening) (past : List FrameEntry) → StandsFor N.note self.now o past →
+            option_map progress_of (option_copied result)
+            ≡ progress o (looked (packets_heard o past)) job }
     {
-        if self.down {
+        self.core.check_progress(job)
+    }
+
+    /// Whether the delivery of this frame would make a save: it is a Start that is due to record a run. No
+    /// piece is one.
+    pub fn would_save(&self, frame: &Frame) -> bool
+        ensures { (o : Opening) (past : List FrameEntry) → StandsFor N.note self.now o past →
+            result ≡ would_save o past frame.now }
+    {
+        match frame {
+            Frame::Whole(packet) => self.core.would_save(packet),
+            Frame::Piece(piece) => {
+                piece.keeps_its_ranges();
+                false
+            }
+        }
+    }
+
+    /// Takes what comes. A Start that is due is recorded before it is answered.
+    ///
+    /// `Down`: a save has failed, and nothing changes until the server is restarted. `FrameBadField`: a
+    /// piece completes a body that isn't the packet of its tag, which is dropped. `NoMemory`: nothing
+    /// changes. `SaveFault`: the device failed, and the server is down. Any other fault is a refusal,
+    /// which changes nothing.
+    pub fn step(&mut self, input: Input) -> Result<Outs, Fault>
+        ensures ends { (o : Opening) (past : List FrameEntry) → StandsFor N.note self.old o past →
+            Ends N.note o past input self.old self.new result }
+        ensures memory { WritesTakeNone input result }
+    {
+        // A function pays for the room of all its values, so the two that come most take a way of their own.
+        match &input {
+            Input::Issue(job) => self.core.issue(*job),
+            Input::WriteDone(ticket, end) => self.core.end_write(*ticket, *end),
+            _ => self.take(input),
+        }
+    }
+
+    /// Takes what comes.
+    fn take(&mut self, input: Input) -> Result<Outs, Fault>
+        ensures { (o : Opening) (past : List FrameEntry) → StandsFor N.note self.old o past →
+            Ends N.note o past input self.old self.new result }
+    {
+        match input {
+            Input::Deliver(frame) => self.deliver(frame),
+            Input::Issue(job) => self.core.step(Event::Issue(job)),
+            Input::WriteDone(ticket, end) => self.core.step(Event::WriteDone(ticket, end)),
+            Input::CheckDone {
+                boot,
+                attempt,
+                job,
+                report,
+            } => self.core.step(Event::CheckDone {
+                boot,
+                attempt,
+                job,
+                report,
+            }),
+        }
+    }
+
+    /// Takes a frame.
+    fn deliver(&mut self, frame: Frame) -> Result<Outs, Fault>
+        ensures { (o : Opening) (past : List FrameEntry) → StandsFor N.note self.old o past →
+            Ends N.note o past (Deliver frame) self.old self.new result }
+    {
+        match frame {
+            Frame::Whole(packet) => self.core.step(Event::Deliver(packet)),
+            Frame::Piece(piece) => self.join(&piece),
+        }
+    }
+
+    /// Takes a piece: the packet that it completes, or else the piece alone.
+    fn join(&mut self, piece: &Piece) -> Result<Outs, Fault>
+        ensures { (o : Opening) (past : List FrameEntry) → StandsFor N.note self.old o past →
+            Ends N.note o past (Deliver (OfPiece piece.now)) self.old self.new result }
+    {
+        if !self.core.on() {
             return Err(Fault::Down);
         }
-        match self.machine.due(&event) {
-            Some(run) => self.start(run),
-            None => self.machine.take(event),
+        if !is_piece_for(self.core.me(), piece) {
+            return Err(Fault::Misdirected);
         }
-    }
-
-    /// Records the staged run, which then begins.
-    fn start(&mut self, run: RunNo) -> Result<Outs, Fault>
-        requires { IsTrue (is_run run) }
-        ensures { Starts N.note run self.old self.new result }
-    {
-        let frames = self.machine.start_frames(run)?;
-        let engines = self.machine.engines()?;
-        let noted = Noted {
-            boot: self.machine.boot,
-            last_run: run,
-        };
-        match self.notes.save(&noted.encode()) {
-            Ok(()) => {
-                self.machine.begin(engines);
-                Ok(Outs {
-                    frames,
-                    issue: None,
-                    act: Act::None,
-                })
+        match self.pieces.look(piece) {
+            Ok(Some(packet)) => {
+                let outs = self.core.step(Event::Deliver(packet));
+                if outs.is_ok() {
+                    self.pieces.drop(piece.tag());
+                }
+                outs
             }
-            Err(Fault::NoMemory) => Err(Fault::NoMemory),
-            Err(fault) => {
-                self.down = true;
-                Err(fault)
+            Ok(None) => match self.pieces.take(piece) {
+                Ok(()) => Ok(Outs::sent(Frames::new(self.alloc))),
+                Err(_) => Err(Fault::NoMemory),
+            },
+            Err(Fault::FrameBadField) => {
+                self.pieces.drop(piece.tag());
+                Err(Fault::FrameBadField)
             }
+            Err(_) => Err(Fault::NoMemory),
         }
     }
 }
 
-/// What a note says, where its boots aren't used up.
-fn read<N: Notes>(notes: &mut N) -> Result<Noted, Fault>
-    ensures { IsRead (N.note notes.old) (N.note notes.new) result }
+/// Whether the piece is from the client to the server with this number, of a kind that the client sends.
+fn is_piece_for(me: ServerNo, piece: &Piece) -> bool
+    ensures { result ≡ is_piece_for me piece.now }
 {
-    match notes.load() {
-        Ok(bytes) => match Noted::decode(&bytes) {
-            Some(noted) if noted.boot == u64::MAX => Err(Fault::NumbersSpent),
-            Some(noted) => Ok(noted),
-            None => Err(Fault::BadNote),
-        },
-        Err(Fault::NoMemory) => Err(Fault::NoMemory),
-        Err(_) => Err(Fault::LoadFault),
-    }
+    piece.from().is_client() && piece.to().is_server(me) && piece.tag().whole.is_of_client()
 }

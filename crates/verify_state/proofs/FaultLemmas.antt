@@ -12,6 +12,7 @@ use Rattle.fc_base.specs.declared.fault.Fault.{Fault}
 use Rattle.fc_base.specs.Faults.{when}
 use Rattle.fc_base.specs.Keys.{is_key}
 use Rattle.fc_base.specs.Marks.{floor_of}
+use Rattle.fc_base.specs.Layouts.{bytes_of, number_in}
 use Rattle.verify_state.specs.Codes.{kind_code, verify_code}
 use Rattle.verify_state.specs.State.{State, IsState, has_come}
 use Rattle.verify_state.specs.Spelling.{key_bytes, job_bytes, spelling}
@@ -132,7 +133,7 @@ verify_below Stamp = refl
 verify_below Pattern = refl
 
 codes_hold : (s : State) → has_codes (spelling s) ≡ true
-unfolding field spelling key_bytes job_bytes
+unfolding field spelling key_bytes job_bytes number_in bytes_of
 codes_hold s =
     let kind = ap (λ n. ltb n 3) (one_byte (kind_code s.job.kind)) ∙ kind_below s.job.kind in
     let verify = ap (λ n. ltb n 2) (one_byte (verify_code s.job.verify)) ∙ verify_below s.job.verify in

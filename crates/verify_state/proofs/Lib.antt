@@ -3,6 +3,7 @@ pub mod DistinctLemmas
 pub mod FaultLemmas
 pub mod LayoutLemmas
 pub mod LimitLemmas
+pub mod FieldLemmas
 pub mod PieceLemmas
 pub mod RangeLemmas
 pub mod SameLemmas

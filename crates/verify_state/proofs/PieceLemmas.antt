@@ -1,13 +1,12 @@
 -- Bytes without a fault, piece by piece, are the spelling of what they say.
-use Rattle.std.proofs.Common.{Bool, ◌||◌, ◌≡◌, ℕ, ◌+◌, ◌*◌, ◌^◌, ◌<◌, ◌≤◌, zero, suc, true, ◌&&◌, ◌-◌, false, eqb, ltb, leb, List, [], ◌∷◌, ◌++◌, length, take, drop, get_or, sym, refl, ap, ◌∙◌, subst, inl, inr, arith}
+use Rattle.std.proofs.Common.{Bool, ◌||◌, ◌≡◌, ℕ, ◌+◌, ◌^◌, ◌<◌, ◌≤◌, zero, suc, true, ◌&&◌, ◌-◌, false, eqb, ltb, leb, List, [], ◌∷◌, ◌++◌, length, take, drop, sym, refl, ap, ◌∙◌, subst, inl, inr, arith}
 use Rattle.std.specs.Prelude.{codes, if◌then◌else◌}
 use Rattle.std.specs.List.{AllByRecursion}
 use Rattle.std.specs.Cmp.Lexicographic.{pointwise}
-use Rattle.std.specs.Int.{w8, w32, w64, to_be_bytes, from_be_bytes}
-use Rattle.std.proofs.lemmas.Bool.{and_parts, and_from, cases_lt, cases_Bool, ltb-true, eqb-true, false≢true}
-use Rattle.std.proofs.lemmas.Nat.{be_bytes_4, be_bytes_8}
-use Rattle.std.proofs.lemmas.List.{drop-drop, take-append-drop, drop_all, length-drop, length-take, get_or-drop, get_or-take, get_or_past, append_assoc, append-nil, drop-append-le, take-append-le, length-append}
-use Rattle.std.proofs.lemmas.List.FromFn.{fill_by_all}
+use Rattle.std.specs.Int.{w8, w32, w64, from_be_bytes}
+use Rattle.fc_base.specs.Layouts.{bytes_of, number_in}
+use Rattle.std.proofs.lemmas.Bool.{and_parts, and_from, cases_Bool, ltb-true, eqb-true, false≢true}
+use Rattle.std.proofs.lemmas.List.{take-append-drop, drop_all, length-drop, append-nil, drop-append-le, take-append-le, length-append}
 use Rattle.fc_base.specs.declared.record.JobParts.{JobParts}
 use Rattle.fc_base.specs.JobParts.{is_within_limits}
 use Rattle.fc_base.specs.Counted.{has, counted, is_possible}
@@ -19,89 +18,7 @@ use Rattle.verify_state.specs.Spelling.{key_bytes, job_bytes, words, spelling}
 use Rattle.verify_state.specs.Reading.{field, words_at, is_layout_1, is_layout_2, key_in, job_in, issued_in, place_in, count_in, completions_in, floor_at, marks_at, has_codes, has_fields, has_ranges, has_marks, faults_of, state_in, state_listed, state_marked}
 use Rattle.verify_state.proofs.RangeLemmas.{has_key, narrow}
 use Rattle.verify_state.proofs.FaultLemmas.{IsSound, IsListSound, IsMarkSound, is_whole}
-
--- ---- bytes
-
-abbrev IsBytes : List ℕ → Type 0
-IsBytes bytes = (i : ℕ) → get_or bytes i 0 < 256
-
-pub are_bytes : (bytes : List ℕ) → AllByRecursion (λ byte. byte < 256) bytes → IsBytes bytes
-are_bytes [] all i = omega arith
-are_bytes (b ∷ bytes) all zero = all.0
-are_bytes (b ∷ bytes) all (suc i) = are_bytes bytes all.1 i
-
-bytes_drop : (n : ℕ) (bytes : List ℕ) → IsBytes bytes → IsBytes (drop n bytes)
-bytes_drop n bytes h i = rw get_or-drop (h (n + i))
-
-bytes_take : (n : ℕ) (bytes : List ℕ) → IsBytes bytes → IsBytes (take n bytes)
-bytes_take n bytes h i =
-    elim (cases_lt i n) [
-      | inl lt ↦ rw (get_or-take n bytes i 0 lt) (h i)
-      | inr le ↦ rw (get_or_past (take n bytes) i 0 (omega (arith, length-take n bytes))) (omega arith)
-    ]
-
--- ---- one field after the other
-
-cut : (k at : ℕ) (bytes : List ℕ) → take k (drop at bytes) ++ drop (at + k) bytes ≡ drop at bytes
-cut k at bytes = ap (λ l. take k (drop at bytes) ++ l) (sym (drop-drop k at bytes)) ∙ take-append-drop k (drop at bytes)
-
-pub piece64 : (at : ℕ) (bytes : List ℕ) → IsBytes bytes → at + 8 ≤ length bytes → to_be_bytes w64 (field w64 at bytes) ++ drop (at + 8) bytes ≡ drop at bytes
-unfolding field
-piece64 at bytes fits long =
-    let front = take 8 (drop at bytes) in
-    let is : to_be_bytes w64 (from_be_bytes w64 front) ≡ front =
-    be_bytes_8 front (from_be_bytes w64 front) (omega (arith, length-take 8 (drop at bytes), length-drop at bytes)) (bytes_take 8 (drop at bytes) (bytes_drop at bytes fits)) refl in
-    ap (λ l. l ++ drop (at + 8) bytes) is ∙ cut 8 at bytes
-
-pub piece32 : (at : ℕ) (bytes : List ℕ) → IsBytes bytes → at + 4 ≤ length bytes → to_be_bytes w32 (field w32 at bytes) ++ drop (at + 4) bytes ≡ drop at bytes
-unfolding field
-piece32 at bytes fits long =
-    let front = take 4 (drop at bytes) in
-    let is : to_be_bytes w32 (from_be_bytes w32 front) ≡ front =
-    be_bytes_4 front (from_be_bytes w32 front) (omega (arith, length-take 4 (drop at bytes), length-drop at bytes)) (bytes_take 4 (drop at bytes) (bytes_drop at bytes fits)) refl in
-    ap (λ l. l ++ drop (at + 4) bytes) is ∙ cut 4 at bytes
-
-first_byte : (bytes : List ℕ) → 1 ≤ length bytes → from_be_bytes w8 (take 1 bytes) ∷ drop 1 bytes ≡ bytes
-first_byte [] long = absurd (omega arith)
-first_byte (b ∷ bytes) long = ap (λ n. n ∷ bytes) (omega arith)
-
-pub piece8 : (at : ℕ) (bytes : List ℕ) → at + 1 ≤ length bytes → field w8 at bytes ∷ drop (at + 1) bytes ≡ drop at bytes
-unfolding field
-piece8 at bytes long =
-    ap (λ l. from_be_bytes w8 (take 1 (drop at bytes)) ∷ l) (sym (drop-drop 1 at bytes))
-    ∙ first_byte (drop at bytes) (omega (arith, length-drop at bytes))
-
--- ---- words one after the other
-
-abbrev words_by : ℕ → ℕ → List ℕ → List ℕ
-words_by zero at bytes = []
-words_by (suc n) at bytes = field w64 at bytes ∷ words_by n (at + 8) bytes
-
-length_words_by : (n at : ℕ) (bytes : List ℕ) → length (words_by n at bytes) ≡ n
-length_words_by zero at bytes = refl
-length_words_by (suc n) at bytes = ap suc (length_words_by n (at + 8) bytes)
-
-word_by : (n at : ℕ) (bytes : List ℕ) (k : ℕ) → k < n → get_or (words_by n at bytes) k 0 ≡ field w64 (at + 8 * k) bytes
-word_by zero at bytes k lt = absurd (omega arith)
-word_by (suc n) at bytes zero lt = ap (λ a. field w64 a bytes) (omega arith)
-word_by (suc n) at bytes (suc k) lt = word_by n (at + 8) bytes k (omega arith) ∙ ap (λ a. field w64 a bytes) (omega arith)
-
-words_are : (n at : ℕ) (bytes : List ℕ) → words_at n at bytes ≡ words_by n at bytes
-words_are n at bytes = sym (fill_by_all (λ k. field w64 (at + 8 * k) bytes) (words_by n at bytes) n 0 (length_words_by n at bytes) (λ k lt. word_by n at bytes k lt))
-
-pieces_by : (n at : ℕ) (bytes : List ℕ) → IsBytes bytes → at + 8 * n ≤ length bytes → words (words_by n at bytes) ++ drop (at + 8 * n) bytes ≡ drop at bytes
-pieces_by zero at bytes fits long = ap (λ a. drop a bytes) (omega arith)
-pieces_by (suc n) at bytes fits long =
-    append_assoc (to_be_bytes w64 (field w64 at bytes)) (words (words_by n (at + 8) bytes)) (drop (at + 8 * suc n) bytes)
-    ∙ ap (λ l. to_be_bytes w64 (field w64 at bytes) ++ l)
-    (ap (λ a. words (words_by n (at + 8) bytes) ++ drop a bytes) (omega arith) ∙ pieces_by n (at + 8) bytes fits (omega arith))
-    ∙ piece64 at bytes fits (omega arith)
-
-pub pieces : (n at : ℕ) (bytes : List ℕ) → IsBytes bytes → at + 8 * n ≤ length bytes → words (words_at n at bytes) ++ drop (at + 8 * n) bytes ≡ drop at bytes
-pieces n at bytes fits long = ap (λ ws. words ws ++ drop (at + 8 * n) bytes) (words_are n at bytes) ∙ pieces_by n at bytes fits long
-
-pub length_words_at : (n at : ℕ) (bytes : List ℕ) → length (words_at n at bytes) ≡ n
-length_words_at n at bytes = ap length (words_are n at bytes) ∙ length_words_by n at bytes
+use Rattle.verify_state.proofs.FieldLemmas.{IsBytes, bytes_drop, bytes_take, piece64, piece32, piece8, words_by, words_are, pieces, length_words_at}
 
 -- ---- the magic and the codes
 
@@ -136,58 +53,58 @@ codes_known bytes e =
     let fields = and_parts (is_within_limits (job_in bytes)) (has_fields bytes) e in
     (and_parts (has_codes bytes) _ (and_parts (has_codes bytes && _) _ fields.1).0).0
 
-behind_floor : (bytes : List ℕ) → IsBytes bytes → length bytes ≡ 136 → to_be_bytes w64 (floor_at bytes) ++ words (marks_at bytes) ≡ drop 96 bytes
+behind_floor : (bytes : List ℕ) → IsBytes bytes → length bytes ≡ 136 → bytes_of w64 (floor_at bytes) ++ words (marks_at bytes) ≡ drop 96 bytes
 behind_floor bytes fits exact =
     let rest = pieces 4 104 bytes fits (omega (arith, exact)) in
     let all : words (marks_at bytes) ≡ drop 104 bytes =
     sym (append-nil (words (marks_at bytes)))
     ∙ ap (λ l. words (marks_at bytes) ++ l) (sym (drop_all 136 bytes (omega (arith, exact))))
     ∙ rest in
-    ap (λ l. to_be_bytes w64 (floor_at bytes) ++ l) all
+    ap (λ l. bytes_of w64 (floor_at bytes) ++ l) all
     ∙ piece64 96 bytes fits (omega (arith, exact))
 
-behind_number : (bytes : List ℕ) → IsBytes bytes → length bytes ≡ 136 → words (place_in bytes) ++ (to_be_bytes w64 (floor_at bytes) ++ words (marks_at bytes)) ≡ drop 64 bytes
+behind_number : (bytes : List ℕ) → IsBytes bytes → length bytes ≡ 136 → words (place_in bytes) ++ (bytes_of w64 (floor_at bytes) ++ words (marks_at bytes)) ≡ drop 64 bytes
 behind_number bytes fits exact =
     ap (λ l. words (place_in bytes) ++ l) (behind_floor bytes fits exact)
     ∙ pieces 4 64 bytes fits (omega (arith, exact))
 
 key_pieces : (bytes : List ℕ) → IsBytes bytes → 100 ≤ length bytes → key_bytes (key_in bytes) ++ drop 20 bytes ≡ drop 4 bytes
-unfolding key_bytes
+unfolding key_bytes bytes_of
 key_pieces bytes fits long =
     let job = piece32 16 bytes fits (omega (arith, long)) in
-    let server = ap (λ l. to_be_bytes w32 (field w32 12 bytes) ++ l) job ∙ piece32 12 bytes fits (omega (arith, long)) in
-    ap (λ l. to_be_bytes w64 (field w64 4 bytes) ++ l) server ∙ piece64 4 bytes fits (omega (arith, long))
+    let server = ap (λ l. bytes_of w32 (field w32 12 bytes) ++ l) job ∙ piece32 12 bytes fits (omega (arith, long)) in
+    ap (λ l. bytes_of w64 (field w64 4 bytes) ++ l) server ∙ piece64 4 bytes fits (omega (arith, long))
 
 job_pieces : (bytes : List ℕ) → IsBytes bytes → 100 ≤ length bytes → has_codes bytes ≡ true → job_bytes (job_in bytes) ++ drop 56 bytes ≡ drop 20 bytes
-unfolding job_bytes
+unfolding job_bytes bytes_of
 job_pieces bytes fits long known =
     let codes_two = and_parts (ltb (field w8 20 bytes) 3 && ltb (field w8 21 bytes) 2) (eqb (field w8 23 bytes) 0) known in
     let code = and_parts (ltb (field w8 20 bytes) 3) (ltb (field w8 21 bytes) 2) codes_two.0 in
     let window = piece32 52 bytes fits (omega (arith, long)) in
-    let depth = ap (λ l. to_be_bytes w32 (field w32 48 bytes) ++ l) window ∙ piece32 48 bytes fits (omega (arith, long)) in
-    let seed = ap (λ l. to_be_bytes w64 (field w64 40 bytes) ++ l) depth ∙ piece64 40 bytes fits (omega (arith, long)) in
-    let total = ap (λ l. to_be_bytes w64 (field w64 32 bytes) ++ l) seed ∙ piece64 32 bytes fits (omega (arith, long)) in
-    let blocks = ap (λ l. to_be_bytes w32 (field w32 28 bytes) ++ l) total ∙ piece32 28 bytes fits (omega (arith, long)) in
-    let bs = ap (λ l. to_be_bytes w32 (field w32 24 bytes) ++ l) blocks ∙ piece32 24 bytes fits (omega (arith, long)) in
+    let depth = ap (λ l. bytes_of w32 (field w32 48 bytes) ++ l) window ∙ piece32 48 bytes fits (omega (arith, long)) in
+    let seed = ap (λ l. bytes_of w64 (field w64 40 bytes) ++ l) depth ∙ piece64 40 bytes fits (omega (arith, long)) in
+    let total = ap (λ l. bytes_of w64 (field w64 32 bytes) ++ l) seed ∙ piece64 32 bytes fits (omega (arith, long)) in
+    let blocks = ap (λ l. bytes_of w32 (field w32 28 bytes) ++ l) total ∙ piece32 28 bytes fits (omega (arith, long)) in
+    let bs = ap (λ l. bytes_of w32 (field w32 24 bytes) ++ l) blocks ∙ piece32 24 bytes fits (omega (arith, long)) in
     let zeros = ap (λ l. 0 ∷ l) bs ∙ ap (λ n. n ∷ drop 24 bytes) (sym (eqb-true (field w8 23 bytes) 0 codes_two.1)) ∙ piece8 23 bytes (omega (arith, long)) in
     let pattern = ap (λ l. field w8 22 bytes ∷ l) zeros ∙ piece8 22 bytes (omega (arith, long)) in
     let verify = ap (λ l. verify_code (verify_of (field w8 21 bytes)) ∷ l) pattern ∙ ap (λ n. n ∷ drop 22 bytes) (verify_again (field w8 21 bytes) code.1) ∙ piece8 21 bytes (omega (arith, long)) in
     ap (λ l. kind_code (kind_of (field w8 20 bytes)) ∷ l) verify ∙ ap (λ n. n ∷ drop 21 bytes) (kind_again (field w8 20 bytes) code.0) ∙ piece8 20 bytes (omega (arith, long))
 
-spelled_out : (s : State) → spelling s ≡ codes "FCV2" ++ (key_bytes s.key ++ (job_bytes s.job ++ (to_be_bytes w64 s.issued ++ (words s.place ++ (to_be_bytes w64 (floor_in s) ++ words (marks_in s))))))
-unfolding spelling
+spelled_out : (s : State) → spelling s ≡ codes "FCV2" ++ (key_bytes s.key ++ (job_bytes s.job ++ (bytes_of w64 s.issued ++ (words s.place ++ (bytes_of w64 (floor_in s) ++ words (marks_in s))))))
+unfolding spelling bytes_of
 spelled_out s = refl
 
 -- ---- the ranges of what is read
 
 field64_below : (at : ℕ) (bytes : List ℕ) → IsBytes bytes → field w64 at bytes < 2 ^ 64
-unfolding field
+unfolding field number_in bytes_of
 field64_below at bytes fits =
     let f = bytes_take 8 (drop at bytes) (bytes_drop at bytes fits) in
     omega (arith, f 0, f 1, f 2, f 3, f 4, f 5, f 6, f 7)
 
 field8_below : (at : ℕ) (bytes : List ℕ) → IsBytes bytes → field w8 at bytes < 256
-unfolding field
+unfolding field number_in bytes_of
 field8_below at bytes fits =
     let f = bytes_take 1 (drop at bytes) (bytes_drop at bytes fits) in
     omega (arith, f 0)
@@ -226,12 +143,12 @@ marks_same bytes fits s =
 spelled_marks : (bytes : List ℕ) → IsBytes bytes → IsSound bytes → is_layout_2 bytes ≡ true → IsMarkSound bytes → spelling (state_marked bytes) ≡ bytes
 spelled_marks bytes fits s two m =
     let floor = (are_marks bytes m.marks).floor in
-    let number = ap (λ l. to_be_bytes w64 (issued_in bytes) ++ l) (behind_number bytes fits m.exact) ∙ piece64 56 bytes fits (omega (arith, s.long)) in
+    let number = ap (λ l. bytes_of w64 (issued_in bytes) ++ l) (behind_number bytes fits m.exact) ∙ piece64 56 bytes fits (omega (arith, s.long)) in
     let job = ap (λ l. job_bytes (job_in bytes) ++ l) number ∙ job_pieces bytes fits s.long (codes_known bytes s.ranges) in
     let key = ap (λ l. key_bytes (key_in bytes) ++ l) job ∙ key_pieces bytes fits s.long in
     spelled_out (state_marked bytes)
-    ∙ ap (λ ms. codes "FCV2" ++ (key_bytes (key_in bytes) ++ (job_bytes (job_in bytes) ++ (to_be_bytes w64 (issued_in bytes) ++ (words (place_in bytes) ++ (to_be_bytes w64 (floor_of (job_in bytes).window (issued_in bytes)) ++ words ms)))))) (marks_same bytes fits m)
-    ∙ ap (λ n. codes "FCV2" ++ (key_bytes (key_in bytes) ++ (job_bytes (job_in bytes) ++ (to_be_bytes w64 (issued_in bytes) ++ (words (place_in bytes) ++ (to_be_bytes w64 n ++ words (marks_at bytes))))))) (sym floor)
+    ∙ ap (λ ms. codes "FCV2" ++ (key_bytes (key_in bytes) ++ (job_bytes (job_in bytes) ++ (bytes_of w64 (issued_in bytes) ++ (words (place_in bytes) ++ (bytes_of w64 (floor_of (job_in bytes).window (issued_in bytes)) ++ words ms)))))) (marks_same bytes fits m)
+    ∙ ap (λ n. codes "FCV2" ++ (key_bytes (key_in bytes) ++ (job_bytes (job_in bytes) ++ (bytes_of w64 (issued_in bytes) ++ (words (place_in bytes) ++ (bytes_of w64 n ++ words (marks_at bytes))))))) (sym floor)
     ∙ ap (λ l. codes "FCV2" ++ l) key
     ∙ magic_is bytes two
 
@@ -305,7 +222,7 @@ keeps bytes fits e =
 -- ---- what follows bytes without a fault
 
 count_before : (bytes rest : List ℕ) → 100 ≤ length bytes → count_in (bytes ++ rest) ≡ count_in bytes
-unfolding field
+unfolding field number_in bytes_of
 count_before bytes rest long =
     ap (λ l. from_be_bytes w32 (take 4 l)) (drop-append-le 96 bytes rest (omega (arith, long)))
     ∙ ap (from_be_bytes w32) (take-append-le 4 (drop 96 bytes) rest (omega (arith, length-drop 96 bytes, long)))

@@ -1,7 +1,8 @@
 -- What is read of a spelling.
 use Rattle.std.proofs.Common.{◌≡◌, ℕ, ◌+◌, ◌*◌, ◌^◌, ◌<◌, ◌≤◌, zero, suc, true, List, [], ◌∷◌, ◌++◌, length, take, drop, get_or, sym, refl, ap, ◌∙◌, arith, false}
 use Rattle.std.specs.List.{AllByRecursion}
-use Rattle.std.specs.Int.{w8, w64, to_be_bytes, from_be_bytes}
+use Rattle.std.specs.Int.{w8, w64, from_be_bytes}
+use Rattle.fc_base.specs.Layouts.{bytes_of, number_in}
 use Rattle.std.specs.Prelude.{nat_le, nat_lt, ◌&&◌, if◌then◌else◌}
 use Rattle.std.proofs.lemmas.Bool.{and_parts, leb-true, ltb-true}
 use Rattle.std.proofs.lemmas.Nat.{from_be_bytes-to_be_bytes_4, from_be_bytes-to_be_bytes_8}
@@ -26,10 +27,12 @@ use Rattle.verify_state.proofs.LimitLemmas.{limits}
 -- ---- words
 
 pub length_words : (xs : List ℕ) → length (words xs) ≡ 8 * length xs
+unfolding bytes_of
 length_words [] = refl
 length_words (x ∷ xs) = omega (arith, length_words xs)
 
 word_at : (xs rest : List ℕ) (k : ℕ) → AllByRecursion (λ x. x < 2 ^ 64) xs → k < length xs → from_be_bytes w64 (take 8 (drop (8 * k) (words xs ++ rest))) ≡ get_or xs k 0
+unfolding bytes_of
 word_at [] rest k all lt = absurd (omega arith)
 word_at (x ∷ xs) rest zero all lt = from_be_bytes-to_be_bytes_8 x all.0
 word_at (x ∷ xs) rest (suc k) all lt =
@@ -40,7 +43,7 @@ word_at (x ∷ xs) rest (suc k) all lt =
 
 -- words that stand at an offset are read from there
 pub words_back : (xs rest bytes : List ℕ) (at : ℕ) → drop at bytes ≡ words xs ++ rest → AllByRecursion (λ x. x < 2 ^ 64) xs → words_at (length xs) at bytes ≡ xs
-unfolding field
+unfolding field number_in bytes_of
 words_back xs rest bytes at stands all = sym (fill_by_all (λ k. field w64 (at + 8 * k) bytes) xs (length xs) 0 refl each)
   where
     each : (k : ℕ) → k < length xs → get_or xs k 0 ≡ field w64 (at + 8 * k) bytes
@@ -55,7 +58,7 @@ pub key_of : (key : Key) (run server job : ℕ) → run ≡ key.run → server �
 key_of key run server job a b c = rw (a, b, c) refl
 
 pub key_back : (s : State) → IsState s → key_in (spelling s) ≡ s.key
-unfolding field spelling key_bytes job_bytes
+unfolding field spelling key_bytes job_bytes number_in bytes_of
 key_back s is =
     let front = and_parts (nat_le 1 s.key.run && nat_lt s.key.server 8) (nat_lt s.key.job 16) is.key in
     let server = ltb-true s.key.server 8 (and_parts (nat_le 1 s.key.run) (nat_lt s.key.server 8) front.0).1 in
@@ -84,7 +87,7 @@ job_of : (job : JobParts) (kind : Kind) (verify : Verify) (pattern bs blocks tot
 job_of job kind verify pattern bs blocks total seed depth window a b c d e f g h i = rw (a, b, c, d, e, f, g, h, i) refl
 
 pub job_back : (s : State) → IsState s → job_in (spelling s) ≡ s.job
-unfolding field spelling key_bytes job_bytes
+unfolding field spelling key_bytes job_bytes number_in bytes_of
 job_back s is =
     let l = limits s.job is.limits in
     job_of s.job _ _ _ _ _ _ _ _ _
@@ -99,7 +102,7 @@ job_back s is =
     (from_be_bytes-to_be_bytes_4 s.job.window (omega (arith, l.window)))
 
 pub issued_back : (s : State) → s.issued < 2 ^ 64 → issued_in (spelling s) ≡ s.issued
-unfolding field spelling key_bytes job_bytes
+unfolding field spelling key_bytes job_bytes number_in bytes_of
 issued_back s lt = from_be_bytes-to_be_bytes_8 s.issued lt
 
 -- no more writes were issued than the job has
@@ -111,42 +114,43 @@ pub issued_limit : (s : State) → IsState s → s.issued ≤ MAX_WRITES
 issued_limit s is = omega (arith, issued_few s is, (limits s.job is.limits).total)
 
 -- what stands behind the number issued
-behind_issued : (s : State) → drop 64 (spelling s) ≡ words s.place ++ (to_be_bytes w64 (floor_in s) ++ words (marks_in s))
-unfolding spelling key_bytes job_bytes
+behind_issued : (s : State) → drop 64 (spelling s) ≡ words s.place ++ (bytes_of w64 (floor_in s) ++ words (marks_in s))
+unfolding spelling key_bytes job_bytes bytes_of
 behind_issued s = refl
 
-length_front : (s : State) → length (spelling s) ≡ 64 + length (words s.place ++ (to_be_bytes w64 (floor_in s) ++ words (marks_in s)))
-unfolding spelling key_bytes job_bytes
+length_front : (s : State) → length (spelling s) ≡ 64 + length (words s.place ++ (bytes_of w64 (floor_in s) ++ words (marks_in s)))
+unfolding spelling key_bytes job_bytes bytes_of
 length_front s = omega arith
 
 pub place_back : (s : State) → IsState s → place_in (spelling s) ≡ s.place
 place_back s is =
     ap (λ n. words_at n 64 (spelling s)) (sym is.words)
-    ∙ words_back s.place (to_be_bytes w64 (floor_in s) ++ words (marks_in s)) (spelling s) 64 (behind_issued s) is.word
+    ∙ words_back s.place (bytes_of w64 (floor_in s) ++ words (marks_in s)) (spelling s) 64 (behind_issued s) is.word
 
-behind_place : (s : State) → IsState s → drop 96 (spelling s) ≡ to_be_bytes w64 (floor_in s) ++ words (marks_in s)
+behind_place : (s : State) → IsState s → drop 96 (spelling s) ≡ bytes_of w64 (floor_in s) ++ words (marks_in s)
 behind_place s is =
     sym (drop-drop 32 64 (spelling s))
     ∙ ap (drop 32) (behind_issued s)
-    ∙ drop_at (words s.place) (to_be_bytes w64 (floor_in s) ++ words (marks_in s)) 32 (omega (arith, length_words s.place, is.words))
+    ∙ drop_at (words s.place) (bytes_of w64 (floor_in s) ++ words (marks_in s)) 32 (omega (arith, length_words s.place, is.words))
 
 pub floor_back : (s : State) → IsState s → floor_at (spelling s) ≡ floor_in s
-unfolding field
+unfolding field number_in bytes_of
 floor_back s is =
     ap (λ l. from_be_bytes w64 (take 8 l)) (behind_place s is)
     ∙ from_be_bytes-to_be_bytes_8 (floor_in s) (omega (arith, issued_limit s is))
 
 pub marks_back : (s : State) → IsState s → marks_at (spelling s) ≡ marks_in s
+unfolding bytes_of
 marks_back s is =
     words_back (marks_in s) [] (spelling s) 104
     (sym (drop-drop 8 96 (spelling s)) ∙ ap (drop 8) (behind_place s is) ∙ sym (append-nil (words (marks_in s)))) (marks_are_words (has s.counted) (floor_in s))
 
 pub layout_back : (s : State) → is_layout_2 (spelling s) ≡ true
-unfolding is_layout_2 spelling
+unfolding is_layout_2 spelling bytes_of
 layout_back s = refl
 
 pub other_layout : (s : State) → is_layout_1 (spelling s) ≡ false
-unfolding is_layout_1 spelling
+unfolding is_layout_1 spelling bytes_of
 other_layout s = refl
 
 state_from : (s : State) (key : Key) (job : JobParts) (issued : ℕ) (place marks : List ℕ) →
@@ -163,12 +167,13 @@ state_back s is =
     ∙ state_from s _ _ _ _ _ (key_back s is) (job_back s is) (issued_again s is) (place_back s is) (marks_back s is) is.counted
 
 pub length_back : (s : State) → IsState s → length (spelling s) ≡ 136
+unfolding bytes_of
 length_back s is =
     omega (
       arith,
       length_front s,
-      length-append (words s.place) (to_be_bytes w64 (floor_in s) ++ words (marks_in s)),
-      length-append (to_be_bytes w64 (floor_in s)) (words (marks_in s)),
+      length-append (words s.place) (bytes_of w64 (floor_in s) ++ words (marks_in s)),
+      length-append (bytes_of w64 (floor_in s)) (words (marks_in s)),
       length_words s.place,
       length_words (marks_in s),
       is.words,

@@ -1,7 +1,8 @@
 -- What bytes say of a verify state, and what is wrong with them, in both layouts.
-use Rattle.std.specs.Prelude.{◌≡◌, ℕ, ◌+◌, ◌*◌, Bool, not, ◌&&◌, ◌||◌, ◌==◌, nat_lt, nat_le, List, [], ◌++◌, length, map, take, drop, Result, Ok, Err, Some, codes, nat_eq, slice_get, if◌then◌else◌}
+use Rattle.std.specs.Prelude.{◌≡◌, ℕ, ◌+◌, ◌*◌, Bool, not, ◌&&◌, ◌||◌, ◌==◌, nat_lt, nat_le, List, [], ◌++◌, length, map, drop, Result, Ok, Err, Some, codes, nat_eq, slice_get, if◌then◌else◌}
 use Rattle.std.specs.List.{starts_with, range_with_len}
-use Rattle.std.specs.Int.{Width, w8, w32, w64, byte_len, from_be_bytes}
+use Rattle.std.specs.Int.{Width, w8, w32, w64}
+use Rattle.fc_base.specs.Layouts.{number_in}
 use Rattle.fc_base.specs.declared.limits.TheConstants.{MAX_WRITES}
 use Rattle.fc_base.specs.declared.numbers.Key.{Key}
 use Rattle.fc_base.specs.declared.record.JobParts.{JobParts}
@@ -16,7 +17,7 @@ use Rattle.verify_state.specs.State.{State, state_of, state_by, has_come, has_co
 
 -- The number that stands at an offset, high byte first.
 unfoldable pub field : Width → ℕ → List ℕ → ℕ
-field width at bytes = from_be_bytes width (take (byte_len width) (drop at bytes))
+field width at bytes = number_in width (drop at bytes)
 
 -- So many numbers of eight bytes from an offset on.
 abbrev pub words_at : ℕ → ℕ → List ℕ → List ℕ

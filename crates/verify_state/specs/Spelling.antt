@@ -1,7 +1,8 @@
 -- The bytes of a verify state, layout 2.
 use Rattle.std.specs.Prelude.{ℕ, List, [], ◌∷◌, ◌++◌, codes}
 use Rattle.std.specs.List.{flat_map}
-use Rattle.std.specs.Int.{w32, w64, to_be_bytes}
+use Rattle.std.specs.Int.{w32, w64}
+use Rattle.fc_base.specs.Layouts.{bytes_of}
 use Rattle.fc_base.specs.declared.numbers.Key.{Key}
 use Rattle.fc_base.specs.declared.record.JobParts.{JobParts}
 use Rattle.verify_state.specs.Codes.{kind_code, verify_code}
@@ -9,21 +10,21 @@ use Rattle.verify_state.specs.State.{State, floor_in, marks_in}
 
 -- Numbers of eight bytes, one behind the other.
 abbrev pub words : List ℕ → List ℕ
-words ns = flat_map (to_be_bytes w64) ns
+words ns = flat_map (bytes_of w64) ns
 
 -- Whose state it is.
 unfoldable pub key_bytes : Key → List ℕ
-key_bytes key = to_be_bytes w64 key.run ++ to_be_bytes w32 key.server ++ to_be_bytes w32 key.job
+key_bytes key = bytes_of w64 key.run ++ bytes_of w32 key.server ++ bytes_of w32 key.job
 
 -- The settings of its job.
 unfoldable pub job_bytes : JobParts → List ℕ
 job_bytes job =
-    (kind_code job.kind ∷ verify_code job.verify ∷ job.pattern ∷ 0 ∷ []) ++ to_be_bytes w32 job.bs
-    ++ to_be_bytes w32 job.blocks ++ to_be_bytes w64 job.total ++ to_be_bytes w64 job.seed
-    ++ to_be_bytes w32 job.depth ++ to_be_bytes w32 job.window
+    (kind_code job.kind ∷ verify_code job.verify ∷ job.pattern ∷ 0 ∷ []) ++ bytes_of w32 job.bs
+    ++ bytes_of w32 job.blocks ++ bytes_of w64 job.total ++ bytes_of w64 job.seed
+    ++ bytes_of w32 job.depth ++ bytes_of w32 job.window
 
 -- The magic, the key, the settings, the number issued, the place, the floor, and the marks.
 unfoldable pub spelling : State → List ℕ
 spelling s =
-    codes "FCV2" ++ (key_bytes s.key ++ (job_bytes s.job ++ (to_be_bytes w64 s.issued
-    ++ (words s.place ++ (to_be_bytes w64 (floor_in s) ++ words (marks_in s))))))
+    codes "FCV2" ++ (key_bytes s.key ++ (job_bytes s.job ++ (bytes_of w64 s.issued
+    ++ (words s.place ++ (bytes_of w64 (floor_in s) ++ words (marks_in s))))))

@@ -7,7 +7,10 @@ ghost use Rattle.verify_state.specs.Codes.{kind_of, verify_of};
 ghost use Rattle.verify_state.specs.Reading.{field, words_at, key_in, job_in, place_in, is_layout_1, is_layout_2, has_codes, has_fields, has_ranges};
 ghost use Rattle.verify_state.specs.Front.{front_in, Fronts};
 
-use fc_base::{Fault, JobNo, JobParts, JobRecord, Key, Kind, MAX_WRITES, RunNo, ServerNo, Verify};
+use fc_base::{
+    Fault, JobNo, JobParts, JobRecord, Key, Kind, MAX_WRITES, RunNo, ServerNo, Verify, split_u8,
+    split_u32, split_u64,
+};
 
 /// The fewest bytes that a state has, in either layout.
 const SHORTEST: usize = 100;
@@ -26,7 +29,8 @@ fn u8_at(bytes: &[u8], at: usize) -> u8
     requires { at + 1 ≤ length bytes.now }
     ensures { result ≡ field w8 at bytes.now }
 {
-    bytes[at]
+    let (number, _) = split_u8(&bytes[at..]);
+    number
 }
 
 #[tactic(auto, unfolding(crate::specs::Reading::field))]
@@ -34,8 +38,8 @@ pub(crate) fn u32_at(bytes: &[u8], at: usize) -> u32
     requires { at + 4 ≤ length bytes.now }
     ensures { result ≡ field w32 at bytes.now }
 {
-    let field = &bytes[at..at + 4];
-    u32::from_be_bytes([field[0], field[1], field[2], field[3]])
+    let (number, _) = split_u32(&bytes[at..]);
+    number
 }
 
 #[tactic(auto, unfolding(crate::specs::Reading::field))]
@@ -43,10 +47,8 @@ pub(crate) fn u64_at(bytes: &[u8], at: usize) -> u64
     requires { at + 8 ≤ length bytes.now }
     ensures { result ≡ field w64 at bytes.now }
 {
-    let field = &bytes[at..at + 8];
-    u64::from_be_bytes([
-        field[0], field[1], field[2], field[3], field[4], field[5], field[6], field[7],
-    ])
+    let (number, _) = split_u64(&bytes[at..]);
+    number
 }
 
 /// Four numbers of eight bytes.

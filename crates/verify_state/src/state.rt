@@ -17,8 +17,8 @@ use crate::misfit::check_fit;
 use crate::ranges::{are_in_range, has_counts, in_range, run_in_range};
 use crate::reading::{Front, front_of};
 use crate::same::{are_equal, is_same_job, is_same_key};
-use crate::writing::{push_job, push_key, push_words};
-use fc_base::{Fault, JobRecord, Key, MAX_WRITES, Marks, Seq};
+use crate::writing::{put_job, put_key, put_words};
+use fc_base::{Fault, JobRecord, Key, MAX_WRITES, Marks, Seq, put_u64};
 use std::alloc::{AllocError, Global};
 use std::marker::Model;
 
@@ -258,12 +258,12 @@ impl VerifyState {
         ensures { OnOk result (bytes.new.items ≡ bytes.old.items ++ spelling self.now) }
     {
         bytes.extend_from_slice(MAGIC)?;
-        push_key(bytes, &self.key)?;
-        push_job(bytes, &self.rec)?;
-        bytes.extend_from_slice(&self.issued.to_be_bytes())?;
-        push_words(bytes, &self.place)?;
-        bytes.extend_from_slice(&self.floor().to_be_bytes())?;
-        push_words(bytes, &self.marks.words())?;
+        put_key(bytes, &self.key)?;
+        put_job(bytes, &self.rec)?;
+        put_u64(bytes, self.issued)?;
+        put_words(bytes, &self.place)?;
+        put_u64(bytes, self.floor())?;
+        put_words(bytes, &self.marks.words())?;
         Ok(())
     }
 

@@ -4,7 +4,7 @@ ghost use Rattle.std.specs.Prelude.{◌≡◌, ◌++◌, OnOk};
 ghost use Rattle.verify_state.specs.Codes.{kind_code, verify_code};
 ghost use Rattle.verify_state.specs.Spelling.{words as spelled, key_bytes, job_bytes};
 
-use fc_base::{JobRecord, Key, Kind, Verify};
+use fc_base::{JobRecord, Key, Kind, Verify, put_u32, put_u64};
 use std::alloc::AllocError;
 
 pub(crate) fn kind_code(kind: Kind) -> u8
@@ -26,16 +26,16 @@ pub(crate) fn verify_code(verify: Verify) -> u8
     }
 }
 
-pub(crate) fn push_key(bytes: &mut Vec<u8>, key: &Key) -> Result<(), AllocError>
+pub(crate) fn put_key(bytes: &mut Vec<u8>, key: &Key) -> Result<(), AllocError>
     ensures { OnOk result (bytes.new.items ≡ bytes.old.items ++ key_bytes key.now) }
 {
-    bytes.extend_from_slice(&key.run.0.to_be_bytes())?;
-    bytes.extend_from_slice(&key.server.0.to_be_bytes())?;
-    bytes.extend_from_slice(&key.job.0.to_be_bytes())?;
+    put_u64(bytes, key.run.0)?;
+    put_u32(bytes, key.server.0)?;
+    put_u32(bytes, key.job.0)?;
     Ok(())
 }
 
-pub(crate) fn push_job(bytes: &mut Vec<u8>, rec: &JobRecord) -> Result<(), AllocError>
+pub(crate) fn put_job(bytes: &mut Vec<u8>, rec: &JobRecord) -> Result<(), AllocError>
     ensures { OnOk result (bytes.new.items ≡ bytes.old.items ++ job_bytes rec.now) }
 {
     bytes.extend_from_slice(&[
@@ -44,20 +44,20 @@ pub(crate) fn push_job(bytes: &mut Vec<u8>, rec: &JobRecord) -> Result<(), Alloc
         rec.pattern(),
         0,
     ])?;
-    bytes.extend_from_slice(&rec.bs().to_be_bytes())?;
-    bytes.extend_from_slice(&rec.blocks().to_be_bytes())?;
-    bytes.extend_from_slice(&rec.total().to_be_bytes())?;
-    bytes.extend_from_slice(&rec.seed().to_be_bytes())?;
-    bytes.extend_from_slice(&rec.depth().to_be_bytes())?;
-    bytes.extend_from_slice(&rec.window().to_be_bytes())?;
+    put_u32(bytes, rec.bs())?;
+    put_u32(bytes, rec.blocks())?;
+    put_u64(bytes, rec.total())?;
+    put_u64(bytes, rec.seed())?;
+    put_u32(bytes, rec.depth())?;
+    put_u32(bytes, rec.window())?;
     Ok(())
 }
 
-pub(crate) fn push_words(bytes: &mut Vec<u8>, words: &[u64; 4]) -> Result<(), AllocError>
+pub(crate) fn put_words(bytes: &mut Vec<u8>, words: &[u64; 4]) -> Result<(), AllocError>
     ensures { OnOk result (bytes.new.items ≡ bytes.old.items ++ spelled words.now) }
 {
     for word in words {
-        bytes.extend_from_slice(&word.to_be_bytes())?;
+        put_u64(bytes, *word)?;
     }
     Ok(())
 }

@@ -2,14 +2,13 @@
 
 ghost use Rattle.std.specs.Prelude.{◌≡◌, ◌≤◌, length, drop, IsTrue, IfOk};
 ghost use Rattle.messages.specs.declared.frame.FrameKind.TheVariants.{Packet as PacketSort, Piece as PieceSort};
-ghost use Rattle.messages.specs.Layouts.{numbers};
+ghost use Rattle.fc_base.specs.Layouts.{numbers};
 ghost use Rattle.messages.specs.Bodies.{Reads};
 ghost use Rattle.messages.specs.FrameBytes.{piece_layout, sort_numbered, frame_limit, frame_said, FrameAnswers, IsShort};
 ghost use Rattle.messages.specs.FrameLaws.{SaysFrame};
 ghost use Rattle.messages.specs.Headers.{HeaderIs, are_nodes};
 ghost use Rattle.messages.specs.PieceNumbers.{fields_numbers, tag_said};
 
-use crate::bytes::{split_u8, split_u32, split_u64};
 use crate::chunk::{CHUNK_LIMIT, Chunk};
 use crate::frame::{Frame, FrameKind};
 use crate::kind::PacketKind;
@@ -18,7 +17,7 @@ use crate::piece::{Piece, PieceParts, Tag, is_place};
 use crate::piece_law::only_frames_are_read;
 use crate::reading::{Ends, Header, body_of, ends_of, fields_of};
 use crate::writing::HEADER;
-use fc_base::{Fault, JobNo, RunNo, ServerNo};
+use fc_base::{Fault, JobNo, RunNo, ServerNo, split_u8, split_u32, split_u64};
 use std::alloc::Global;
 
 /// How many bytes a frame may have behind its header.

@@ -6,10 +6,9 @@ ghost use Rattle.messages.specs.declared.kind.PacketKind.TheVariants.{JobsOk, St
 ghost use Rattle.messages.specs.Bodies.{body_at};
 
 use crate::body::Body;
-use crate::bytes::{split_u8, split_u32, split_u64};
 use crate::reading::in_range;
 use crate::refusal::{Act, Asked, Reason, Refusal};
-use fc_base::{Attempt, JobNo, RunNo};
+use fc_base::{Attempt, JobNo, RunNo, split_u8, split_u32, split_u64};
 
 pub(super) fn jobs_ok(bytes: &[u8]) -> Option<Body>
     ensures { result ≡ body_at JobsOk bytes.now }

@@ -2,13 +2,15 @@
 
 ghost use Rattle.std.specs.Prelude.{◌≡◌, ◌*◌, ◌≤◌, ◌∷◌, [], length, drop};
 ghost use Rattle.messages.specs.declared.kind.PacketKind.TheVariants.{Report};
-ghost use Rattle.messages.specs.Layouts.{numbers, blocks_in};
+ghost use Rattle.fc_base.specs.Layouts.{numbers, blocks_in};
 ghost use Rattle.messages.specs.Bodies.{body_at, layout, end_numbered};
 
 use crate::body::Body;
-use crate::bytes::{split_u8, split_u32, split_u64};
 use crate::reading::in_range;
-use fc_base::{Attempt, Blocks, CheckReport, JobNo, MAX_LISTED, ReportEnd, ReportParts, RunNo};
+use fc_base::{
+    Attempt, Blocks, CheckReport, JobNo, MAX_LISTED, ReportEnd, ReportParts, RunNo, split_u8,
+    split_u32, split_u64,
+};
 
 /// How many bytes a report has before its blocks.
 const FIELDS: usize = 41;

@@ -5,9 +5,8 @@ ghost use Rattle.messages.specs.declared.kind.PacketKind.TheVariants.{State, Sav
 ghost use Rattle.messages.specs.Bodies.{body_at, state_said};
 
 use crate::body::Body;
-use crate::bytes::{split_u32, split_u64};
 use crate::reading::in_range;
-use fc_base::Attempt;
+use fc_base::{Attempt, split_u32, split_u64};
 use verify_state::VerifyState;
 
 pub(super) fn state(bytes: &[u8]) -> Option<Body>

@@ -4,10 +4,9 @@ ghost use Rattle.messages.specs.declared.kind.PacketKind.TheVariants.{Jobs, Veri
 ghost use Rattle.messages.specs.Bodies.{Reads, body_at};
 
 use crate::body::Body;
-use crate::bytes::split_u64;
 use crate::ranges::{is_attempt, is_run};
 use crate::text::Text;
-use fc_base::{Attempt, Fault, MAX_TEXT, RunNo};
+use fc_base::{Attempt, Fault, MAX_TEXT, RunNo, split_u64};
 use std::alloc::Global;
 
 pub(super) fn jobs(alloc: Global, bytes: &[u8]) -> Result<Body, Fault>

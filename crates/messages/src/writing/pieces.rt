@@ -2,17 +2,17 @@
 
 ghost use Rattle.std.specs.Prelude.{◌≡◌, ℕ, ◌+◌, ◌≤◌, ◌∷◌, [], ◌++◌, length, OnOk, IfOk};
 ghost use Rattle.std.specs.Int.{w32};
-ghost use Rattle.messages.specs.Layouts.{spelled};
+ghost use Rattle.fc_base.specs.Layouts.{spelled};
 ghost use Rattle.messages.specs.Nodes.{node_number};
 ghost use Rattle.messages.specs.Packets.{header};
 ghost use Rattle.messages.specs.FrameBytes.{piece_layout, piece_spelling, frame_spelling, IsShort};
 ghost use Rattle.messages.specs.Kinds.{number_of};
 
-use crate::bytes::{put_u8, put_u32, put_u64};
 use crate::frame::{Frame, PIECE};
 use crate::node::Node;
 use crate::piece::Tag;
 use crate::writing::{VERSION, encode};
+use fc_base::{put_u8, put_u32, put_u64};
 use std::alloc::{AllocError, Global};
 
 /// How many bytes a piece has before its part of the body: a header of 16, and 33 of its numbers.

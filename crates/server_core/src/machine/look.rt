@@ -1,14 +1,17 @@
 //! What a server shows of its words.
 
 ghost use Rattle.std.specs.Prelude.{◌≡◌};
-ghost use Rattle.std.specs.Option.{option_copied};
+ghost use Rattle.std.specs.Option.{option_copied, option_map};
 ghost use Rattle.server_core.specs.Answers.{status_of, stage_of, number_of_run, number_of_check, job_of_run, job_of_check};
 ghost use Rattle.server_core.specs.Stands.{EachNow, EachWork, EachOpen};
+ghost use Rattle.server_core.specs.Check.{progress_in};
+ghost use Rattle.server_core.specs.KeptCheck.{progress_of};
 ghost use Rattle.server_core.specs.Taken.{taken_in};
 
 use super::Machine;
 use crate::job_run::End;
 use crate::open_check::OpenCheck;
+use crate::progress::Progress;
 use crate::run::Run;
 use crate::status::{Stage, Status};
 use fc_base::{Attempt, JobNo, RunNo};
@@ -50,6 +53,14 @@ impl Machine {
     {
         self.check.as_ref()?.job(job)
     }
+
+    /// How far the check of a job is, where it is one of the open check.
+    pub(crate) fn check_progress(&self, job: JobNo) -> Option<&Progress>
+        ensures { EachNow self.now (λ now.
+            option_map progress_of (option_copied result) ≡ progress_in now.check job) }
+    {
+        progress(&self.check, job)
+    }
 }
 
 /// The number of the present run, 0 where there is none.
@@ -83,5 +94,16 @@ fn attempt(check: &Option<OpenCheck>) -> Attempt
     match check {
         Some(check) => check.attempt(),
         None => Attempt(0),
+    }
+}
+
+/// How far the check of a job is, where it is one of the open check.
+fn progress(check: &Option<OpenCheck>, job: JobNo) -> Option<&Progress>
+    ensures { EachOpen check.now (λ me now_boot c.
+        option_map progress_of (option_copied result) ≡ progress_in c job) }
+{
+    match check {
+        Some(check) => check.progress(job),
+        None => None,
     }
 }

@@ -3,6 +3,7 @@
 ghost use Rattle.std.specs.Prelude.{◌≡◌, IsTrue, IfOk, OnErr, MatchOption, Err, Some, is_some, true};
 ghost use Rattle.fc_base.specs.declared.fault.Fault.TheVariants.{NoMemory};
 ghost use Rattle.messages.specs.Ranges.{is_run};
+ghost use Rattle.server_core.specs.declared.event.Event.TheVariants.{Deliver};
 ghost use Rattle.server_core.specs.Request.{ToStart, asked};
 ghost use Rattle.server_core.specs.Words.{Staged, is_due};
 ghost use Rattle.server_core.specs.Replies.{present, replies};
@@ -16,7 +17,7 @@ use crate::job_run::JobRun;
 use crate::replies::only;
 use crate::work;
 use fc_base::{Fault, RunNo};
-use messages::{Asked, Body, Frames, Reason};
+use messages::{Asked, Body, Frames, Packet, Reason};
 use std::alloc::AllocError;
 
 impl Machine {
@@ -26,9 +27,18 @@ impl Machine {
             (λ now. IsDueFor now (asked self.now.me event.now) result) }
         ensures range { MatchOption result (Unit {0}) (λ run. IsTrue (is_run run)) }
     {
-        let Event::Deliver(packet) = event else {
-            return None;
-        };
+        match event {
+            Event::Deliver(packet) => self.due_by(packet),
+            _ => None,
+        }
+    }
+
+    /// The run that a packet is due to record, if there is one.
+    pub(crate) fn due_by(&self, packet: &Packet) -> Option<RunNo>
+        ensures due { EachNow self.now
+            (λ now. IsDueFor now (asked self.now.me (Deliver packet.now)) result) }
+        ensures range { MatchOption result (Unit {0}) (λ run. IsTrue (is_run run)) }
+    {
         packet.keeps_its_ranges();
         if !packet.from().is_client() || !packet.to().is_server(self.me) {
             return None;

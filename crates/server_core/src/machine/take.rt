@@ -3,7 +3,8 @@
 ghost use Rattle.std.specs.Prelude.{◌≡◌, IsTrue};
 ghost use Rattle.messages.specs.Ranges.{is_attempt as in_range, is_run};
 ghost use Rattle.server_core.specs.Request.{ToStage, ToStart, ToTrigger, ToMark, ToStop, ToVerify, ToHold, ToPassFully, ToIssue, ToEnd, ToReport};
-ghost use Rattle.server_core.specs.Handles.{Handled, EachUndue, sent_alone};
+ghost use Rattle.server_core.specs.Handles.{Handled, EachUndue};
+ghost use Rattle.server_core.specs.Memory.{TakesNone};
 
 use super::Machine;
 use crate::event::WriteEnd;
@@ -20,7 +21,7 @@ impl Machine {
         ensures { EachUndue self.old (ToStage run text.now)
             (λ now. Handled now (ToStage run text.now) self.old self.new result) }
     {
-        Ok(sent(self.stage(run, text.as_slice())?))
+        Ok(Outs::sent(self.stage(run, text.as_slice())?))
     }
 
     /// A Start that isn't due to record a run.
@@ -30,7 +31,7 @@ impl Machine {
         ensures { EachUndue self.old (ToStart run)
             (λ now. Handled now (ToStart run) self.old self.new result) }
     {
-        Ok(sent(self.start_frames(run)?))
+        Ok(Outs::sent(self.start_frames(run)?))
     }
 
     /// A Trigger.
@@ -40,7 +41,7 @@ impl Machine {
             (λ now. Handled now (ToTrigger run act) self.old self.new result) }
     {
         match self.trigger(run, act) {
-            Ok(frames) => Ok(sent(frames)),
+            Ok(frames) => Ok(Outs::sent(frames)),
             Err(_) => Err(Fault::NoMemory),
         }
     }
@@ -52,7 +53,7 @@ impl Machine {
             (λ now. Handled now (ToStop run) self.old self.new result) }
     {
         match self.stop(run) {
-            Ok(frames) => Ok(sent(frames)),
+            Ok(frames) => Ok(Outs::sent(frames)),
             Err(_) => Err(Fault::NoMemory),
         }
     }
@@ -82,7 +83,7 @@ impl Machine {
         ensures { EachUndue self.old (ToVerify run attempt text.now)
             (λ now. Handled now (ToVerify run attempt text.now) self.old self.new result) }
     {
-        Ok(sent(self.verify(run, attempt, text.as_slice())?))
+        Ok(Outs::sent(self.verify(run, attempt, text.as_slice())?))
     }
 
     /// A state for the check of its job.
@@ -94,7 +95,7 @@ impl Machine {
         ensures { EachUndue self.old (ToHold attempt state.now)
             (λ now. Handled now (ToHold attempt state.now) self.old self.new result) }
     {
-        Ok(sent(self.hold(attempt, state)?))
+        Ok(Outs::sent(self.hold(attempt, state)?))
     }
 
     /// That the client keeps no state for the check of a job.
@@ -103,13 +104,14 @@ impl Machine {
             (λ now. Handled now (ToPassFully attempt job) self.old self.new result) }
     {
         self.pass(attempt, job);
-        Ok(sent(Frames::new(self.alloc)))
+        Ok(Outs::sent(Frames::new(self.alloc)))
     }
 
     /// A worker asks for a write.
-    pub(super) fn handle_issue(&mut self, job: JobNo) -> Result<Outs, Fault>
-        ensures { EachUndue self.old (ToIssue job)
+    pub(crate) fn handle_issue(&mut self, job: JobNo) -> Result<Outs, Fault>
+        ensures handled { EachUndue self.old (ToIssue job)
             (λ now. Handled now (ToIssue job) self.old self.new result) }
+        ensures memory { TakesNone result }
     {
         let issue = self.issue(job);
         Ok(Outs {
@@ -120,12 +122,13 @@ impl Machine {
     }
 
     /// A worker tells how a write ended.
-    pub(super) fn handle_end(&mut self, ticket: Ticket, end: WriteEnd) -> Result<Outs, Fault>
-        ensures { EachUndue self.old (ToEnd ticket end)
+    pub(crate) fn handle_end(&mut self, ticket: Ticket, end: WriteEnd) -> Result<Outs, Fault>
+        ensures handled { EachUndue self.old (ToEnd ticket end)
             (λ now. Handled now (ToEnd ticket end) self.old self.new result) }
+        ensures memory { TakesNone result }
     {
         match self.end_write(ticket, end) {
-            Ok(()) => Ok(sent(Frames::new(self.alloc))),
+            Ok(()) => Ok(Outs::sent(Frames::new(self.alloc))),
             Err(fault) => Err(fault),
         }
     }
@@ -141,17 +144,6 @@ impl Machine {
         ensures { EachUndue self.old (ToReport boot attempt job report)
             (λ now. Handled now (ToReport boot attempt job report) self.old self.new result) }
     {
-        Ok(sent(self.report(boot, attempt, job, report)?))
-    }
-}
-
-/// These frames, and nothing else.
-fn sent(frames: Frames) -> Outs
-    ensures { result ≡ sent_alone frames }
-{
-    Outs {
-        frames,
-        issue: None,
-        act: Act::None,
+        Ok(Outs::sent(self.report(boot, attempt, job, report)?))
     }
 }

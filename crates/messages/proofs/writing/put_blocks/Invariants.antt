@@ -1,5 +1,5 @@
 use Rattle.std.proofs.Common.{◌≡◌, ◌++◌, take}
-use Rattle.messages.specs.Layouts.{spelled_blocks}
+use Rattle.fc_base.specs.Layouts.{spelled_blocks}
 use Rattle.messages.proofs.writing.put_blocks.Given as goal
 
 abbrev pub invariant-loop-block : goal.invariant-loop-block

@@ -1,4 +1,5 @@
-use Rattle.verify_state.proofs.PieceLemmas.{are_bytes, keeps, said_by_list}
+use Rattle.verify_state.proofs.FieldLemmas.{are_bytes}
+use Rattle.verify_state.proofs.PieceLemmas.{keeps, said_by_list}
 use Rattle.verify_state.proofs.law.bytes_say_states.Goals as goal
 
 pub returns-clause-says_a_state : goal.returns-clause-says_a_state

@@ -1,6 +1,7 @@
 use Rattle.verify_state.proofs.SpellingLemmas.{state_back, layout_back, length_back}
 use Rattle.verify_state.proofs.FaultLemmas.{sound_spelling}
-use Rattle.verify_state.proofs.PieceLemmas.{are_bytes, spelled}
+use Rattle.verify_state.proofs.FieldLemmas.{are_bytes}
+use Rattle.verify_state.proofs.PieceLemmas.{spelled}
 use Rattle.verify_state.proofs.law.one_spelling.Goals as goal
 
 pub returns-clause-reads_back : goal.returns-clause-reads_back

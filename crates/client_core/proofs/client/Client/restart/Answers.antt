@@ -15,9 +15,10 @@ returns-in-Ok-Some g c =
       says = says;
       stands = λ o past servers said. record {
         on = refl;
-        servers = sym servers;
+        servers = c.new-servers.ensures ∙ sym servers;
         few = omega (arith, servers, c.requires.few);
         durable = subst (λ (n : Note). Says n.bytes (noted o past)) (sym loaded.0) said;
+        lives = c.new-life.ensures;
         knows = c.one_note.ensures old.bytes c.in-Ok-Some.noted (noted o past) says said;
       };
     }

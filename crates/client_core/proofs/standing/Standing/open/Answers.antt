@@ -1,11 +1,12 @@
-use Rattle.std.proofs.Common.{refl, inl}
+use Rattle.std.proofs.Common.{refl, inl, arith}
 use Rattle.client_core.proofs.StandingLemmas.{unset}
 use Rattle.client_core.proofs.standing.Standing.open.Goals as goal
 
-pub returns-clause-kept : goal.returns-clause-kept
-returns-clause-kept c = record {
+pub returns : goal.returns
+returns c = record {
   open_yet = refl;
   jobs = refl;
+  few = omega arith;
   any = inl refl;
   told_of = λ job l. unset job;
   misfit = refl;

@@ -5,7 +5,7 @@ use Rattle.client_core.specs.Standing.{IsKept}
 use Rattle.client_core.proofs.StandingLemmas.{tells}
 use Rattle.client_core.proofs.standing.Standing.tell.Goals as goal
 
-pub returns-in-Open-clause-kept : goal.returns-in-Open-clause-kept
-returns-in-Open-clause-kept c =
+pub returns-in-Open : goal.returns-in-Open
+returns-in-Open c =
     let t : Telling = record { job = c.args.job; jobs = c.args.jobs; misfit = c.args.misfit } in
-    λ q k. subst (λ (s : Standing). IsKept s (told t q)) (sym c.answer.ensures.value) (tells t c.args.self.now q c.requires.job c.requires.few (omega arith) c.in-Open.is k)
+    λ q k. subst (λ (s : Standing). IsKept s (told t q)) (sym c.answer.ensures) (tells t c.args.self.now q c.requires.job (omega arith) c.in-Open.is k)

@@ -1,6 +1,6 @@
 use Rattle.std.proofs.Common.{drop, sym, ap, ◌∙◌, arith}
 use Rattle.std.specs.Int.{w8}
-use Rattle.messages.specs.Layouts.{number_in}
+use Rattle.fc_base.specs.Layouts.{number_in}
 use Rattle.messages.specs.Choices.{asked_numbered, reason_numbered}
 use Rattle.messages.proofs.BodyLemmas.{refused_at}
 use Rattle.messages.proofs.reading.plain.refused.Goals as goal

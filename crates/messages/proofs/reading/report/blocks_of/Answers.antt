@@ -1,6 +1,6 @@
 use Rattle.std.proofs.Common.{List, ℕ, ◌-◌, ◌+◌, ◌∷◌, [], ◌++◌, length, ap, ◌∙◌, arith, append_assoc}
 use Rattle.std.proofs.lemmas.List.{length-append}
-use Rattle.messages.specs.Layouts.{blocks_in}
+use Rattle.fc_base.specs.Layouts.{blocks_in}
 use Rattle.messages.proofs.BlockLemmas.{blocks_in-next}
 use Rattle.messages.proofs.reading.report.blocks_of.Goals as goal
 

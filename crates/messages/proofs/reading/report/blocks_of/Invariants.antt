@@ -1,5 +1,5 @@
 use Rattle.std.proofs.Common.{◌≡◌, ◌*◌, ◌-◌, ◌≤◌, ◌++◌, length}
-use Rattle.messages.specs.Layouts.{blocks_in}
+use Rattle.fc_base.specs.Layouts.{blocks_in}
 use Rattle.messages.proofs.reading.report.blocks_of.Given as goal
 
 abbrev pub invariant-loop : goal.invariant-loop

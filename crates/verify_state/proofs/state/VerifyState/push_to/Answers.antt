@@ -1,5 +1,6 @@
-use Rattle.std.proofs.Common.{◌≡◌, ◌∙◌, ap, sym}
-use Rattle.std.specs.Int.{w64, to_be_bytes}
+use Rattle.std.proofs.Common.{◌≡◌, ◌∙◌, refl, ap, sym}
+use Rattle.std.specs.Int.{w64}
+use Rattle.fc_base.specs.Layouts.{bytes_of}
 use Rattle.fc_base.specs.CountLaws.{marks_again}
 use Rattle.verify_state.specs.Inside.{state_of_fields, ends}
 use Rattle.verify_state.specs.Spelling.{words}
@@ -18,12 +19,12 @@ returns c =
     rw (← c.self.view_is)
     (spelled_on state bytes _ _ _ _ _ _ _ _ _ _
     c.in_ok-extend_from_slice.ensures.items
-    c.in_ok-push_key.ensures
-    c.in_ok-push_job.ensures
-    c.in_ok-extend_from_slice-2.ensures.items
-    c.in_ok-push_words.ensures
-    c.in_ok-extend_from_slice-3.ensures.items
-    c.in_ok-push_words-2.ensures
-    c.to_be_bytes.ensures
-    (c.to_be_bytes-2.ensures ∙ ap (to_be_bytes w64) floor)
+    c.in_ok-put_key.ensures
+    c.in_ok-put_job.ensures
+    c.in_ok-put_u64.ensures
+    c.in_ok-put_words.ensures
+    c.in_ok-put_u64-2.ensures
+    c.in_ok-put_words-2.ensures
+    refl
+    (ap (bytes_of w64) floor)
     (ap words c.words.ensures.value ∙ marks))

@@ -1,0 +1,118 @@
+//! What a client replies to a server.
+
+ghost use Rattle.std.specs.Prelude.{◌≡◌, ◌<◌, ◌≤◌, [], ◌∷◌, length, IsTrue, IfOk};
+ghost use Rattle.messages.specs.Ranges.{is_body, is_run};
+ghost use Rattle.messages.specs.declared.body.Body.TheVariants.{WantState};
+ghost use Rattle.client_core.specs.Framed.{framed};
+ghost use Rattle.client_core.specs.Lives.{EachLife};
+ghost use Rattle.client_core.specs.Packets.{replies, start_for, jobs_for, state_for};
+ghost use Rattle.client_core.specs.Kept.{kept_of};
+
+use crate::beginning::Beginning;
+use crate::frames::only;
+use crate::life::Life;
+use crate::noted::Noted;
+use fc_base::{Attempt, JobNo, Key, RunNo, ServerNo};
+use messages::{Asked, Body, Frames, Reason, Text};
+use std::alloc::{AllocError, Global};
+
+/// What is replied to a server that says this.
+pub(crate) fn replies(
+    alloc: Global,
+    noted: &Noted,
+    life: &Life,
+    server: u32,
+    body: &Body,
+) -> Result<Frames, AllocError>
+    requires server { server < 8 }
+    requires body { IsTrue (is_body body.now) }
+    ensures { EachLife life.now
+        (λ deeds. IfOk result (λ frames. frames ≡ framed (replies noted.now deeds server body.now))) }
+{
+    match body {
+        Body::JobsOk { run, .. } => start_for(alloc, *run, server, life.begin_at(*run, server)),
+        Body::State { state, .. } => {
+            let Key { run, job, .. } = state.key();
+            only(alloc, server, Body::StateAck { run, job })
+        }
+        Body::NoState { run, job, .. } => {
+            let (run, job) = (*run, *job);
+            only(alloc, server, Body::StateAck { run, job })
+        }
+        Body::WantState { run, attempt, job } => {
+            state_for(alloc, noted, *run, *attempt, *job, server)
+        }
+        Body::Refused(refusal) => match (refusal.asked, refusal.reason) {
+            (Asked::Start, Reason::NoJobs) => {
+                let run = refusal.run;
+                let begin = life.begin_at(run, server);
+                jobs_for(alloc, run, life.text_of(run), server, begin)
+            }
+            _ => Ok(Frames::new(alloc)),
+        },
+        _ => Ok(Frames::new(alloc)),
+    }
+}
+
+/// The start of a run, where its jobs were open.
+fn start_for(alloc: Global, run: RunNo, server: u32, begin: Beginning) -> Result<Frames, AllocError>
+    requires server { server < 8 }
+    requires run { IsTrue (is_run run) }
+    ensures { IfOk result (λ frames. frames ≡ framed (start_for run server begin)) }
+{
+    match begin {
+        Beginning::Staging => only(alloc, server, Body::Start { run }),
+        _ => Ok(Frames::new(alloc)),
+    }
+}
+
+/// The jobs of a run again, where its start was open.
+fn jobs_for(
+    alloc: Global,
+    run: RunNo,
+    text: &[u8],
+    server: u32,
+    begin: Beginning,
+) -> Result<Frames, AllocError>
+    requires server { server < 8 }
+    requires run { IsTrue (is_run run) }
+    requires text { length text.now ≤ 16384 }
+    ensures { IfOk result (λ frames. frames ≡ framed (jobs_for run text.now server begin)) }
+{
+    match begin {
+        Beginning::Starting => {
+            let text = Text::copied(alloc, text)?;
+            only(alloc, server, Body::Jobs { run, text })
+        }
+        _ => Ok(Frames::new(alloc)),
+    }
+}
+
+/// The kept state that a check asks for, or that there is none.
+fn state_for(
+    alloc: Global,
+    noted: &Noted,
+    run: RunNo,
+    attempt: Attempt,
+    job: JobNo,
+    server: u32,
+) -> Result<Frames, AllocError>
+    requires server { server < 8 }
+    requires body { IsTrue (is_body (WantState run attempt job)) }
+    ensures { IfOk result (λ frames. frames ≡ framed (state_for run attempt job server
+        (kept_of (record { run = run; server = server; job = job }) noted.now.kept) ∷ [])) }
+{
+    let key = Key {
+        run,
+        server: ServerNo(server),
+        job,
+    };
+    let body = match noted.kept.get(key) {
+        Some(state) => Body::Saved {
+            attempt,
+            state: *state,
+        },
+        None => Body::NoSaved { run, attempt, job },
+    };
+    only(alloc, server, body)
+}

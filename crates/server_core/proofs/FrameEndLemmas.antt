@@ -1,0 +1,226 @@
+-- A server takes what comes over a network of frames as its list does.
+use Rattle.std.proofs.Common.{◌≡◌, refl, sym, ◌∙◌, ap, subst, ℕ, ◌≤◌, arith, length, Bool, true, false, ◌&&◌, List, [], ◌∷◌, ◌++◌, Option, Some, None, Result, Ok, Err}
+use Rattle.std.specs.Prelude.{if◌then◌else◌, map, not, is_some}
+use Rattle.std.specs.List.{flat_map}
+use Rattle.std.specs.Result.{is_ok}
+use Rattle.std.proofs.lemmas.List.{map-append}
+use Rattle.std.proofs.lemmas.List.Elements.{All-nil}
+use Rattle.fc_base.specs.declared.fault.Fault.{Fault}
+use Rattle.fc_base.specs.declared.fault.Fault.TheVariants.{NoMemory, Down, Misdirected, FrameBadField}
+use Rattle.fc_base.specs.declared.fault.FaultSort.{FaultSort}
+use Rattle.fc_base.specs.declared.fault.FaultSort.TheVariants as sorts
+use Rattle.fc_base.specs.Fault.{sort_of}
+use Rattle.disk_model.specs.declared.left.Left.{Left}
+use Rattle.disk_model.specs.declared.left.Left.TheVariants.{NoSave}
+use Rattle.disk_model.specs.Left.{is_lost}
+use Rattle.disk_model.specs.Notes.{Note}
+use Rattle.messages.specs.declared.packet.PacketParts.{PacketParts}
+use Rattle.messages.specs.declared.piece.PieceParts.{PieceParts}
+use Rattle.messages.specs.declared.frame.Frame.TheVariants.{Piece}
+use Rattle.messages.specs.Assemblies.{Row, Look, Gives, look, taken, without}
+use Rattle.messages.specs.FrameBytes.{frame_spelling}
+use Rattle.messages.specs.FramesOf.{spelled_frames}
+use Rattle.messages.specs.Pieces.{frames_of}
+use Rattle.messages.specs.Hearing.{Meaning, Says, Waits, Spoils, Strays, meaning, said_by, rows_by, with_entry}
+use Rattle.server_core.specs.declared.event.Event.{Event}
+use Rattle.server_core.specs.declared.event.Event.TheVariants as events
+use Rattle.server_core.specs.declared.input.Input.{Input}
+use Rattle.server_core.specs.declared.input.Input.TheVariants.{Deliver}
+use Rattle.server_core.specs.declared.outs.Outs.{Outs}
+use Rattle.server_core.specs.declared.packet_server.PacketServer.{PacketServer}
+use Rattle.server_core.specs.declared.server.Server.{Server}
+use Rattle.server_core.specs.History as history
+use Rattle.server_core.specs.History.{Opening}
+use Rattle.server_core.specs.Words as words
+use Rattle.server_core.specs.Answers as answers
+use Rattle.server_core.specs.Handles.{sent_alone}
+use Rattle.server_core.specs.Serves as whole
+use Rattle.server_core.specs.Serves.{saved_for}
+use Rattle.server_core.specs.Hearing.{FrameEntry, Met, is_piece_for, rules, heard_at, packets_heard, assembly}
+use Rattle.server_core.specs.FrameAnswers.{Sense, Hears, Keeps, Drops, Misses, sense_of, sense, refusal, refusal_in, due, due_in, issue_in, act_in, answered, entry_heard, frames_by}
+use Rattle.server_core.specs.FrameEnds.{StandsFor, Answers, Refuses, Faults, Ends, is_drop}
+use Rattle.server_core.proofs.HearingLemmas.{rows_after, entry_by, entry_is, heard_is, kept_rows, dropped_rows, missed_rows, same_rows, refused_rows, piece_sense, given_gone}
+
+-- ---- the frames of packets
+
+spelled : (ps : List PacketParts) → flat_map spelled_frames ps ≡ map frame_spelling (flat_map frames_of ps)
+spelled [] = refl
+spelled (p ∷ ps) = ap (λ fs. spelled_frames p ++ fs) (spelled ps) ∙ sym (map-append frame_spelling (frames_of p) (flat_map frames_of ps))
+
+-- ---- whether the server is on
+
+on_before : (on lost : Bool) → (on && not lost) ≡ true → on ≡ true
+on_before true lost h = refl
+on_before false lost h = cc
+
+off_lost : (on lost : Bool) → lost ≡ true → (on && not lost) ≡ true → ⊥
+off_lost true true l h = cc
+off_lost false true l h = cc
+off_lost on false l h = cc
+
+on_is : (o : Opening) (past : List FrameEntry) (e : Input) (x : Event) (left : Left) → sense o past e ≡ Hears x → words.is_on (packets_heard o (Met e left ∷ past)) ≡ (words.is_on (packets_heard o past) && not (is_lost left))
+on_is o past e x left is = ap words.is_on (heard_is o past e left (Hears x) is)
+
+-- ---- an event that is heard
+
+heard_stands : {T : Type 0} (note : T → Note) (o : Opening) (past : List FrameEntry) (e : Input) (x : Event) (left : Left) (new : Server T) → sense o past e ≡ Hears x
+    → whole.StandsFor note new.core o (history.Met x left ∷ packets_heard o past) → (words.is_on (packets_heard o (Met e left ∷ past)) ≡ true → new.pieces ≡ rows_after o past e left) → StandsFor note new o (Met e left ∷ past)
+heard_stands note o past e x left new is h k = record {
+  core = subst (λ (list : List history.Entry). whole.StandsFor note new.core o list) (sym (heard_is o past e left (Hears x) is)) h;
+  pieces = k;
+}
+
+heard_answers : {T : Type 0} (note : T → Note) (o : Opening) (past : List FrameEntry) (e : Input) (x : Event) (new : Server T) (outs : Outs) → sense o past e ≡ Hears x
+    → whole.Answers note o (packets_heard o past) x new.core outs → (words.is_on (packets_heard o past) ≡ true → new.pieces ≡ rows_after o past e NoSave) → Answers note o past e new outs
+heard_answers note o past e x new outs is a k =
+    let list = packets_heard o past in
+    let left = saved_for (words.due o list x) in
+    let same_entry : answered o past e ≡ Met e left = ap (λ y. Met e (saved_for (due_in o list y))) is in
+    let says : entry_heard o past (answered o past e) ≡ Some (history.Met x left) = ap (entry_heard o past) same_entry ∙ entry_is o past e left ∙ ap (λ y. entry_by y left) is in
+    record {
+      free = ap (refusal_in o list) is ∙ a.free;
+      frames_are = a.frames_are ∙ spelled (answers.packets o list (history.Met x left)) ∙ ap (λ y. map frame_spelling (frames_by o list y)) (sym says);
+      issue_is = a.issue_is ∙ sym (ap (issue_in o list) is);
+      act_is = a.act_is ∙ sym (ap (act_in o list) is);
+      short = a.short;
+      stands = subst (λ y. StandsFor note new o (y ∷ past)) (sym same_entry)
+          (heard_stands note o past e x left new is a.stands (λ on. k (on_before (words.is_on list) (is_lost left) (sym (on_is o past e x left is) ∙ on)) ∙ same_rows o past e NoSave left));
+    }
+
+heard_faults : {T : Type 0} (note : T → Note) (o : Opening) (past : List FrameEntry) (e : Input) (x : Event) (old new : Server T) (fault : Fault) → sense o past e ≡ Hears x → StandsFor note old o past
+    → (sort : FaultSort) → whole.Faults note o (packets_heard o past) x sort fault old.core new.core → new.pieces ≡ old.pieces → Faults note o past e sort fault old new
+heard_faults note o past e x old new fault is w sorts.Memory h k =
+    record { why = h.why; same_note = h.same_note; unchanged = record { core = h.unchanged; pieces = λ on. k ∙ w.pieces on } }
+heard_faults note o past e x old new fault is w sorts.Save h k = record {
+  cause = h.cause;
+  free = ap (refusal_in o (packets_heard o past)) is ∙ h.free;
+  began = h.began;
+  makes_one = ap (due_in o (packets_heard o past)) is ∙ h.makes_one;
+  left = h.left;
+  lost = h.lost;
+  stands = heard_stands note o past e x h.left new is h.stands (λ on. absurd (off_lost (words.is_on (packets_heard o past)) (is_lost h.left) h.lost (sym (on_is o past e x h.left is) ∙ on)));
+}
+heard_faults note o past e x old new fault is w sorts.Refusal h k =
+    let why : refusal o past e ≡ Some fault = ap (refusal_in o (packets_heard o past)) is ∙ h.why in
+    let rows = refused_rows o past e NoSave fault why (ap is_drop is) in
+    record {
+      why = why;
+      same_note = h.same_note;
+      stands = heard_stands note o past e x NoSave new is h.stands (λ on. k ∙ w.pieces (on_before (words.is_on (packets_heard o past)) false (sym (on_is o past e x NoSave is) ∙ on)) ∙ sym rows);
+      unchanged = λ d. record { core = h.unchanged; pieces = λ on. k ∙ w.pieces on };
+    }
+
+-- What has come together where an event was heard.
+abbrev pub HeardRows : Opening → List FrameEntry → Input → List Row → List Row → Result Outs Fault → Type 0
+HeardRows o past e old new (Ok outs) = words.is_on (packets_heard o past) ≡ true → new ≡ rows_after o past e NoSave
+HeardRows o past e old new (Err fault) = new ≡ old
+
+pub heard_ends : {T : Type 0} (note : T → Note) (o : Opening) (past : List FrameEntry) (e : Input) (x : Event) (old new : Server T) (result : Result Outs Fault) → sense o past e ≡ Hears x → StandsFor note old o past
+    → whole.Ends note o (packets_heard o past) x old.core new.core result → HeardRows o past e old.pieces new.pieces result → Ends note o past e old new result
+heard_ends note o past e x old new (Ok outs) is w h k = heard_answers note o past e x new outs is h k
+heard_ends note o past e x old new (Err fault) is w h k = heard_faults note o past e x old new fault is w (sort_of fault) h k
+
+-- What leaves pieces as they are is heard so.
+whole_rows : {T : Type 0} (note : T → Note) (o : Opening) (past : List FrameEntry) (e : Input) (old : Server T) (result : Result Outs Fault) → rows_after o past e NoSave ≡ assembly o past → StandsFor note old o past → HeardRows o past e old.pieces old.pieces result
+whole_rows note o past e old (Ok outs) same w = λ on. w.pieces on ∙ sym same
+whole_rows note o past e old (Err fault) same w = refl
+
+pub whole_ends : {T : Type 0} (note : T → Note) (o : Opening) (past : List FrameEntry) (e : Input) (x : Event) (old : Server T) (core : PacketServer T) (result : Result Outs Fault) → sense o past e ≡ Hears x → rows_after o past e NoSave ≡ assembly o past → StandsFor note old o past
+    → whole.Ends note o (packets_heard o past) x old.core core result → Ends note o past e old (record old { core = core }) result
+whole_ends note o past e x old core result is same w h = heard_ends note o past e x old (record old { core = core }) result is w h (whole_rows note o past e old result same w)
+
+-- ---- a piece that says nothing
+
+abbrev with_pieces : {T : Type 0} → Server T → List Row → Server T
+with_pieces server rows = record server { pieces = rows }
+
+silent_stands : {T : Type 0} (note : T → Note) (o : Opening) (past : List FrameEntry) (e : Input) (s : Sense) (left : Left) (old : Server T) (rows : List Row) → sense o past e ≡ s → entry_by s left ≡ None
+    → StandsFor note old o past → (old.pieces ≡ assembly o past → rows ≡ rows_after o past e left) → StandsFor note (with_pieces old rows) o (Met e left ∷ past)
+silent_stands note o past e s left old rows is none w k =
+    let same = heard_is o past e left s is ∙ ap (λ (y : Option history.Entry). with_entry y (packets_heard o past)) none in
+    record {
+      core = subst (λ (list : List history.Entry). whole.StandsFor note old.core o list) (sym same) w.core;
+      pieces = λ on. k (w.pieces (sym (ap words.is_on same) ∙ on));
+    }
+
+pub kept_ends : {T : Type 0} (note : T → Note) (o : Opening) (past : List FrameEntry) (e : Input) (q : PieceParts) (old : Server T) → sense o past e ≡ Keeps q → StandsFor note old o past
+    → Ends note o past e old (with_pieces old (taken old.pieces q)) (Ok (sent_alone []))
+kept_ends note o past e q old is w =
+    let list = packets_heard o past in
+    let left = saved_for (due o past e) in
+    record {
+      free = ap (refusal_in o list) is;
+      frames_are = ap (λ y. map frame_spelling (frames_by o list y)) (sym (entry_is o past e left ∙ ap (λ y. entry_by y left) is));
+      issue_is = sym (ap (issue_in o list) is);
+      act_is = sym (ap (act_in o list) is);
+      short = λ i h. record { few = omega arith; short = All-nil (λ (frame : List ℕ). length frame ≤ 1073) };
+      stands = silent_stands note o past e (Keeps q) left old (taken old.pieces q) is refl w (λ r. ap (λ x. taken x q) r ∙ sym (kept_rows o past e q left is));
+    }
+
+pub dropped_ends : {T : Type 0} (note : T → Note) (o : Opening) (past : List FrameEntry) (e : Input) (q : PieceParts) (old : Server T) → sense o past e ≡ Drops q → StandsFor note old o past
+    → Ends note o past e old (with_pieces old (taken old.pieces q)) (Err FrameBadField)
+dropped_ends note o past e q old is w = record {
+  why = ap (refusal_in o (packets_heard o past)) is;
+  same_note = refl;
+  stands = silent_stands note o past e (Drops q) NoSave old (taken old.pieces q) is refl w (λ r. ap (λ x. taken x q) r ∙ sym (dropped_rows o past e q NoSave is));
+  unchanged = λ d. absurd (no_drop (sym (ap is_drop is) ∙ d));
+}
+  where
+    no_drop : true ≡ false → ⊥
+    no_drop d = cc
+
+missed_refuses : {T : Type 0} (note : T → Note) (o : Opening) (past : List FrameEntry) (e : Input) (old : Server T) (fault : Fault) → sense o past e ≡ Misses → StandsFor note old o past
+    → refusal_in o (packets_heard o past) Misses ≡ Some fault → Refuses note o past e fault old old
+missed_refuses note o past e old fault is w f = record {
+  why = ap (refusal_in o (packets_heard o past)) is ∙ f;
+  same_note = refl;
+  stands = silent_stands note o past e Misses NoSave old old.pieces is refl w (λ r. r ∙ sym (missed_rows o past e NoSave is));
+  unchanged = λ d. w;
+}
+
+pub down_ends : {T : Type 0} (note : T → Note) (o : Opening) (past : List FrameEntry) (e : Input) (old : Server T) → sense o past e ≡ Misses → StandsFor note old o past → words.is_on (packets_heard o past) ≡ false → Ends note o past e old old (Err Down)
+down_ends note o past e old is w off = missed_refuses note o past e old Down is w (ap (λ b. if b then Some Misdirected else Some Down) off)
+
+pub missed_ends : {T : Type 0} (note : T → Note) (o : Opening) (past : List FrameEntry) (e : Input) (old : Server T) → sense o past e ≡ Misses → StandsFor note old o past → words.is_on (packets_heard o past) ≡ true → Ends note o past e old old (Err Misdirected)
+missed_ends note o past e old is w on = missed_refuses note o past e old Misdirected is w (ap (λ b. if b then Some Misdirected else Some Down) on)
+
+pub lacking_ends : {T : Type 0} (note : T → Note) (o : Opening) (past : List FrameEntry) (e : Input) (old : Server T) → StandsFor note old o past → Ends note o past e old old (Err NoMemory)
+lacking_ends note o past e old w = record { why = refl; same_note = refl; unchanged = w }
+
+-- ---- a piece that came
+
+-- What a piece is to a server that is on, where it is for that server.
+pub arrives : {T : Type 0} (note : T → Note) (old : Server T) (o : Opening) (past : List FrameEntry) (q : PieceParts) (me : ℕ) → StandsFor note old o past → words.is_on (packets_heard o past) ≡ true → me ≡ o.me → is_piece_for me q ≡ true
+    → (l : Look) → look old.pieces q ≡ l → sense o past (Deliver (Piece q)) ≡ sense_of q (said_by l)
+arrives note old o past q me w on same mine l is = piece_sense o past q old.pieces l on (ap (λ n. is_piece_for n q) (sym same) ∙ mine) (w.pieces on) is
+
+-- A piece whose packet was answered is taken.
+pub given_rows : (o : Opening) (past : List FrameEntry) (q : PieceParts) (p : PacketParts) (rows : List Row) → sense o past (Deliver (Piece q)) ≡ Hears (events.Deliver p) → answers.refusal o (packets_heard o past) (events.Deliver p) ≡ None
+    → rows ≡ assembly o past → look rows q ≡ Gives p → without q.tag rows ≡ rows_after o past (Deliver (Piece q)) NoSave
+given_rows o past q p rows is free same gives =
+    sym (given_gone rows q p gives) ∙ ap (λ r. taken r q) same
+    ∙ sym (ap (λ (x : Option Fault). if is_some x then assembly o past else taken (assembly o past) q) free)
+    ∙ sym (ap (rows_by (rules o) (heard_at o past) q) (says_it (meaning (rules o) (heard_at o past) (Piece q)) is))
+  where
+    heard_event : (p r : PacketParts) → Hears (events.Deliver p) ≡ Hears (events.Deliver r) → p ≡ r
+    heard_event p r e = cc
+
+    says_it : (m : Meaning) → sense_of q m ≡ Hears (events.Deliver p) → m ≡ Says p
+    says_it (Says r) e = ap Says (heard_event r p e)
+    says_it Waits e = cc
+    says_it Spoils e = cc
+    says_it Strays e = cc
+
+-- The packet that a piece completes is answered, and its tag is dropped; or it is refused, and the tag stays.
+pub given_ends : {T : Type 0} (note : T → Note) (old : Server T) (core : PacketServer T) (o : Opening) (past : List FrameEntry) (q : PieceParts) (p : PacketParts) (result : Result Outs Fault) → StandsFor note old o past → words.is_on (packets_heard o past) ≡ true
+    → sense o past (Deliver (Piece q)) ≡ Hears (events.Deliver p) → look old.pieces q ≡ Gives p → whole.Ends note o (packets_heard o past) (events.Deliver p) old.core core result → is_ok result ≡ true
+    → Ends note o past (Deliver (Piece q)) old (record { alloc = old.alloc; core = core; pieces = without q.tag old.pieces }) result
+given_ends note old core o past q p (Ok outs) w on is gives h ok =
+    heard_ends note o past (Deliver (Piece q)) (events.Deliver p) old (record { alloc = old.alloc; core = core; pieces = without q.tag old.pieces }) (Ok outs) is w h (λ up. given_rows o past q p old.pieces is h.free (w.pieces on) gives)
+given_ends note old core o past q p (Err fault) w on is gives h ok = absurd cc
+
+pub refused_ends : {T : Type 0} (note : T → Note) (old : Server T) (core : PacketServer T) (o : Opening) (past : List FrameEntry) (q : PieceParts) (p : PacketParts) (result : Result Outs Fault) → StandsFor note old o past
+    → sense o past (Deliver (Piece q)) ≡ Hears (events.Deliver p) → whole.Ends note o (packets_heard o past) (events.Deliver p) old.core core result → is_ok result ≡ false
+    → Ends note o past (Deliver (Piece q)) old (record old { core = core }) result
+refused_ends note old core o past q p (Ok outs) w is h ok = absurd cc
+refused_ends note old core o past q p (Err fault) w is h ok = heard_ends note o past (Deliver (Piece q)) (events.Deliver p) old (record old { core = core }) (Err fault) is w h refl

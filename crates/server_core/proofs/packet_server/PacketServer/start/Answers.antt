@@ -1,0 +1,20 @@
+use Rattle.std.proofs.Common.{List, ℕ, refl, true, ap, ◌∙◌}
+use Rattle.disk_model.specs.Notes.{Note}
+use Rattle.server_core.specs.Request.{ToStart}
+use Rattle.server_core.specs.Handles.{sent_alone}
+use Rattle.server_core.proofs.FollowLemmas.{due_is_staged}
+use Rattle.server_core.proofs.packet_server.PacketServer.start.Goals as goal
+
+-- A note with these bytes.
+abbrev note_of : ℕ → List ℕ → Note
+note_of failures bytes = record { bytes = bytes; failures = failures }
+
+pub returns-in-Ok : goal.returns-in-Ok
+returns-in-Ok g c = (
+  c.in-Ok.ensures ∙ ap (note_of (g.N.Notes.note c.args.self.now.notes).failures) c.encode.ensures,
+  refl,
+  λ words s h d. (
+    c.sent.ensures ∙ ap sent_alone (c.in_ok-frames.ensures.sent words h),
+    c.begin.ensures words h s (due_is_staged true words.last words.staged words.run (ToStart c.args.run) s d),
+  ),
+)

@@ -1,6 +1,0 @@
--- A job of the open check is read from the words up to a failed save.
-use Rattle.server_core.specs.Answers.{now, looked}
-use Rattle.server_core.proofs.server.Server.check_job.Goals as goal
-
-pub returns : goal.returns
-returns g c o past stands = c.check_job.ensures (now o (looked past)) stands.keeps

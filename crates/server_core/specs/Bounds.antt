@@ -1,0 +1,19 @@
+-- How much a server sends in answer to one event.
+use Rattle.std.specs.Prelude.{ℕ, ◌≤◌, List, ◌∷◌, length, All}
+use Rattle.std.specs.List.{flat_map}
+use Rattle.messages.specs.FramesOf.{spelled_frames}
+use Rattle.server_core.specs.History.{Opening, Entry}
+use Rattle.server_core.specs.Ranges.{OpensInRange, CameInRange}
+use Rattle.server_core.specs.Answers.{packets}
+
+-- At most 16 frames, of at most 1,073 bytes each.
+pub record AreShort (frames : List (List ℕ)) : Type 0 where
+  pub few : length frames ≤ 16
+  pub short : All (λ frame. length frame ≤ 1073) frames
+
+-- A server sends at most 16 frames of at most 1,073 bytes in answer to one event, where what came is
+-- within its ranges.
+abbrev pub FramesAreShort : Type 0
+FramesAreShort =
+    (o : Opening) (past : List Entry) (e : Entry) →
+    OpensInRange o → CameInRange (e ∷ past) → AreShort (flat_map spelled_frames (packets o past e))

@@ -1,0 +1,62 @@
+-- A server's list of frames, and the list of packets that it hears in them.
+use Rattle.std.specs.Prelude.{ℕ, Bool, true, false, ◌&&◌, List, map, is_some}
+use Rattle.messages.specs.Kinds.{is_of_client}
+use Rattle.messages.specs.Nodes.{is_client, is_server}
+use Rattle.messages.specs.declared.piece.PieceParts.{PieceParts}
+use Rattle.messages.specs.Assemblies.{Row}
+use Rattle.messages.specs.Hearing.{Rules, Heard, Coming, Comes, Happens, heard}
+use Rattle.disk_model.specs.declared.left.Left.{Left}
+use Rattle.server_core.specs.declared.event.Event.TheVariants as events
+use Rattle.server_core.specs.declared.input.Input.{Input}
+use Rattle.server_core.specs.declared.input.Input.TheVariants.{Deliver, Issue, WriteDone, CheckDone}
+use Rattle.server_core.specs.History as history
+use Rattle.server_core.specs.History.{Opening}
+use Rattle.server_core.specs.Words.{is_on}
+use Rattle.server_core.specs.Answers.{refusal}
+
+-- What came to a server, with what its save left; a cut; a restart with what its save left.
+pub data FrameEntry : Type 0 where
+  Met : Input → Left → FrameEntry
+  Cut : FrameEntry
+  Restart : Left → FrameEntry
+
+-- A piece is for this server: it is from the client to it, of a kind that the client sends.
+abbrev pub is_piece_for : ℕ → PieceParts → Bool
+is_piece_for me q = is_client q.from && (is_server me q.to && is_of_client q.tag.whole)
+
+-- The entry is a cut or a restart.
+abbrev pub is_end : history.Entry → Bool
+is_end (history.Met e left) = false
+is_end history.Cut = true
+is_end (history.Restart left) = true
+
+-- How a server hears.
+abbrev pub rules : Opening → Rules history.Entry Left
+rules o = record {
+  delivers = λ p left. history.Met (events.Deliver p) left;
+  refuses = λ past p. is_some (refusal o past (events.Deliver p));
+  takes = λ past q. is_on past && is_piece_for o.me q;
+  ends = is_end;
+}
+
+-- What happens to a server, in the terms of hearing.
+abbrev pub coming : FrameEntry → Coming history.Entry Left
+coming (Met (Deliver f) left) = Comes f left
+coming (Met (Issue j) left) = Happens (history.Met (events.Issue j) left)
+coming (Met (WriteDone ticket end) left) = Happens (history.Met (events.WriteDone ticket end) left)
+coming (Met (CheckDone boot a j report) left) =
+    Happens (history.Met (events.CheckDone boot a j report) left)
+coming Cut = Happens history.Cut
+coming (Restart left) = Happens (history.Restart left)
+
+-- What a server has heard.
+abbrev pub heard_at : Opening → List FrameEntry → Heard history.Entry
+heard_at o past = heard (rules o) (map coming past)
+
+-- The list of packets that a list of frames says.
+abbrev pub packets_heard : Opening → List FrameEntry → List history.Entry
+packets_heard o past = (heard_at o past).entries
+
+-- What has come together of pieces.
+abbrev pub assembly : Opening → List FrameEntry → List Row
+assembly o past = (heard_at o past).rows
