@@ -4,3 +4,4 @@ mod FitLemmas
 mod LossLemmas
 mod ReportLemmas
 mod TallyLemmas
+pub mod FitReports

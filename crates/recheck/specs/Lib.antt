@@ -8,3 +8,4 @@ pub mod LastWrite
 pub mod Laws
 pub mod Report
 pub mod Tally
+pub mod Fits

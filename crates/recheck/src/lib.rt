@@ -11,6 +11,7 @@
 #![tactic(auto)]
 
 mod expected;
+mod fit_law;
 mod last_write;
 mod law;
 mod recheck;
@@ -18,6 +19,7 @@ mod tally;
 mod verdict;
 mod whole_disk;
 
+pub use fit_law::reports_fit;
 pub use law::{examples, faults_are_losses, same_states_check_alike};
 pub use recheck::Recheck;
 pub use verdict::Verdict;
