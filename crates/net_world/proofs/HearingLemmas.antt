@@ -1,0 +1,112 @@
+-- Each node hears its own steps, and the frames that are sent are those of packets.
+use Rattle.std.proofs.Common.{◌≡◌, refl, sym, ◌∙◌, ap, ℕ, Bool, true, false, ◌==◌, List, [], ◌∷◌, ◌++◌, Option, None, Some, append-nil}
+use Rattle.std.specs.Prelude.{if◌then◌else◌}
+use Rattle.std.specs.List.{flat_map}
+use Rattle.std.specs.Option.{option_map}
+use Rattle.std.proofs.lemmas.Bool.{eqb-true}
+use Rattle.std.proofs.lemmas.List.Concat.{flat_map-append}
+use Rattle.messages.specs.declared.packet.PacketParts.{PacketParts}
+use Rattle.messages.specs.Pieces.{frames_of}
+use Rattle.messages.specs.Hearing.{Coming, entry_of, with_entry, heard}
+use Rattle.disk_model.specs.declared.left.Left.{Left}
+use Rattle.server_core.specs.History as server
+use Rattle.server_core.specs.Answers as servers
+use Rattle.client_core.specs.History as client
+use Rattle.client_core.specs.Packets as clients
+use Rattle.net_world.specs.Trace as packets
+use Rattle.net_world.specs.Trace.{Step, AtServer, AtClient, opening_of, client_opening, packets_of, sent}
+use Rattle.net_world.specs.Frames.{FrameStep, OfServer, OfClient, of_server, of_client, at_server, at_client, frames_by, frames_of_step, frames_sent, step_heard, trace_heard}
+use Rattle.net_world.specs.FrameLaws.{NodesHearTheirOwn, FramesAreOfPackets}
+
+if_same : {X : Type 0} (t : Bool) (x : X) → x ≡ (if t then x else x)
+if_same true x = refl
+if_same false x = refl
+
+-- ---- each node's own list
+
+pub server_with : (s r : ℕ) (x : Option server.Entry) (t : List Step) → packets.of_server s (with_entry (option_map (AtServer r) x) t) ≡ (if r == s then with_entry x (packets.of_server s t) else packets.of_server s t)
+server_with s r None t = if_same (r == s) (packets.of_server s t)
+server_with s r (Some e) t = refl
+
+client_with : (x : Option client.Entry) (t : List Step) → packets.of_client (with_entry (option_map AtClient x) t) ≡ with_entry x (packets.of_client t)
+client_with None t = refl
+client_with (Some e) t = refl
+
+pub server_by_client : (s : ℕ) (x : Option client.Entry) (t : List Step) → packets.of_server s (with_entry (option_map AtClient x) t) ≡ packets.of_server s t
+server_by_client s None t = refl
+server_by_client s (Some e) t = refl
+
+client_by_server : (r : ℕ) (x : Option server.Entry) (t : List Step) → packets.of_client (with_entry (option_map (AtServer r) x) t) ≡ packets.of_client t
+client_by_server r None t = refl
+client_by_server r (Some e) t = refl
+
+server_if : (s r : ℕ) (b : Bool) → (b ≡ true → r ≡ s) → (c : Coming server.Entry Left) (past : List FrameStep) (list : List server.Entry) → list ≡ (heard (at_server s) (of_server s past)).entries
+    → (if b then with_entry (entry_of (at_server r) (heard (at_server r) (of_server r past)) c) list else list) ≡ (heard (at_server s) (if b then c ∷ of_server s past else of_server s past)).entries
+server_if s r true is c past list h =
+    ap (λ m. with_entry (entry_of (at_server m) (heard (at_server m) (of_server m past)) c) list) (is refl)
+    ∙ ap (λ l. with_entry (entry_of (at_server s) (heard (at_server s) (of_server s past)) c) l) h
+server_if s r false is c past list h = h
+
+servers_hear : (n s : ℕ) (t : List FrameStep) → packets.of_server s (trace_heard n t) ≡ (heard (at_server s) (of_server s t)).entries
+servers_hear n s [] = refl
+servers_hear n s (OfServer r c ∷ past) =
+    server_with s r (entry_of (at_server r) (heard (at_server r) (of_server r past)) c) (trace_heard n past)
+    ∙ server_if s r (r == s) (eqb-true r s) c past (packets.of_server s (trace_heard n past)) (servers_hear n s past)
+servers_hear n s (OfClient c ∷ past) = server_by_client s (entry_of (at_client n) (heard (at_client n) (of_client past)) c) (trace_heard n past) ∙ servers_hear n s past
+
+client_hears : (n : ℕ) (t : List FrameStep) → packets.of_client (trace_heard n t) ≡ (heard (at_client n) (of_client t)).entries
+client_hears n [] = refl
+client_hears n (OfServer r c ∷ past) = client_by_server r (entry_of (at_server r) (heard (at_server r) (of_server r past)) c) (trace_heard n past) ∙ client_hears n past
+client_hears n (OfClient c ∷ past) =
+    let x = entry_of (at_client n) (heard (at_client n) (of_client past)) c in
+    client_with x (trace_heard n past) ∙ ap (λ l. with_entry x l) (client_hears n past)
+
+pub nodes_hear_their_own : NodesHearTheirOwn
+nodes_hear_their_own n t = record { servers = λ s. servers_hear n s t; client = client_hears n t }
+
+-- ---- the frames
+
+-- The packets of a step, if there is one.
+pub packets_by : ℕ → List Step → Option Step → List PacketParts
+packets_by n t None = []
+packets_by n t (Some step) = packets_of n t step
+
+pub sent_with : (n : ℕ) (x : Option Step) (t : List Step) → sent n (with_entry x t) ≡ sent n t ++ packets_by n t x
+unfolding packets_by sent
+sent_with n None t = sym (append-nil (sent n t))
+sent_with n (Some step) t = refl
+
+by_server : (n s : ℕ) (t : List Step) (list : List server.Entry) (x : Option server.Entry) → packets.of_server s t ≡ list → frames_by (servers.packets (opening_of s)) list x ≡ flat_map frames_of (packets_by n t (option_map (AtServer s) x))
+unfolding packets_by
+by_server n s t list None h = refl
+by_server n s t list (Some e) h = ap (λ past. flat_map frames_of (servers.packets (opening_of s) past e)) (sym h)
+
+by_client : (n : ℕ) (t : List Step) (list : List client.Entry) (x : Option client.Entry) → packets.of_client t ≡ list → frames_by (clients.packets (client_opening n)) list x ≡ flat_map frames_of (packets_by n t (option_map AtClient x))
+unfolding packets_by
+by_client n t list None h = refl
+by_client n t list (Some e) h = ap (λ past. flat_map frames_of (clients.packets (client_opening n) past e)) (sym h)
+
+step_frames : (n : ℕ) (past : List FrameStep) (step : FrameStep) → frames_of_step n past step ≡ flat_map frames_of (packets_by n (trace_heard n past) (step_heard n past step))
+step_frames n past (OfServer s c) =
+    by_server n s (trace_heard n past) (heard (at_server s) (of_server s past)).entries (entry_of (at_server s) (heard (at_server s) (of_server s past)) c) (servers_hear n s past)
+step_frames n past (OfClient c) =
+    by_client n (trace_heard n past) (heard (at_client n) (of_client past)).entries (entry_of (at_client n) (heard (at_client n) (of_client past)) c) (client_hears n past)
+
+sent_more : (n : ℕ) (past : List FrameStep) (step : FrameStep) → frames_sent n (step ∷ past) ≡ frames_sent n past ++ frames_of_step n past step
+unfolding frames_sent
+sent_more n past step = refl
+
+none_sent : (n : ℕ) → frames_sent n [] ≡ flat_map frames_of (sent n [])
+unfolding frames_sent sent
+none_sent n = refl
+
+pub frames_are_of_packets : FramesAreOfPackets
+frames_are_of_packets n [] = none_sent n
+frames_are_of_packets n (step ∷ past) =
+    let t = trace_heard n past in
+    let x = step_heard n past step in
+    sent_more n past step
+    ∙ ap (λ fs. fs ++ frames_of_step n past step) (frames_are_of_packets n past)
+    ∙ ap (λ fs. flat_map frames_of (sent n t) ++ fs) (step_frames n past step)
+    ∙ sym (flat_map-append frames_of (sent n t) (packets_by n t x))
+    ∙ ap (flat_map frames_of) (sym (sent_with n x t))

@@ -1,0 +1,248 @@
+-- Only packets that were sent are heard.
+use Rattle.std.proofs.Common.{◌≡◌, refl, sym, ◌∙◌, ap, subst, ◌⊎◌, inl, inr, ℕ, ◌<◌, Bool, true, false, ◌==◌, List, [], ◌∷◌, Option, None, Some}
+use Rattle.std.specs.Prelude.{if◌then◌else◌, map, Contains}
+use Rattle.std.specs.List.{AllByRecursion, flat_map}
+use Rattle.std.specs.Option.{option_map}
+use Rattle.std.proofs.lemmas.Bool.{eqb-true}
+use Rattle.std.proofs.lemmas.List.Concat.{flat_map-cons}
+use Rattle.std.proofs.lemmas.List.Elements.{Contains-append_cases, Contains-append_left}
+use Rattle.messages.specs.declared.packet.PacketParts.{PacketParts}
+use Rattle.messages.specs.declared.node.Node.{Node}
+use Rattle.messages.specs.declared.node.Node.TheVariants.{Server, Client}
+use Rattle.messages.specs.declared.piece.PieceParts.{PieceParts}
+use Rattle.messages.specs.declared.piece.Tag.{Tag}
+use Rattle.messages.specs.declared.places.Filled.{Filled}
+use Rattle.messages.specs.declared.frame.Frame.{Frame}
+use Rattle.messages.specs.declared.frame.Frame.TheVariants.{Whole, Piece}
+use Rattle.messages.specs.Bodies.{length_of}
+use Rattle.messages.specs.Pieces.{is_cut, frames_of, pieces_of, piece_at, places}
+use Rattle.messages.specs.Assemblies as assemblies
+use Rattle.messages.specs.Assemblies.{Row, Look, look, taken}
+use Rattle.messages.specs.PieceLaws.{ArePackets, OneBodyOfEachTag, AreCut, WasSent, IsPieceOf, OnlySentComesTogether}
+use Rattle.messages.specs.Hearing.{Rules, Heard, Coming, Comes, Happens, Meaning, Says, Waits, Spoils, Strays, said_by, meaning, heard_by, entry_of, rows_by, rows_of, with_entry, heard}
+use Rattle.disk_model.specs.declared.left.Left.{Left}
+use Rattle.server_core.specs.History as server
+use Rattle.client_core.specs.History as client
+use Rattle.net_world.specs.Trace.{Step, AtServer, AtClient, IsTrace, WasSentTo, taken_by, sent}
+use Rattle.net_world.specs.Frames.{FrameStep, OfServer, OfClient, of_server, of_client, at_server, at_client, frames_sent, to_of, MayHappen, IsFrameTrace, step_heard, trace_heard}
+use Rattle.net_world.specs.InRange.{EntryFits, StepFits, FrameStepFits, Fits, FitsFrames, SentAreInRange}
+use Rattle.net_world.specs.FrameLaws.{FramesAreOfPackets, TagsNameOneBody, OnlySentIsHeard}
+use Rattle.net_world.proofs.ListLemmas.{none_in, only_in, first_or_rest, first_in, later_in}
+use Rattle.net_world.proofs.HearingLemmas.{packets_by, sent_with}
+
+-- ---- what was sent stays sent
+
+abbrev pub IsIn : List PacketParts → List PacketParts → Type 0
+IsIn xs ys = (p : PacketParts) → Contains xs p → Contains ys p
+
+cut_more : (xs ys : List PacketParts) → IsIn xs ys → (tag : Tag) (fs : List Filled) → AreCut xs tag fs → AreCut ys tag fs
+cut_more xs ys in_it tag [] a = tt
+cut_more xs ys in_it tag (f ∷ fs) a =
+    let w = a.0 in
+    (record { packet = w.packet; was_sent = in_it w.packet w.was_sent; cut = w.cut; tag_is = w.tag_is; bytes_are = w.bytes_are }, cut_more xs ys in_it tag fs a.1)
+
+rows_more : (xs ys : List PacketParts) → IsIn xs ys → (rows : List Row) → WasSent xs rows → WasSent ys rows
+rows_more xs ys in_it [] w = tt
+rows_more xs ys in_it (row ∷ rows) w = (cut_more xs ys in_it row.tag row.filled w.0, rows_more xs ys in_it rows w.1)
+
+-- ---- a frame that was sent is of a packet that was sent
+
+-- The frame of one of these packets, or a piece of one.
+abbrev pub IsFrameOf : List PacketParts → Frame → Type 0
+IsFrameOf ps (Whole p) = Contains ps p
+IsFrameOf ps (Piece q) = (p : PacketParts) × Contains ps p × IsPieceOf p q
+
+of_map : {X Y : Type 0} (f : X → Y) (xs : List X) (y : Y) → Contains (map f xs) y → (x : X) × Contains xs x × (f x ≡ y)
+of_map f [] y h = absurd (none_in y h)
+of_map f (x ∷ xs) y h = elim (first_or_rest (f x) (map f xs) y h) [
+  | inl e ↦ (x, first_in x xs, e)
+  | inr i ↦ let s = of_map f xs y i in (s.0, later_in x xs s.0 s.1, s.2)
+]
+
+of_cut : (p : PacketParts) (b : Bool) → is_cut p.body ≡ b → (f : Frame) → Contains (if b then map Piece (pieces_of p) else Whole p ∷ []) f → (ps : List PacketParts) → Contains ps p → IsFrameOf ps f
+of_cut p true e f h ps i =
+    let s = of_map Piece (pieces_of p) f h in
+    subst (IsFrameOf ps) s.2 (p, i, (e, s.1))
+of_cut p false e f h ps i = subst (IsFrameOf ps) (only_in (Whole p) f h) i
+
+of_frames : (ps : List PacketParts) (f : Frame) → Contains (flat_map frames_of ps) f → (all : List PacketParts) → IsIn ps all → IsFrameOf all f
+of_frames [] f h all in_it = absurd (none_in f h)
+of_frames (p ∷ ps) f h all in_it =
+    elim (Contains-append_cases (frames_of p) (flat_map frames_of ps) f (subst (λ fs. Contains fs f) (flat_map-cons frames_of p ps) h)) [
+      | inl i ↦ of_cut p (is_cut p.body) refl f i all (in_it p (first_in p ps))
+      | inr i ↦ of_frames ps f i all (λ q j. in_it q (later_in p ps q j))
+    ]
+
+pub frame_is : FramesAreOfPackets → (n : ℕ) (past : List FrameStep) (f : Frame) → Contains (frames_sent n past) f → IsFrameOf (sent n (trace_heard n past)) f
+frame_is frames n past f h = of_frames (sent n (trace_heard n past)) f (subst (λ fs. Contains fs f) (frames n past) h) (sent n (trace_heard n past)) (λ p i. i)
+
+piece_goes : (p : PacketParts) (q : PieceParts) → Contains (pieces_of p) q → p.to ≡ q.to
+piece_goes p q h = let s = of_map (piece_at p) (places (length_of p.body)) q h in let e : piece_at p s.0 ≡ q = s.2 in ap (λ (x : PieceParts). x.to) e
+
+-- ---- what a frame says was sent to the node
+
+abbrev pub SaysSent : List PacketParts → Node → Meaning → Type 0
+SaysSent ps node (Says p) = WasSentTo ps node p
+SaysSent ps node Waits = Unit {0}
+SaysSent ps node Spoils = Unit {0}
+SaysSent ps node Strays = Unit {0}
+
+look_sent : (ps : List PacketParts) (node : Node) (p : PacketParts) → Contains ps p → p.to ≡ node → (x : Look) → (x ≡ assemblies.Waits) ⊎ (x ≡ assemblies.Gives p) → SaysSent ps node (said_by x)
+look_sent ps node p i to x (inl e) = subst (λ y. SaysSent ps node (said_by y)) (sym e) tt
+look_sent ps node p i to x (inr e) = subst (λ y. SaysSent ps node (said_by y)) (sym e) (i, to)
+
+if_taken : (ps : List PacketParts) (node : Node) (b : Bool) (m : Meaning) → SaysSent ps node m → SaysSent ps node (if b then m else Strays)
+if_taken ps node true m h = h
+if_taken ps node false m h = tt
+
+either : (ps : List PacketParts) (b : Bool) (xs ys : List Row) → WasSent ps xs → WasSent ps ys → WasSent ps (if b then xs else ys)
+either ps true xs ys v w = v
+either ps false xs ys v w = w
+
+rows_kept : {E L : Type 0} (r : Rules E L) (ps : List PacketParts) (h : Heard E) (q : PieceParts) → WasSent ps h.rows → WasSent ps (taken h.rows q) → (m : Meaning) → WasSent ps (rows_by r h q m)
+rows_kept r ps h q w v (Says p) = either ps (r.refuses h.entries p) h.rows (taken h.rows q) w v
+rows_kept r ps h q w v Waits = v
+rows_kept r ps h q w v Spoils = v
+rows_kept r ps h q w v Strays = w
+
+-- What a frame that was sent to the node leaves and says is of packets that were sent.
+pub record Keeps {E L : Type 0} (r : Rules E L) (ps : List PacketParts) (node : Node) (h : Heard E) (f : Frame) (left : L) : Type 0 where
+  pub rows : WasSent ps (rows_of r h (Comes f left))
+  pub says : SaysSent ps node (meaning r h f)
+
+pub keeps : OnlySentComesTogether → {E L : Type 0} (r : Rules E L) (ps : List PacketParts) → ArePackets ps → OneBodyOfEachTag ps → (h : Heard E) → WasSent ps h.rows
+    → (node : Node) (f : Frame) → IsFrameOf ps f → to_of f ≡ node → (left : L) → Keeps r ps node h f left
+keeps law r ps are one h w node (Whole p) i to left = record { rows = w; says = (i, to) }
+keeps law r ps are one h w node (Piece q) i to left =
+    let p = i.0 in
+    let told = law ps are one h.rows w p i.1 q i.2 in
+    let goes : p.to ≡ node = piece_goes p q (i.2).1 ∙ to in
+    record {
+      rows = rows_kept r ps h q w told.1 (meaning r h (Piece q));
+      says = if_taken ps node (r.takes h.entries q) (said_by (look h.rows q)) (look_sent ps node p i.1 goes (look h.rows q) told.0);
+    }
+
+-- ---- each step keeps the trace, and what has come together
+
+-- What has come together at a node is of sent packets, and with the step the trace is one.
+record Kept {E L : Type 0} (r : Rules E L) (n : ℕ) (t : List Step) (h : Heard E) (c : Coming E L) (step : E → Step) : Type 0 where
+  pub rows : WasSent (sent n t) (rows_of r h c)
+  pub trace : IsTrace n (with_entry (option_map step (entry_of r h c)) t)
+
+server_says : (n s : ℕ) (t : List Step) (left : Left) (m : Meaning) → IsTrace n t → SaysSent (sent n t) (Server s) m → IsTrace n (with_entry (option_map (AtServer s) (heard_by (at_server s) left m)) t)
+server_says n s t left (Says p) h i = (h, (i, tt))
+server_says n s t left Waits h i = h
+server_says n s t left Spoils h i = h
+server_says n s t left Strays h i = h
+
+client_says : (n : ℕ) (t : List Step) (left : Left) (m : Meaning) → IsTrace n t → SaysSent (sent n t) Client m → IsTrace n (with_entry (option_map AtClient (heard_by (at_client n) left m)) t)
+client_says n t left (Says p) h i = (h, (i, tt))
+client_says n t left Waits h i = h
+client_says n t left Spoils h i = h
+client_says n t left Strays h i = h
+
+takes_none : (ps : List PacketParts) (node : Node) (taken : List PacketParts) → taken ≡ [] → AllByRecursion (WasSentTo ps node) taken
+takes_none ps node taken e = subst (λ xs. AllByRecursion (WasSentTo ps node) xs) (sym e) tt
+
+server_step : OnlySentComesTogether → FramesAreOfPackets → (n s : ℕ) (past : List FrameStep) → IsTrace n (trace_heard n past) → ArePackets (sent n (trace_heard n past)) → OneBodyOfEachTag (sent n (trace_heard n past))
+    → (h : Heard server.Entry) → WasSent (sent n (trace_heard n past)) h.rows → (c : Coming server.Entry Left) → MayHappen (frames_sent n past) (OfServer s c) → Kept (at_server s) n (trace_heard n past) h c (AtServer s)
+server_step law frames n s past t are one h w (Comes f left) i =
+    let k = keeps law (at_server s) (sent n (trace_heard n past)) are one h w (Server s) f (frame_is frames n past f i.0) i.1 left in
+    record { rows = k.rows; trace = server_says n s (trace_heard n past) left (meaning (at_server s) h f) t k.says }
+server_step law frames n s past t are one h w (Happens e) i = record {
+  rows = either (sent n (trace_heard n past)) ((at_server s).ends e) [] h.rows tt w;
+  trace = (t, takes_none (sent n (trace_heard n past)) (Server s) (taken_by (AtServer s e)) i);
+}
+
+client_step : OnlySentComesTogether → FramesAreOfPackets → (n : ℕ) (past : List FrameStep) → IsTrace n (trace_heard n past) → ArePackets (sent n (trace_heard n past)) → OneBodyOfEachTag (sent n (trace_heard n past))
+    → (h : Heard client.Entry) → WasSent (sent n (trace_heard n past)) h.rows → (c : Coming client.Entry Left) → MayHappen (frames_sent n past) (OfClient c) → Kept (at_client n) n (trace_heard n past) h c AtClient
+client_step law frames n past t are one h w (Comes f left) i =
+    let k = keeps law (at_client n) (sent n (trace_heard n past)) are one h w Client f (frame_is frames n past f i.0) i.1 left in
+    record { rows = k.rows; trace = client_says n (trace_heard n past) left (meaning (at_client n) h f) t k.says }
+client_step law frames n past t are one h w (Happens e) i = record {
+  rows = either (sent n (trace_heard n past)) ((at_client n).ends e) [] h.rows tt w;
+  trace = (t, takes_none (sent n (trace_heard n past)) Client (taken_by (AtClient e)) i);
+}
+
+-- ---- ranges
+
+SomeFits : Option server.Entry → Type 0
+SomeFits None = Unit {0}
+SomeFits (Some e) = EntryFits e
+
+server_added : (s : ℕ) (x : Option server.Entry) (t : List Step) → s < 8 → SomeFits x → AllByRecursion StepFits t → AllByRecursion StepFits (with_entry (option_map (AtServer s) x) t)
+unfolding SomeFits
+server_added s None t l k h = h
+server_added s (Some e) t l k h = ((l, k), h)
+
+client_added : (x : Option client.Entry) (t : List Step) → AllByRecursion StepFits t → AllByRecursion StepFits (with_entry (option_map AtClient x) t)
+client_added None t h = h
+client_added (Some e) t h = (tt, h)
+
+meaning_fits : (s : ℕ) (left : Left) (m : Meaning) → SomeFits (heard_by (at_server s) left m)
+unfolding SomeFits
+meaning_fits s left (Says p) = tt
+meaning_fits s left Waits = tt
+meaning_fits s left Spoils = tt
+meaning_fits s left Strays = tt
+
+server_adds : (s : ℕ) (h : Heard server.Entry) (c : Coming server.Entry Left) (t : List Step) → FrameStepFits (OfServer s c) → AllByRecursion StepFits t → AllByRecursion StepFits (with_entry (option_map (AtServer s) (entry_of (at_server s) h c)) t)
+unfolding SomeFits
+server_adds s h (Comes f left) t k a = server_added s (heard_by (at_server s) left (meaning (at_server s) h f)) t k (meaning_fits s left (meaning (at_server s) h f)) a
+server_adds s h (Happens e) t k a = (k, a)
+
+steps_fit : (n : ℕ) (t : List FrameStep) → AllByRecursion FrameStepFits t → AllByRecursion StepFits (trace_heard n t)
+steps_fit n [] h = tt
+steps_fit n (OfServer s c ∷ past) h = server_adds s (heard (at_server s) (of_server s past)) c (trace_heard n past) h.0 (steps_fit n past h.1)
+steps_fit n (OfClient c ∷ past) h = client_added (entry_of (at_client n) (heard (at_client n) (of_client past)) c) (trace_heard n past) (steps_fit n past h.1)
+
+pub heard_fits : (n : ℕ) (t : List FrameStep) → FitsFrames n t → Fits n (trace_heard n t)
+heard_fits n t f = record { few = f.few; steps = steps_fit n t f.steps }
+
+-- ---- the whole list
+
+-- A trace of frames says a trace, and what has come together at each node is of sent packets.
+pub record Stands (n : ℕ) (t : List FrameStep) : Type 0 where
+  pub trace : IsTrace n (trace_heard n t)
+  pub servers : (s : ℕ) → WasSent (sent n (trace_heard n t)) (heard (at_server s) (of_server s t)).rows
+  pub client_rows : WasSent (sent n (trace_heard n t)) (heard (at_client n) (of_client t)).rows
+
+more_sent : (n : ℕ) (x : Option Step) (t : List Step) → IsIn (sent n t) (sent n (with_entry x t))
+more_sent n x t p i = subst (λ ps. Contains ps p) (sym (sent_with n x t)) (Contains-append_left (sent n t) (packets_by n t x) p i)
+
+server_rows : (ps : List PacketParts) (s r : ℕ) (b : Bool) → (b ≡ true → r ≡ s) → (c : Coming server.Entry Left) (past : List FrameStep)
+    → WasSent ps (rows_of (at_server r) (heard (at_server r) (of_server r past)) c) → WasSent ps (heard (at_server s) (of_server s past)).rows
+    → WasSent ps (heard (at_server s) (if b then c ∷ of_server s past else of_server s past)).rows
+server_rows ps s r true is c past v w = subst (λ x. WasSent ps (rows_of (at_server x) (heard (at_server x) (of_server x past)) c)) (is refl) v
+server_rows ps s r false is c past v w = w
+
+pub stands : OnlySentComesTogether → FramesAreOfPackets → TagsNameOneBody → SentAreInRange → (n : ℕ) (t : List FrameStep) → IsFrameTrace n t → FitsFrames n t → Stands n t
+stands law frames tags ranges n [] h fits = record { trace = tt; servers = λ s. tt; client_rows = tt }
+stands law frames tags ranges n (OfServer r c ∷ past) h fits =
+    let t = trace_heard n past in
+    let x = step_heard n past (OfServer r c) in
+    let f : FitsFrames n past = record { few = fits.few; steps = fits.steps.1 } in
+    let s = stands law frames tags ranges n past h.0 f in
+    let are = ranges n t s.trace (heard_fits n past f) in
+    let k = server_step law frames n r past s.trace are (tags n t are) (heard (at_server r) (of_server r past)) (s.servers r) c h.1 in
+    record {
+      trace = k.trace;
+      servers = λ i. rows_more (sent n t) (sent n (with_entry x t)) (more_sent n x t) (heard (at_server i) (of_server i (OfServer r c ∷ past))).rows
+          (server_rows (sent n t) i r (r == i) (eqb-true r i) c past k.rows (s.servers i));
+      client_rows = rows_more (sent n t) (sent n (with_entry x t)) (more_sent n x t) (heard (at_client n) (of_client past)).rows s.client_rows;
+    }
+stands law frames tags ranges n (OfClient c ∷ past) h fits =
+    let t = trace_heard n past in
+    let x = step_heard n past (OfClient c) in
+    let f : FitsFrames n past = record { few = fits.few; steps = fits.steps.1 } in
+    let s = stands law frames tags ranges n past h.0 f in
+    let are = ranges n t s.trace (heard_fits n past f) in
+    let k = client_step law frames n past s.trace are (tags n t are) (heard (at_client n) (of_client past)) s.client_rows c h.1 in
+    record {
+      trace = k.trace;
+      servers = λ i. rows_more (sent n t) (sent n (with_entry x t)) (more_sent n x t) (heard (at_server i) (of_server i past)).rows (s.servers i);
+      client_rows = rows_more (sent n t) (sent n (with_entry x t)) (more_sent n x t) (heard (at_client n) (of_client (OfClient c ∷ past))).rows k.rows;
+    }
+
+pub only_sent_is_heard : OnlySentComesTogether → FramesAreOfPackets → TagsNameOneBody → SentAreInRange → OnlySentIsHeard
+only_sent_is_heard law frames tags ranges n t h fits = (stands law frames tags ranges n t h fits).trace

@@ -1,0 +1,107 @@
+-- The four passes of a verify state: it is sent as it was taken, kept as it was sent, sent back as it is
+-- kept, and checked with as it was sent back.
+use Rattle.std.proofs.Common.{◌≡◌, sym, ◌∙◌, ap, subst, inl, inr, ℕ, List, [], ◌∷◌, Some}
+use Rattle.std.specs.Prelude.{Contains, IsTrue}
+use Rattle.fc_base.specs.declared.numbers.Key.{Key}
+use Rattle.verify_state.specs.State.{State}
+use Rattle.messages.specs.declared.packet.PacketParts.{PacketParts}
+use Rattle.messages.specs.declared.body.Body.{Body}
+use Rattle.messages.specs.declared.body.Body.TheVariants as bodies
+use Rattle.messages.specs.Bodies.{kind_of}
+use Rattle.messages.specs.Kinds.{is_of_client, is_of_server}
+use Rattle.server_core.specs.History as server
+use Rattle.server_core.specs.History.{Opening}
+use Rattle.server_core.specs.Words.{last_run}
+use Rattle.server_core.specs.Taken.{takings}
+use Rattle.server_core.specs.Answers as servers
+use Rattle.server_core.specs.Laws as served
+use Rattle.server_core.specs.Sent.{PacketsGoToClient}
+use Rattle.client_core.specs.History as client
+use Rattle.client_core.specs.Words.{kept}
+use Rattle.client_core.specs.Packets as clients
+use Rattle.client_core.specs.Laws as asked
+use Rattle.net_world.specs.Trace.{Step, AtServer, AtClient, opening_of, client_opening, of_server, of_client, packets_of}
+use Rattle.net_world.specs.Holders.{taken_of}
+use Rattle.net_world.specs.Passes.{SentStatesWereTaken, KeptStatesWereSent, SavedStatesAreKept, CheckedStatesWereSent}
+use Rattle.net_world.proofs.ListLemmas.{first_in}
+use Rattle.net_world.proofs.KeyLemmas.{key_of_kept}
+use Rattle.net_world.proofs.TraceLemmas.{own_step, taken_stays, sent_cases, sent_none, came_was_sent, heard_was_sent}
+
+-- ---- what is sent in a State was taken
+
+taken_at_key : (o : Opening) (r j : ℕ) (past : List server.Entry) (state : State) → state.key ≡ record { run = r; server = o.me; job = j } → takings o r j past ≡ state ∷ []
+    → (state.key.server ≡ o.me) × Contains (takings o state.key.run state.key.job past) state
+taken_at_key o r j past state key one =
+    let run : state.key.run ≡ r = ap (λ (k : Key). k.run) key in
+    let job : state.key.job ≡ j = ap (λ (k : Key). k.job) key in
+    let here : takings o state.key.run state.key.job past ≡ state ∷ [] = ap (λ n. takings o n state.key.job past) run ∙ ap (λ n. takings o r n past) job ∙ one in
+    (ap (λ (k : Key). k.server) key, subst (λ l. Contains l state) (sym here) (first_in state []))
+
+sends_taken : served.SendsTheTaken → (o : Opening) (past : List server.Entry) (e : server.Entry) (p : PacketParts) (jobs : ℕ) (state : State) → Contains (servers.packets o past e) p → p.body ≡ bodies.State jobs state
+    → (state.key.server ≡ o.me) × Contains (takings o state.key.run state.key.job (e ∷ past)) state
+sends_taken s o past e p jobs state h is =
+    let k = s o past e p jobs state h is in
+    taken_at_key o (last_run o (e ∷ past)) k.0 (e ∷ past) state (k.1).key (k.1).one
+
+-- The client sends no State.
+pub no_state : asked.PacketsGoToServers → (o : client.Opening) (past : List client.Entry) (e : client.Entry) (p : PacketParts) (jobs : ℕ) (state : State) → Contains (clients.packets o past e) p → p.body ≡ bodies.State jobs state → ⊥
+no_state goes o past e p jobs state h is =
+    let kind : IsTrue (is_of_client (kind_of (bodies.State jobs state))) = subst (λ (b : Body). IsTrue (is_of_client (kind_of b))) is (goes o past e p h).3 in
+    cc
+
+sent_now : served.SendsTheTaken → asked.PacketsGoToServers → (n : ℕ) (step : Step) (past : List Step) (p : PacketParts) (jobs : ℕ) (state : State) → Contains (packets_of n past step) p → p.body ≡ bodies.State jobs state → Contains (taken_of state.key (step ∷ past)) state
+sent_now s goes n (AtServer r e) past p jobs state h is =
+    let k = sends_taken s (opening_of r) (of_server r past) e p jobs state h is in
+    let here : r ≡ state.key.server = sym k.0 in
+    rw (own_step r state.key.server e past here)
+    (subst (λ m. Contains (takings (opening_of m) state.key.run state.key.job (e ∷ of_server m past)) state) here k.1)
+sent_now s goes n (AtClient e) past p jobs state h is = absurd (no_state goes (client_opening n) (of_client past) e p jobs state h is)
+
+pub sent_states_were_taken : served.SendsTheTaken → asked.PacketsGoToServers → SentStatesWereTaken
+sent_states_were_taken s goes n [] p jobs state h is = absurd (sent_none n p h)
+sent_states_were_taken s goes n (step ∷ past) p jobs state h is =
+    elim (sent_cases n step past p h) [
+      | inl before ↦ taken_stays state.key step past state (sent_states_were_taken s goes n past p jobs state before is)
+      | inr now ↦ sent_now s goes n step past p jobs state now is
+    ]
+
+-- ---- what is kept was sent in a State
+
+pub kept_states_were_sent : asked.KeptWasSent → KeptStatesWereSent
+kept_states_were_sent k n t key state trace h =
+    elim (k (client_opening n) (of_client t) key state h) [
+      | inl opening ↦ absurd cc
+      | inr in_state ↦ record { key_is = key_of_kept key _ state h; jobs = in_state.0; sent_in = came_was_sent n t _ trace in_state.1 }
+    ]
+
+-- ---- what is sent in a Saved is kept
+
+-- A server sends no Saved.
+no_saved : PacketsGoToClient → (o : Opening) (past : List server.Entry) (e : server.Entry) (p : PacketParts) (attempt : ℕ) (state : State) → Contains (servers.packets o past e) p → p.body ≡ bodies.Saved attempt state → ⊥
+no_saved goes o past e p attempt state h is =
+    let kind : IsTrue (is_of_server (kind_of (bodies.Saved attempt state))) = subst (λ (b : Body). IsTrue (is_of_server (kind_of b))) is (goes o past e p h).kind in
+    cc
+
+-- What the client keeps it keeps behind each step.
+kept_stays : asked.FirstKeptStays → (n : ℕ) (step : Step) (past : List Step) (key : Key) (state : State) → kept (client_opening n) (of_client past) key ≡ Some state → kept (client_opening n) (of_client (step ∷ past)) key ≡ Some state
+kept_stays first n (AtServer r e) past key state h = h
+kept_stays first n (AtClient e) past key state h = first (client_opening n) (e ∷ []) (of_client past) key state h
+
+saved_now : PacketsGoToClient → asked.SavedIsKept → (n : ℕ) (step : Step) (past : List Step) (p : PacketParts) (attempt : ℕ) (state : State) → Contains (packets_of n past step) p → p.body ≡ bodies.Saved attempt state → kept (client_opening n) (of_client past) state.key ≡ Some state
+saved_now goes k n (AtServer r e) past p attempt state h is = absurd (no_saved goes (opening_of r) (of_server r past) e p attempt state h is)
+saved_now goes k n (AtClient e) past p attempt state h is = k (client_opening n) (of_client past) e p attempt state h is
+
+pub saved_states_are_kept : PacketsGoToClient → asked.SavedIsKept → asked.FirstKeptStays → SavedStatesAreKept
+saved_states_are_kept goes k first n [] p attempt state h is = absurd (sent_none n p h)
+saved_states_are_kept goes k first n (step ∷ past) p attempt state h is =
+    kept_stays first n step past state.key state (elim (sent_cases n step past p h) [
+      | inl before ↦ saved_states_are_kept goes k first n past p attempt state before is
+      | inr now ↦ saved_now goes k n step past p attempt state now is
+    ])
+
+-- ---- what a job is checked with was sent in a Saved
+
+pub checked_states_were_sent : served.WithWasHeard → CheckedStatesWereSent
+checked_states_were_sent with n t s j state trace h =
+    let k = with (opening_of s) (of_server s t) j state h in
+    (k.attempt, heard_was_sent n s t _ trace k.sent)

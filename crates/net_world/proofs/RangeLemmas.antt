@@ -1,0 +1,108 @@
+-- What is sent in a trace is within the ranges of packets.
+use Rattle.std.proofs.Common.{refl, inl, inr, ℕ, ◌≤◌, arith, Bool, true, false, ◌==◌, List, [], ◌∷◌, ◌++◌}
+use Rattle.std.specs.Prelude.{if◌then◌else◌}
+use Rattle.std.specs.List.{AllByRecursion}
+use Rattle.std.proofs.lemmas.List.Elements.{Contains-append_cases, Contains-append_left}
+use Rattle.messages.specs.declared.packet.PacketParts.{PacketParts}
+use Rattle.messages.specs.Laws.{IsPacket}
+use Rattle.messages.specs.PieceLaws.{ArePackets}
+use Rattle.disk_model.specs.declared.left.Left.{Left}
+use Rattle.server_core.specs.declared.event.Event.{Event}
+use Rattle.server_core.specs.declared.event.Event.TheVariants as events
+use Rattle.server_core.specs.History as history
+use Rattle.server_core.specs.Ranges as ranges
+use Rattle.server_core.specs.Laws as servers
+use Rattle.client_core.specs.declared.call.Call.{Call}
+use Rattle.client_core.specs.declared.call.Call.TheVariants as calls
+use Rattle.client_core.specs.History as entry
+use Rattle.client_core.specs.Note.{IsNoted, blank}
+use Rattle.client_core.specs.Ranges.{packet_in, came}
+use Rattle.client_core.specs.Laws as clients
+use Rattle.net_world.specs.Trace.{Step, AtServer, AtClient, IsTrace, WasSentTo, taken_by, node_of, sent, packets_of, of_server, of_client, opening_of, client_opening}
+use Rattle.net_world.specs.InRange.{ReportFits, EntryFits, StepFits, SentAreInRange}
+use Rattle.net_world.proofs.ListLemmas.{none_in, each_of}
+
+AllSent : List PacketParts → Step → Type 0
+AllSent ps step = AllByRecursion (WasSentTo ps (node_of step)) (taken_by step)
+
+both : (xs ys : List PacketParts) → ArePackets xs → ArePackets ys → ArePackets (xs ++ ys)
+both xs ys a b p i = elim (Contains-append_cases xs ys p i) [ inl j ↦ a p j | inr j ↦ b p j ]
+
+event_in : (ps : List PacketParts) (s : ℕ) (e : Event) (left : Left) → ArePackets ps → AllSent ps (AtServer s (history.Met e left)) → ReportFits e → ranges.IsInRange e
+unfolding AllSent
+event_in ps s (events.Deliver p) left are w r = are p w.0.0
+event_in ps s (events.Issue j) left are w r = tt
+event_in ps s (events.WriteDone ticket end) left are w r = tt
+event_in ps s (events.CheckDone boot a j report) left are w r = r
+
+more_in : (ps : List PacketParts) (s : ℕ) (e : history.Entry) (past : List history.Entry) → ArePackets ps → AllSent ps (AtServer s e) → EntryFits e → ranges.CameInRange past → ranges.CameInRange (e ∷ past)
+more_in ps s (history.Met e left) past are w r h = (event_in ps s e left are w r, h)
+more_in ps s history.Cut past are w r h = h
+more_in ps s (history.Restart left) past are w r h = h
+
+if_its : (b : Bool) (xs ys : List history.Entry) → ranges.CameInRange xs → ranges.CameInRange ys → ranges.CameInRange (if b then xs else ys)
+if_its true xs ys h k = h
+if_its false xs ys h k = k
+
+-- All that was sent before a step is sent after it.
+before : (n : ℕ) (step : Step) (past : List Step) → ArePackets (sent n (step ∷ past)) → ArePackets (sent n past)
+unfolding sent
+before n step past are p i = are p (Contains-append_left (sent n past) (packets_of n past step) p i)
+
+came_to : (n s : ℕ) (t : List Step) → IsTrace n t → AllByRecursion StepFits t → ArePackets (sent n t) → ranges.CameInRange (of_server s t)
+unfolding AllSent
+came_to n s [] h f are = tt
+came_to n s (AtServer r e ∷ past) h f are =
+    let a = before n (AtServer r e) past are in
+    let k = came_to n s past h.0 f.1 a in
+    if_its (r == s) (e ∷ of_server s past) (of_server s past) (more_in (sent n past) r e (of_server s past) a h.1 f.0.1 k) k
+came_to n s (AtClient e ∷ past) h f are = came_to n s past h.0 f.1 (before n (AtClient e) past are)
+
+call_in : (ps : List PacketParts) (c : Call) (left : Left) (older : List PacketParts) → ArePackets ps → AllSent ps (AtClient (entry.Met c left)) → AllByRecursion IsPacket older → AllByRecursion IsPacket (packet_in (entry.Met c left) ++ older)
+unfolding AllSent
+call_in ps (calls.Deliver p) left older are w h = (are p w.0.0, h)
+call_in ps (calls.Begin text) left older are w h = h
+call_in ps (calls.Trigger run act) left older are w h = h
+call_in ps (calls.Stop run) left older are w h = h
+call_in ps (calls.Verify run text) left older are w h = h
+call_in ps calls.Tick left older are w h = h
+
+more_heard : (ps : List PacketParts) (e : entry.Entry) (past : List entry.Entry) → ArePackets ps → AllSent ps (AtClient e) → AllByRecursion IsPacket (came past) → AllByRecursion IsPacket (came (e ∷ past))
+more_heard ps (entry.Met c left) past are w h = call_in ps c left (came past) are w h
+more_heard ps entry.Cut past are w h = h
+more_heard ps entry.Restart past are w h = h
+
+came_back : (n : ℕ) (t : List Step) → IsTrace n t → ArePackets (sent n t) → AllByRecursion IsPacket (came (of_client t))
+unfolding AllSent
+came_back n [] h are = tt
+came_back n (AtServer r e ∷ past) h are = came_back n past h.0 (before n (AtServer r e) past are)
+came_back n (AtClient e ∷ past) h are =
+    let a = before n (AtClient e) past are in
+    more_heard (sent n past) e (of_client past) a h.1 (came_back n past h.0 a)
+
+blank_noted : IsNoted blank
+blank_noted = record { runs = omega arith; attempts = omega arith; count = omega arith; states = tt; keys = refl }
+
+each : (ps : List PacketParts) → AllByRecursion IsPacket ps → ArePackets ps
+each ps h p i = each_of IsPacket ps p h i
+
+step_in : servers.PacketsAreInRange → clients.PacketsAreInRange → (n : ℕ) (step : Step) (past : List Step) → n ≤ 8 → IsTrace n (step ∷ past) → AllByRecursion StepFits (step ∷ past) → ArePackets (sent n past) → ArePackets (packets_of n past step)
+unfolding AllSent
+step_in by_server by_client n (AtServer s e) past l h f are =
+    each _ (by_server (opening_of s) (of_server s past) e (record { me = f.0.0; last = omega arith }) (more_in (sent n past) s e (of_server s past) are h.1 f.0.1 (came_to n s past h.0 f.1 are)))
+step_in by_server by_client n (AtClient e) past l h f are =
+    each _ (by_client (client_opening n) (of_client past) e (record { servers = l; note = blank_noted }) (more_heard (sent n past) e (of_client past) are h.1 (came_back n past h.0 are)))
+
+none_sent : (n : ℕ) → ArePackets (sent n [])
+unfolding sent
+none_sent n p i = absurd (none_in p i)
+
+one_step : (n : ℕ) (step : Step) (past : List Step) → ArePackets (sent n past) → ArePackets (packets_of n past step) → ArePackets (sent n (step ∷ past))
+unfolding sent
+one_step n step past a b = both (sent n past) (packets_of n past step) a b
+
+pub sent_are_in_range : servers.PacketsAreInRange → clients.PacketsAreInRange → SentAreInRange
+sent_are_in_range by_server by_client n [] h f = none_sent n
+sent_are_in_range by_server by_client n (step ∷ past) h f =
+    let are = sent_are_in_range by_server by_client n past h.0 (record { few = f.few; steps = f.steps.1 }) in
+    one_step n step past are (step_in by_server by_client n step past f.few h f.steps are)

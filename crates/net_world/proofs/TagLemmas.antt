@@ -1,0 +1,72 @@
+-- In each trace a tag names one body: only job files are cut.
+use Rattle.std.proofs.Common.{◌≡◌, refl, sym, ◌∙◌, ap, subst, ℕ, ◌≤◌, arith, true, ◌&&◌, List}
+use Rattle.std.specs.Prelude.{Contains, IsTrue, nat_lt}
+use Rattle.std.proofs.lemmas.Bool.{and_parts}
+use Rattle.std.proofs.lemmas.Bool.Decides.{nat_tests}
+use Rattle.messages.specs.declared.packet.PacketParts.{PacketParts}
+use Rattle.messages.specs.declared.body.Body.{Body}
+use Rattle.messages.specs.declared.body.Body.TheVariants as bodies
+use Rattle.messages.specs.declared.piece.Tag.{Tag}
+use Rattle.messages.specs.Nodes.{is_node}
+use Rattle.messages.specs.Ranges.{is_body, KeepsState}
+use Rattle.messages.specs.Bodies.{length_of}
+use Rattle.messages.specs.Laws.{IsPacket, LengthsAreBounded}
+use Rattle.messages.specs.Pieces.{is_cut, tag_of}
+use Rattle.net_world.specs.Trace.{Step, sent}
+use Rattle.net_world.specs.Fresh.{OneTextOfEachRun, OneTextOfEachAttempt}
+use Rattle.net_world.specs.FrameLaws.{TagsNameOneBody}
+
+-- A body that is cut has a job file.
+data Long (b : Body) : Type 0 where
+  OfJobs : (run : ℕ) (text : List ℕ) → b ≡ bodies.Jobs run text → Long b
+  OfVerify : (run attempt : ℕ) (text : List ℕ) → b ≡ bodies.Verify run attempt text → Long b
+
+short : (b : Body) (limit : ℕ) → length_of b ≤ limit → limit ≤ 1024 → is_cut b ≡ true → Long b
+short b limit l m c = absurd (below (length_of b) limit l m c)
+  where
+    below : (a limit : ℕ) → a ≤ limit → limit ≤ 1024 → nat_lt 1024 a ≡ true → ⊥
+    below a limit l m c = grind (arith, nat_tests)
+
+long : LengthsAreBounded → (b : Body) → IsTrue (is_body b) → KeepsState b → is_cut b ≡ true → Long b
+long law (bodies.Jobs run text) h k c = OfJobs run text refl
+long law (bodies.Verify run attempt text) h k c = OfVerify run attempt text refl
+long law (bodies.JobsOk run jobs) h k c = short (bodies.JobsOk run jobs) 12 (law (bodies.JobsOk run jobs) h k) (omega arith) c
+long law (bodies.Start run) h k c = short (bodies.Start run) 8 (law (bodies.Start run) h k) (omega arith) c
+long law (bodies.Started run) h k c = short (bodies.Started run) 8 (law (bodies.Started run) h k) (omega arith) c
+long law (bodies.Trigger run act) h k c = short (bodies.Trigger run act) 9 (law (bodies.Trigger run act) h k) (omega arith) c
+long law (bodies.State jobs state) h k c = short (bodies.State jobs state) 140 (law (bodies.State jobs state) h k) (omega arith) c
+long law (bodies.NoState run job jobs) h k c = short (bodies.NoState run job jobs) 16 (law (bodies.NoState run job jobs) h k) (omega arith) c
+long law (bodies.StateAck run job) h k c = short (bodies.StateAck run job) 12 (law (bodies.StateAck run job) h k) (omega arith) c
+long law (bodies.Stop run) h k c = short (bodies.Stop run) 8 (law (bodies.Stop run) h k) (omega arith) c
+long law (bodies.Stopped run) h k c = short (bodies.Stopped run) 8 (law (bodies.Stopped run) h k) (omega arith) c
+long law (bodies.WantState run attempt job) h k c = short (bodies.WantState run attempt job) 20 (law (bodies.WantState run attempt job) h k) (omega arith) c
+long law (bodies.Saved attempt state) h k c = short (bodies.Saved attempt state) 144 (law (bodies.Saved attempt state) h k) (omega arith) c
+long law (bodies.NoSaved run attempt job) h k c = short (bodies.NoSaved run attempt job) 20 (law (bodies.NoSaved run attempt job) h k) (omega arith) c
+long law (bodies.Report run attempt job jobs r) h k c = short (bodies.Report run attempt job jobs r) 169 (law (bodies.Report run attempt job jobs r) h k) (omega arith) c
+long law (bodies.Refused r) h k c = short (bodies.Refused r) 34 (law (bodies.Refused r) h k) (omega arith) c
+
+tags_are : (b c x y : Body) → b ≡ x → c ≡ y → tag_of b ≡ tag_of c → tag_of x ≡ tag_of y
+tags_are b c x y h k e = sym (ap tag_of h) ∙ e ∙ ap tag_of k
+
+same_body : OneTextOfEachRun → OneTextOfEachAttempt → (n : ℕ) (t : List Step) (p q : PacketParts) → Contains (sent n t) p → Contains (sent n t) q → tag_of p.body ≡ tag_of q.body → Long p.body → Long q.body → p.body ≡ q.body
+same_body texts checks n t p q i j e (OfJobs run text h) (OfJobs other more k) =
+    let run_is : run ≡ other = ap (λ (x : Tag). x.run) (tags_are p.body q.body (bodies.Jobs run text) (bodies.Jobs other more) h k e) in
+    let k_is : q.body ≡ bodies.Jobs run more = subst (λ x. q.body ≡ bodies.Jobs x more) (sym run_is) k in
+    h ∙ ap (bodies.Jobs run) (texts n t p q run text more i h j k_is) ∙ sym k_is
+same_body texts checks n t p q i j e (OfVerify run a text h) (OfVerify other b more k) =
+    let tags = tags_are p.body q.body (bodies.Verify run a text) (bodies.Verify other b more) h k e in
+    let attempt_is : a ≡ b = ap (λ (x : Tag). x.number) tags in
+    let run_is : run ≡ other = ap (λ (x : Tag). x.run) tags in
+    let k_is : q.body ≡ bodies.Verify run a more = subst (λ x. q.body ≡ bodies.Verify run x more) (sym attempt_is) (subst (λ x. q.body ≡ bodies.Verify x b more) (sym run_is) k) in
+    h ∙ ap (bodies.Verify run a) (checks n t p q a run run text more i h j k_is).1 ∙ sym k_is
+same_body texts checks n t p q i j e (OfJobs run text h) (OfVerify other b more k) =
+    let x = ap (λ (y : Tag). y.whole) (tags_are p.body q.body (bodies.Jobs run text) (bodies.Verify other b more) h k e) in absurd cc
+same_body texts checks n t p q i j e (OfVerify run a text h) (OfJobs other more k) =
+    let x = ap (λ (y : Tag). y.whole) (tags_are p.body q.body (bodies.Verify run a text) (bodies.Jobs other more) h k e) in absurd cc
+
+in_range : (p : PacketParts) → IsPacket p → is_body p.body ≡ true
+in_range p h = (and_parts (is_node p.from && is_node p.to) (is_body p.body) h.in_range).1
+
+pub tags_name_one_body : LengthsAreBounded → OneTextOfEachRun → OneTextOfEachAttempt → TagsNameOneBody
+tags_name_one_body law texts checks n t are p q i j c d e =
+    same_body texts checks n t p q i j e (long law p.body (in_range p (are p i)) (are p i).state c) (long law q.body (in_range q (are q j)) (are q j).state d)

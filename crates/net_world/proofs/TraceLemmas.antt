@@ -1,0 +1,104 @@
+-- Traces: what was sent stays sent, what came was sent, and what was taken stays taken.
+use Rattle.std.proofs.Common.{◌≡◌, refl, subst, ◌⊎◌, inl, inr, ℕ, arith, Bool, true, false, ◌==◌, List, [], ◌∷◌, Option, Some, None}
+use Rattle.std.specs.Prelude.{if◌then◌else◌, Contains}
+use Rattle.std.specs.List.{AllByRecursion}
+use Rattle.std.proofs.lemmas.Bool.Decides.{nat_tests}
+use Rattle.std.proofs.lemmas.List.Elements.{Contains-append_cases, Contains-append_left}
+use Rattle.fc_base.specs.declared.numbers.Key.{Key}
+use Rattle.verify_state.specs.State.{State}
+use Rattle.messages.specs.declared.packet.PacketParts.{PacketParts}
+use Rattle.messages.specs.declared.node.Node.TheVariants.{Server}
+use Rattle.server_core.specs.declared.event.Event.{Event}
+use Rattle.server_core.specs.declared.event.Event.TheVariants as events
+use Rattle.server_core.specs.History as server
+use Rattle.server_core.specs.History.{Opening}
+use Rattle.server_core.specs.Request.{asked}
+use Rattle.server_core.specs.Words.{work}
+use Rattle.server_core.specs.Taken.{takes, and_those, takings}
+use Rattle.server_core.specs.Heard.{heard_with, heard}
+use Rattle.client_core.specs.Ranges.{packet_in, came}
+use Rattle.net_world.specs.Trace.{Step, AtServer, AtClient, opening_of, of_server, of_client, packets_of, sent, taken_by, node_of, WasSentTo, IsTrace}
+use Rattle.net_world.specs.Holders.{taken_of}
+use Rattle.net_world.proofs.ListLemmas.{none_in, later_in, each_of}
+
+same_number : (x : ℕ) → (x == x) ≡ true
+same_number x = grind (arith, nat_tests)
+
+-- The list of a server behind a step of its own.
+pub own_step : (r s : ℕ) (e : server.Entry) (past : List Step) → r ≡ s → of_server s (AtServer r e ∷ past) ≡ e ∷ of_server s past
+own_step r s e past h = let t : (r == s) ≡ true = subst (λ x. (r == x) ≡ true) h (same_number r) in rw t refl
+
+-- ---- what was taken stays taken
+
+among : (x : Option State) (states : List State) (state : State) → Contains states state → Contains (and_those x states) state
+among None states state h = h
+among (Some y) states state h = later_in y states state h
+
+taking_stays : (o : Opening) (run j : ℕ) (e : server.Entry) (past : List server.Entry) (state : State) → Contains (takings o run j past) state → Contains (takings o run j (e ∷ past)) state
+taking_stays o run j (server.Met e left) past state h = among (takes run j (asked o.me e) (work o past)) (takings o run j past) state h
+taking_stays o run j server.Cut past state h = h
+taking_stays o run j (server.Restart left) past state h = h
+
+stays_if : (key : Key) (t : Bool) (e : server.Entry) (past : List Step) (state : State) → Contains (taken_of key past) state
+    → Contains (takings (opening_of key.server) key.run key.job (if t then e ∷ of_server key.server past else of_server key.server past)) state
+stays_if key true e past state h = taking_stays (opening_of key.server) key.run key.job e (of_server key.server past) state h
+stays_if key false e past state h = h
+
+pub taken_stays : (key : Key) (step : Step) (past : List Step) (state : State) → Contains (taken_of key past) state → Contains (taken_of key (step ∷ past)) state
+taken_stays key (AtServer r e) past state h = stays_if key (r == key.server) e past state h
+taken_stays key (AtClient e) past state h = h
+
+-- ---- what was sent stays sent
+
+pub sent_cases : (n : ℕ) (step : Step) (past : List Step) (p : PacketParts) → Contains (sent n (step ∷ past)) p → Contains (sent n past) p ⊎ Contains (packets_of n past step) p
+unfolding sent
+sent_cases n step past p h = Contains-append_cases (sent n past) (packets_of n past step) p h
+
+pub sent_stays : (n : ℕ) (step : Step) (past : List Step) (p : PacketParts) → Contains (sent n past) p → Contains (sent n (step ∷ past)) p
+unfolding sent
+sent_stays n step past p h = Contains-append_left (sent n past) (packets_of n past step) p h
+
+pub sent_none : (n : ℕ) (p : PacketParts) → Contains (sent n []) p → ⊥
+unfolding sent
+sent_none n p h = none_in p h
+
+-- ---- what came was sent
+
+-- What a step of a trace takes was sent before.
+pub taken_was_sent : (n : ℕ) (step : Step) (past : List Step) (p : PacketParts) → AllByRecursion (WasSentTo (sent n past) (node_of step)) (taken_by step) → Contains (taken_by step) p → Contains (sent n past) p
+taken_was_sent n step past p h c = (each_of (WasSentTo (sent n past) (node_of step)) (taken_by step) p h c).0
+
+-- All that came to the client.
+pub came_was_sent : (n : ℕ) (t : List Step) (p : PacketParts) → IsTrace n t → Contains (came (of_client t)) p → Contains (sent n t) p
+came_was_sent n [] p h c = absurd (none_in p c)
+came_was_sent n (AtServer r e ∷ past) p h c = sent_stays n (AtServer r e) past p (came_was_sent n past p h.0 c)
+came_was_sent n (AtClient e ∷ past) p h c =
+    sent_stays n (AtClient e) past p (elim (Contains-append_cases (packet_in e) (came (of_client past)) p c) [
+      | inl now ↦ taken_was_sent n (AtClient e) past p h.1 now
+      | inr before ↦ came_was_sent n past p h.0 before
+    ])
+
+-- An entry of a server brings a packet, or it came before.
+heard_by : (e : Event) (older : List PacketParts) (p : PacketParts) → Contains (heard_with e older) p → Contains (heard_with e []) p ⊎ Contains older p
+heard_by (events.Deliver q) older p h = Contains-append_cases (q ∷ []) older p h
+heard_by (events.Issue j) older p h = inr h
+heard_by (events.WriteDone ticket end) older p h = inr h
+heard_by (events.CheckDone boot a j report) older p h = inr h
+
+heard_now : (e : server.Entry) (past : List server.Entry) (p : PacketParts) → Contains (heard (e ∷ past)) p → Contains (heard (e ∷ [])) p ⊎ Contains (heard past) p
+heard_now (server.Met e left) past p h = heard_by e (heard past) p h
+heard_now server.Cut past p h = absurd (none_in p h)
+heard_now (server.Restart left) past p h = absurd (none_in p h)
+
+heard_if : (n r s : ℕ) (t : Bool) (e : server.Entry) (past : List Step) (p : PacketParts) → AllByRecursion (WasSentTo (sent n past) (Server r)) (heard (e ∷ []))
+    → (Contains (heard (of_server s past)) p → Contains (sent n past) p) → Contains (heard (if t then e ∷ of_server s past else of_server s past)) p → Contains (sent n past) p
+heard_if n r s false e past p w before h = before h
+heard_if n r s true e past p w before h =
+    elim (heard_now e (of_server s past) p h) [ inl now ↦ taken_was_sent n (AtServer r e) past p w now | inr i ↦ before i ]
+
+-- All that came to a server in this life.
+pub heard_was_sent : (n s : ℕ) (t : List Step) (p : PacketParts) → IsTrace n t → Contains (heard (of_server s t)) p → Contains (sent n t) p
+heard_was_sent n s [] p trace h = absurd (none_in p h)
+heard_was_sent n s (AtServer r e ∷ past) p trace h =
+    sent_stays n (AtServer r e) past p (heard_if n r s (r == s) e past p trace.1 (heard_was_sent n s past p trace.0) h)
+heard_was_sent n s (AtClient e ∷ past) p trace h = sent_stays n (AtClient e) past p (heard_was_sent n s past p trace.0 h)

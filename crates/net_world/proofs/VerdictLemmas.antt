@@ -1,0 +1,113 @@
+-- The verdict theorem, from the four passes and the laws of one server.
+use Rattle.std.proofs.Common.{◌≡◌, refl, ◌∙◌, ap, subst, inl, inr, ℕ, Bool, true, false, List, [], ◌∷◌, ◌++◌, Option, Some, None, append_assoc}
+use Rattle.std.specs.Prelude.{if◌then◌else◌, Contains}
+use Rattle.fc_base.specs.declared.numbers.Key.{Key}
+use Rattle.verify_state.specs.State.{State}
+use Rattle.messages.specs.declared.packet.PacketParts.{PacketParts}
+use Rattle.messages.specs.declared.body.Body.{Body}
+use Rattle.messages.specs.declared.body.Body.TheVariants as bodies
+use Rattle.disk_model.specs.declared.left.Left.TheVariants.{Saved}
+use Rattle.disk_model.specs.Left.{is_lost}
+use Rattle.server_core.specs.History.{Opening, Entry, Met, Cut, Restart}
+use Rattle.server_core.specs.Request.{asked}
+use Rattle.server_core.specs.Words.{work, last_run}
+use Rattle.server_core.specs.Taken.{takes, and_those, takings}
+use Rattle.server_core.specs.Check.{With, progress}
+use Rattle.server_core.specs.Accepted.{IsTaking}
+use Rattle.server_core.specs.Laws.{TakenAtMostOnce, CountsTheDone, WithWasHeard, QuietUntilChecked}
+use Rattle.client_core.specs.Words.{kept}
+use Rattle.client_core.specs.Packets.{to_server}
+use Rattle.net_world.specs.Trace.{Step, IsTrace, opening_of, client_opening, of_server, of_client, sent}
+use Rattle.net_world.specs.Holders.{taken_of, taken_in_life, carried, Holds, ByTaking, ByCheck, ByClient, ByPacket}
+use Rattle.net_world.specs.Passes.{SentStatesWereTaken, KeptStatesWereSent, SavedStatesAreKept, CheckedStatesWereSent}
+use Rattle.net_world.specs.Verdict.{OneTaking, HeldIsTheTaken, CountsTheCompleted, IsQuiet, QuietUntilTheCheck}
+use Rattle.net_world.proofs.ListLemmas.{none_in, first_or_rest, first_in, later_in, single}
+
+-- The four passes.
+pub record Passes : Type 0 where
+  pub sent_taken : SentStatesWereTaken
+  pub kept_sent : KeptStatesWereSent
+  pub saved_kept : SavedStatesAreKept
+  pub checked_sent : CheckedStatesWereSent
+
+-- What is kept was taken.
+pub kept_was_taken : Passes → (n : ℕ) (t : List Step) (key : Key) (state : State) → IsTrace n t → kept (client_opening n) (of_client t) key ≡ Some state → Contains (taken_of key t) state
+kept_was_taken passes n t key state trace h =
+    let k = passes.kept_sent n t key state trace h in
+    subst (λ i. Contains (taken_of i t) state) k.key_is (passes.sent_taken n t _ k.jobs state k.sent_in refl)
+
+-- What was sent in a Saved was taken.
+saved_was_taken : Passes → (n : ℕ) (t : List Step) (p : PacketParts) (attempt : ℕ) (state : State) → IsTrace n t → Contains (sent n t) p → p.body ≡ bodies.Saved attempt state → Contains (taken_of state.key t) state
+saved_was_taken passes n t p attempt state trace h is =
+    kept_was_taken passes n t state.key state trace (passes.saved_kept n t p attempt state h is)
+
+-- What was taken in this life was taken.
+taken_or : (lost : Bool) (x : Option State) (states all : List State) (state : State) → (Contains states state → Contains all state) → Contains (if lost then [] else and_those x states) state → Contains (and_those x all) state
+taken_or true x states all state f h = absurd (none_in state h)
+taken_or false None states all state f h = f h
+taken_or false (Some y) states all state f h = elim (first_or_rest y states state h) [ inl e ↦ subst (Contains (y ∷ all)) e (first_in y all) | inr i ↦ later_in y all state (f i) ]
+
+taken_in_life_was_taken : (o : Opening) (run j : ℕ) (past : List Entry) (state : State) → Contains (taken_in_life o run j past) state → Contains (takings o run j past) state
+taken_in_life_was_taken o run j [] state h = absurd (none_in state h)
+taken_in_life_was_taken o run j (Met e left ∷ past) state h =
+    taken_or (is_lost left) (takes run j (asked o.me e) (work o past)) (taken_in_life o run j past) (takings o run j past) state (taken_in_life_was_taken o run j past state) h
+taken_in_life_was_taken o run j (Cut ∷ past) state h = absurd (none_in state h)
+taken_in_life_was_taken o run j (Restart left ∷ past) state h = absurd (none_in state h)
+
+-- A packet that carries a state carries one that was taken.
+carried_was_taken : Passes → (n : ℕ) (t : List Step) (p : PacketParts) (state : State) (b : Body) → p.body ≡ b → IsTrace n t → Contains (sent n t) p → carried b ≡ Some state → Contains (taken_of state.key t) state
+carried_was_taken passes n t p state (bodies.State jobs x) is trace h e = let same : x ≡ state = cc in passes.sent_taken n t p jobs state h (is ∙ ap (bodies.State jobs) same)
+carried_was_taken passes n t p state (bodies.Saved attempt x) is trace h e = let same : x ≡ state = cc in saved_was_taken passes n t p attempt state trace h (is ∙ ap (bodies.Saved attempt) same)
+carried_was_taken passes n t p state (bodies.Jobs run text) is trace h e = absurd cc
+carried_was_taken passes n t p state (bodies.JobsOk run jobs) is trace h e = absurd cc
+carried_was_taken passes n t p state (bodies.Start run) is trace h e = absurd cc
+carried_was_taken passes n t p state (bodies.Started run) is trace h e = absurd cc
+carried_was_taken passes n t p state (bodies.Trigger run act) is trace h e = absurd cc
+carried_was_taken passes n t p state (bodies.NoState run job jobs) is trace h e = absurd cc
+carried_was_taken passes n t p state (bodies.StateAck run job) is trace h e = absurd cc
+carried_was_taken passes n t p state (bodies.Stop run) is trace h e = absurd cc
+carried_was_taken passes n t p state (bodies.Stopped run) is trace h e = absurd cc
+carried_was_taken passes n t p state (bodies.Verify run attempt text) is trace h e = absurd cc
+carried_was_taken passes n t p state (bodies.WantState run attempt job) is trace h e = absurd cc
+carried_was_taken passes n t p state (bodies.NoSaved run attempt job) is trace h e = absurd cc
+carried_was_taken passes n t p state (bodies.Report run attempt job jobs report) is trace h e = absurd cc
+carried_was_taken passes n t p state (bodies.Refused refusal) is trace h e = absurd cc
+
+-- Whoever holds a state holds one that was taken.
+pub held_was_taken : Passes → (n : ℕ) (t : List Step) (key : Key) (state : State) → IsTrace n t → Holds n t key state → Contains (taken_of key t) state
+held_was_taken passes n t key state trace (ByTaking h) = taken_in_life_was_taken (opening_of key.server) key.run key.job (of_server key.server t) state h
+held_was_taken passes n t key state trace (ByCheck m j h is) =
+    let k = passes.checked_sent n t m j state trace h in
+    subst (λ i. Contains (taken_of i t) state) is (saved_was_taken passes n t (to_server (bodies.Saved k.0 state) m) k.0 state trace k.1 refl)
+held_was_taken passes n t key state trace (ByClient h) = kept_was_taken passes n t key state trace h
+held_was_taken passes n t key state trace (ByPacket p h carries is) = subst (λ i. Contains (taken_of i t) state) is (carried_was_taken passes n t p state p.body refl trace h carries)
+
+pub one_taking : TakenAtMostOnce → OneTaking
+one_taking once t key = once (opening_of key.server) key.run key.job (of_server key.server t)
+
+pub held_is_the_taken : Passes → TakenAtMostOnce → HeldIsTheTaken
+held_is_the_taken passes once n t key state trace h = single (taken_of key t) state (one_taking once t key) (held_was_taken passes n t key state trace h)
+
+pub counts_the_completed : Passes → CountsTheDone → CountsTheCompleted
+counts_the_completed passes counts n t key state trace h =
+    counts (opening_of key.server) key.run key.job (of_server key.server t) state (held_was_taken passes n t key state trace h)
+
+-- A list behind a taking, split once more.
+split_more : (list newer later between rest : List Entry) (x y : Entry) → list ≡ newer ++ y ∷ rest → newer ≡ later ++ x ∷ between → list ≡ later ++ x ∷ (between ++ y ∷ rest)
+split_more list newer later between rest x y h g =
+    h ∙ ap (λ l. l ++ y ∷ rest) g ∙ append_assoc later (x ∷ between) (y ∷ rest)
+
+since_is_quiet : QuietUntilChecked → (o : Opening) (run j : ℕ) (list : List Entry) (state : State) → state.key.run ≡ run → progress o list j ≡ Some (With state) → (taking : IsTaking o run j list state) → IsQuiet taking
+since_is_quiet quiet o run j list state is with taking later between e left g =
+    let rest = taking.between ++ Met taking.start Saved ∷ taking.older in
+    quiet o rest between later taking.trigger e taking.left left run j j state state taking.pulls
+    (subst (λ l. progress o l j ≡ Some (With state)) (split_more list taking.newer later between rest (Met e left) (Met taking.trigger taking.left) taking.split g) with)
+    is
+
+pub quiet_until_the_check : Passes → CountsTheDone → WithWasHeard → QuietUntilChecked → QuietUntilTheCheck
+quiet_until_the_check passes counts heard quiet n t m j state trace h =
+    let o = opening_of m in
+    let run = last_run o (of_server m t) in
+    let key : state.key ≡ record { run = run; server = m; job = j } = (heard o (of_server m t) j state h).key in
+    let taking : IsTaking o run j (of_server m t) state = counts_the_completed passes counts n t (record { run = run; server = m; job = j }) state trace (ByCheck m j h key) in
+    record { run = run; key = key; taking = taking; quiet = since_is_quiet quiet o run j (of_server m t) state (ap (λ (k : Key). k.run) key) h taking }

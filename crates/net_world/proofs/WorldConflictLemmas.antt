@@ -1,0 +1,199 @@
+-- Nothing that happens in a world is refused as another state of a kept key.
+use Rattle.std.proofs.Common.{◌≡◌, refl, ap, subst, ℕ, Bool, true, false, List, Option, Some, None, Ok, Err}
+use Rattle.std.specs.Prelude.{if◌then◌else◌, slice_get, Contains}
+use Rattle.std.proofs.lemmas.Option.{slice_get_within, get_or_from_slice_get}
+use Rattle.fc_base.specs.declared.fault.Fault.{Fault}
+use Rattle.fc_base.specs.declared.fault.Fault.TheVariants.{Conflict, NumbersSpent, NoSave}
+use Rattle.engine.specs.Running.{Origin}
+use Rattle.engine.specs.Answers.{ticket_of}
+use Rattle.messages.specs.declared.packet.PacketParts.{PacketParts}
+use Rattle.messages.specs.declared.frame.Frame.{Frame}
+use Rattle.messages.specs.declared.node.Node.{Node}
+use Rattle.messages.specs.declared.node.Node.TheVariants.{Server, Client}
+use Rattle.messages.specs.PieceLaws.{OnlySentComesTogether}
+use Rattle.messages.specs.Hearing.{Meaning, Says, Waits, Spoils, Strays, heard}
+use Rattle.disk_model.specs.declared.left.Left.TheVariants as lefts
+use Rattle.server_core.specs.declared.event.Event.{Event}
+use Rattle.server_core.specs.declared.event.Event.TheVariants as events
+use Rattle.server_core.specs.declared.event.WriteEnd.{WriteEnd}
+use Rattle.server_core.specs.declared.event.WriteEnd.TheVariants as ends
+use Rattle.server_core.specs.Words as servers
+use Rattle.server_core.specs.Answers as answers
+use Rattle.client_core.specs.declared.call.Call.{Call}
+use Rattle.client_core.specs.declared.call.Call.TheVariants as calls
+use Rattle.client_core.specs.Words as clients
+use Rattle.net_world.specs.Happenings.{Happening, Begin, Trigger, StopRun, Verify, Tick, Deliver, Issue, Land, Done, Fail, Rot, Cut, Restart, CutIn}
+use Rattle.net_world.specs.Happenings as happenings
+use Rattle.net_world.specs.Trace.{Step, IsTrace, of_server, of_client, opening_of, client_opening, sent}
+use Rattle.net_world.specs.Frames as frames
+use Rattle.net_world.specs.Frames.{FrameStep, OfServer, OfClient, at_client, frames_sent, to_of, IsFrameTrace, trace_heard}
+use Rattle.net_world.specs.InRange.{FitsFrames, SentAreInRange}
+use Rattle.net_world.specs.FrameLaws.{FramesAreOfPackets, TagsNameOneBody}
+use Rattle.net_world.specs.Fresh.{NeverConflicts}
+use Rattle.net_world.specs.Changes.{Change, steps, trace}
+use Rattle.net_world.specs.Writes.{open_at}
+use Rattle.net_world.specs.Checks.{checked}
+use Rattle.net_world.specs.Barred.{barred}
+use Rattle.net_world.specs.Outcomes.{Outcome, Does, Refuses, Drops, met_by_server, met_by_client, comes_to_server, comes_to_client, said_to_server, said_to_client, comes_to, delivered, ended, reported, has_boot, restarted, cut_in, server_frame_cut, client_frame_cut, frame_cut, delivery_cut_in, restart_cut_in, brings, outcome}
+use Rattle.net_world.specs.World.{told_by, world}
+use Rattle.net_world.specs.WorldLaws.{EachWorldIsAFrameTrace, NoneIsAConflict}
+use Rattle.net_world.proofs.OnlySentLemmas.{frame_is, keeps, stands, heard_fits, SaysSent}
+use Rattle.net_world.proofs.WorldFitLemmas.{Reports, world_fits}
+use Rattle.net_world.proofs.CalmLemmas.{Fine, FineStep, FineCome, fine_step, fine_unless, fine_save, fine_barred, fine_bar, fine_server, NoPacket, fine_call}
+
+-- The laws on which this rests.
+pub record Peace : Type 0 where
+  pub traces : EachWorldIsAFrameTrace
+  pub law : OnlySentComesTogether
+  pub frames : FramesAreOfPackets
+  pub tags : TagsNameOneBody
+  pub ranges : SentAreInRange
+  pub never : NeverConflicts
+  pub reports : Reports
+
+-- ---- a frame that comes
+
+-- A packet that a frame says to the client was sent.
+said_was_sent : Peace → (n : ℕ) (t : List FrameStep) → IsFrameTrace n t → FitsFrames n t → (f : Frame) → Contains (frames_sent n t) f → to_of f ≡ Client → (p : PacketParts) → said_to_client n t f ≡ Says p → Contains (sent n (trace_heard n t)) p
+said_was_sent laws n t steps_are fits f i to p is =
+    let s = stands laws.law laws.frames laws.tags laws.ranges n t steps_are fits in
+    let ps = sent n (trace_heard n t) in
+    let are = laws.ranges n (trace_heard n t) s.trace (heard_fits n t fits) in
+    let k = keeps laws.law (at_client n) ps are (laws.tags n (trace_heard n t) are) (heard (at_client n) (frames.of_client t)) s.client_rows Client f (frame_is laws.frames n t f i) to lefts.NoSave in
+    let says : SaysSent ps Client (Says p) = subst (SaysSent ps Client) is k.says in
+    says.0
+
+fine_to_server : (t : List Step) (s : ℕ) (f : Frame) (m : Meaning) → FineCome (comes_to_server t s f m)
+unfolding FineCome
+fine_to_server t s f (Says p) h = fine_step _ (fine_unless (answers.refusal (opening_of s) (of_server s t) (events.Deliver p)) _ (fine_server s (of_server s t) (events.Deliver p))) h
+fine_to_server t s f Waits h = cc
+fine_to_server t s f Spoils h = cc
+fine_to_server t s f Strays h = cc
+
+fine_to_client : (n : ℕ) (t : List Step) (f : Frame) (m : Meaning) → ((p : PacketParts) → m ≡ Says p → Fine (clients.refusal (client_opening n) (of_client t) (calls.Deliver p))) → FineCome (comes_to_client n t f m)
+unfolding FineCome
+fine_to_client n t f (Says p) g h = fine_step _ (fine_unless (clients.refusal (client_opening n) (of_client t) (calls.Deliver p)) _ (g p refl)) h
+fine_to_client n t f Waits g h = cc
+fine_to_client n t f Spoils g h = cc
+fine_to_client n t f Strays g h = cc
+
+fine_to : Peace → (n : ℕ) (past : List Change) → IsFrameTrace n (steps past) → FitsFrames n (steps past) → IsTrace n (trace n past) → (node : Node) (f : Frame) → Contains (frames_sent n (steps past)) f → to_of f ≡ node → FineCome (comes_to n past node f)
+unfolding Fine
+fine_to laws n past steps_are fits t (Server s) f i to = fine_to_server (trace n past) s f (said_to_server (steps past) s f)
+fine_to laws n past steps_are fits t Client f i to =
+    fine_to_client n (trace n past) f (said_to_client n (steps past) f)
+    (λ p is. laws.never n (trace n past) p t (said_was_sent laws n (steps past) steps_are fits f i to p is))
+
+sent_at : (fs : List Frame) (i : ℕ) (f : Frame) → slice_get fs i ≡ Some f → Contains fs f
+sent_at fs i f h = (i, slice_get_within fs i f h, get_or_from_slice_get fs i f f h)
+
+fine_delivered : Peace → (n : ℕ) (past : List Change) → IsFrameTrace n (steps past) → FitsFrames n (steps past) → IsTrace n (trace n past) → (x : Option Frame) → ((f : Frame) → x ≡ Some f → Contains (frames_sent n (steps past)) f) → FineCome (delivered n past x)
+unfolding FineCome
+fine_delivered laws n past steps_are fits t None g h = cc
+fine_delivered laws n past steps_are fits t (Some f) g h = fine_to laws n past steps_are fits t (to_of f) f (g f refl) refl h
+
+-- ---- the rest
+
+fine_met_server : (t : List Step) (s : ℕ) (e : Event) → FineStep (met_by_server t s e)
+fine_met_server t s e = fine_unless (answers.refusal (opening_of s) (of_server s t) e) _ (fine_server s (of_server s t) e)
+
+fine_met_client : (n : ℕ) (t : List Step) (c : Call) → NoPacket c → FineStep (met_by_client n t c)
+fine_met_client n t c k = fine_unless (clients.refusal (client_opening n) (of_client t) c) _ (fine_call n (of_client t) c k)
+
+fine_ended : (t : List Step) (s k : ℕ) (end : WriteEnd) (x : Option Origin) → FineStep (ended t s k end x)
+unfolding FineStep
+fine_ended t s k end None h = cc
+fine_ended t s k end (Some origin) h = fine_met_server t s (events.WriteDone (ticket_of origin k) end) h
+
+fine_reported : (t : List Step) (s : ℕ) (x : Option Event) → FineStep (reported t s x)
+unfolding FineStep
+fine_reported t s None h = cc
+fine_reported t s (Some e) h = fine_met_server t s e h
+
+fine_if_step : (b : Bool) (step : FrameStep) (fault : Fault) → Fine (Some fault) → FineStep (if b then Ok step else Err fault)
+unfolding Fine FineStep
+fine_if_step true step fault f h = cc
+fine_if_step false step fault f h = f (let e : fault ≡ Conflict = cc in ap Some e)
+
+fine_restarted : (t : List Step) (node : Node) → FineStep (restarted t node)
+unfolding Fine FineStep
+fine_restarted t (Server s) h = fine_if_step (has_boot t s) _ NumbersSpent (λ h. cc) h
+fine_restarted t Client h = cc
+
+fine_restart_cut : (t : List Step) (landed : Bool) (node : Node) → FineStep (restart_cut_in t landed node)
+unfolding Fine FineStep
+fine_restart_cut t landed (Server s) h = fine_if_step (has_boot t s) _ NoSave (λ h. cc) h
+fine_restart_cut t landed Client h = cc
+
+fine_frame_cut : (n : ℕ) (past : List Change) (landed : Bool) (node : Node) (f : Frame) → FineStep (frame_cut n past landed node f)
+unfolding FineStep
+fine_frame_cut n past landed (Server s) f = by (said_to_server (steps past) s f)
+  where
+    by : (m : Meaning) → server_frame_cut (trace n past) s landed f m ≡ Err Conflict → ⊥
+    by (Says p) h = fine_save (servers.due (opening_of s) (of_server s (trace n past)) (events.Deliver p)) _ h
+    by Waits h = cc
+    by Spoils h = cc
+    by Strays h = cc
+fine_frame_cut n past landed Client f = by (said_to_client n (steps past) f)
+  where
+    by : (m : Meaning) → client_frame_cut n (trace n past) landed f m ≡ Err Conflict → ⊥
+    by (Says p) h = fine_save (clients.due (client_opening n) (of_client (trace n past)) (calls.Deliver p)) _ h
+    by Waits h = cc
+    by Spoils h = cc
+    by Strays h = cc
+
+fine_delivery_cut : (n : ℕ) (past : List Change) (landed : Bool) (x : Option Frame) → FineStep (delivery_cut_in n past landed x)
+unfolding FineStep
+fine_delivery_cut n past landed None h = cc
+fine_delivery_cut n past landed (Some f) h = fine_frame_cut n past landed (to_of f) f h
+
+fine_cut_in : (n : ℕ) (past : List Change) (landed : Bool) (e : Happening) → FineStep (cut_in n past landed e)
+unfolding FineStep
+fine_cut_in n past landed (Begin text) h = fine_save (clients.due (client_opening n) (of_client (trace n past)) (calls.Begin text)) _ h
+fine_cut_in n past landed (Verify run text) h = fine_save (clients.due (client_opening n) (of_client (trace n past)) (calls.Verify run text)) _ h
+fine_cut_in n past landed (Deliver i) h = fine_delivery_cut n past landed (slice_get (frames_sent n (steps past)) i) h
+fine_cut_in n past landed (Restart node) h = fine_restart_cut (trace n past) landed node h
+fine_cut_in n past landed (Trigger run act) h = cc
+fine_cut_in n past landed (StopRun run) h = cc
+fine_cut_in n past landed Tick h = cc
+fine_cut_in n past landed (Issue s j) h = cc
+fine_cut_in n past landed (Land s j k mask) h = cc
+fine_cut_in n past landed (Done s j k) h = cc
+fine_cut_in n past landed (Fail s j k) h = cc
+fine_cut_in n past landed (Rot s j sector bytes) h = cc
+fine_cut_in n past landed (happenings.Check s j) h = cc
+fine_cut_in n past landed (Cut node) h = cc
+fine_cut_in n past landed (CutIn again e) h = cc
+
+fine_bring : Peace → (n : ℕ) (past : List Change) → IsFrameTrace n (steps past) → FitsFrames n (steps past) → IsTrace n (trace n past) → (e : Happening) → FineCome (brings n past e)
+unfolding FineCome NoPacket
+fine_bring laws n past steps_are fits t (Begin text) h = fine_step _ (fine_met_client n (trace n past) (calls.Begin text) tt) h
+fine_bring laws n past steps_are fits t (Trigger run act) h = fine_step _ (fine_met_client n (trace n past) (calls.Trigger run act) tt) h
+fine_bring laws n past steps_are fits t (StopRun run) h = fine_step _ (fine_met_client n (trace n past) (calls.Stop run) tt) h
+fine_bring laws n past steps_are fits t (Verify run text) h = fine_step _ (fine_met_client n (trace n past) (calls.Verify run text) tt) h
+fine_bring laws n past steps_are fits t Tick h = fine_step _ (fine_met_client n (trace n past) calls.Tick tt) h
+fine_bring laws n past steps_are fits t (Deliver i) h = fine_delivered laws n past steps_are fits t (slice_get (frames_sent n (steps past)) i) (sent_at (frames_sent n (steps past)) i) h
+fine_bring laws n past steps_are fits t (Issue s j) h = fine_step _ (fine_met_server (trace n past) s (events.Issue j)) h
+fine_bring laws n past steps_are fits t (Land s j k mask) h = cc
+fine_bring laws n past steps_are fits t (Done s j k) h = fine_step _ (fine_ended (trace n past) s k ends.Done (open_at (trace n past) s j k)) h
+fine_bring laws n past steps_are fits t (Fail s j k) h = fine_step _ (fine_ended (trace n past) s k ends.Failed (open_at (trace n past) s j k)) h
+fine_bring laws n past steps_are fits t (Rot s j sector bytes) h = cc
+fine_bring laws n past steps_are fits t (happenings.Check s j) h = fine_step _ (fine_reported (trace n past) s (checked n past s j)) h
+fine_bring laws n past steps_are fits t (Cut node) h = cc
+fine_bring laws n past steps_are fits t (Restart node) h = fine_step _ (fine_restarted (trace n past) node) h
+fine_bring laws n past steps_are fits t (CutIn landed e) h = fine_step _ (fine_cut_in n past landed e) h
+
+told_is : (n : ℕ) (past : List Change) (e : Happening) (r : Outcome) → told_by n past e r ≡ Err Conflict → r ≡ Refuses Conflict
+told_is n past e (Refuses fault) h = let same : fault ≡ Conflict = cc in ap Refuses same
+told_is n past e (Drops step) h = absurd cc
+told_is n past e (Does change) h = absurd cc
+
+pub none_is_a_conflict : Peace → NoneIsAConflict
+unfolding FineCome
+none_is_a_conflict laws n events e few h =
+    let past = world n events in
+    let steps_are = laws.traces n events in
+    let fits = world_fits laws.reports n events few in
+    let t = (stands laws.law laws.frames laws.tags laws.ranges n (steps past) steps_are fits).trace in
+    fine_barred (barred n (trace n past) (frames_sent n (steps past)) e) (brings n past e) (fine_bar n (trace n past) (frames_sent n (steps past)) e) (fine_bring laws n past steps_are fits t e)
+    (told_is n past e (outcome n past e) h)

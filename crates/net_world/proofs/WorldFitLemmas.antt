@@ -1,0 +1,287 @@
+-- The steps of a world are within their ranges: its servers are few, and each report is one.
+use Rattle.std.proofs.Common.{◌≡◌, refl, ℕ, ◌<◌, ◌≤◌, arith, Bool, true, false, ◌&&◌, List, [], ◌∷◌, Option, Some, None, Result, Ok, Err}
+use Rattle.std.specs.Prelude.{if◌then◌else◌, slice_get, nat_lt, nat_le, not, IsTrue, is_some}
+use Rattle.std.specs.Option.{option_or}
+use Rattle.std.specs.List.{AllByRecursion}
+use Rattle.std.proofs.lemmas.Bool.{and_parts}
+use Rattle.std.proofs.lemmas.Bool.Decides.{nat_tests}
+use Rattle.std.proofs.lemmas.Option.{slice_get_within, get_or_from_slice_get}
+use Rattle.fc_base.specs.declared.fault.Fault.{Fault}
+use Rattle.fc_base.specs.declared.fault.Fault.TheVariants.{NoServer, NodeOff, NodeOn, NumbersSpent, NoSave, NoWrite}
+use Rattle.fc_base.specs.declared.limits.TheConstants.{MAX_BLOCKS, MAX_WRITES}
+use Rattle.fc_base.specs.JobParts.{has_block_size, has_region, has_queue, has_pattern, is_within_limits}
+use Rattle.fc_base.specs.declared.record.JobParts.{JobParts}
+use Rattle.job_file.specs.declared.job.Job.{Job}
+use Rattle.disk_model.specs.File.{block_bytes}
+use Rattle.disk_model.specs.declared.left.Left.TheVariants as lefts
+use Rattle.recheck.specs.Expected.{expected_by}
+use Rattle.recheck.specs.Fits.{ReportsFit}
+use Rattle.engine.specs.Running.{Origin}
+use Rattle.engine.specs.Answers.{ticket_of}
+use Rattle.messages.specs.declared.frame.Frame.{Frame}
+use Rattle.messages.specs.declared.node.Node.{Node}
+use Rattle.messages.specs.declared.node.Node.TheVariants.{Server, Client}
+use Rattle.messages.specs.Hearing.{Comes, Happens, Meaning, Says, Waits, Spoils, Strays}
+use Rattle.server_core.specs.declared.event.Event.{Event}
+use Rattle.server_core.specs.declared.event.Event.TheVariants as events
+use Rattle.server_core.specs.declared.event.WriteEnd.{WriteEnd}
+use Rattle.server_core.specs.declared.event.WriteEnd.TheVariants as ends
+use Rattle.server_core.specs.History as server
+use Rattle.server_core.specs.Words as servers
+use Rattle.server_core.specs.Answers as answers
+use Rattle.server_core.specs.Check.{Check, Progress, Wanting, Full, With, Refused, Done as Made, check, progress_after}
+use Rattle.server_core.specs.Laws.{ChecksHaveSets}
+use Rattle.client_core.specs.declared.call.Call.{Call}
+use Rattle.client_core.specs.declared.call.Call.TheVariants as calls
+use Rattle.client_core.specs.History as client
+use Rattle.client_core.specs.Words as clients
+use Rattle.net_world.specs.Happenings.{Happening, Begin, Trigger, StopRun, Verify, Tick, Deliver, Issue, Land, Done, Fail, Rot, Cut, Restart, CutIn}
+use Rattle.net_world.specs.Happenings as happenings
+use Rattle.net_world.specs.Trace.{Step, of_server, of_client, opening_of, client_opening}
+use Rattle.net_world.specs.Frames.{FrameStep, OfServer, OfClient, frames_sent, to_of}
+use Rattle.net_world.specs.InRange.{ReportFits, FrameStepFits, FitsFrames}
+use Rattle.net_world.specs.Changes.{Change, Met, Landed, Rotted, steps, trace}
+use Rattle.net_world.specs.Writes.{open_at}
+use Rattle.net_world.specs.Contents.{content}
+use Rattle.net_world.specs.Checks.{key_of, report_by, report_for, check_end, checked_in}
+use Rattle.net_world.specs.Barred.{unless, is_on, off, on, unsent, unopen, barred}
+use Rattle.net_world.specs.Outcomes.{Outcome, Does, Refuses, Drops, stepped, unless_fault, where_saved, lost_by, met_by_server, met_by_client, comes_to_server, comes_to_client, said_to_server, said_to_client, comes_to, delivered, ended, reported, has_boot, cut, restarted, client_cut_in, server_frame_cut, client_frame_cut, frame_cut, delivery_cut_in, restart_cut_in, cut_in, brings, unless_barred, outcome}
+use Rattle.net_world.specs.World.{and_outcome, world}
+use Rattle.net_world.proofs.ListLemmas.{each_of}
+
+FitBe : Result FrameStep Fault → Type 0
+FitBe (Ok step) = FrameStepFits step
+FitBe (Err fault) = Unit {0}
+
+FitCome : Outcome → Type 0
+FitCome (Does (Met step)) = FrameStepFits step
+FitCome (Does (Landed s j k mask)) = Unit {0}
+FitCome (Does (Rotted s j sector bytes)) = Unit {0}
+FitCome (Refuses fault) = Unit {0}
+FitCome (Drops step) = FrameStepFits step
+
+fit_step : (r : Result FrameStep Fault) → FitBe r → FitCome (stepped r)
+unfolding FitBe FitCome
+fit_step (Ok step) h = h
+fit_step (Err fault) h = tt
+
+fit_unless : (x : Option Fault) (r : Result FrameStep Fault) → FitBe r → FitBe (unless_fault x r)
+unfolding FitBe
+fit_unless None r h = h
+fit_unless (Some fault) r h = tt
+
+fit_save : {X : Type 0} (x : Option X) (step : FrameStep) → FrameStepFits step → FitBe (where_saved x step)
+unfolding FitBe
+fit_save None step h = tt
+fit_save (Some x) step h = h
+
+fit_if : (b : Bool) (step : FrameStep) (fault : Fault) → FrameStepFits step → FitBe (if b then Ok step else Err fault)
+unfolding FitBe
+fit_if true step fault h = h
+fit_if false step fault h = tt
+
+-- ---- a server that is there has a number below 8
+
+below : (n s : ℕ) (b : Bool) → nat_lt s n ≡ b → (x : Option Fault) → option_or (if b then None else Some NoServer) x ≡ None → n ≤ 8 → s < 8
+below n s true e x h l = grind (arith, nat_tests)
+below n s false e x h l = absurd cc
+
+server_there : (n : ℕ) (t : List Step) (s : ℕ) → n ≤ 8 → off n t (Server s) ≡ None → s < 8
+server_there n t s l h = below n s (nat_lt s n) refl (unless (is_on t (Server s)) NodeOff) h l
+
+server_off : (n : ℕ) (t : List Step) (s : ℕ) → n ≤ 8 → on n t (Server s) ≡ None → s < 8
+server_off n t s l h = below n s (nat_lt s n) refl (unless (not (is_on t (Server s))) NodeOn) h l
+
+first_none : (x y : Option Fault) → option_or x y ≡ None → x ≡ None
+first_none None y h = refl
+first_none (Some fault) y h = absurd cc
+
+write_there : (n : ℕ) (t : List Step) (s j k : ℕ) → n ≤ 8 → unopen n t s j k ≡ None → s < 8
+write_there n t s j k l h = server_there n t s l (first_none (off n t (Server s)) (unless (is_some (open_at t s j k)) NoWrite) h)
+
+-- ---- reports
+
+few_blocks : (job : JobParts) → is_within_limits job ≡ true → job.blocks ≤ MAX_BLOCKS
+few_blocks job limits =
+    let all = and_parts (has_block_size job && has_region job && has_queue job) (has_pattern job) limits in
+    let three = and_parts (has_block_size job && has_region job) (has_queue job) all.0 in
+    let two = and_parts (has_block_size job) (has_region job) three.0 in
+    let blocks = and_parts (nat_le 1 job.blocks && nat_le job.blocks MAX_BLOCKS) (nat_le 1 job.total && nat_le job.total MAX_WRITES) two.1 in
+    le job.blocks MAX_BLOCKS (and_parts (nat_le 1 job.blocks) (nat_le job.blocks MAX_BLOCKS) blocks.0).1
+  where
+    le : (a b : ℕ) → nat_le a b ≡ true → a ≤ b
+    le a b h = grind (arith, nat_tests)
+
+SomeEnd : Option Event → Type 0
+SomeEnd None = Unit {0}
+SomeEnd (Some e) = ReportFits e
+
+fit_report : ReportsFit → (c : Check) (j : ℕ) (job : Job) (held : ℕ → List ℕ) (p : Progress) → job.rec.blocks ≤ MAX_BLOCKS → SomeEnd (check_end c j (report_by c j job p held))
+unfolding SomeEnd
+fit_report law c j job held Wanting l = tt
+fit_report law c j job held Full l = law job.fatal (expected_by (key_of c j) job.rec None) (λ block. block_bytes held job.rec.bs block) job.rec.blocks l
+fit_report law c j job held (With state) l = law job.fatal (expected_by (key_of c j) job.rec (Some state)) (λ block. block_bytes held job.rec.bs block) job.rec.blocks l
+fit_report law c j job held (Refused value) l = tt
+fit_report law c j job held (Made r) l = tt
+
+fit_for : ReportsFit → (c : Check) (j : ℕ) (held : ℕ → List ℕ) (x : Option Job) → ((job : Job) → x ≡ Some job → job.rec.blocks ≤ MAX_BLOCKS) → SomeEnd (check_end c j (report_for c j x held))
+unfolding SomeEnd
+fit_for law c j held None f = tt
+fit_for law c j held (Some job) f = fit_report law c j job held (progress_after c j job c.since) (f job refl)
+
+fit_end : ReportsFit → ChecksHaveSets → (s : ℕ) (list : List server.Entry) (j : ℕ) (held : ℕ → List ℕ) (x : Option Check) → check (opening_of s) list ≡ x → SomeEnd (checked_in x j held)
+unfolding SomeEnd
+fit_end law sets s list j held None is = tt
+fit_end law sets s list j held (Some c) is =
+    fit_for law c j held (slice_get c.jobs j)
+    (λ job h. few_blocks job.rec (each_of (λ (x : Job). IsTrue (is_within_limits x.rec)) c.jobs job (sets (opening_of s) list c is).within.within (j, slice_get_within c.jobs j job h, get_or_from_slice_get c.jobs j job job h)))
+
+-- ---- each sort of happening
+
+fit_server : (t : List Step) (s : ℕ) (e : Event) → s < 8 → ReportFits e → FitBe (met_by_server t s e)
+unfolding FitBe
+fit_server t s e l r = fit_unless (answers.refusal (opening_of s) (of_server s t) e) _ (l, r)
+
+fit_client : (n : ℕ) (t : List Step) (c : Call) → FitBe (met_by_client n t c)
+unfolding FitBe
+fit_client n t c = fit_unless (clients.refusal (client_opening n) (of_client t) c) _ tt
+
+fit_ended : (t : List Step) (s k : ℕ) (end : WriteEnd) (x : Option Origin) → s < 8 → FitBe (ended t s k end x)
+unfolding FitBe
+fit_ended t s k end None l = tt
+fit_ended t s k end (Some origin) l = fit_server t s (events.WriteDone (ticket_of origin k) end) l tt
+
+fit_reported : (t : List Step) (s : ℕ) (x : Option Event) → s < 8 → SomeEnd x → FitBe (reported t s x)
+unfolding FitBe SomeEnd
+fit_reported t s None l r = tt
+fit_reported t s (Some e) l r = fit_server t s e l r
+
+fit_cut : (n : ℕ) (t : List Step) (node : Node) → n ≤ 8 → off n t node ≡ None → FrameStepFits (cut node)
+fit_cut n t (Server s) l h = (server_there n t s l h, tt)
+fit_cut n t Client l h = tt
+
+fit_restarted : (n : ℕ) (t : List Step) (node : Node) → n ≤ 8 → on n t node ≡ None → FitBe (restarted t node)
+unfolding FitBe
+fit_restarted n t (Server s) l h = fit_if (has_boot t s) (OfServer s (Happens (server.Restart lefts.Saved))) NumbersSpent (server_off n t s l h, tt)
+fit_restarted n t Client l h = tt
+
+fit_restart_cut : (n : ℕ) (t : List Step) (landed : Bool) (node : Node) → n ≤ 8 → on n t node ≡ None → FitBe (restart_cut_in t landed node)
+unfolding FitBe
+fit_restart_cut n t landed (Server s) l h = fit_if (has_boot t s) (OfServer s (Happens (server.Restart (lost_by landed)))) NoSave (server_off n t s l h, tt)
+fit_restart_cut n t landed Client l h = tt
+
+fit_comes_to_server : (t : List Step) (s : ℕ) (f : Frame) (m : Meaning) → s < 8 → FitCome (comes_to_server t s f m)
+unfolding FitCome FitBe
+fit_comes_to_server t s f (Says p) l = fit_step _ (fit_unless (answers.refusal (opening_of s) (of_server s t) (events.Deliver p)) _ l)
+fit_comes_to_server t s f Waits l = l
+fit_comes_to_server t s f Spoils l = l
+fit_comes_to_server t s f Strays l = tt
+
+fit_comes_to_client : (n : ℕ) (t : List Step) (f : Frame) (m : Meaning) → FitCome (comes_to_client n t f m)
+unfolding FitCome FitBe
+fit_comes_to_client n t f (Says p) = fit_step _ (fit_unless (clients.refusal (client_opening n) (of_client t) (calls.Deliver p)) _ tt)
+fit_comes_to_client n t f Waits = tt
+fit_comes_to_client n t f Spoils = tt
+fit_comes_to_client n t f Strays = tt
+
+fit_comes_to : (n : ℕ) (past : List Change) (node : Node) (f : Frame) → n ≤ 8 → off n (trace n past) node ≡ None → FitCome (comes_to n past node f)
+fit_comes_to n past (Server s) f l h = fit_comes_to_server (trace n past) s f (said_to_server (steps past) s f) (server_there n (trace n past) s l h)
+fit_comes_to n past Client f l h = fit_comes_to_client n (trace n past) f (said_to_client n (steps past) f)
+
+fit_delivered : (n : ℕ) (past : List Change) (x : Option Frame) → n ≤ 8 → unsent n (trace n past) x ≡ None → FitCome (delivered n past x)
+unfolding FitCome
+fit_delivered n past None l h = tt
+fit_delivered n past (Some f) l h = fit_comes_to n past (to_of f) f l h
+
+fit_server_frame_cut : (t : List Step) (s : ℕ) (landed : Bool) (f : Frame) (m : Meaning) → s < 8 → FitBe (server_frame_cut t s landed f m)
+unfolding FitBe
+fit_server_frame_cut t s landed f (Says p) l = fit_save (servers.due (opening_of s) (of_server s t) (events.Deliver p)) (OfServer s (Comes f (lost_by landed))) l
+fit_server_frame_cut t s landed f Waits l = tt
+fit_server_frame_cut t s landed f Spoils l = tt
+fit_server_frame_cut t s landed f Strays l = tt
+
+fit_client_frame_cut : (n : ℕ) (t : List Step) (landed : Bool) (f : Frame) (m : Meaning) → FitBe (client_frame_cut n t landed f m)
+unfolding FitBe
+fit_client_frame_cut n t landed f (Says p) = fit_save (clients.due (client_opening n) (of_client t) (calls.Deliver p)) (OfClient (Comes f (lost_by landed))) tt
+fit_client_frame_cut n t landed f Waits = tt
+fit_client_frame_cut n t landed f Spoils = tt
+fit_client_frame_cut n t landed f Strays = tt
+
+fit_frame_cut : (n : ℕ) (past : List Change) (landed : Bool) (node : Node) (f : Frame) → n ≤ 8 → off n (trace n past) node ≡ None → FitBe (frame_cut n past landed node f)
+fit_frame_cut n past landed (Server s) f l h = fit_server_frame_cut (trace n past) s landed f (said_to_server (steps past) s f) (server_there n (trace n past) s l h)
+fit_frame_cut n past landed Client f l h = fit_client_frame_cut n (trace n past) landed f (said_to_client n (steps past) f)
+
+fit_delivery_cut : (n : ℕ) (past : List Change) (landed : Bool) (x : Option Frame) → n ≤ 8 → unsent n (trace n past) x ≡ None → FitBe (delivery_cut_in n past landed x)
+unfolding FitBe
+fit_delivery_cut n past landed None l h = tt
+fit_delivery_cut n past landed (Some f) l h = fit_frame_cut n past landed (to_of f) f l h
+
+fit_client_cut : (n : ℕ) (t : List Step) (landed : Bool) (c : Call) → FitBe (client_cut_in n t landed c)
+fit_client_cut n t landed c = fit_save (clients.due (client_opening n) (of_client t) c) (OfClient (Happens (client.Met c (lost_by landed)))) tt
+
+-- The laws on which this rests.
+pub record Reports : Type 0 where
+  pub fit : ReportsFit
+  pub sets : ChecksHaveSets
+
+fit_cut_in : (n : ℕ) (past : List Change) (landed : Bool) (e : Happening) → n ≤ 8 → barred n (trace n past) (frames_sent n (steps past)) (CutIn landed e) ≡ None → FitBe (cut_in n past landed e)
+unfolding FitBe
+fit_cut_in n past landed (Begin text) l h = fit_client_cut n (trace n past) landed (calls.Begin text)
+fit_cut_in n past landed (Verify run text) l h = fit_client_cut n (trace n past) landed (calls.Verify run text)
+fit_cut_in n past landed (Deliver i) l h = fit_delivery_cut n past landed (slice_get (frames_sent n (steps past)) i) l h
+fit_cut_in n past landed (Restart node) l h = fit_restart_cut n (trace n past) landed node l h
+fit_cut_in n past landed (Trigger run act) l h = tt
+fit_cut_in n past landed (StopRun run) l h = tt
+fit_cut_in n past landed Tick l h = tt
+fit_cut_in n past landed (Issue s j) l h = tt
+fit_cut_in n past landed (Land s j k mask) l h = tt
+fit_cut_in n past landed (Done s j k) l h = tt
+fit_cut_in n past landed (Fail s j k) l h = tt
+fit_cut_in n past landed (Rot s j sector bytes) l h = tt
+fit_cut_in n past landed (happenings.Check s j) l h = tt
+fit_cut_in n past landed (Cut node) l h = tt
+fit_cut_in n past landed (CutIn again e) l h = tt
+
+fit_bring : Reports → (n : ℕ) (past : List Change) (e : Happening) → n ≤ 8 → barred n (trace n past) (frames_sent n (steps past)) e ≡ None → FitCome (brings n past e)
+unfolding FitBe FitCome
+fit_bring laws n past (Begin text) l h = fit_step _ (fit_client n (trace n past) (calls.Begin text))
+fit_bring laws n past (Trigger run act) l h = fit_step _ (fit_client n (trace n past) (calls.Trigger run act))
+fit_bring laws n past (StopRun run) l h = fit_step _ (fit_client n (trace n past) (calls.Stop run))
+fit_bring laws n past (Verify run text) l h = fit_step _ (fit_client n (trace n past) (calls.Verify run text))
+fit_bring laws n past Tick l h = fit_step _ (fit_client n (trace n past) calls.Tick)
+fit_bring laws n past (Deliver i) l h = fit_delivered n past (slice_get (frames_sent n (steps past)) i) l h
+fit_bring laws n past (Issue s j) l h = fit_step _ (fit_server (trace n past) s (events.Issue j) (server_there n (trace n past) s l h) tt)
+fit_bring laws n past (Land s j k mask) l h = tt
+fit_bring laws n past (Done s j k) l h = fit_step _ (fit_ended (trace n past) s k ends.Done (open_at (trace n past) s j k) (write_there n (trace n past) s j k l h))
+fit_bring laws n past (Fail s j k) l h = fit_step _ (fit_ended (trace n past) s k ends.Failed (open_at (trace n past) s j k) (write_there n (trace n past) s j k l h))
+fit_bring laws n past (Rot s j sector bytes) l h = tt
+fit_bring laws n past (happenings.Check s j) l h =
+    let list = of_server s (trace n past) in
+    fit_step _ (fit_reported (trace n past) s (checked_in (check (opening_of s) list) j (content n past s j)) (server_there n (trace n past) s l h)
+    (fit_end laws.fit laws.sets s list j (content n past s j) (check (opening_of s) list) refl))
+fit_bring laws n past (Cut node) l h = fit_cut n (trace n past) node l h
+fit_bring laws n past (Restart node) l h = fit_step _ (fit_restarted n (trace n past) node l h)
+fit_bring laws n past (CutIn landed e) l h = fit_step _ (fit_cut_in n past landed e l h)
+
+fit_pass : (x : Option Fault) (r : Outcome) → (x ≡ None → FitCome r) → FitCome (unless_barred x r)
+unfolding FitCome
+fit_pass None r f = f refl
+fit_pass (Some fault) r f = tt
+
+fit_one : (past : List Change) (r : Outcome) → AllByRecursion FrameStepFits (steps past) → FitCome r → AllByRecursion FrameStepFits (steps (and_outcome r past))
+unfolding FitCome
+fit_one past (Does (Met step)) h f = (f, h)
+fit_one past (Does (Landed s j k mask)) h f = h
+fit_one past (Does (Rotted s j sector bytes)) h f = h
+fit_one past (Refuses fault) h f = h
+fit_one past (Drops step) h f = (f, h)
+
+steps_fit : Reports → (n : ℕ) (events : List Happening) → n ≤ 8 → AllByRecursion FrameStepFits (steps (world n events))
+steps_fit laws n [] l = tt
+steps_fit laws n (e ∷ events) l =
+    let past = world n events in
+    fit_one past (outcome n past e) (steps_fit laws n events l)
+    (fit_pass (barred n (trace n past) (frames_sent n (steps past)) e) (brings n past e) (λ h. fit_bring laws n past e l h))
+
+pub world_fits : Reports → (n : ℕ) (events : List Happening) → n ≤ 8 → FitsFrames n (steps (world n events))
+world_fits laws n events l = record { few = l; steps = steps_fit laws n events l }

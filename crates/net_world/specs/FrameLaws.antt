@@ -1,0 +1,75 @@
+-- What holds of every trace of frames.
+use Rattle.std.specs.Prelude.{◌≡◌, ℕ, List, [], ◌∷◌, Contains, Some}
+use Rattle.std.specs.List.{flat_map}
+use Rattle.fc_base.specs.declared.numbers.Key.{Key}
+use Rattle.verify_state.specs.State.{State}
+use Rattle.messages.specs.declared.packet.PacketParts.{PacketParts}
+use Rattle.messages.specs.declared.piece.PieceParts.{PieceParts}
+use Rattle.messages.specs.declared.frame.Frame.TheVariants.{Piece}
+use Rattle.messages.specs.Pieces.{frames_of}
+use Rattle.messages.specs.Assemblies.{look, Gives}
+use Rattle.messages.specs.PieceLaws.{ArePackets, OneBodyOfEachTag, all_taken}
+use Rattle.messages.specs.Hearing.{Coming, heard}
+use Rattle.disk_model.specs.declared.left.Left.{Left}
+use Rattle.server_core.specs.History.{Entry}
+use Rattle.server_core.specs.Hearing.{heard_at}
+use Rattle.server_core.specs.FrameAnswers as answers
+use Rattle.net_world.specs.Trace as packets
+use Rattle.net_world.specs.Trace.{Step, IsTrace, sent, opening_of}
+use Rattle.net_world.specs.Holders.{Holds, carried, taken_of}
+use Rattle.net_world.specs.Frames.{FrameStep, OfServer, of_server, of_client, at_server, at_client, frames_of_step, frames_sent, IsFrameTrace, trace_heard, frame_entry, server_entries}
+use Rattle.net_world.specs.InRange.{FitsFrames}
+
+-- The list of each node in the trace that is heard is what the node hears of its own steps.
+pub record EachHearsItsOwn (n : ℕ) (t : List FrameStep) : Type 0 where
+  pub servers : (s : ℕ) → packets.of_server s (trace_heard n t) ≡ (heard (at_server s) (of_server s t)).entries
+  pub client : packets.of_client (trace_heard n t) ≡ (heard (at_client n) (of_client t)).entries
+
+abbrev pub NodesHearTheirOwn : Type 0
+NodesHearTheirOwn = (n : ℕ) (t : List FrameStep) → EachHearsItsOwn n t
+
+-- The frames that were sent are those of the packets that were sent.
+abbrev pub FramesAreOfPackets : Type 0
+FramesAreOfPackets =
+    (n : ℕ) (t : List FrameStep) → frames_sent n t ≡ flat_map frames_of (sent n (trace_heard n t))
+
+-- In each trace a tag names one body.
+abbrev pub TagsNameOneBody : Type 0
+TagsNameOneBody = (n : ℕ) (t : List Step) → ArePackets (sent n t) → OneBodyOfEachTag (sent n t)
+
+-- What a trace of frames says is a trace: each packet that is heard was sent.
+abbrev pub OnlySentIsHeard : Type 0
+OnlySentIsHeard =
+    (n : ℕ) (t : List FrameStep) → IsFrameTrace n t → FitsFrames n t → IsTrace n (trace_heard n t)
+
+-- Whoever holds a state in the trace that is heard holds the one that was taken.
+abbrev pub HeardIsTheTaken : Type 0
+HeardIsTheTaken =
+    (n : ℕ) (t : List FrameStep) (key : Key) (state : State) → IsFrameTrace n t → FitsFrames n t →
+    Holds n (trace_heard n t) key state → taken_of key (trace_heard n t) ≡ state ∷ []
+
+-- Pieces that were sent give a packet with this state, taken in this order.
+pub record PiecesHold (n : ℕ) (t : List FrameStep) (key : Key) (state : State) : Type 0 where
+  pub last : PieceParts
+  pub others : List PieceParts
+  pub each : (q : PieceParts) → Contains (last ∷ others) q → Contains (frames_sent n t) (Piece q)
+  pub packet : PacketParts
+  pub together : look (all_taken [] others) last ≡ Gives packet
+  pub state_is : carried packet.body ≡ Some state
+  pub key_is : state.key ≡ key
+
+-- A state that sent pieces hold is the one that was taken.
+abbrev pub PiecesHoldTheTaken : Type 0
+PiecesHoldTheTaken =
+    (n : ℕ) (t : List FrameStep) (key : Key) (state : State) → IsFrameTrace n t → FitsFrames n t →
+    PiecesHold n t key state → taken_of key (trace_heard n t) ≡ state ∷ []
+
+-- A server's list of frames says what the server hears in the trace, and it sends what the trace sends.
+pub record ServerStands (n s : ℕ) (t : List FrameStep) : Type 0 where
+  pub hears : heard_at (opening_of s) (server_entries s t) ≡ heard (at_server s) (of_server s t)
+  pub sends :
+      (c : Coming Entry Left)
+      → answers.frames (opening_of s) (server_entries s t) (frame_entry c) ≡ frames_of_step n t (OfServer s c)
+
+abbrev pub ServersStand : Type 0
+ServersStand = (n s : ℕ) (t : List FrameStep) → ServerStands n s t

@@ -1,0 +1,117 @@
+-- The steps of a client and its servers with frames in one list, the newest first, and the trace of
+-- packets that it says.
+use Rattle.std.specs.Prelude.{◌≡◌, ℕ, ◌==◌, if◌then◌else◌, List, [], ◌∷◌, ◌++◌, map, Option, Some, None, Contains}
+use Rattle.std.specs.List.{flat_map}
+use Rattle.std.specs.Option.{option_map}
+use Rattle.messages.specs.declared.packet.PacketParts.{PacketParts}
+use Rattle.messages.specs.declared.node.Node.{Node}
+use Rattle.messages.specs.declared.node.Node.TheVariants.{Server, Client}
+use Rattle.messages.specs.declared.frame.Frame.{Frame}
+use Rattle.messages.specs.declared.frame.Frame.TheVariants.{Whole, Piece}
+use Rattle.messages.specs.Pieces.{frames_of}
+use Rattle.messages.specs.Hearing.{Rules, Coming, Comes, Happens, entry_of, with_entry, heard}
+use Rattle.disk_model.specs.declared.left.Left.{Left}
+use Rattle.disk_model.specs.declared.left.Left.TheVariants.{Saved}
+use Rattle.server_core.specs.declared.event.Event.TheVariants as events
+use Rattle.server_core.specs.declared.input.Input.TheVariants as inputs
+use Rattle.server_core.specs.History as server
+use Rattle.server_core.specs.Hearing as server_hearing
+use Rattle.server_core.specs.Answers as servers
+use Rattle.client_core.specs.History as client
+use Rattle.client_core.specs.Packets as clients
+use Rattle.net_world.specs.ClientHearing as client_hearing
+use Rattle.net_world.specs.Trace.{Step, AtServer, AtClient, opening_of, client_opening, taken_by}
+
+-- A step: a frame comes to the server with this number, or anything else happens to it; or to the
+-- client.
+pub data FrameStep : Type 0 where
+  OfServer : ℕ → Coming server.Entry Left → FrameStep
+  OfClient : Coming client.Entry Left → FrameStep
+
+-- What has happened to server s: its first restart, and its steps since.
+abbrev pub of_server : ℕ → List FrameStep → List (Coming server.Entry Left)
+of_server s [] = Happens (server.Restart Saved) ∷ []
+of_server s (OfServer r c ∷ past) = if r == s then c ∷ of_server s past else of_server s past
+of_server s (OfClient c ∷ past) = of_server s past
+
+-- What has happened to the client.
+abbrev pub of_client : List FrameStep → List (Coming client.Entry Left)
+of_client [] = Happens client.Restart ∷ []
+of_client (OfServer s c ∷ past) = of_client past
+of_client (OfClient c ∷ past) = c ∷ of_client past
+
+-- How each node hears.
+abbrev pub at_server : ℕ → Rules server.Entry Left
+at_server s = server_hearing.rules (opening_of s)
+
+abbrev pub at_client : ℕ → Rules client.Entry Left
+at_client n = client_hearing.rules (client_opening n)
+
+-- The frames of the packets that a node sends with what it hears; none where it hears nothing.
+abbrev pub frames_by : {E : Type 0} → (List E → E → List PacketParts) → List E → Option E → List Frame
+frames_by sends past None = []
+frames_by sends past (Some e) = flat_map frames_of (sends past e)
+
+-- The frames that a node sends, to which this has happened, with what happens now.
+abbrev pub frames_with :
+    {E : Type 0} → Rules E Left → (List E → E → List PacketParts) → List (Coming E Left)
+    → Coming E Left → List Frame
+frames_with r sends past c = frames_by sends (heard r past).entries (entry_of r (heard r past) c)
+
+-- The frames that a step sends, in a trace of a client with n servers.
+abbrev pub frames_of_step : ℕ → List FrameStep → FrameStep → List Frame
+frames_of_step n past (OfServer s c) =
+    frames_with (at_server s) (servers.packets (opening_of s)) (of_server s past) c
+frames_of_step n past (OfClient c) =
+    frames_with (at_client n) (clients.packets (client_opening n)) (of_client past) c
+
+-- Every frame that was ever sent, the oldest first.
+unfoldable pub frames_sent : ℕ → List FrameStep → List Frame
+frames_sent n [] = []
+frames_sent n (step ∷ past) = frames_sent n past ++ frames_of_step n past step
+
+-- The node that a frame is for.
+abbrev pub to_of : Frame → Node
+to_of (Whole p) = p.to
+to_of (Piece q) = q.to
+
+-- A frame that a step takes was sent to its node, and what happens besides takes no packet.
+abbrev pub MayHappen : List Frame → FrameStep → Type 0
+MayHappen frames (OfServer s (Comes f left)) = Contains frames f × (to_of f ≡ Server s)
+MayHappen frames (OfServer s (Happens e)) = taken_by (AtServer s e) ≡ []
+MayHappen frames (OfClient (Comes f left)) = Contains frames f × (to_of f ≡ Client)
+MayHappen frames (OfClient (Happens e)) = taken_by (AtClient e) ≡ []
+
+-- A trace of frames: each frame that a node takes was sent to it earlier.
+abbrev pub IsFrameTrace : ℕ → List FrameStep → Type 0
+IsFrameTrace n [] = Unit {0}
+IsFrameTrace n (step ∷ past) = IsFrameTrace n past × MayHappen (frames_sent n past) step
+
+-- The step of packets that a step says, if it says one.
+abbrev pub step_heard : ℕ → List FrameStep → FrameStep → Option Step
+step_heard n past (OfServer s c) =
+    option_map (AtServer s) (entry_of (at_server s) (heard (at_server s) (of_server s past)) c)
+step_heard n past (OfClient c) =
+    option_map AtClient (entry_of (at_client n) (heard (at_client n) (of_client past)) c)
+
+-- The trace of packets that steps of frames say.
+abbrev pub trace_heard : ℕ → List FrameStep → List Step
+trace_heard n [] = []
+trace_heard n (step ∷ past) = with_entry (step_heard n past step) (trace_heard n past)
+
+-- What happens to a server, as an entry of its list of frames. A packet that comes besides the frames,
+-- as none does in a trace, is one that comes whole.
+abbrev pub frame_entry : Coming server.Entry Left → server_hearing.FrameEntry
+frame_entry (Comes f left) = server_hearing.Met (inputs.Deliver f) left
+frame_entry (Happens (server.Met (events.Deliver p) left)) = server_hearing.Met (inputs.Deliver (Whole p)) left
+frame_entry (Happens (server.Met (events.Issue j) left)) = server_hearing.Met (inputs.Issue j) left
+frame_entry (Happens (server.Met (events.WriteDone ticket end) left)) =
+    server_hearing.Met (inputs.WriteDone ticket end) left
+frame_entry (Happens (server.Met (events.CheckDone boot a j report) left)) =
+    server_hearing.Met (inputs.CheckDone boot a j report) left
+frame_entry (Happens server.Cut) = server_hearing.Cut
+frame_entry (Happens (server.Restart left)) = server_hearing.Restart left
+
+-- The list of frames of server s.
+abbrev pub server_entries : ℕ → List FrameStep → List server_hearing.FrameEntry
+server_entries s t = map frame_entry (of_server s t)

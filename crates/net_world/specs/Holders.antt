@@ -1,0 +1,42 @@
+-- Who holds which verify state, and what was taken.
+use Rattle.std.specs.Prelude.{◌≡◌, ℕ, if◌then◌else◌, List, [], ◌∷◌, Option, Some, None, Contains}
+use Rattle.fc_base.specs.declared.numbers.Key.{Key}
+use Rattle.verify_state.specs.State.{State}
+use Rattle.messages.specs.declared.packet.PacketParts.{PacketParts}
+use Rattle.messages.specs.declared.body.Body.{Body}
+use Rattle.messages.specs.declared.body.Body.TheVariants as bodies
+use Rattle.disk_model.specs.Left.{is_lost}
+use Rattle.server_core.specs.History.{Opening, Entry, Met, Cut, Restart}
+use Rattle.server_core.specs.Request.{asked}
+use Rattle.server_core.specs.Words.{work}
+use Rattle.server_core.specs.Taken.{takes, and_those, takings}
+use Rattle.server_core.specs.Check.{With, progress}
+use Rattle.client_core.specs.Words.{kept}
+use Rattle.net_world.specs.Trace.{Step, opening_of, client_opening, of_server, of_client, sent}
+
+-- The states of a key that its server took, over all its lives.
+abbrev pub taken_of : Key → List Step → List State
+taken_of key t = takings (opening_of key.server) key.run key.job (of_server key.server t)
+
+-- The states of a run's job that a server took in this life.
+abbrev pub taken_in_life : Opening → ℕ → ℕ → List Entry → List State
+taken_in_life o run j [] = []
+taken_in_life o run j (Met e left ∷ past) =
+    if is_lost left then []
+    else and_those (takes run j (asked o.me e) (work o past)) (taken_in_life o run j past)
+taken_in_life o run j (Cut ∷ past) = []
+taken_in_life o run j (Restart left ∷ past) = []
+
+-- The state that a body carries.
+abbrev pub carried : Body → Option State
+carried (bodies.State jobs state) = Some state
+carried (bodies.Saved attempt state) = Some state
+carried _ = None
+
+-- Who holds a state of a key: its server, which took it in this life; a server whose open check is made
+-- with it; the client, which keeps it; a packet that was sent with it.
+pub data Holds (n : ℕ) (t : List Step) (key : Key) (state : State) : Type 0 where
+  ByTaking : Contains (taken_in_life (opening_of key.server) key.run key.job (of_server key.server t)) state → Holds n t key state
+  ByCheck : (s j : ℕ) → progress (opening_of s) (of_server s t) j ≡ Some (With state) → state.key ≡ key → Holds n t key state
+  ByClient : kept (client_opening n) (of_client t) key ≡ Some state → Holds n t key state
+  ByPacket : (p : PacketParts) → Contains (sent n t) p → carried p.body ≡ Some state → state.key ≡ key → Holds n t key state

@@ -1,0 +1,48 @@
+-- Which steps are within the ranges of what servers and reports may be.
+use Rattle.std.specs.Prelude.{ℕ, ◌<◌, ◌≤◌, List, IsTrue}
+use Rattle.std.specs.List.{AllByRecursion}
+use Rattle.fc_base.specs.Report.{is_report}
+use Rattle.messages.specs.PieceLaws.{ArePackets}
+use Rattle.messages.specs.Hearing.{Comes, Happens}
+use Rattle.server_core.specs.declared.event.Event.{Event}
+use Rattle.server_core.specs.declared.event.Event.TheVariants.{Deliver, Issue, WriteDone, CheckDone}
+use Rattle.server_core.specs.History.{Entry, Met, Cut, Restart}
+use Rattle.net_world.specs.Trace.{Step, AtServer, AtClient, IsTrace, sent}
+use Rattle.net_world.specs.Frames.{FrameStep, OfServer, OfClient}
+
+-- The report of a check is within its ranges.
+abbrev pub ReportFits : Event → Type 0
+ReportFits (Deliver p) = Unit {0}
+ReportFits (Issue j) = Unit {0}
+ReportFits (WriteDone ticket end) = Unit {0}
+ReportFits (CheckDone boot a j report) = IsTrue (is_report report)
+
+-- So it is with that of an entry.
+abbrev pub EntryFits : Entry → Type 0
+EntryFits (Met e left) = ReportFits e
+EntryFits Cut = Unit {0}
+EntryFits (Restart left) = Unit {0}
+
+-- A step is at the client, or at a server with a number below 8, and its report is within its ranges.
+abbrev pub StepFits : Step → Type 0
+StepFits (AtServer s e) = (s < 8) × EntryFits e
+StepFits (AtClient e) = Unit {0}
+
+-- The same of a step of frames.
+abbrev pub FrameStepFits : FrameStep → Type 0
+FrameStepFits (OfServer s (Comes f left)) = s < 8
+FrameStepFits (OfServer s (Happens e)) = (s < 8) × EntryFits e
+FrameStepFits (OfClient c) = Unit {0}
+
+-- There are at most 8 servers, and each step is within its ranges.
+pub record Fits (n : ℕ) (t : List Step) : Type 0 where
+  pub few : n ≤ 8
+  pub steps : AllByRecursion StepFits t
+
+pub record FitsFrames (n : ℕ) (t : List FrameStep) : Type 0 where
+  pub few : n ≤ 8
+  pub steps : AllByRecursion FrameStepFits t
+
+-- All that is sent in a trace is within the ranges of packets.
+abbrev pub SentAreInRange : Type 0
+SentAreInRange = (n : ℕ) (t : List Step) → IsTrace n t → Fits n t → ArePackets (sent n t)

@@ -1,0 +1,113 @@
+-- What has changed in a world once this has happened in it, the newest first, and what each is told.
+use Rattle.std.specs.Prelude.{ℕ, ◌+◌, List, [], ◌∷◌, length, map, Option, Some, None, Result, Ok, Err, nat_lt, ◌&&◌, if◌then◌else◌}
+use Rattle.fc_base.specs.declared.fault.Fault.{Fault}
+use Rattle.fc_base.specs.declared.fault.Fault.TheVariants.{FrameBadField}
+use Rattle.fc_base.specs.declared.numbers.Key.{Key}
+use Rattle.engine.specs.declared.issue.Issue.{Issue as Issued}
+use Rattle.verify_state.specs.State.{State}
+use Rattle.disk_model.specs.Left.{is_lost}
+use Rattle.messages.specs.declared.node.Node.TheVariants.{Server, Client}
+use Rattle.messages.specs.declared.refusal.Act.{Act}
+use Rattle.messages.specs.declared.refusal.Act.TheVariants as acts
+use Rattle.messages.specs.FrameBytes.{frame_spelling}
+use Rattle.server_core.specs.declared.event.Event.{Event}
+use Rattle.server_core.specs.declared.event.Event.TheVariants as events
+use Rattle.server_core.specs.declared.status.Status.{Status}
+use Rattle.server_core.specs.History as server
+use Rattle.server_core.specs.Answers as servers
+use Rattle.client_core.specs.declared.noted.Noted.{Noted}
+use Rattle.client_core.specs.Words as clients
+use Rattle.net_world.specs.declared.told.Answer.{Answer}
+use Rattle.net_world.specs.declared.told.Answer.TheVariants as answers
+use Rattle.net_world.specs.declared.told.Told.{Told}
+use Rattle.net_world.specs.Happenings.{Happening, Begin, Verify, Issue, Check}
+use Rattle.net_world.specs.Trace.{Step, AtServer, of_server, of_client, opening_of, client_opening}
+use Rattle.net_world.specs.Frames.{frames_sent, frames_of_step, step_heard}
+use Rattle.net_world.specs.Changes.{Change, Met, Landed, Rotted, steps, trace}
+use Rattle.net_world.specs.Checks.{checked}
+use Rattle.net_world.specs.Barred.{is_on}
+use Rattle.net_world.specs.Outcomes.{Outcome, Does, Refuses, Drops, outcome}
+
+-- A change is added, and so is the step that drops a tag; what is refused adds nothing.
+abbrev pub and_outcome : Outcome → List Change → List Change
+and_outcome (Does change) past = change ∷ past
+and_outcome (Refuses fault) past = past
+and_outcome (Drops step) past = Met step ∷ past
+
+-- What has changed in a world of n servers once this has happened, the newest first.
+abbrev pub world : ℕ → List Happening → List Change
+world n [] = []
+world n (e ∷ events) = and_outcome (outcome n (world n events) e) (world n events)
+
+-- The frames that were ever sent, numbered from 0.
+abbrev pub frames : ℕ → List Change → List (List ℕ)
+frames n past = map frame_spelling (frames_sent n (steps past))
+
+-- What the client's note says.
+abbrev pub noted : ℕ → List Change → Noted
+noted n past = clients.noted (client_opening n) (of_client (trace n past))
+
+-- The state that the client keeps of a key, while it is on.
+abbrev pub saved : ℕ → List Change → Key → Option State
+saved n past key =
+    if is_on (trace n past) Client then clients.kept (client_opening n) (of_client (trace n past)) key
+    else None
+
+-- What a server shows of itself, while it is there and on.
+abbrev pub status : ℕ → List Change → ℕ → Option Status
+status n past s =
+    if nat_lt s n && is_on (trace n past) (Server s)
+    then Some (servers.status (opening_of s) (of_server s (trace n past)))
+    else None
+
+-- What is answered to a worker that asks for a write.
+abbrev pub issued : Option Issued → Answer
+issued None = answers.Plain
+issued (Some answer) = answers.Issued answer
+
+-- The report of a check that is done.
+abbrev pub report_in : Option Event → Answer
+report_in (Some (events.CheckDone boot attempt j report)) = answers.Checked report
+report_in _ = answers.Plain
+
+-- What is answered where it isn't refused: the number of the run or attempt, what the worker is told,
+-- or the report.
+abbrev pub answer : ℕ → List Change → Happening → Answer
+answer n past (Begin text) = answers.Run ((noted n past).runs + 1)
+answer n past (Verify run text) = answers.Attempt ((noted n past).attempts + 1)
+answer n past (Issue s j) =
+    issued (servers.issue (opening_of s) (of_server s (trace n past)) (events.Issue j))
+answer n past (Check s j) = report_in (checked n past s j)
+answer n past _ = answers.Plain
+
+-- How many frames are sent with a change.
+abbrev pub frames_with : ℕ → List Change → Change → ℕ
+frames_with n past (Met step) = length (frames_of_step n (steps past) step)
+frames_with n past (Landed s j k mask) = 0
+frames_with n past (Rotted s j sector bytes) = 0
+
+-- What a server asks of its caller in a step of packets, if there is one.
+abbrev pub act_of : List Step → Option Step → Act
+act_of t (Some (AtServer s (server.Met e left))) =
+    if is_lost left then acts.None else servers.act (opening_of s) (of_server s t) e
+act_of t _ = acts.None
+
+-- What a server asks of its caller with a change.
+abbrev pub act : ℕ → List Change → Change → Act
+act n past (Met step) = act_of (trace n past) (step_heard n (steps past) step)
+act n past _ = acts.None
+
+-- What is told of what comes of it.
+abbrev pub told_by : ℕ → List Change → Happening → Outcome → Result Told Fault
+told_by n past e (Refuses fault) = Err fault
+told_by n past e (Drops step) = Err FrameBadField
+told_by n past e (Does change) = Ok (record {
+  answer = answer n past e;
+  first = length (frames_sent n (steps past));
+  sent = frames_with n past change;
+  act = act n past change;
+})
+
+-- What is told of what happens, or why it is refused.
+abbrev pub told : ℕ → List Change → Happening → Result Told Fault
+told n past e = told_by n past e (outcome n past e)

@@ -1,0 +1,73 @@
+//! What is given once, what never differs, and when states are kept, as laws of every trace. The
+//! functions have nothing to run.
+
+ghost use Rattle.net_world.specs.Fresh.{NeverConflicts, StatePacketsAreEqual, OneTextOfEachRun, OneTextOfEachAttempt, RunsAreGivenOnce, AttemptsAreGivenOnce, StartsAreAcceptedOnce};
+ghost use Rattle.net_world.specs.Kept.{EndedWellIsKept, CutsWhereKept};
+
+use crate::passes::{kept_states_were_sent, sent_states_were_taken};
+use crate::verdict::one_state_of_each_job;
+use client_core::{
+    acks_are_for_kept_states, first_kept_stays, numbers_are_fresh, one_text, packets_go_to_servers,
+    triggers_end_well,
+};
+use server_core::{
+    cuts_when_kept, numbers_grow, packets_go_to_client, starts, the_taken, the_untaken,
+};
+
+/// No state that was sent differs from the kept one of its key, or from another that was sent.
+pub fn nothing_differs()
+    ensures kept { NeverConflicts }
+    ensures packets { StatePacketsAreEqual }
+{
+    sent_states_were_taken();
+    kept_states_were_sent();
+    one_state_of_each_job();
+    the_taken();
+    the_untaken();
+    numbers_grow();
+    starts();
+    packets_go_to_client();
+    packets_go_to_servers();
+}
+
+/// All Jobs packets of a run carry one text, and all Verify packets of an attempt one run and text.
+pub fn one_text_of_each()
+    ensures runs { OneTextOfEachRun }
+    ensures attempts { OneTextOfEachAttempt }
+{
+    one_text();
+    packets_go_to_client();
+    packets_go_to_servers();
+}
+
+/// Runs and attempts are given once, and each server accepts a Start of a run once, over cuts and
+/// restarts.
+pub fn numbers_are_given_once()
+    ensures runs { RunsAreGivenOnce }
+    ensures attempts { AttemptsAreGivenOnce }
+    ensures starts { StartsAreAcceptedOnce }
+{
+    numbers_are_fresh();
+    numbers_grow();
+}
+
+/// Where a trigger has ended well at a server, or the server asks for the cut, each state that it took
+/// in the run is kept.
+pub fn ends_are_kept()
+    ensures ended { EndedWellIsKept }
+    ensures cut { CutsWhereKept }
+{
+    sent_states_were_taken();
+    kept_states_were_sent();
+    one_state_of_each_job();
+    the_taken();
+    the_untaken();
+    numbers_grow();
+    starts();
+    packets_go_to_client();
+    packets_go_to_servers();
+    triggers_end_well();
+    first_kept_stays();
+    acks_are_for_kept_states();
+    cuts_when_kept();
+}

@@ -1,0 +1,38 @@
+//! What a check finds on honest disks. The function has nothing to run.
+
+ghost use Rattle.net_world.specs.Honest.{FaultsFew, FaultsNone};
+
+use crate::passes::{
+    checked_states_were_sent, kept_states_were_sent, saved_states_are_kept, sent_states_were_taken,
+};
+use crate::world_law::each_world_is_a_trace;
+use disk_model::block_law;
+use engine::{overlap_law, taken_law};
+use server_core::{counts_the_done, legal_histories, open_check_is_last, starts, with_was_heard};
+use window::sets_law;
+use write_order::{writes_fill_their_blocks, writes_stay_in_the_region};
+
+/// Where no sector rots, and each write that is told as done is in its file by then, a check with a
+/// state faults only blocks to which a write was in flight at the taking; where each write that lands
+/// has landed with all its sectors, it faults none.
+pub fn honest_disks()
+    ensures few { FaultsFew }
+    ensures none { FaultsNone }
+{
+    each_world_is_a_trace();
+    sent_states_were_taken();
+    kept_states_were_sent();
+    saved_states_are_kept();
+    checked_states_were_sent();
+    counts_the_done();
+    with_was_heard();
+    open_check_is_last();
+    starts();
+    legal_histories();
+    taken_law();
+    overlap_law();
+    sets_law();
+    block_law();
+    writes_fill_their_blocks();
+    writes_stay_in_the_region();
+}

@@ -1,0 +1,27 @@
+//! A client and its servers in one list of steps: what was sent, who holds which verify state, and
+//! that all who hold one of a job hold the same. And the world of what happens to them and to their
+//! files, and what each check tells.
+#![tactic(auto)]
+
+mod example;
+mod frame_law;
+mod fresh;
+mod honest;
+mod passes;
+mod told;
+mod verdict;
+mod world_law;
+
+pub use example::examples;
+pub use frame_law::{
+    frames_are_of_packets, frames_hold_the_taken, only_sent_is_heard, sent_are_in_range,
+    servers_stand, tags_name_one_body,
+};
+pub use fresh::{ends_are_kept, nothing_differs, numbers_are_given_once, one_text_of_each};
+pub use honest::honest_disks;
+pub use passes::{
+    checked_states_were_sent, kept_states_were_sent, saved_states_are_kept, sent_states_were_taken,
+};
+pub use told::{Answer, Told};
+pub use verdict::one_state_of_each_job;
+pub use world_law::{checks_are_exact, each_world_is_a_trace, none_is_a_conflict};

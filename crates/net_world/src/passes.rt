@@ -1,0 +1,38 @@
+//! How a verify state goes round, as laws of every trace: it is taken by a server, sent, kept by the
+//! client, sent back, and held by a check. The functions have nothing to run.
+
+ghost use Rattle.net_world.specs.Passes.{SentStatesWereTaken, KeptStatesWereSent, SavedStatesAreKept, CheckedStatesWereSent};
+
+use client_core::{first_kept_stays, kept_was_sent, packets_go_to_servers, saved_is_kept};
+use server_core::{packets_go_to_client, the_taken, with_was_heard};
+
+/// Each state that was sent in a State was taken, by the server that its key names.
+pub fn sent_states_were_taken()
+    ensures { SentStatesWereTaken }
+{
+    the_taken();
+    packets_go_to_servers();
+}
+
+/// Each state that the client keeps was sent to it, by the server that its key names.
+pub fn kept_states_were_sent()
+    ensures { KeptStatesWereSent }
+{
+    kept_was_sent();
+}
+
+/// Each state that was sent in a Saved is one that the client keeps.
+pub fn saved_states_are_kept()
+    ensures { SavedStatesAreKept }
+{
+    saved_is_kept();
+    first_kept_stays();
+    packets_go_to_client();
+}
+
+/// Each state that a job is checked with was sent to its server in a Saved.
+pub fn checked_states_were_sent()
+    ensures { CheckedStatesWereSent }
+{
+    with_was_heard();
+}
