@@ -1,0 +1,101 @@
+//! What a server shows, and what rows say of it.
+
+use super::named::put_word;
+use super::spelling::first_word;
+use super::trouble::Trouble;
+use disk_model::Notes;
+use fc_base::JobNo;
+use job_file::Job;
+use server_core::{Progress, Server, Stage, Status};
+use std::alloc::Global;
+use verify_state::VerifyState;
+
+/// Whether a row with this word asks for what the server shows.
+pub fn is_look(word: &str) -> bool {
+    matches!(
+        word,
+        "on" | "status" | "taken" | "run_job" | "check_job" | "check_state"
+    )
+}
+
+/// Whether the server shows what the words say: of a job, its number stands in front.
+pub fn shows<N: Notes>(
+    alloc: Global,
+    server: &Server<N>,
+    word: &str,
+    job: &str,
+    words: &str,
+) -> Result<bool, Trouble> {
+    let job = JobNo(job.parse::<u32>().unwrap_or(0));
+    match word {
+        "on" => Ok(words == if server.on() { "1" } else { "0" }),
+        "status" => Ok(is_status(server.status(), words)),
+        "taken" => is_state(alloc, server.taken(job), words),
+        "run_job" => Ok(is_job(server.run_job(job), words)),
+        "check_job" => Ok(is_job(server.check_job(job), words)),
+        "check_state" => is_progress(alloc, server.check_progress(job), words),
+        _ => Err(Trouble::BadRow),
+    }
+}
+
+/// The numbers and the stage are those of the words: boot, last run, staged run, present run, stage
+/// and attempt.
+fn is_status(status: Status, words: &str) -> bool {
+    let mut words = words.split_whitespace();
+    let numbers = [
+        status.boot,
+        status.last_run.0,
+        status.staged.0,
+        status.run.0,
+    ];
+    for number in numbers {
+        if words.next().and_then(|word| word.parse::<u64>().ok()) != Some(number) {
+            return false;
+        }
+    }
+    words.next() == Some(stage_name(status.stage))
+        && words.next().and_then(|word| word.parse::<u64>().ok()) == Some(status.attempt.0)
+}
+
+fn stage_name(stage: Stage) -> &'static str {
+    match stage {
+        Stage::Idle => "idle",
+        Stage::Writing => "writing",
+        Stage::Taken => "taken",
+        Stage::Stopped => "stopped",
+    }
+}
+
+/// The state's bytes are those of the word; `none` says that there is no state.
+fn is_state(alloc: Global, state: Option<&VerifyState>, word: &str) -> Result<bool, Trouble> {
+    let Some(state) = state else {
+        return Ok(word == "none");
+    };
+    let mut wanted = Vec::with_capacity(alloc, 136)?;
+    put_word(&mut wanted, word)?;
+    Ok(state.encode(alloc)? == wanted)
+}
+
+/// The job has this name; `none` says that there is no job.
+fn is_job(job: Option<&Job>, name: &str) -> bool {
+    match job {
+        Some(job) => job.name.as_str() == name,
+        None => name == "none",
+    }
+}
+
+/// How far the check of a job is: the words are `with` and its state, `refused` and the number of the
+/// misfit, or one of `wanting`, `full`, `done` and `none`.
+fn is_progress(alloc: Global, progress: Option<&Progress>, words: &str) -> Result<bool, Trouble> {
+    let (word, rest) = first_word(words);
+    match progress {
+        None => Ok(word == "none"),
+        Some(Progress::Wanting) => Ok(word == "wanting"),
+        Some(Progress::Full) => Ok(word == "full"),
+        Some(Progress::Done(_)) => Ok(word == "done"),
+        Some(Progress::Refused(fault)) => {
+            Ok(word == "refused" && rest.parse::<u8>().ok() == Some(fault.number()))
+        }
+        Some(Progress::With(state)) => Ok(word == "with" && is_state(alloc, Some(state), rest)?),
+    }
+}
