@@ -2,7 +2,7 @@
 
 use crate::trouble::Trouble;
 use engine::{Engine, Issue};
-use fc_base::{JobNo, JobParts, JobRecord, Key, Kind, RunNo, ServerNo, Verify};
+use fc_base::{JobNo, JobParts, JobRecord, Key, Kind, RunNo, ServerNo, Verify, MAX_BLOCKS, MAX_WRITES};
 use std::time::CpuClock;
 
 const JOB: JobParts = JobParts {
@@ -10,8 +10,8 @@ const JOB: JobParts = JobParts {
     verify: Verify::Stamp,
     pattern: 0,
     bs: 4096,
-    blocks: 65_536,
-    total: 1_000_000,
+    blocks: MAX_BLOCKS as u64,
+    total: MAX_WRITES,
     seed: 7,
     depth: 16,
     window: 256,

@@ -1,9 +1,10 @@
-//! Measures the check of a disk, the issue of writes and frames in pieces, but only when it is given a
-//! word: what it then prints differs from run to run.
+//! Measures the check of a disk, the issue of writes, frames in pieces and a server's steps, but only
+//! when it is given a word: what it then prints differs from run to run.
 //!
 //! `bench checks` times a check beside a copy of as many bytes, `bench issues` the slowest of a
 //! million calls of `issue`, `bench pieces` a text that is cut and comes together again beside a copy,
-//! and `bench rot` rots 60,000 sectors, for a reader of the process's memory.
+//! and `bench servers` the steps of a server; `bench rot` rots 60,000 sectors, for a reader of the
+//! process's memory.
 #![tactic(auto)]
 
 mod checks;
@@ -11,6 +12,7 @@ mod issues;
 mod pieces;
 mod rot;
 mod rounds;
+mod servers;
 mod trouble;
 
 use std::env;
@@ -38,8 +40,9 @@ fn run<R: Env + AllocGlobal + Print + CpuClock>(rt: &R) -> Result<(), Trouble> {
         Some("issues") => issues::measure(rt),
         Some("pieces") => pieces::measure(rt),
         Some("rot") => rot::measure(rt),
+        Some("servers") => servers::measure(rt),
         _ => {
-            println!(rt; "give a word: checks, issues, pieces or rot")?;
+            println!(rt; "give a word: checks, issues, pieces, rot or servers")?;
             Ok(())
         }
     }
