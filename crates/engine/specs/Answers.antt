@@ -1,5 +1,5 @@
 -- The answers of an engine, read from the history of its job and from whether it was stopped.
-use Rattle.std.specs.Prelude.{◌≡◌, ℕ, ◌==◌, Bool, true, false, not, ◌&&◌, ◌||◌, nat_le, List, length, if◌then◌else◌, Result, Ok, Err}
+use Rattle.std.specs.Prelude.{◌≡◌, ℕ, ◌==◌, Bool, true, false, not, ◌&&◌, ◌||◌, nat_le, List, length, if◌then◌else◌, Option, Some, None, Result, Ok, Err}
 use Rattle.fc_base.specs.Counted.{has}
 use Rattle.fc_base.specs.Keys.{is_same_key}
 use Rattle.fc_base.specs.declared.fault.Fault.{Fault}
@@ -81,3 +81,7 @@ abbrev pub ticket_answer : Origin → List ℕ → Ticket → Result Unit Fault
 ticket_answer origin open_writes ticket =
     if not (ticket.boot == origin.boot) then Err OldBoot
     else (if names_one_of origin open_writes ticket then Ok tt else Err NotInFlight)
+
+-- The ticket of write k, where it is one of the open writes.
+abbrev pub open_ticket : Origin → List ℕ → ℕ → Option Ticket
+open_ticket origin open_writes k = if has open_writes k then Some (ticket_of origin k) else None

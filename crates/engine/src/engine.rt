@@ -4,11 +4,11 @@ ghost use Rattle.std.specs.Prelude.{◌≡◌, [], length, is_ok, false, true, i
 ghost use Rattle.window.specs.History.{done, fail, open_writes};
 ghost use Rattle.fc_base.specs.Keys.{is_key};
 ghost use Rattle.engine.specs.Running.{Origin, running_of, StandsFor, EachHistory, Adds, after_done, after_fail};
-ghost use Rattle.engine.specs.Answers.{answer_of, answer_to, after_answer, AddsAnswer, names_one_of, ticket_answer, has_ended, ended_of};
+ghost use Rattle.engine.specs.Answers.{answer_of, answer_to, after_answer, AddsAnswer, names_one_of, ticket_answer, open_ticket, has_ended, ended_of};
 ghost use Rattle.engine.specs.Taken.{state_now, state_after, CountsTheDone};
 
 use crate::issue::{Issue, Ticket};
-use crate::writes::{OpenWrite, close, has_block, has_write};
+use crate::writes::{OpenWrite, close, has_block, has_write, write_of};
 use fc_base::{Fault, JobRecord, Key, Seq};
 use std::alloc::{AllocError, Global};
 use std::marker::Model;
@@ -152,6 +152,23 @@ impl Engine {
         match VerifyState::make_marked(self.key, &self.rec, issued, self.order.place(), marks) {
             Ok(state) => state,
             Err(_) => unreachable!(),
+        }
+    }
+
+    /// The ticket of the write of this number, where it is open: issued, and neither done nor failed.
+    pub fn open_write(&self, seq: Seq) -> Option<Ticket>
+        ensures value { result ≡ open_ticket self.now.origin self.now.kept.open_writes seq }
+        ensures history { EachHistory self.now
+            (λ h. result ≡ open_ticket self.now.origin (open_writes h) seq) }
+    {
+        match write_of(&self.open, seq) {
+            Some(write) => Some(Ticket {
+                boot: self.boot,
+                key: self.key,
+                seq: write.seq,
+                block: write.block,
+            }),
+            None => None,
         }
     }
 

@@ -1,7 +1,7 @@
 //! The open writes of a job, each with its block.
 
 ghost use Rattle.std.specs.Prelude.{◌≡◌, ◌==◌, ◌&&◌, not, filter};
-ghost use Rattle.std.specs.List.{list_any};
+ghost use Rattle.std.specs.List.{find, list_any};
 ghost use Rattle.std.specs.Vec.{vec_capacity};
 
 use fc_base::Seq;
@@ -27,6 +27,13 @@ pub(crate) fn has_write(writes: &[OpenWrite], seq: Seq, block: u32) -> bool
     writes
         .iter()
         .any(|write| write.seq == seq && write.block == block)
+}
+
+/// The open write of this number, if there is one.
+pub(crate) fn write_of(writes: &[OpenWrite], seq: Seq) -> Option<OpenWrite>
+    ensures { result ≡ find (λ write. write.seq == seq) writes.now }
+{
+    writes.iter().find(|write| write.seq == seq).copied()
 }
 
 /// Takes the write of this number out.

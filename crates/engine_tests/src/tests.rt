@@ -132,6 +132,24 @@ fn trigger_before_any_issue(rt: HostRuntime) -> Result<(), Fail> {
     Ok(())
 }
 
+/// Write 0 is done, write 2 isn't issued, and write 1 is open until it fails.
+#[test]
+fn tickets_of_open_writes(rt: HostRuntime) -> Result<(), Fail> {
+    let steps = [
+        issued(0),
+        issued(1),
+        Step::OpenWrite(Seq(0), Some(ticket(0, 0))),
+        done(0),
+        Step::OpenWrite(Seq(0), None),
+        Step::OpenWrite(Seq(1), Some(ticket(1, 1))),
+        Step::OpenWrite(Seq(2), None),
+        Step::Failed(ticket(1, 1), Ok(())),
+        Step::OpenWrite(Seq(1), None),
+    ];
+    assert_eq!(rt; first_unlike(rt.alloc(), PARTS, &steps)?, None);
+    Ok(())
+}
+
 #[test]
 fn failed_write_stays_in_flight(rt: HostRuntime) -> Result<(), Fail> {
     let steps = [

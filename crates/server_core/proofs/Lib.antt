@@ -53,3 +53,4 @@ pub mod FrameEndLemmas
 pub mod UnsavedLemmas
 pub mod ShortLemmas
 pub mod SentLemmas
+pub mod OpenLemmas

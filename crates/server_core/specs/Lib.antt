@@ -29,3 +29,4 @@ pub mod Bounds
 pub mod Sent
 pub mod OpenCheck
 pub mod Memory
+pub mod OpenWrites

@@ -10,6 +10,7 @@ mod law;
 mod machine;
 mod note;
 mod open_check;
+mod open_law;
 mod outs;
 mod packet_server;
 mod progress;
@@ -34,6 +35,7 @@ pub use law::{
 pub use machine::Machine;
 pub use note::{Noted, one_note};
 pub use open_check::{OpenCheck, progress_of_jobs};
+pub use open_law::tickets_tell_origins;
 pub use outs::Outs;
 pub use packet_server::PacketServer;
 pub use progress::Progress;

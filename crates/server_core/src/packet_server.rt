@@ -15,7 +15,7 @@ use crate::progress::Progress;
 use crate::status::Status;
 use disk_model::Notes;
 use engine::Ticket;
-use fc_base::{Fault, JobNo, RunNo, ServerNo};
+use fc_base::{Fault, JobNo, RunNo, Seq, ServerNo};
 use job_file::Job;
 use messages::Packet;
 use std::alloc::Global;
@@ -37,6 +37,7 @@ impl<N: Notes> PacketServer<N> {
     ghost use Rattle.server_core.specs.Check.{progress};
     ghost use Rattle.server_core.specs.KeptCheck.{progress_of};
     ghost use Rattle.server_core.specs.Taken.{taken};
+    ghost use Rattle.server_core.specs.OpenWrites.{open_write};
     ghost use Rattle.server_core.specs.Memory.{TakesNone};
     ghost use Rattle.server_core.specs.Serves.{StandsFor, Starts, Ends, Opens};
 
@@ -124,6 +125,15 @@ impl<N: Notes> PacketServer<N> {
             option_copied result ≡ taken o (looked past) job }
     {
         self.machine.taken(job)
+    }
+
+    /// The ticket of this write of a job of the present run, where it is open: up to a failed save, where
+    /// one has failed.
+    pub(crate) fn open_write(&self, job: JobNo, write: Seq) -> Option<Ticket>
+        ensures { (o : Opening) (past : List Entry) → StandsFor N.note self.now o past →
+            result ≡ open_write o (looked past) job write }
+    {
+        self.machine.open_write(job, write)
     }
 
     /// A job of the open check: of that up to a failed save, where one has failed.

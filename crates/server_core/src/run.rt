@@ -13,7 +13,7 @@ mod replies;
 use crate::event::WriteEnd;
 use crate::job_run::{End, JobRun, index_in, index_of};
 use engine::{Issue, Ticket};
-use fc_base::{Fault, JobNo, RunNo};
+use fc_base::{Fault, JobNo, RunNo, Seq};
 use job_file::{Job, Jobs};
 use messages::Act;
 use std::marker::Model;
@@ -44,6 +44,7 @@ impl Run {
     ghost use Rattle.server_core.specs.Run.{Work, has_open, have_ended, is_halted, halted};
     ghost use Rattle.server_core.specs.Taken.{taken_by_halt};
     ghost use Rattle.server_core.specs.Answers.{issue_of_job, names_open_of, act_of};
+    ghost use Rattle.server_core.specs.OpenWrites.{open_ticket};
     ghost use Rattle.server_core.specs.Request.{Request, ToIssue, ToEnd, ToTrigger, ToMark, ToStop};
     ghost use Rattle.server_core.specs.Kept.{RunIs, EachRun, GoesOn, open_answer, IsBegun, EachBegun};
 
@@ -89,6 +90,18 @@ impl Run {
         let index = index_of(job);
         if index < self.kept.as_slice().len() {
             self.kept[index].taken.as_ref()
+        } else {
+            None
+        }
+    }
+
+    /// The ticket of this write of a job, where it is open.
+    pub fn open_write(&self, job: JobNo, write: Seq) -> Option<Ticket>
+        ensures { EachRun self.now (λ w. result ≡ open_ticket (Some w) job write) }
+    {
+        let index = index_of(job);
+        if index < self.kept.as_slice().len() {
+            self.kept[index].engine.open_write(write)
         } else {
             None
         }

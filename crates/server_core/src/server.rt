@@ -13,7 +13,8 @@ use crate::packet_server::PacketServer;
 use crate::progress::Progress;
 use crate::status::Status;
 use disk_model::Notes;
-use fc_base::{Fault, JobNo, ServerNo};
+use engine::Ticket;
+use fc_base::{Fault, JobNo, Seq, ServerNo};
 use job_file::Job;
 use messages::{Assembly, Frame, Frames, Piece};
 use std::alloc::Global;
@@ -35,6 +36,7 @@ impl<N: Notes> Server<N> {
     ghost use Rattle.server_core.specs.Check.{progress};
     ghost use Rattle.server_core.specs.KeptCheck.{progress_of};
     ghost use Rattle.server_core.specs.Taken.{taken};
+    ghost use Rattle.server_core.specs.OpenWrites.{open_write};
     ghost use Rattle.server_core.specs.Hearing.{FrameEntry, packets_heard};
     ghost use Rattle.server_core.specs.FrameAnswers.{would_save};
     ghost use Rattle.server_core.specs.FrameEnds.{StandsFor, Ends, Opens};
@@ -113,6 +115,15 @@ impl<N: Notes> Server<N> {
             option_copied result ≡ taken o (looked (packets_heard o past)) job }
     {
         self.core.taken(job)
+    }
+
+    /// The ticket of this write of a job of the present run, where it is open, issued and neither done nor
+    /// failed: up to a failed save, where one has failed.
+    pub fn open_write(&self, job: JobNo, write: Seq) -> Option<Ticket>
+        ensures { (o : Opening) (past : List FrameEntry) → StandsFor N.note self.now o past →
+            result ≡ open_write o (looked (packets_heard o past)) job write }
+    {
+        self.core.open_write(job, write)
     }
 
     /// A job of the open check: of that up to a failed save, where one has failed.

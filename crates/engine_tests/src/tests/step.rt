@@ -2,7 +2,7 @@
 
 use super::KEY;
 use engine::{Engine, Issue, Ticket};
-use fc_base::{Fault, JobParts, JobRecord};
+use fc_base::{Fault, JobParts, JobRecord, Seq};
 use std::alloc::Global;
 use std::test::Fail;
 use verify_state::VerifyState;
@@ -14,6 +14,7 @@ pub enum Step {
     Done(Ticket, Result<(), Fault>),
     Failed(Ticket, Result<(), Fault>),
     Stop,
+    OpenWrite(Seq, Option<Ticket>),
     OpenWrites(u32),
     Ended(bool),
 }
@@ -29,6 +30,7 @@ impl Step {
                 engine.stop();
                 true
             }
+            Step::OpenWrite(seq, answer) => engine.open_write(seq) == answer,
             Step::OpenWrites(count) => engine.open_writes() == count,
             Step::Ended(answer) => engine.ended() == answer,
         }

@@ -7,6 +7,7 @@ ghost use Rattle.server_core.specs.Stands.{EachNow, EachWork, EachOpen};
 ghost use Rattle.server_core.specs.Check.{progress_in};
 ghost use Rattle.server_core.specs.KeptCheck.{progress_of};
 ghost use Rattle.server_core.specs.Taken.{taken_in};
+ghost use Rattle.server_core.specs.OpenWrites.{open_ticket};
 
 use super::Machine;
 use crate::job_run::End;
@@ -14,7 +15,8 @@ use crate::open_check::OpenCheck;
 use crate::progress::Progress;
 use crate::run::Run;
 use crate::status::{Stage, Status};
-use fc_base::{Attempt, JobNo, RunNo};
+use engine::Ticket;
+use fc_base::{Attempt, JobNo, RunNo, Seq};
 use job_file::Job;
 use verify_state::VerifyState;
 
@@ -45,6 +47,13 @@ impl Machine {
         ensures { EachNow self.now (λ now. option_copied result ≡ taken_in now.run job) }
     {
         self.run.as_ref()?.taken(job)
+    }
+
+    /// The ticket of this write of a job of the present run, where it is open.
+    pub(crate) fn open_write(&self, job: JobNo, write: Seq) -> Option<Ticket>
+        ensures { EachNow self.now (λ now. result ≡ open_ticket now.run job write) }
+    {
+        self.run.as_ref()?.open_write(job, write)
     }
 
     /// A job of the open check.
