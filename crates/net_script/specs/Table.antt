@@ -1,0 +1,89 @@
+-- The table of commands.
+use Rattle.std.specs.Prelude.{ℕ, true, false, ◌&&◌, nat_eq, nat_le, List, [], ◌∷◌, ◌++◌, take, drop, bytes_eq, codes, if◌then◌else◌}
+use Rattle.std.specs.List.{starts_with}
+use Rattle.messages.specs.declared.refusal.Act.TheVariants as acts
+use Rattle.net_script.specs.declared.command.Saving.{Saving}
+use Rattle.net_script.specs.declared.command.Saving.TheVariants.{Begin, Verify, Deliver, Restart}
+use Rattle.net_script.specs.declared.command.Command.{Command}
+use Rattle.net_script.specs.declared.command.Command.TheVariants.{Saves, CutShort, Trigger, Stop, Tick, Issue, Land, Done, Fail, Rot, Check, Cut}
+use Rattle.net_script.specs.declared.line.Line.{Line}
+use Rattle.net_script.specs.declared.line.Line.TheVariants.{Skipped, Servers, Asks, Unread}
+use Rattle.net_script.specs.Words.{words_of, number_of}
+use Rattle.net_script.specs.Arguments.{read_as, alone, numbers, one, two, three, four, node, place, sectors_of}
+
+-- A row of the table: the word of a command, and what it asks for by the words behind it.
+pub record Row : Type 0 where
+  pub word : List ℕ
+  pub reads : List (List ℕ) → Line
+
+-- A row.
+abbrev pub row : List ℕ → (List (List ℕ) → Line) → Row
+row name line = record { word = name; reads = line }
+
+-- What words ask for by a table: the row of the first word says it.
+abbrev pub named : List Row → List ℕ → List (List ℕ) → Line
+named [] word behind = Unread
+named (r ∷ rows) word behind = if bytes_eq word r.word then r.reads behind else named rows word behind
+
+abbrev pub by_table : List Row → List (List ℕ) → Line
+by_table rows [] = Unread
+by_table rows (word ∷ behind) = named rows word behind
+
+-- `trigger R`, `trigger R cut`.
+abbrev pub trigger : List (List ℕ) → Line
+trigger (run ∷ []) = read_as (λ r. Asks (Trigger r acts.None)) (number_of run)
+trigger (run ∷ word ∷ []) =
+    if bytes_eq word (codes "cut") then read_as (λ r. Asks (Trigger r acts.Cut)) (number_of run) else Unread
+trigger _ = Unread
+
+-- `land S J K all`, `land S J K first N`.
+abbrev pub land : List (List ℕ) → Line
+land words =
+    read_as
+        (λ mask. numbers (three (λ s j k. Asks (Land (place s) (place j) k mask))) (take 3 words))
+        (sectors_of (drop 3 words))
+
+-- `rot S J SECTOR BYTE`: a byte has eight bits.
+abbrev pub rot : ℕ → ℕ → ℕ → ℕ → Line
+rot s j sector byte = if nat_le byte 255 then Asks (Rot (place s) (place j) sector byte) else Unread
+
+-- `servers N`: 1 to 8.
+abbrev pub servers : ℕ → Line
+servers n = if nat_le 1 n && nat_le n 8 then Servers n else Unread
+
+-- The commands in which a node may save, each asked for as it is or cut short.
+abbrev pub saving : (Saving → Command) → List Row
+saving ask =
+    row (codes "begin") (alone (Asks (ask Begin)))
+    ∷ row (codes "verify") (numbers (one (λ r. Asks (ask (Verify r)))))
+    ∷ row (codes "deliver") (numbers (one (λ i. Asks (ask (Deliver i)))))
+    ∷ row (codes "restart") (node (λ n. Asks (ask (Restart n))))
+    ∷ []
+
+-- All commands.
+abbrev pub table : List Row
+table = saving Saves ++ (
+    row (codes "servers") (numbers (one servers))
+    ∷ row (codes "trigger") trigger
+    ∷ row (codes "stop") (numbers (one (λ r. Asks (Stop r))))
+    ∷ row (codes "tick") (alone (Asks Tick))
+    ∷ row (codes "issue") (numbers (two (λ s j. Asks (Issue (place s) (place j)))))
+    ∷ row (codes "land") land
+    ∷ row (codes "done") (numbers (three (λ s j k. Asks (Done (place s) (place j) k))))
+    ∷ row (codes "fail") (numbers (three (λ s j k. Asks (Fail (place s) (place j) k))))
+    ∷ row (codes "rot") (numbers (four rot))
+    ∷ row (codes "check") (numbers (two (λ s j. Asks (Check (place s) (place j)))))
+    ∷ row (codes "cut") (node (λ n. Asks (Cut n)))
+    ∷ row (codes "cutold") (by_table (saving (CutShort false)))
+    ∷ row (codes "cutnew") (by_table (saving (CutShort true)))
+    ∷ [])
+
+-- What the words of a line ask for: none, or a first that begins with `#`, for nothing.
+abbrev pub asked_by : List (List ℕ) → Line
+asked_by [] = Skipped
+asked_by (word ∷ behind) =
+    if starts_with nat_eq word (codes "#") then Skipped else by_table table (word ∷ behind)
+
+-- What a line asks for.
+abbrev pub line_of : List ℕ → Line
+line_of line = asked_by (words_of line)

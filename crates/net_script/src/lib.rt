@@ -1,0 +1,6 @@
+//! Scripts of worlds.
+#![tactic(auto)]
+
+mod command;
+mod line;
+mod words;
