@@ -17,6 +17,11 @@ numbers_of [] = Some []
 numbers_of (word ∷ words) =
     option_and_then (λ n. option_map (λ ns. n ∷ ns) (numbers_of words)) (number_of word)
 
+-- The number that the first word spells, and the words behind it.
+abbrev pub leading : List (List ℕ) → Option (ℕ × List (List ℕ))
+leading [] = None
+leading (word ∷ words) = option_map (λ n. (n, words)) (number_of word)
+
 -- No words stand behind the command's own.
 abbrev pub alone : Line → List (List ℕ) → Line
 alone line [] = line

@@ -1,6 +1,7 @@
 //! Scripts of worlds.
 #![tactic(auto)]
 
+mod arguments;
 mod command;
 mod line;
 mod words;
