@@ -1,3 +1,4 @@
 pub mod ArgumentLemmas
 pub mod NumberLemmas
+pub mod TableLemmas
 pub mod WordLemmas

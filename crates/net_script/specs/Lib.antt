@@ -1,4 +1,5 @@
 pub mod Words
 pub mod Arguments
+pub mod Asked
 pub mod Table
 pub mod Orders

@@ -1,6 +1,7 @@
 -- The table of commands.
-use Rattle.std.specs.Prelude.{ℕ, true, false, ◌&&◌, nat_eq, nat_le, List, [], ◌∷◌, ◌++◌, take, drop, bytes_eq, codes, if◌then◌else◌}
+use Rattle.std.specs.Prelude.{ℕ, true, false, ◌&&◌, nat_eq, nat_le, List, [], ◌∷◌, ◌++◌, Option, Some, None, take, drop, bytes_eq, codes, if◌then◌else◌}
 use Rattle.std.specs.List.{starts_with}
+use Rattle.messages.specs.declared.refusal.Act.{Act}
 use Rattle.messages.specs.declared.refusal.Act.TheVariants as acts
 use Rattle.net_script.specs.declared.command.Saving.{Saving}
 use Rattle.net_script.specs.declared.command.Saving.TheVariants.{Begin, Verify, Deliver, Restart}
@@ -20,21 +21,36 @@ pub record Row : Type 0 where
 abbrev pub row : List ℕ → (List (List ℕ) → Line) → Row
 row name line = record { word = name; reads = line }
 
--- What words ask for by a table: the row of the first word says it.
-abbrev pub named : List Row → List ℕ → List (List ℕ) → Line
-named [] word behind = Unread
-named (r ∷ rows) word behind = if bytes_eq word r.word then r.reads behind else named rows word behind
+-- What the row of a word says of the words behind it, if there is one.
+abbrev pub named : List Row → List ℕ → List (List ℕ) → Option Line
+named [] word behind = None
+named (r ∷ rows) word behind =
+    if bytes_eq word r.word then Some (r.reads behind) else named rows word behind
 
+-- What a row says, or nothing that can be read where there is none.
+abbrev pub or_unread : Option Line → Line
+or_unread None = Unread
+or_unread (Some line) = line
+
+-- What words ask for by a table: the row of the first word says it.
 abbrev pub by_table : List Row → List (List ℕ) → Line
 by_table rows [] = Unread
-by_table rows (word ∷ behind) = named rows word behind
+by_table rows (word ∷ behind) = or_unread (named rows word behind)
+
+-- What is asked behind the states: nothing, or `cut`.
+abbrev pub act_of : List (List ℕ) → Option Act
+act_of [] = Some acts.None
+act_of (word ∷ []) = if bytes_eq word (codes "cut") then Some acts.Cut else None
+act_of _ = None
+
+-- A run's trigger with what is asked behind it.
+abbrev pub triggered : ℕ → Option Act → Line
+triggered run act = read_as (λ a. Asks (Trigger run a)) act
 
 -- `trigger R`, `trigger R cut`.
 abbrev pub trigger : List (List ℕ) → Line
-trigger (run ∷ []) = read_as (λ r. Asks (Trigger r acts.None)) (number_of run)
-trigger (run ∷ word ∷ []) =
-    if bytes_eq word (codes "cut") then read_as (λ r. Asks (Trigger r acts.Cut)) (number_of run) else Unread
-trigger _ = Unread
+trigger [] = Unread
+trigger (run ∷ behind) = read_as (λ r. triggered r (act_of behind)) (number_of run)
 
 -- `land S J K all`, `land S J K first N`.
 abbrev pub land : List (List ℕ) → Line
@@ -60,23 +76,37 @@ saving ask =
     ∷ row (codes "restart") (node (λ n. Asks (ask (Restart n))))
     ∷ []
 
--- All commands.
-abbrev pub table : List Row
-table = saving Saves ++ (
+-- The others that the client is asked, and the one that makes the world.
+abbrev pub asking : List Row
+asking =
     row (codes "servers") (numbers (one servers))
     ∷ row (codes "trigger") trigger
     ∷ row (codes "stop") (numbers (one (λ r. Asks (Stop r))))
     ∷ row (codes "tick") (alone (Asks Tick))
-    ∷ row (codes "issue") (numbers (two (λ s j. Asks (Issue (place s) (place j)))))
+    ∷ []
+
+-- What happens to a job and its file.
+abbrev pub of_jobs : List Row
+of_jobs =
+    row (codes "issue") (numbers (two (λ s j. Asks (Issue (place s) (place j)))))
     ∷ row (codes "land") land
     ∷ row (codes "done") (numbers (three (λ s j k. Asks (Done (place s) (place j) k))))
     ∷ row (codes "fail") (numbers (three (λ s j k. Asks (Fail (place s) (place j) k))))
     ∷ row (codes "rot") (numbers (four rot))
     ∷ row (codes "check") (numbers (two (λ s j. Asks (Check (place s) (place j)))))
-    ∷ row (codes "cut") (node (λ n. Asks (Cut n)))
+    ∷ []
+
+-- The cuts of power.
+abbrev pub cuts : List Row
+cuts =
+    row (codes "cut") (node (λ n. Asks (Cut n)))
     ∷ row (codes "cutold") (by_table (saving (CutShort false)))
     ∷ row (codes "cutnew") (by_table (saving (CutShort true)))
-    ∷ [])
+    ∷ []
+
+-- All commands.
+unfoldable pub table : List Row
+table = saving Saves ++ (asking ++ (of_jobs ++ cuts))
 
 -- What the words of a line ask for: none, or a first that begins with `#`, for nothing.
 abbrev pub asked_by : List (List ℕ) → Line

@@ -4,4 +4,5 @@
 mod arguments;
 mod command;
 mod line;
+mod table;
 mod words;

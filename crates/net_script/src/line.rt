@@ -1,7 +1,5 @@
 //! What a line of a script asks for.
 
-ghost use Rattle.std.specs.Prelude.{◌≡◌};
-ghost use Rattle.net_script.specs.Table.{line_of};
 
 use crate::command::Command;
 

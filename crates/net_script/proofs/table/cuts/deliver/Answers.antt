@@ -1,0 +1,14 @@
+use Rattle.std.proofs.Common.{sym, ◌∙◌, ap}
+use Rattle.net_script.specs.declared.command.Saving.TheVariants.{Verify, Deliver}
+use Rattle.net_script.specs.declared.command.Command.TheVariants.{Stop, Issue, Done, Fail, Check}
+use Rattle.net_script.specs.declared.line.Line.TheVariants.{Asks}
+use Rattle.net_script.specs.Arguments.{place}
+use Rattle.net_script.specs.Asked.{asked}
+use Rattle.net_script.specs.Table.{servers, rot}
+use Rattle.net_script.proofs.table.cuts.deliver.Goals as goal
+
+pub returns-in-Some : goal.returns-in-Some
+returns-in-Some c = c.line.ensures ∙ sym (c.in-Some.ensures (λ i. Asks (asked c.args.how (Deliver i))))
+
+pub returns-in-None : goal.returns-in-None
+returns-in-None c = sym (c.in-None.ensures (λ i. Asks (asked c.args.how (Deliver i))))

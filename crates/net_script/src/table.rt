@@ -1,0 +1,47 @@
+//! The table of commands: what each asks for by the words behind it.
+
+ghost use Rattle.std.specs.Prelude.{◌≡◌, ◌∷◌};
+ghost use Rattle.net_script.specs.Words.{words_of};
+ghost use Rattle.net_script.specs.Table.{by_table, table, line_of};
+
+mod cuts;
+mod jobs;
+mod runs;
+
+use crate::line::Line;
+use crate::words::split_word;
+
+/// What a line asks for.
+pub(crate) fn line_of(line: &[u8]) -> Line
+    ensures { result ≡ line_of line.now }
+{
+    match split_word(line) {
+        Some((word, words)) => {
+            if word.starts_with(b"#") {
+                Line::Skipped
+            } else {
+                asked(word, words)
+            }
+        }
+        None => Line::Skipped,
+    }
+}
+
+/// What the row of a word says of the words behind it.
+fn asked(word: &[u8], words: &[u8]) -> Line
+    ensures { result ≡ by_table table (word.now ∷ words_of words.now) }
+{
+    if let Some(line) = cuts::saving(word, words) {
+        return line;
+    }
+    if let Some(line) = runs::asking(word, words) {
+        return line;
+    }
+    if let Some(line) = jobs::of_jobs(word, words) {
+        return line;
+    }
+    match cuts::cuts(word, words) {
+        Some(line) => line,
+        None => Line::Unread,
+    }
+}

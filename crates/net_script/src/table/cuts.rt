@@ -1,0 +1,140 @@
+//! The commands in which a node may save, and the cuts of power, within such a save too.
+
+ghost use Rattle.std.specs.Prelude.{◌≡◌};
+ghost use Rattle.net_script.specs.declared.command.Saving.TheVariants.{Begin, Verify, Deliver, Restart};
+ghost use Rattle.net_script.specs.declared.command.Command.TheVariants.{Saves, CutShort, Cut};
+ghost use Rattle.net_script.specs.declared.line.Line.TheVariants.{Asks};
+ghost use Rattle.net_script.specs.Words.{words_of};
+ghost use Rattle.net_script.specs.Arguments.{alone, numbers, one, node};
+ghost use Rattle.net_script.specs.Table.{named, by_table, saving, cuts};
+ghost use Rattle.net_script.specs.Asked.{asked};
+
+use crate::arguments::{is_end, one_node, one_number};
+use crate::command::{Command, Saving};
+use crate::line::Line;
+use crate::words::{is_word, split_word};
+use fc_base::RunNo;
+
+/// How a command is asked in which a node may save: as it is, or cut short.
+#[derive(Clone, Copy)]
+enum Asked {
+    AsItIs,
+    CutShort { landed: bool },
+}
+
+impl Asked {
+    fn line(self, command: Saving) -> Line
+        ensures { result ≡ Asks (asked self command) }
+    {
+        Line::Asks(match self {
+            Asked::AsItIs => Command::Saves(command),
+            Asked::CutShort { landed } => Command::CutShort { landed, command },
+        })
+    }
+}
+
+/// The line of a command with this word in which a node may save, if it is one of these.
+pub(crate) fn saving(word: &[u8], words: &[u8]) -> Option<Line>
+    ensures { result ≡ named (saving Saves) word.now (words_of words.now) }
+{
+    saving_asked(Asked::AsItIs, word, words)
+}
+
+/// The same, asked in this way.
+fn saving_asked(how: Asked, word: &[u8], words: &[u8]) -> Option<Line>
+    ensures { result ≡ named (saving (asked how)) word.now (words_of words.now) }
+{
+    if is_word(word, b"begin") {
+        Some(begin(how, words))
+    } else if is_word(word, b"verify") {
+        Some(verify(how, words))
+    } else if is_word(word, b"deliver") {
+        Some(deliver(how, words))
+    } else if is_word(word, b"restart") {
+        Some(restart(how, words))
+    } else {
+        None
+    }
+}
+
+/// `begin`.
+fn begin(how: Asked, words: &[u8]) -> Line
+    ensures { result ≡ alone (Asks (asked how Begin)) (words_of words.now) }
+{
+    if is_end(words) {
+        how.line(Saving::Begin)
+    } else {
+        Line::Unread
+    }
+}
+
+/// `verify R`.
+fn verify(how: Asked, words: &[u8]) -> Line
+    ensures { result ≡ numbers (one (λ r. Asks (asked how (Verify r)))) (words_of words.now) }
+{
+    match one_number(words) {
+        Some(run) => how.line(Saving::Verify(RunNo(run))),
+        None => Line::Unread,
+    }
+}
+
+/// `deliver I`.
+fn deliver(how: Asked, words: &[u8]) -> Line
+    ensures { result ≡ numbers (one (λ i. Asks (asked how (Deliver i)))) (words_of words.now) }
+{
+    match one_number(words) {
+        Some(frame) => how.line(Saving::Deliver(frame)),
+        None => Line::Unread,
+    }
+}
+
+/// `restart NODE`.
+fn restart(how: Asked, words: &[u8]) -> Line
+    ensures { result ≡ node (λ n. Asks (asked how (Restart n))) (words_of words.now) }
+{
+    match one_node(words) {
+        Some(node) => how.line(Saving::Restart(node)),
+        None => Line::Unread,
+    }
+}
+
+/// The line of a command with this word that cuts the power, if it is one of these.
+pub(crate) fn cuts(word: &[u8], words: &[u8]) -> Option<Line>
+    ensures { result ≡ named cuts word.now (words_of words.now) }
+{
+    if is_word(word, b"cut") {
+        Some(cut(words))
+    } else if is_word(word, b"cutold") {
+        Some(cut_short(false, words))
+    } else if is_word(word, b"cutnew") {
+        Some(cut_short(true, words))
+    } else {
+        None
+    }
+}
+
+/// `cut NODE`.
+fn cut(words: &[u8]) -> Line
+    ensures { result ≡ node (λ n. Asks (Cut n)) (words_of words.now) }
+{
+    match one_node(words) {
+        Some(node) => Line::Asks(Command::Cut(node)),
+        None => Line::Unread,
+    }
+}
+
+/// `cutold COMMAND`, `cutnew COMMAND`.
+fn cut_short(landed: bool, words: &[u8]) -> Line
+    ensures { result ≡ by_table (saving (CutShort landed)) (words_of words.now) }
+{
+    match split_word(words) {
+        Some((word, rest)) => {
+            let how = Asked::CutShort { landed };
+            match saving_asked(how, word, rest) {
+                Some(line) => line,
+                None => Line::Unread,
+            }
+        }
+        None => Line::Unread,
+    }
+}

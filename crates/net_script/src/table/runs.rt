@@ -1,0 +1,109 @@
+//! What the client is asked, and the command that makes the world.
+
+ghost use Rattle.std.specs.Prelude.{◌≡◌};
+ghost use Rattle.net_script.specs.declared.line.Line.TheVariants.{Asks};
+ghost use Rattle.net_script.specs.declared.command.Command.TheVariants.{Stop, Tick};
+ghost use Rattle.net_script.specs.Words.{words_of};
+ghost use Rattle.net_script.specs.Arguments.{alone, numbers, one};
+ghost use Rattle.net_script.specs.Table.{named, asking, servers, act_of, trigger};
+
+use crate::arguments::{is_end, one_number};
+use crate::command::Command;
+use crate::line::Line;
+use crate::words::{is_word, number_of, split_word};
+use fc_base::{MAX_SERVERS, RunNo};
+use messages::Act;
+
+/// The line of a command with this word, if it is one of these.
+pub(crate) fn asking(word: &[u8], words: &[u8]) -> Option<Line>
+    ensures { result ≡ named asking word.now (words_of words.now) }
+{
+    if is_word(word, b"servers") {
+        Some(servers(words))
+    } else if is_word(word, b"trigger") {
+        Some(trigger(words))
+    } else if is_word(word, b"stop") {
+        Some(stop(words))
+    } else if is_word(word, b"tick") {
+        Some(tick(words))
+    } else {
+        None
+    }
+}
+
+/// `servers N`.
+fn servers(words: &[u8]) -> Line
+    ensures { result ≡ numbers (one servers) (words_of words.now) }
+{
+    match one_number(words) {
+        Some(count) => servers_of(count),
+        None => Line::Unread,
+    }
+}
+
+/// A world has 1 to 8 servers.
+fn servers_of(count: u64) -> Line
+    ensures { result ≡ servers count }
+{
+    if 1 <= count && count <= u64::from(MAX_SERVERS) {
+        Line::Servers(count as u32)
+    } else {
+        Line::Unread
+    }
+}
+
+/// `trigger R`, `trigger R cut`.
+fn trigger(words: &[u8]) -> Line
+    ensures { result ≡ trigger (words_of words.now) }
+{
+    let Some((run, rest)) = split_word(words) else {
+        return Line::Unread;
+    };
+    let Some(act) = act_of(rest) else {
+        return Line::Unread;
+    };
+    match number_of(run) {
+        Some(run) => Line::Asks(Command::Trigger {
+            run: RunNo(run),
+            act,
+        }),
+        None => Line::Unread,
+    }
+}
+
+/// What is asked behind the states: nothing, or `cut`.
+fn act_of(words: &[u8]) -> Option<Act>
+    ensures { result ≡ act_of (words_of words.now) }
+{
+    match split_word(words) {
+        None => Some(Act::None),
+        Some((word, rest)) => {
+            if is_word(word, b"cut") && is_end(rest) {
+                Some(Act::Cut)
+            } else {
+                None
+            }
+        }
+    }
+}
+
+/// `stop R`.
+fn stop(words: &[u8]) -> Line
+    ensures { result ≡ numbers (one (λ r. Asks (Stop r))) (words_of words.now) }
+{
+    match one_number(words) {
+        Some(run) => Line::Asks(Command::Stop(RunNo(run))),
+        None => Line::Unread,
+    }
+}
+
+/// `tick`.
+fn tick(words: &[u8]) -> Line
+    ensures { result ≡ alone (Asks Tick) (words_of words.now) }
+{
+    if is_end(words) {
+        Line::Asks(Command::Tick)
+    } else {
+        Line::Unread
+    }
+}
