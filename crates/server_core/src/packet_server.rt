@@ -2,7 +2,7 @@
 
 ghost use Rattle.std.specs.Prelude.{◌≡◌, ◌<◌, IsTrue, List, is_some};
 ghost use Rattle.std.specs.Option.{option_copied, option_map};
-ghost use Rattle.server_core.specs.declared.event.Event.TheVariants.{Deliver, Issue, WriteDone};
+ghost use Rattle.server_core.specs.declared.event.Event.TheVariants as events;
 ghost use Rattle.server_core.specs.Serves.{IsRead};
 ghost use Rattle.messages.specs.Ranges.{is_run};
 
@@ -14,7 +14,7 @@ use crate::outs::Outs;
 use crate::progress::Progress;
 use crate::status::Status;
 use disk_model::Notes;
-use engine::Ticket;
+use engine::{Issue, Ticket};
 use fc_base::{Fault, JobNo, RunNo, Seq, ServerNo};
 use job_file::Job;
 use messages::Packet;
@@ -38,6 +38,7 @@ impl<N: Notes> PacketServer<N> {
     ghost use Rattle.server_core.specs.KeptCheck.{progress_of};
     ghost use Rattle.server_core.specs.Taken.{taken};
     ghost use Rattle.server_core.specs.OpenWrites.{open_write};
+    ghost use Rattle.server_core.specs.Handles.{issued_by, ended_by};
     ghost use Rattle.server_core.specs.Memory.{TakesNone};
     ghost use Rattle.server_core.specs.Serves.{StandsFor, Starts, Ends, Opens};
 
@@ -155,7 +156,7 @@ impl<N: Notes> PacketServer<N> {
     /// Whether the delivery of this packet would make a save: it is a Start that is due to record a run.
     pub(crate) fn would_save(&self, packet: &Packet) -> bool
         ensures { (o : Opening) (past : List Entry) → StandsFor N.note self.now o past →
-            result ≡ is_some (due o past (Deliver packet.now)) }
+            result ≡ is_some (due o past (events.Deliver packet.now)) }
     {
         !self.down && self.machine.due_by(packet).is_some()
     }
@@ -165,6 +166,7 @@ impl<N: Notes> PacketServer<N> {
     /// `Down`: a save has failed, and nothing changes until the server is restarted. `NoMemory`:
     /// nothing changes. `SaveFault`: the device failed, and the server is down. Any other fault is a
     /// refusal, which changes nothing.
+    #[inline(never)]
     pub(crate) fn step(&mut self, event: Event) -> Result<Outs, Fault>
         ensures { (o : Opening) (past : List Entry) → StandsFor N.note self.old o past →
             Ends N.note o past event self.old self.new result }
@@ -181,10 +183,11 @@ impl<N: Notes> PacketServer<N> {
         }
     }
 
-    /// Takes a request for a write of a job, as `step` does.
-    pub(crate) fn issue(&mut self, job: JobNo) -> Result<Outs, Fault>
+    /// Takes a request for a write of a job, as `step` does, and answers it alone.
+    #[inline(always)]
+    pub(crate) fn issue(&mut self, job: JobNo) -> Result<Issue, Fault>
         ensures ends { (o : Opening) (past : List Entry) → StandsFor N.note self.old o past →
-            Ends N.note o past (Issue job) self.old self.new result }
+            Ends N.note o past (events.Issue job) self.old self.new (issued_by result) }
         ensures memory { TakesNone result }
     {
         if self.down {
@@ -192,13 +195,14 @@ impl<N: Notes> PacketServer<N> {
         }
         frames_are_short();
         packets_are_in_range();
-        self.machine.handle_issue(job)
+        Ok(self.machine.issue(job))
     }
 
     /// Takes the end of a write, as `step` does.
-    pub(crate) fn end_write(&mut self, ticket: Ticket, end: WriteEnd) -> Result<Outs, Fault>
+    #[inline(always)]
+    pub(crate) fn end_write(&mut self, ticket: Ticket, end: WriteEnd) -> Result<(), Fault>
         ensures ends { (o : Opening) (past : List Entry) → StandsFor N.note self.old o past →
-            Ends N.note o past (WriteDone ticket end) self.old self.new result }
+            Ends N.note o past (events.WriteDone ticket end) self.old self.new (ended_by result) }
         ensures memory { TakesNone result }
     {
         if self.down {
@@ -206,7 +210,7 @@ impl<N: Notes> PacketServer<N> {
         }
         frames_are_short();
         packets_are_in_range();
-        self.machine.handle_end(ticket, end)
+        self.machine.end_write(ticket, end)
     }
 
     /// Records the staged run, which then begins.
