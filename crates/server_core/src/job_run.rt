@@ -58,7 +58,6 @@ impl JobRun {
     }
 
     /// Notes how a write ended, where the ticket names an open write of the job.
-    #[inline(always)]
     pub fn end(&mut self, ticket: Ticket, end: WriteEnd) -> Result<(), Fault>
         ensures answer { result
             ≡ ticket_answer self.old.engine.origin self.old.engine.kept.open_writes ticket }

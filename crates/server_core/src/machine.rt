@@ -62,7 +62,6 @@ impl Machine {
     }
 
     /// Issues the next write of a job, or says why none is issued.
-    #[inline(always)]
     pub(crate) fn issue(&mut self, job: JobNo) -> Issue
         ensures answer { EachNow self.old (λ now. result ≡ issue_of job now.run) }
         ensures left { EachNow self.old (λ now. MachineIs self.new (after now (ToIssue job))) }
@@ -72,7 +71,6 @@ impl Machine {
 
     /// Notes how a write ended. A ticket of another boot is refused, and then one that names no open
     /// write.
-    #[inline(always)]
     pub(crate) fn end_write(&mut self, ticket: Ticket, end: WriteEnd) -> Result<(), Fault>
         ensures answer { EachNow self.old
             (λ now. result ≡ unless (refusal_of now (ToEnd ticket end))) }

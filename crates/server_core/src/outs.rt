@@ -32,7 +32,6 @@ impl Outs {
     }
 
     /// Nothing.
-    #[inline(always)]
     pub(crate) fn nothing(alloc: Global) -> Outs
         ensures { result ≡ sent_alone [] }
     {
@@ -40,7 +39,6 @@ impl Outs {
     }
 
     /// What a request for a write hands out, where it is answered so.
-    #[inline(always)]
     pub(crate) fn issued(alloc: Global, answer: Result<Issue, Fault>) -> Result<Outs, Fault>
         ensures { result ≡ issued_by answer }
     {
@@ -55,7 +53,6 @@ impl Outs {
     }
 
     /// What the end of a write hands out, where it is accepted or refused so.
-    #[inline(always)]
     pub(crate) fn ended(alloc: Global, answer: Result<(), Fault>) -> Result<Outs, Fault>
         ensures { result ≡ ended_by answer }
     {

@@ -166,7 +166,6 @@ impl<N: Notes> PacketServer<N> {
     /// `Down`: a save has failed, and nothing changes until the server is restarted. `NoMemory`:
     /// nothing changes. `SaveFault`: the device failed, and the server is down. Any other fault is a
     /// refusal, which changes nothing.
-    #[inline(never)]
     pub(crate) fn step(&mut self, event: Event) -> Result<Outs, Fault>
         ensures { (o : Opening) (past : List Entry) → StandsFor N.note self.old o past →
             Ends N.note o past event self.old self.new result }
@@ -184,7 +183,6 @@ impl<N: Notes> PacketServer<N> {
     }
 
     /// Takes a request for a write of a job, as `step` does, and answers it alone.
-    #[inline(always)]
     pub(crate) fn issue(&mut self, job: JobNo) -> Result<Issue, Fault>
         ensures ends { (o : Opening) (past : List Entry) → StandsFor N.note self.old o past →
             Ends N.note o past (events.Issue job) self.old self.new (issued_by result) }
@@ -199,7 +197,6 @@ impl<N: Notes> PacketServer<N> {
     }
 
     /// Takes the end of a write, as `step` does.
-    #[inline(always)]
     pub(crate) fn end_write(&mut self, ticket: Ticket, end: WriteEnd) -> Result<(), Fault>
         ensures ends { (o : Opening) (past : List Entry) → StandsFor N.note self.old o past →
             Ends N.note o past (events.WriteDone ticket end) self.old self.new (ended_by result) }

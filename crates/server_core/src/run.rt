@@ -136,7 +136,6 @@ impl Run {
     }
 
     /// Issues the next write of a job, or says why none is issued.
-    #[inline(always)]
     pub fn issue(&mut self, job: JobNo) -> Issue
         ensures answer { EachRun self.old (λ w. result ≡ issue_of_job w job (slice_get w.jobs job)) }
         ensures left { GoesOn self.old self.new (ToIssue job) }
@@ -151,7 +150,6 @@ impl Run {
     }
 
     /// Notes how a write ended. A ticket that names no open write is refused, and nothing changes.
-    #[inline(always)]
     pub fn end_write(&mut self, ticket: Ticket, end: WriteEnd) -> Result<(), Fault>
         ensures answer { EachRun self.old (λ w. w.boot ≡ ticket.boot →
             result ≡ open_answer (names_open_of w ticket (slice_get w.jobs ticket.key.job))) }

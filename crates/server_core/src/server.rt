@@ -186,7 +186,6 @@ impl<N: Notes> Server<N> {
     }
 
     /// Takes the report of a check.
-    #[inline(always)]
     fn end_check(
         &mut self,
         boot: u64,
@@ -206,18 +205,7 @@ impl<N: Notes> Server<N> {
     }
 
     /// Takes a frame.
-    #[inline(always)]
     fn deliver(&mut self, frame: Frame) -> Result<Outs, Fault>
-        ensures { (o : Opening) (past : List FrameEntry) → StandsFor N.note self.old o past →
-            Ends N.note o past (Deliver frame) self.old self.new result }
-    {
-        self.hear(frame)
-    }
-
-    /// Takes a frame, out of the way of the writes: a function clears the room of all its values when it
-    /// begins, and a write needs little.
-    #[inline(never)]
-    fn hear(&mut self, frame: Frame) -> Result<Outs, Fault>
         ensures { (o : Opening) (past : List FrameEntry) → StandsFor N.note self.old o past →
             Ends N.note o past (Deliver frame) self.old self.new result }
     {

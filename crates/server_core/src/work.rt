@@ -34,7 +34,6 @@ pub(crate) fn is_unended(run: &Option<Run>) -> bool
 }
 
 /// Issues the next write of a job, or says why none is issued.
-#[inline(always)]
 pub(crate) fn issue(run: &mut Option<Run>, job: JobNo) -> Issue
     ensures answer { EachWork run.old (λ me now_boot w. result ≡ issue_of job w) }
     ensures left { EachWork run.old
@@ -47,7 +46,6 @@ pub(crate) fn issue(run: &mut Option<Run>, job: JobNo) -> Issue
 }
 
 /// Notes how a write of this boot ended. A ticket that names no open write is refused.
-#[inline(always)]
 pub(crate) fn end_write(run: &mut Option<Run>, ticket: Ticket, end: WriteEnd) -> Result<(), Fault>
     ensures answer { EachWork run.old (λ me now_boot w. now_boot ≡ ticket.boot →
         result ≡ open_answer (names_open w ticket)) }

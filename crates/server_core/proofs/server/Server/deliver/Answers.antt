@@ -6,7 +6,7 @@ use Rattle.server_core.specs.declared.input.Input.TheVariants.{Deliver}
 use Rattle.server_core.specs.Hearing.{packets_heard}
 use Rattle.server_core.specs.FrameEnds.{Ends}
 use Rattle.server_core.proofs.FrameEndLemmas.{whole_ends}
-use Rattle.server_core.proofs.server.Server.hear.Goals as goal
+use Rattle.server_core.proofs.server.Server.deliver.Goals as goal
 
 pub returns-in-Whole : goal.returns-in-Whole
 returns-in-Whole g c o past s =
