@@ -171,17 +171,6 @@ PacketsAreInRange =
     (o : Opening) (past : List Entry) (entry : Entry) →
     OpensInRange o → CameInRange (entry ∷ past) → AllByRecursion IsPacket (packets o past entry)
 
--- A tick.
-abbrev pub is_tick : Call → Bool
-is_tick Tick = true
-is_tick _ = false
-
--- Any other call sends at most 8 packets.
-abbrev pub PacketsAreFew : Type 0
-PacketsAreFew =
-    (o : Opening) (past : List Entry) (c : Call) (left : Left) →
-    o.servers ≤ 8 → is_tick c ≡ false → length (packets o past (Met c left)) ≤ 8
-
 -- The reports of this life came from their servers.
 abbrev pub ReportsCame : Type 0
 ReportsCame =

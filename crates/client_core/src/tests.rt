@@ -7,7 +7,7 @@ use crate::client::Client;
 use crate::noted::Noted;
 use disk_model::{MemNotes, Notes};
 use fc_base::{JobNo, Key, RunNo, ServerNo};
-use messages::{Body, Node, Packet, PacketParts};
+use messages::{Body, Frame, Node, Packet, PacketParts};
 use std::alloc::Global;
 use std::test::Fail;
 use verify_state::VerifyState;
@@ -137,8 +137,8 @@ fn state_from(server: u32) -> Result<Packet, Fail> {
 #[test]
 fn what_would_be_saved(rt: HostRuntime) -> Result<(), Fail> {
     assert!(rt; opened(rt.alloc(), BLANK)?.is_blank() && opened(rt.alloc(), &[])?.is_blank());
-    assert!(rt; opened(rt.alloc(), BLANK)?.would_save(&state_from(0)?));
-    assert!(rt; !opened(rt.alloc(), BLANK)?.would_save(&state_from(1)?));
-    assert!(rt; !opened(rt.alloc(), NOTE)?.would_save(&state_from(0)?));
+    assert!(rt; opened(rt.alloc(), BLANK)?.would_save(&Frame::Whole(state_from(0)?))?);
+    assert!(rt; !opened(rt.alloc(), BLANK)?.would_save(&Frame::Whole(state_from(1)?))?);
+    assert!(rt; !opened(rt.alloc(), NOTE)?.would_save(&Frame::Whole(state_from(0)?))?);
     Ok(())
 }

@@ -5,7 +5,7 @@ use crate::client::Client;
 use crate::outcome::{Outcome, RequestKind};
 use disk_model::{FaultNotes, MemNotes, Notes};
 use fc_base::{Fault, RunNo, ServerNo};
-use messages::{Act, Frames, Packet, decode};
+use messages::{Act, Frame, Frames, Packet, decode};
 use std::alloc::Global;
 use std::test::Fail;
 
@@ -109,7 +109,7 @@ fn ask<N: Notes>(alloc: Global, client: &mut Client<N>, asked: Asked) -> Result<
         Asked::Tick => client.tick()?,
         Asked::Trigger => client.trigger(RunNo(1), Act::Cut)?,
         Asked::Verify(text) => client.verify(RunNo(1), text)?.1,
-        Asked::Packet(digits) => client.deliver(packet_of(alloc, digits)?)?,
+        Asked::Packet(digits) => client.deliver(Frame::Whole(packet_of(alloc, digits)?))?,
     };
     Ok(frames)
 }
@@ -172,8 +172,8 @@ fn what_is_refused(rt: HostRuntime) -> Result<(), Fail> {
     assert!(rt; client.trigger(RunNo(2), Act::Cut).err() == Some(Fault::NoSuchRun));
     assert!(rt; client.stop(RunNo(0)).err() == Some(Fault::NoSuchRun));
     assert!(rt; client.verify(RunNo(2), READING).err() == Some(Fault::NoSuchRun));
-    assert!(rt; client.deliver(state_from(1)?).err() == Some(Fault::Misdirected));
-    assert!(rt; client.deliver(state_from(0)?)?.len() == 1);
+    assert!(rt; client.deliver(Frame::Whole(state_from(1)?)).err() == Some(Fault::Misdirected));
+    assert!(rt; client.deliver(Frame::Whole(state_from(0)?))?.len() == 1);
     assert!(rt; client.stop(RunNo(1))?.len() == 2);
     assert!(rt; client.outcome(RequestKind::Stop, 1, ServerNo(1)) == Outcome::Open);
     assert!(rt; left_by(client)?.as_slice() == NOTE);

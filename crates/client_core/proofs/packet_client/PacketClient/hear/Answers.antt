@@ -1,7 +1,7 @@
 use Rattle.std.proofs.Common.{sym, subst, ◌∙◌, ap, ◌∷◌, true}
 use Rattle.messages.specs.Nodes.{node_number}
 use Rattle.client_core.specs.declared.call.Call.TheVariants.{Deliver}
-use Rattle.client_core.specs.declared.client.Client.{Client}
+use Rattle.client_core.specs.declared.packet_client.PacketClient.{PacketClient}
 use Rattle.client_core.specs.Ends.{Stores}
 use Rattle.client_core.specs.Framed.{framed}
 use Rattle.client_core.specs.Life.{Hears}
@@ -9,9 +9,9 @@ use Rattle.client_core.specs.Lives.{LifeIs}
 use Rattle.client_core.specs.Note.{IsNoted}
 use Rattle.client_core.specs.Saves.{Keep, addition_by, noted_after}
 use Rattle.client_core.proofs.DeliverLemmas.{adds_new, replied_to}
-use Rattle.client_core.proofs.EndLemmas.{fails_stored, answers_stored, answers_plain}
+use Rattle.client_core.proofs.CallLemmas.{fails_stored, answers_stored, answers_plain}
 use Rattle.client_core.proofs.NotedLemmas.{body_step}
-use Rattle.client_core.proofs.client.Client.hear.Goals as goal
+use Rattle.client_core.proofs.packet_client.PacketClient.hear.Goals as goal
 
 pub keep-requires-clause-new : goal.keep-requires-clause-new
 keep-requires-clause-new g c = (adds_new c.args.self.now.noted c.args.body c.in-Some.state c.in-Some.ensures c.requires.free).new
@@ -41,7 +41,7 @@ returns-in-Ok-keep g c o past p e f r s =
     (λ n. subst IsNoted (ap (λ d. noted_after true d old.noted) c.in-Some.ensures) (body_step true old.noted c.args.body c.requires.free c.requires.state n)) _ stored
     (λ deeds h. c.in-Ok.ensures deeds h ∙ ap framed (replied_to old.noted deeds p c.args.server c.args.body e f))
     (λ deeds h. subst (λ b. LifeIs c.hear.new.self (Hears (node_number p.from) b ∷ deeds)) (sym e) (subst (λ n. LifeIs c.hear.new.self (Hears n c.args.body ∷ deeds)) (sym f)
-    (c.hear.ensures deeds (subst (λ l. LifeIs l deeds) (sym (ap (λ (m : Client _). m.life) stored.1)) h)))) s
+    (c.hear.ensures deeds (subst (λ l. LifeIs l deeds) (sym (ap (λ (m : PacketClient _). m.life) stored.1)) h)))) s
 
 pub returns-in-Ok-hear_any : goal.returns-in-Ok-hear_any
 returns-in-Ok-hear_any g c o past p e f r s =

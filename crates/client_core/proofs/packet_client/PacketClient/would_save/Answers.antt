@@ -3,7 +3,7 @@ use Rattle.std.specs.Prelude.{is_some, is_none}
 use Rattle.messages.specs.declared.body.Body.{Body}
 use Rattle.client_core.specs.Saves.{addition_by}
 use Rattle.client_core.proofs.ClientLemmas.{none_if, some_if, stands_would}
-use Rattle.client_core.proofs.client.Client.would_save.Goals as goal
+use Rattle.client_core.proofs.packet_client.PacketClient.would_save.Goals as goal
 
 pub returns-then-is_none : goal.returns-then-is_none
 returns-then-is_none g c =

@@ -8,18 +8,18 @@ ghost use Rattle.client_core.specs.History.{Opening, Entry};
 ghost use Rattle.client_core.specs.Refusals.{refusal_by};
 ghost use Rattle.client_core.specs.Stands.{StandsFor};
 
-use super::Client;
+use super::PacketClient;
 use crate::frames::to_all;
 use crate::refusal::is_begun;
 use disk_model::Notes;
 use fc_base::{Fault, RunNo};
 use messages::{Act, Body, Frames};
 
-impl<N: Notes> Client<N> {
+impl<N: Notes> PacketClient<N> {
     /// Triggers the write states of a run at each server, which then is to do this.
     ///
     /// In this order: `Down`; `NoSuchRun`; `NoMemory`, and nothing changes.
-    pub fn trigger(&mut self, run: RunNo, act: Act) -> Result<Frames, Fault>
+    pub(crate) fn trigger(&mut self, run: RunNo, act: Act) -> Result<Frames, Fault>
         ensures { (o : Opening) (past : List Entry) → StandsFor N.note self.old o past →
             Ends N.note o past (Trigger run act) self.old self.new result }
     {
@@ -39,7 +39,7 @@ impl<N: Notes> Client<N> {
     /// Stops a run at each server, which issues no more writes of it.
     ///
     /// In this order: `Down`; `NoSuchRun`; `NoMemory`, and nothing changes.
-    pub fn stop(&mut self, run: RunNo) -> Result<Frames, Fault>
+    pub(crate) fn stop(&mut self, run: RunNo) -> Result<Frames, Fault>
         ensures { (o : Opening) (past : List Entry) → StandsFor N.note self.old o past →
             Ends N.note o past (Stop run) self.old self.new result }
     {

@@ -8,16 +8,16 @@ ghost use Rattle.client_core.specs.Reports.{reports};
 ghost use Rattle.client_core.specs.Stands.{StandsFor};
 ghost use Rattle.client_core.specs.Words.{looked};
 
-use super::Client;
+use super::PacketClient;
 use crate::outcome::{Outcome, RequestKind};
 use crate::received::Received;
 use disk_model::Notes;
 use fc_base::{RunNo, ServerNo};
 
-impl<N: Notes> Client<N> {
+impl<N: Notes> PacketClient<N> {
     /// The reports of this life, in order of arrival: of each attempt, server and job the first that
     /// counted. Where a save has failed, those up to it.
-    pub fn reports(&self) -> &[Received]
+    pub(crate) fn reports(&self) -> &[Received]
         ensures { (o : Opening) (past : List Entry) → StandsFor N.note self.now o past →
             result.now ≡ reports (life o (looked past)) }
     {
@@ -26,7 +26,7 @@ impl<N: Notes> Client<N> {
 
     /// How a request of this life stands at a server, by the number of its run or attempt. Where a save
     /// has failed, up to it.
-    pub fn outcome(&self, kind: RequestKind, number: u64, server: ServerNo) -> Outcome
+    pub(crate) fn outcome(&self, kind: RequestKind, number: u64, server: ServerNo) -> Outcome
         ensures { (o : Opening) (past : List Entry) → StandsFor N.note self.now o past →
             result ≡ outcome o (looked past) kind number server }
     {
@@ -39,7 +39,7 @@ impl<N: Notes> Client<N> {
     }
 
     /// Whether the trigger of a run has ended at every server. Where a save has failed, up to it.
-    pub fn settled(&self, run: RunNo) -> bool
+    pub(crate) fn settled(&self, run: RunNo) -> bool
         ensures { (o : Opening) (past : List Entry) → StandsFor N.note self.now o past →
             result ≡ settled o (looked past) run }
     {

@@ -14,7 +14,7 @@ ghost use Rattle.client_core.specs.Refusals.{refusal_by};
 ghost use Rattle.client_core.specs.Stands.{StandsFor};
 ghost use Rattle.client_core.specs.Words.{noted};
 
-use super::Client;
+use super::PacketClient;
 use crate::attempt_asked::AttemptAsked;
 use crate::frames::to_all;
 use crate::noted::notes_are_read_back;
@@ -24,13 +24,13 @@ use fc_base::{Attempt, Fault, RunNo};
 use messages::{Body, Frames, Text};
 use std::alloc::{AllocError, Global};
 
-impl<N: Notes> Client<N> {
+impl<N: Notes> PacketClient<N> {
     /// Checks the files of a run by this job file at each server. The attempt's number is saved before
     /// it is used.
     ///
     /// In this order: `Down`; `NoSuchRun`; `JobTooLong`; `NumbersSpent`; `NoMemory`, and nothing changes;
     /// `SaveFault`, and the client is down.
-    pub fn verify(&mut self, run: RunNo, text: &[u8]) -> Result<(Attempt, Frames), Fault>
+    pub(crate) fn verify(&mut self, run: RunNo, text: &[u8]) -> Result<(Attempt, Frames), Fault>
         ensures { (o : Opening) (past : List Entry) → StandsFor N.note self.old o past →
             Gives N.note o past (Verifying run text.now) (noted o past).attempts self.old self.new result }
     {

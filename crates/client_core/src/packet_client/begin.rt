@@ -12,7 +12,7 @@ ghost use Rattle.client_core.specs.Refusals.{refusal_by};
 ghost use Rattle.client_core.specs.Stands.{StandsFor};
 ghost use Rattle.client_core.specs.Words.{noted};
 
-use super::Client;
+use super::PacketClient;
 use crate::frames::to_all;
 use crate::noted::notes_are_read_back;
 use crate::refusal::{has_next, is_text};
@@ -21,12 +21,12 @@ use fc_base::{Fault, RunNo};
 use messages::{Body, Frames, Text};
 use std::alloc::{AllocError, Global};
 
-impl<N: Notes> Client<N> {
+impl<N: Notes> PacketClient<N> {
     /// Begins a run with this job file at each server. Its number is saved before it is used.
     ///
     /// In this order: `Down`; `JobTooLong`; `NumbersSpent`; `NoMemory`, and nothing changes; `SaveFault`,
     /// and the client is down.
-    pub fn begin(&mut self, text: &[u8]) -> Result<(RunNo, Frames), Fault>
+    pub(crate) fn begin(&mut self, text: &[u8]) -> Result<(RunNo, Frames), Fault>
         ensures { (o : Opening) (past : List Entry) → StandsFor N.note self.old o past →
             Gives N.note o past (Begin text.now) (noted o past).runs self.old self.new result }
     {

@@ -6,17 +6,17 @@ ghost use Rattle.client_core.specs.Ends.{Ends};
 ghost use Rattle.client_core.specs.History.{Opening, Entry};
 ghost use Rattle.client_core.specs.Stands.{StandsFor};
 
-use super::Client;
+use super::PacketClient;
 use disk_model::Notes;
 use fc_base::Fault;
 use messages::Frames;
 
-impl<N: Notes> Client<N> {
+impl<N: Notes> PacketClient<N> {
     /// Asks again for all that isn't answered: by run its begin, its trigger and its stop, each by
     /// server, and then by attempt the verifies. It changes nothing.
     ///
     /// In this order: `Down`; `NoMemory`.
-    pub fn tick(&self) -> Result<Frames, Fault>
+    pub(crate) fn tick(&self) -> Result<Frames, Fault>
         ensures { (o : Opening) (past : List Entry) → StandsFor N.note self.now o past →
             Ends N.note o past Tick self.now self.now result }
     {

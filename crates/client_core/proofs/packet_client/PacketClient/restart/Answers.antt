@@ -2,7 +2,7 @@ use Rattle.std.proofs.Common.{refl, sym, ◌∙◌, subst, List, ℕ, arith}
 use Rattle.disk_model.specs.Notes.{Note}
 use Rattle.client_core.specs.Note.{Says, Reads}
 use Rattle.client_core.specs.Words.{noted}
-use Rattle.client_core.proofs.client.Client.restart.Goals as goal
+use Rattle.client_core.proofs.packet_client.PacketClient.restart.Goals as goal
 
 pub returns-in-Ok-Some : goal.returns-in-Ok-Some
 returns-in-Ok-Some g c =

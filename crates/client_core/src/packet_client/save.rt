@@ -5,13 +5,13 @@ ghost use Rattle.client_core.specs.Ends.{Stores, Writes};
 ghost use Rattle.client_core.specs.Kept.{kept_of};
 ghost use Rattle.client_core.specs.Saves.{NextRun, NextAttempt, Keep};
 
-use super::Client;
+use super::PacketClient;
 use crate::kept::KEPT_LIMIT;
 use disk_model::Notes;
 use fc_base::Fault;
 use verify_state::VerifyState;
 
-impl<N: Notes> Client<N> {
+impl<N: Notes> PacketClient<N> {
     /// One more run is used.
     pub(super) fn use_run(&mut self) -> Result<(), Fault>
         requires { self.old.noted.runs + 1 < 2 ^ 64 }

@@ -4,7 +4,7 @@ use Rattle.messages.specs.Nodes.{node_number}
 use Rattle.client_core.specs.declared.call.Call.TheVariants.{Deliver}
 use Rattle.client_core.proofs.EndLemmas.{refuses}
 use Rattle.client_core.proofs.DeliverLemmas.{deliver_free, body_of_packet}
-use Rattle.client_core.proofs.client.Client.deliver.Goals as goal
+use Rattle.client_core.proofs.packet_client.PacketClient.deliver.Goals as goal
 
 pub returns-in-Some : goal.returns-in-Some
 returns-in-Some g c o past s = refuses g.N.Notes.note c.args.self.now o past (Deliver c.args.packet) c.in-Some.fault (sym c.refusal.ensures ∙ c.in-Some.is) s
