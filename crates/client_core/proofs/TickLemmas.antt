@@ -132,8 +132,11 @@ attempt_asked attempt s (d ∷ ds) = omega (arith, count_more (for_attempt attem
     step (Triggers r act) = omega arith
     step (Stops r) = omega arith
     step (Verifies r a text) = asked_new (a == attempt) (verify_at attempt s ds)
-    step (Hears t body) = asked_if (t == s) (verify_at attempt s ds) (verify_heard (run_of attempt ds) attempt body (verify_at attempt s ds))
-        (no_more (verify_heard (run_of attempt ds) attempt body) (verify_unasked (run_of attempt ds) attempt body) (verify_at attempt s ds))
+    step (Hears t body) = omega (
+      arith,
+      asked_if (t == s) (verify_at attempt s ds) (verify_heard (run_of attempt ds) attempt body (verify_at attempt s ds))
+      (no_more (verify_heard (run_of attempt ds) attempt body) (verify_unasked (run_of attempt ds) attempt body) (verify_at attempt s ds)),
+    )
 
 -- ---- what is sent again
 
@@ -202,16 +205,16 @@ tally_none m a (suc n) h = omega (arith, h a (omega arith), tally_none m (a + 1)
 -- One number is one of them at most once.
 tally_one : (x a n : ℕ) → tally (λ r. one (x == r)) a n ≤ 1
 tally_one x a zero = omega arith
-tally_one x a (suc n) = by_test (x == a) refl
+tally_one x a (suc n) = by_test (x == a) refl (tally_one x (a + 1) n)
   where
     differ : (r : ℕ) → x < r → one (x == r) ≤ 0
     differ r l = let d : (x == r) ≡ false = grind (arith, nat_tests) in omega (arith, ap one d)
 
-    by_test : (b : Bool) → (x == a) ≡ b → one b + tally (λ r. one (x == r)) (a + 1) n ≤ 1
-    by_test true is =
+    by_test : (b : Bool) → (x == a) ≡ b → tally (λ r. one (x == r)) (a + 1) n ≤ 1 → one b + tally (λ r. one (x == r)) (a + 1) n ≤ 1
+    by_test true is rest =
         let same : x ≡ a = grind (arith, nat_tests) in
         omega (arith, tally_none (λ r. one (x == r)) (a + 1) n (λ r l. differ r (omega arith)))
-    by_test false is = omega (arith, tally_one x (a + 1) n)
+    by_test false is rest = omega (arith, rest)
 
 tally_few : (p : ℕ → Deed → Bool) (q : Deed → Bool) → ((d : Deed) (a n : ℕ) → tally (λ r. one (p r d)) a n ≤ one (q d)) → (ds : List Deed) (a n : ℕ) → tally (λ r. count (p r) ds) a n ≤ count q ds
 tally_few p q h [] a n = tally_none (λ r. 0) a n (λ r l. omega arith)

@@ -91,7 +91,9 @@ impl<N: Notes> Client<N> {
                 self.pieces.drop(piece.tag());
                 Err(Fault::FrameBadField)
             }
-            Err(fault) => Err(fault),
+            Err(Fault::Down) => Err(Fault::Down),
+            Err(Fault::Misdirected) => Err(Fault::Misdirected),
+            Err(_) => Err(Fault::NoMemory),
         }
     }
 

@@ -1,7 +1,7 @@
 use Rattle.std.proofs.Common.{subst, ◌∷◌}
 use Rattle.client_core.specs.Life.{Verifies}
 use Rattle.client_core.specs.Lives.{AttemptIs}
-use Rattle.client_core.proofs.client.verify.verify_frames.Goals as goal
+use Rattle.client_core.proofs.packet_client.verify.verify_frames.Goals as goal
 
 pub returns-clause-asked : goal.returns-clause-asked
 returns-clause-asked c deeds =
