@@ -37,6 +37,3 @@ pub use noted::{Noted, notes_are_read_back, one_note};
 pub use outcome::{Outcome, RequestKind};
 pub use packet_client::PacketClient;
 pub use received::Received;
-
-#[cfg(test)]
-mod tests;
