@@ -1,38 +1,23 @@
 -- How a call ends, by what the client itself keeps.
-use Rattle.std.proofs.Common.{◌≡◌, ◌⊎◌, inl, inr, refl, sym, ap, subst, ◌∙◌, ℕ, ◌≤◌, Bool, true, false, ◌&&◌, List, [], ◌∷◌, ◌++◌, Option, None, Some}
-use Rattle.std.specs.Prelude.{if◌then◌else◌, not, is_none, slice_get, Ok, Err}
-use Rattle.std.specs.List.{AllByRecursion}
+use Rattle.std.proofs.Common.{◌≡◌, sym, ap, subst, ◌∙◌, ℕ, false, List, ◌++◌, None, Some}
+use Rattle.std.specs.Prelude.{not, Ok, Err}
 use Rattle.fc_base.specs.declared.fault.Fault.{Fault}
-use Rattle.fc_base.specs.declared.fault.Fault.TheVariants.{NoMemory, Down, JobTooLong, Misdirected, NoSuchRun, Conflict, NumbersSpent, TableFull}
-use Rattle.fc_base.specs.declared.fault.FaultSort.{FaultSort}
-use Rattle.fc_base.specs.declared.fault.FaultSort.TheVariants as sorts
 use Rattle.fc_base.specs.Fault.{sort_of}
-use Rattle.fc_base.specs.Faults.{when}
-use Rattle.disk_model.specs.declared.left.Left.{Left}
-use Rattle.disk_model.specs.declared.left.Left.TheVariants.{NoSave, LostNew, LostOld}
-use Rattle.disk_model.specs.Left.{is_lost, has_new}
 use Rattle.disk_model.specs.Notes.{Note}
-use Rattle.messages.specs.declared.body.Body.{Body}
-use Rattle.messages.specs.declared.body.Body.TheVariants as bodies
-use Rattle.messages.specs.Ranges.{is_text}
 use Rattle.client_core.specs.declared.call.Call.{Call}
-use Rattle.client_core.specs.declared.call.Call.TheVariants.{Begin, Trigger, Stop, Verify, Deliver, Tick}
 use Rattle.client_core.specs.declared.packet_client.PacketClient.{PacketClient}
 use Rattle.client_core.specs.declared.life.Life.{Life}
-use Rattle.client_core.specs.declared.noted.Noted.{Noted}
-use Rattle.client_core.specs.Note.{IsNoted, Says, SaysWhatIsWritten, spelling}
-use Rattle.client_core.specs.History.{Opening, Entry, Met}
+use Rattle.client_core.specs.Note.{IsNoted, SaysWhatIsWritten}
+use Rattle.client_core.specs.History.{Opening, Entry}
 use Rattle.client_core.specs.Framed.{framed}
-use Rattle.client_core.specs.Kept.{kept_of}
 use Rattle.client_core.specs.Life.{life, deeds_of}
 use Rattle.client_core.specs.Lives.{LifeIs, EachLife}
-use Rattle.client_core.specs.Refusals.{is_for_client, is_begun, has_next, differs, lacks_room, faults_of, faults_of_body, refusal_by}
-use Rattle.client_core.specs.Saves.{Addition, with_addition, addition_of, unless_refused, noted_after, left_by, is_answer}
-use Rattle.client_core.specs.Words.{is_on, noted, looked, refusal, due, is_answered}
-use Rattle.client_core.specs.Packets.{packets, packets_for}
+use Rattle.client_core.specs.Refusals.{refusal_by}
+use Rattle.client_core.specs.Saves.{Addition, with_addition, addition_of}
+use Rattle.client_core.specs.Words.{noted, refusal}
+use Rattle.client_core.specs.Packets.{packets_for}
 use Rattle.client_core.specs.Stands.{StandsFor}
-use Rattle.client_core.specs.Ends.{answered, Answers, Fails, Faults, Unsaved, Stores}
-use Rattle.client_core.proofs.Looked.{looks_at_all}
+use Rattle.client_core.specs.Ends.{Answers, Faults, Stores}
 use Rattle.client_core.proofs.EndLemmas.{knows_now, unsaved, stored_stands, plain_stands, sends_now}
 use Rattle.client_core.proofs.RefusalLemmas.{refusal_is}
 

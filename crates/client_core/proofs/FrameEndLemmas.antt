@@ -1,7 +1,7 @@
 -- A client takes what comes over a network of frames as its list does.
-use Rattle.std.proofs.Common.{◌≡◌, refl, sym, ◌∙◌, ap, subst, ℕ, ◌+◌, arith, Bool, true, false, ◌&&◌, List, [], ◌∷◌, ◌++◌, Option, Some, None, Result, Ok, Err}
+use Rattle.std.proofs.Common.{◌≡◌, refl, sym, ◌∙◌, ap, subst, ℕ, arith, Bool, true, false, ◌&&◌, List, [], ◌∷◌, ◌++◌, Option, Some, None, Result, Ok, Err}
 use Rattle.std.specs.Prelude.{if◌then◌else◌, map, not}
-use Rattle.std.specs.List.{AllByRecursion, flat_map}
+use Rattle.std.specs.List.{flat_map}
 use Rattle.std.specs.Result.{is_ok}
 use Rattle.std.proofs.lemmas.List.{map-append}
 use Rattle.fc_base.specs.declared.fault.Fault.{Fault}
@@ -32,7 +32,7 @@ use Rattle.client_core.specs.History as history
 use Rattle.client_core.specs.History.{Opening}
 use Rattle.client_core.specs.Words as words
 use Rattle.client_core.specs.Packets.{packets}
-use Rattle.client_core.specs.Ranges.{packet_in, CameInRange}
+use Rattle.client_core.specs.Ranges.{CameInRange}
 use Rattle.client_core.specs.Saves.{left_by}
 use Rattle.client_core.specs.Stands as whole
 use Rattle.client_core.specs.Ends as ends
@@ -41,7 +41,7 @@ use Rattle.client_core.specs.Bounds as bounds
 use Rattle.client_core.specs.Hearing.{FrameEntry, Met, rules, heard_at, packets_heard, assembly}
 use Rattle.client_core.specs.FrameAnswers.{Sense, Hears, Keeps, Drops, Misses, sense_of, sense, is_drop, refusal, refusal_in, due, due_in, answered, entry_heard, frames_by}
 use Rattle.client_core.specs.FrameEnds.{StandsFor, most_packets, Answers, Refuses, Faults, Ends, Gives}
-use Rattle.client_core.proofs.HearingLemmas.{rows_after, entry_by, entry_is, heard_is, IsTaken, taken_by, same_rows, refused_rows, says_on, said_rows, dropped_rows}
+use Rattle.client_core.proofs.HearingLemmas.{rows_after, entry_by, entry_is, heard_is, taken_by, same_rows, refused_rows, said_rows, dropped_rows}
 
 -- ---- the frames of packets
 

@@ -1,5 +1,5 @@
 -- What is heard of an input, and what it leaves together, by what it is to the client.
-use Rattle.std.proofs.Common.{◌≡◌, refl, sym, ◌∙◌, ap, subst, ℕ, Bool, true, false, ◌&&◌, List, ◌∷◌, Option, Some, None, Result, Ok, Err}
+use Rattle.std.proofs.Common.{◌≡◌, refl, sym, ◌∙◌, ap, subst, ℕ, Bool, true, false, ◌&&◌, List, ◌∷◌, Option, Some, None, Ok, Err}
 use Rattle.std.specs.Prelude.{if◌then◌else◌, is_some}
 use Rattle.fc_base.specs.declared.fault.Fault.{Fault}
 use Rattle.fc_base.specs.declared.fault.Fault.TheVariants.{FrameBadField, FrameNoMemory}

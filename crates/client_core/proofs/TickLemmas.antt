@@ -1,5 +1,5 @@
 -- A tick sends few packets: it asks again for what was asked in this life.
-use Rattle.std.proofs.Common.{◌≡◌, refl, sym, ap, subst, ◌∙◌, ℕ, zero, suc, ◌+◌, ◌*◌, ◌<◌, ◌≤◌, arith, Bool, true, false, ◌==◌, List, [], ◌∷◌, ◌++◌, length, length-append, mul-le-mul_left}
+use Rattle.std.proofs.Common.{◌≡◌, refl, ap, ℕ, zero, suc, ◌+◌, ◌*◌, ◌<◌, ◌≤◌, arith, Bool, true, false, ◌==◌, List, [], ◌∷◌, ◌++◌, length, length-append, mul-le-mul_left}
 use Rattle.std.specs.Prelude.{if◌then◌else◌, filter}
 use Rattle.std.specs.List.{flat_map, range_with_len}
 use Rattle.std.proofs.lemmas.Bool.Decides.{nat_tests}
@@ -135,7 +135,7 @@ attempt_asked attempt s (d ∷ ds) = omega (arith, count_more (for_attempt attem
     step (Hears t body) = omega (
       arith,
       asked_if (t == s) (verify_at attempt s ds) (verify_heard (run_of attempt ds) attempt body (verify_at attempt s ds))
-      (no_more (verify_heard (run_of attempt ds) attempt body) (verify_unasked (run_of attempt ds) attempt body) (verify_at attempt s ds)),
+          (no_more (verify_heard (run_of attempt ds) attempt body) (verify_unasked (run_of attempt ds) attempt body) (verify_at attempt s ds)),
     )
 
 -- ---- what is sent again
@@ -172,7 +172,7 @@ run_sends servers ds run =
       length-append (flat_map one (numbers_below servers)) (flat_map two (numbers_below servers) ++ flat_map three (numbers_below servers)),
       length-append (flat_map two (numbers_below servers)) (flat_map three (numbers_below servers)),
       each_server one two three (count (for_run run) ds)
-      (λ s. omega (arith, run_asked run s ds, begin_sends run (text_of run ds) s (begin_at run s ds), asked_sends (bodies.Trigger run (act_of run ds)) s (trigger_at run s ds), asked_sends (bodies.Stop run) s (stop_at run s ds))) servers,
+          (λ s. omega (arith, run_asked run s ds, begin_sends run (text_of run ds) s (begin_at run s ds), asked_sends (bodies.Trigger run (act_of run ds)) s (trigger_at run s ds), asked_sends (bodies.Stop run) s (stop_at run s ds))) servers,
     )
 
 attempt_sends : (servers : ℕ) (ds : List Deed) (attempt : ℕ) → length (attempt_again servers ds attempt) ≤ servers * count (for_attempt attempt) ds

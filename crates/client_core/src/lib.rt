@@ -29,9 +29,10 @@ pub use client::Client;
 pub use input::Input;
 pub use kept::{KEPT_LIMIT, Kept};
 pub use law::{
-    acks_are_for_kept_states, examples, first_kept_stays, frames_are_short, kept_was_sent, looks_at_all,
-    notes_keep_ranges, numbers_are_fresh, one_text, packets_are_few, packets_are_in_range,
-    packets_go_to_servers, reports_came, saved_is_kept, tick_only_looks, triggers_end_well,
+    acks_are_for_kept_states, examples, first_kept_stays, frames_are_short, kept_was_sent,
+    looks_at_all, notes_keep_ranges, numbers_are_fresh, one_text, packets_are_few,
+    packets_are_in_range, packets_go_to_servers, reports_came, saved_is_kept, tick_only_looks,
+    triggers_end_well,
 };
 pub use noted::{Noted, notes_are_read_back, one_note};
 pub use outcome::{Outcome, RequestKind};

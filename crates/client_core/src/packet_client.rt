@@ -44,7 +44,11 @@ impl<N: Notes> PacketClient<N> {
     /// Opens a client of so many servers over its note, and saves nothing. The notes come back where it
     /// can't: [`Fault::LoadFault`], the device failed; [`Fault::BadNote`], the bytes are no note;
     /// [`Fault::NoMemory`].
-    pub(crate) fn restart(alloc: Global, servers: u32, notes: N) -> Result<PacketClient<N>, (N, Fault)>
+    pub(crate) fn restart(
+        alloc: Global,
+        servers: u32,
+        notes: N,
+    ) -> Result<PacketClient<N>, (N, Fault)>
         requires some { 1 ≤ servers }
         requires few { servers ≤ 8 }
         ensures { Restarts N.note servers (N.note notes) result }
