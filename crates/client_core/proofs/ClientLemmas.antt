@@ -4,7 +4,7 @@ use Rattle.std.specs.Prelude.{not, is_none, is_some}
 use Rattle.fc_base.specs.declared.fault.Fault.{Fault}
 use Rattle.messages.specs.declared.packet.PacketParts.{PacketParts}
 use Rattle.client_core.specs.declared.call.Call.TheVariants.{Deliver}
-use Rattle.client_core.specs.declared.client.Client.{Client}
+use Rattle.client_core.specs.declared.packet_client.PacketClient.{PacketClient}
 use Rattle.disk_model.specs.Notes.{Note}
 use Rattle.client_core.specs.Stands.{StandsFor}
 use Rattle.client_core.specs.declared.noted.Noted.{Noted}
@@ -27,13 +27,13 @@ not_not : (b : Bool) → not (not b) ≡ b
 not_not true = refl
 not_not false = refl
 
-pub stands_on : {T : Type 0} (note : T → Note) (client : Client T) (o : Opening) (past : List Entry) → StandsFor note client o past → not client.down ≡ is_on past
+pub stands_on : {T : Type 0} (note : T → Note) (client : PacketClient T) (o : Opening) (past : List Entry) → StandsFor note client o past → not client.down ≡ is_on past
 stands_on note client o past s = ap not s.on ∙ not_not (is_on past)
 
-pub stands_known : {T : Type 0} (note : T → Note) (client : Client T) (o : Opening) (past : List Entry) → StandsFor note client o past → is_on past ≡ true → client.noted ≡ noted o past
+pub stands_known : {T : Type 0} (note : T → Note) (client : PacketClient T) (o : Opening) (past : List Entry) → StandsFor note client o past → is_on past ≡ true → client.noted ≡ noted o past
 stands_known note client o past s on = s.knows ∙ ap (noted o) (looks_at_all past on)
 
-pub stands_would : {T : Type 0} (note : T → Note) (client : Client T) (o : Opening) (past : List Entry) (p : PacketParts) → StandsFor note client o past
+pub stands_would : {T : Type 0} (note : T → Note) (client : PacketClient T) (o : Opening) (past : List Entry) (p : PacketParts) → StandsFor note client o past
     → (is_none (refusal_by (not client.down) client.servers client.noted (Deliver p)) && is_some (addition_by client.noted p.body)) ≡ would_save o past (Deliver p)
 stands_would note client o past p s =
     ap (λ on. is_none (refusal_by on client.servers client.noted (Deliver p)) && is_some (addition_by client.noted p.body)) (stands_on note client o past s)
