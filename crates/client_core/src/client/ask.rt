@@ -1,10 +1,11 @@
 //! What a client asks of its servers.
 
-ghost use Rattle.std.specs.Prelude.{◌≡◌, List};
+ghost use Rattle.std.specs.Prelude.{◌≡◌, List, is_some};
 ghost use Rattle.client_core.specs.declared.input.Input.TheVariants as inputs;
 ghost use Rattle.client_core.specs.History.{Opening};
 ghost use Rattle.client_core.specs.Words.{noted};
 ghost use Rattle.client_core.specs.Hearing.{FrameEntry, packets_heard};
+ghost use Rattle.client_core.specs.FrameAnswers.{due};
 ghost use Rattle.client_core.specs.FrameEnds.{StandsFor, Ends, Gives};
 
 use super::Client;
@@ -25,6 +26,14 @@ impl<N: Notes> Client<N> {
     {
         frames_are_short();
         self.core.begin(text)
+    }
+
+    /// Whether a run with this job file would be begun, and so make a save.
+    pub fn begin_would_save(&self, text: &[u8]) -> bool
+        ensures { (o : Opening) (past : List FrameEntry) → StandsFor N.note self.now o past →
+            result ≡ is_some (due o past (inputs.Begin text.now)) }
+    {
+        self.core.begin_would_save(text)
     }
 
     /// Triggers the write states of a run at each server, which then is to do this.
@@ -61,6 +70,14 @@ impl<N: Notes> Client<N> {
     {
         frames_are_short();
         self.core.verify(run, text)
+    }
+
+    /// Whether a run would be verified by this job file, and so make a save.
+    pub fn verify_would_save(&self, run: RunNo, text: &[u8]) -> bool
+        ensures { (o : Opening) (past : List FrameEntry) → StandsFor N.note self.now o past →
+            result ≡ is_some (due o past (inputs.Verify run text.now)) }
+    {
+        self.core.verify_would_save(run, text)
     }
 
     /// Asks again for all that isn't answered: by run its begin, its trigger and its stop, each by

@@ -10,7 +10,7 @@ ghost use Rattle.client_core.specs.Packets.{to_all};
 ghost use Rattle.client_core.specs.History.{Opening, Entry};
 ghost use Rattle.client_core.specs.Refusals.{refusal_by};
 ghost use Rattle.client_core.specs.Stands.{StandsFor};
-ghost use Rattle.client_core.specs.Words.{noted};
+ghost use Rattle.client_core.specs.Words.{noted, would_save};
 
 use super::PacketClient;
 use crate::frames::to_all;
@@ -48,6 +48,14 @@ impl<N: Notes> PacketClient<N> {
             }
             Err(fault) => Err(fault),
         }
+    }
+
+    /// Whether a run with this job file would be begun, and so make a save.
+    pub(crate) fn begin_would_save(&self, text: &[u8]) -> bool
+        ensures { (o : Opening) (past : List Entry) → StandsFor N.note self.now o past →
+            result ≡ would_save o past (Begin text.now) }
+    {
+        self.begin_refusal(text).is_none()
     }
 
     /// Why a run with this job file isn't begun.

@@ -12,7 +12,7 @@ ghost use Rattle.client_core.specs.Packets.{to_all};
 ghost use Rattle.client_core.specs.History.{Opening, Entry};
 ghost use Rattle.client_core.specs.Refusals.{refusal_by};
 ghost use Rattle.client_core.specs.Stands.{StandsFor};
-ghost use Rattle.client_core.specs.Words.{noted};
+ghost use Rattle.client_core.specs.Words.{noted, would_save};
 
 use super::PacketClient;
 use crate::attempt_asked::AttemptAsked;
@@ -53,6 +53,14 @@ impl<N: Notes> PacketClient<N> {
             }
             Err(fault) => Err(fault),
         }
+    }
+
+    /// Whether a run would be verified by this job file, and so make a save.
+    pub(crate) fn verify_would_save(&self, run: RunNo, text: &[u8]) -> bool
+        ensures { (o : Opening) (past : List Entry) → StandsFor N.note self.now o past →
+            result ≡ would_save o past (Verifying run text.now) }
+    {
+        self.verify_refusal(run, text).is_none()
     }
 
     /// Why a run isn't verified by this job file.
