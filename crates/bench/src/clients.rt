@@ -13,7 +13,7 @@ use std::time::CpuClock;
 const KEPT: [u32; 3] = [0, 100, 1_000];
 
 /// How often a round delivers a state, to a client of its own.
-const TIMES: u128 = 200;
+const TIMES: u64 = 200;
 
 /// Prints a line for each of them.
 pub fn measure<R: AllocGlobal + Print + CpuClock>(rt: &R) -> Result<(), Trouble> {
@@ -49,7 +49,8 @@ fn time_states<R: AllocGlobal + CpuClock>(rt: &R, kept: u32) -> Result<(u128, u1
         new = new.saturating_add(between.saturating_sub(start).as_nanos());
         again = again.saturating_add(end.saturating_sub(between).as_nanos());
     }
-    Ok((new / TIMES, again / TIMES))
+    let times = u128::from(TIMES);
+    Ok((new / times, again / times))
 }
 
 /// The nanoseconds of 1,000 requests for kept states, with the making of the packets.

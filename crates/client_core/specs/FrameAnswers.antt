@@ -74,6 +74,11 @@ due o past e = due_in o (packets_heard o past) (sense o past e)
 abbrev pub would_save : Opening → List FrameEntry → Frame → Bool
 would_save o past f = is_some (due o past (Deliver f))
 
+-- The frame is a piece.
+abbrev pub IsPiece : Frame → Type 0
+IsPiece (Whole p) = ⊥
+IsPiece (Piece q) = Unit {0}
+
 -- What an answered input leaves in the list: it saved, where it was due to.
 abbrev pub answered : Opening → List FrameEntry → Input → FrameEntry
 answered o past e = Met e (left_by (due o past e))

@@ -133,6 +133,8 @@ fn packets_in_each_stage(rt: HostRuntime) {
     for stage in STAGES {
         let unlike = stages::first_unlike(rt.alloc(), stage);
         assert!(rt; unlike.is_none(), "{}: {unlike:?}", stage.name);
+        let unlike = stages::first_unlike_change(rt.alloc(), stage);
+        assert!(rt; unlike.is_none(), "{}: {unlike:?}", stage.name);
     }
 }
 

@@ -1,11 +1,11 @@
 //! A frame of a server is delivered.
 
-ghost use Rattle.std.specs.Prelude.{◌≡◌, List, IfOk};
+ghost use Rattle.std.specs.Prelude.{◌≡◌, List, IfOk, OnErr};
 ghost use Rattle.messages.specs.declared.frame.Frame.TheVariants.{Whole, Piece as OfPiece};
 ghost use Rattle.client_core.specs.declared.input.Input.TheVariants.{Deliver};
 ghost use Rattle.client_core.specs.History.{Opening};
 ghost use Rattle.client_core.specs.Hearing.{FrameEntry, is_piece_for};
-ghost use Rattle.client_core.specs.FrameAnswers.{would_save};
+ghost use Rattle.client_core.specs.FrameAnswers.{would_save, IsPiece};
 ghost use Rattle.client_core.specs.FrameEnds.{StandsFor, Ends};
 ghost use Rattle.client_core.specs.Sensing.{IsSensed};
 
@@ -21,7 +21,8 @@ impl<N: Notes> Client<N> {
     /// Whether the delivery of this frame would make a save: it is a State that isn't refused, of a key of
     /// which no state is kept, or the piece that completes one. Memory may be wanted only for a piece.
     pub fn would_save(&self, frame: &Frame) -> Result<bool, AllocError>
-        ensures { (o : Opening) (past : List FrameEntry) → StandsFor N.note self.now o past →
+        ensures memory { OnErr result (IsPiece frame.now) }
+        ensures saves { (o : Opening) (past : List FrameEntry) → StandsFor N.note self.now o past →
             IfOk result (λ saves. saves ≡ would_save o past frame.now) }
     {
         match frame {

@@ -71,26 +71,27 @@ pub fn note_of(alloc: Global, count: u32) -> Result<Vec<u8>, Trouble> {
 }
 
 fn note_once(alloc: Global, count: u32) -> Result<Vec<u8>, Trouble> {
-    let mut state = Vec::new(alloc);
-    put_word(&mut state, "first")?;
-    let (before, rest) = state.split_at(state.len().min(4));
-    let (_, rest) = rest.split_at(rest.len().min(8));
-    let (server, rest) = rest.split_at(rest.len().min(4));
-    let (_, behind) = rest.split_at(rest.len().min(4));
     let mut bytes = Vec::new(alloc);
-    bytes.extend_from_slice(b"FCC1")?;
-    put_number(&mut bytes, 0, 8)?;
-    put_number(&mut bytes, 0, 8)?;
+    put_note(&mut bytes, "0 0")?;
+    bytes.truncate(20);
     put_number(&mut bytes, u64::from(count), 4)?;
     for index in 0..count {
         put_number(&mut bytes, 136, 4)?;
-        bytes.extend_from_slice(before)?;
-        put_number(&mut bytes, u64::from(index / 16).saturating_add(1), 8)?;
-        bytes.extend_from_slice(server)?;
-        put_number(&mut bytes, u64::from(index % 16), 4)?;
-        bytes.extend_from_slice(behind)?;
+        put_state(&mut bytes, index)?;
     }
     Ok(bytes)
+}
+
+/// Puts the state `first`, as that of the job with this index.
+fn put_state(bytes: &mut Vec<u8>, index: u32) -> Result<(), Trouble> {
+    let start = bytes.len();
+    put_word(bytes, "first")?;
+    for (at, byte) in [(11, index / 16 + 1), (19, index % 16)] {
+        if let Some(place) = bytes.get_mut(start.saturating_add(at)) {
+            *place = (byte % 256) as u8;
+        }
+    }
+    Ok(())
 }
 
 /// Whether bytes are refused, or are a note that is written as just these bytes. Where memory runs out,

@@ -58,40 +58,45 @@ fn check(
     }
 }
 
-/// The first packet that is answered otherwise in a stage than the rows say: those that change nothing come
-/// one after the other, and each of the others to a client of its own.
+/// The first packet that isn't answered as the rows say, of those that change nothing in a stage. They come
+/// one after the other.
 pub fn first_unlike(alloc: Global, stage: Stage) -> Option<Unlike> {
-    match first_quiet(alloc, stage) {
-        Ok(None) => first_change(alloc, stage),
-        Ok(found) => found,
+    match life_in(alloc, stage) {
+        Ok(mut life) => first_quiet(&mut life, stage),
         Err(found) => Some(found),
     }
 }
 
-fn first_quiet(alloc: Global, stage: Stage) -> Result<Option<Unlike>, Unlike> {
-    let mut life = life_in(alloc, stage)?;
-    for row in PACKETS.lines() {
-        let (event, _) = parts(row);
-        if !event.is_empty() && !changes(stage, event) {
-            if let Some(found) = check(&mut life, stage, row, stage.outcome) {
-                return Ok(Some(found));
-            }
-        }
-    }
-    Ok(None)
-}
-
-fn first_change(alloc: Global, stage: Stage) -> Option<Unlike> {
+/// The first that isn't, of those that change something: each comes to a client of its own.
+pub fn first_unlike_change(alloc: Global, stage: Stage) -> Option<Unlike> {
     for line in stage.changes.lines() {
         if let Some((row, outcome)) = line.split_once(" / ") {
-            let found = match life_in(alloc, stage) {
-                Ok(mut life) => check(&mut life, stage, row, outcome.trim()),
-                Err(found) => Some(found),
-            };
+            let found = unlike_change(alloc, stage, row, outcome.trim());
             if found.is_some() {
                 return found;
             }
         }
     }
     None
+}
+
+/// The first packet that changes something, and isn't in the rows of the stage.
+fn first_quiet(life: &mut Life<MemNotes>, stage: Stage) -> Option<Unlike> {
+    for row in PACKETS.lines() {
+        let (event, _) = parts(row);
+        if !event.is_empty() && !changes(stage, event) {
+            let found = check(life, stage, row, stage.outcome);
+            if found.is_some() {
+                return found;
+            }
+        }
+    }
+    None
+}
+
+fn unlike_change(alloc: Global, stage: Stage, row: &'static str, outcome: &str) -> Option<Unlike> {
+    match life_in(alloc, stage) {
+        Ok(mut life) => check(&mut life, stage, row, outcome),
+        Err(found) => Some(found),
+    }
 }
