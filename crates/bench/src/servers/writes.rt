@@ -4,7 +4,9 @@ use super::deliveries::{Client, issued};
 use crate::rounds::{ROUNDS, median};
 use crate::trouble::Trouble;
 use engine::{Engine, Issue};
-use fc_base::{JobNo, JobParts, JobRecord, Key, Kind, RunNo, ServerNo, Verify, MAX_BLOCKS, MAX_WRITES};
+use fc_base::{
+    JobNo, JobParts, JobRecord, Key, Kind, MAX_BLOCKS, MAX_WRITES, RunNo, ServerNo, Verify,
+};
 use std::alloc::Global;
 use std::time::CpuClock;
 
