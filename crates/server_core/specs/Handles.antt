@@ -1,8 +1,7 @@
 -- How a machine handles one event.
-use Rattle.std.specs.Prelude.{◌≡◌, ◌⊎◌, ℕ, true, List, [], Some, None, Result, Ok, Err}
+use Rattle.std.specs.Prelude.{◌≡◌, ◌⊎◌, ℕ, true, List, Some, None, Result, Ok, Err}
 use Rattle.fc_base.specs.declared.fault.Fault.{Fault}
 use Rattle.fc_base.specs.declared.fault.Fault.TheVariants.{NoMemory}
-use Rattle.engine.specs.declared.issue.Issue.{Issue}
 use Rattle.messages.specs.declared.refusal.Act.TheVariants as acts
 use Rattle.server_core.specs.declared.machine.Machine.{Machine}
 use Rattle.server_core.specs.declared.outs.Outs.{Outs}
@@ -40,20 +39,6 @@ EachUndue machine x P =
 -- These frames, and nothing else.
 abbrev pub sent_alone : List (List ℕ) → Outs
 sent_alone frames = record { frames = frames; issue = None; act = acts.None }
-
--- The answer to a request for a write, and nothing else.
-abbrev pub issued_alone : Issue → Outs
-issued_alone answer = record { frames = []; issue = Some answer; act = acts.None }
-
--- What a step hands out where a request for a write is answered so.
-abbrev pub issued_by : Result Issue Fault → Result Outs Fault
-issued_by (Ok answer) = Ok (issued_alone answer)
-issued_by (Err fault) = Err fault
-
--- What a step hands out where the end of a write is accepted or refused: nothing.
-abbrev pub ended_by : Result (Unit {0}) Fault → Result Outs Fault
-ended_by (Ok _) = Ok (sent_alone [])
-ended_by (Err fault) = Err fault
 
 -- A request that is refused leaves what is kept of the words behind it, too.
 abbrev pub RefusedStays : Type 0

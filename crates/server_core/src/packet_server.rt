@@ -2,7 +2,7 @@
 
 ghost use Rattle.std.specs.Prelude.{◌≡◌, ◌<◌, IsTrue, List, is_some};
 ghost use Rattle.std.specs.Option.{option_copied, option_map};
-ghost use Rattle.server_core.specs.declared.event.Event.TheVariants as events;
+ghost use Rattle.server_core.specs.declared.event.Event.TheVariants.{Deliver, Issue, WriteDone};
 ghost use Rattle.server_core.specs.Serves.{IsRead};
 ghost use Rattle.messages.specs.Ranges.{is_run};
 
@@ -14,7 +14,7 @@ use crate::outs::Outs;
 use crate::progress::Progress;
 use crate::status::Status;
 use disk_model::Notes;
-use engine::{Issue, Ticket};
+use engine::Ticket;
 use fc_base::{Fault, JobNo, RunNo, Seq, ServerNo};
 use job_file::Job;
 use messages::Packet;
@@ -38,7 +38,6 @@ impl<N: Notes> PacketServer<N> {
     ghost use Rattle.server_core.specs.KeptCheck.{progress_of};
     ghost use Rattle.server_core.specs.Taken.{taken};
     ghost use Rattle.server_core.specs.OpenWrites.{open_write};
-    ghost use Rattle.server_core.specs.Handles.{issued_by, ended_by};
     ghost use Rattle.server_core.specs.Memory.{TakesNone};
     ghost use Rattle.server_core.specs.Serves.{StandsFor, Starts, Ends, Opens};
 
@@ -156,7 +155,7 @@ impl<N: Notes> PacketServer<N> {
     /// Whether the delivery of this packet would make a save: it is a Start that is due to record a run.
     pub(crate) fn would_save(&self, packet: &Packet) -> bool
         ensures { (o : Opening) (past : List Entry) → StandsFor N.note self.now o past →
-            result ≡ is_some (due o past (events.Deliver packet.now)) }
+            result ≡ is_some (due o past (Deliver packet.now)) }
     {
         !self.down && self.machine.due_by(packet).is_some()
     }
@@ -182,10 +181,10 @@ impl<N: Notes> PacketServer<N> {
         }
     }
 
-    /// Takes a request for a write of a job, as `step` does, and answers it alone.
-    pub(crate) fn issue(&mut self, job: JobNo) -> Result<Issue, Fault>
+    /// Takes a request for a write of a job, as `step` does.
+    pub(crate) fn issue(&mut self, job: JobNo) -> Result<Outs, Fault>
         ensures ends { (o : Opening) (past : List Entry) → StandsFor N.note self.old o past →
-            Ends N.note o past (events.Issue job) self.old self.new (issued_by result) }
+            Ends N.note o past (Issue job) self.old self.new result }
         ensures memory { TakesNone result }
     {
         if self.down {
@@ -193,13 +192,13 @@ impl<N: Notes> PacketServer<N> {
         }
         frames_are_short();
         packets_are_in_range();
-        Ok(self.machine.issue(job))
+        self.machine.handle_issue(job)
     }
 
     /// Takes the end of a write, as `step` does.
-    pub(crate) fn end_write(&mut self, ticket: Ticket, end: WriteEnd) -> Result<(), Fault>
+    pub(crate) fn end_write(&mut self, ticket: Ticket, end: WriteEnd) -> Result<Outs, Fault>
         ensures ends { (o : Opening) (past : List Entry) → StandsFor N.note self.old o past →
-            Ends N.note o past (events.WriteDone ticket end) self.old self.new (ended_by result) }
+            Ends N.note o past (WriteDone ticket end) self.old self.new result }
         ensures memory { TakesNone result }
     {
         if self.down {
@@ -207,7 +206,7 @@ impl<N: Notes> PacketServer<N> {
         }
         frames_are_short();
         packets_are_in_range();
-        self.machine.end_write(ticket, end)
+        self.machine.handle_end(ticket, end)
     }
 
     /// Records the staged run, which then begins.

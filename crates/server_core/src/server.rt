@@ -3,7 +3,7 @@
 ghost use Rattle.std.specs.Prelude.{◌≡◌, ◌<◌, false, List, Some, None, OnErr};
 ghost use Rattle.std.specs.Option.{option_copied, option_map};
 ghost use Rattle.messages.specs.declared.frame.Frame.TheVariants.{Piece as OfPiece};
-ghost use Rattle.server_core.specs.declared.input.Input.TheVariants.{CheckDone, Deliver};
+ghost use Rattle.server_core.specs.declared.input.Input.TheVariants.{Deliver};
 ghost use Rattle.server_core.specs.Hearing.{is_piece_for};
 
 use crate::event::Event;
@@ -14,9 +14,9 @@ use crate::progress::Progress;
 use crate::status::Status;
 use disk_model::Notes;
 use engine::Ticket;
-use fc_base::{Attempt, CheckReport, Fault, JobNo, Seq, ServerNo};
+use fc_base::{Fault, JobNo, Seq, ServerNo};
 use job_file::Job;
-use messages::{Assembly, Frame, Piece};
+use messages::{Assembly, Frame, Frames, Piece};
 use std::alloc::Global;
 use verify_state::VerifyState;
 
@@ -170,38 +170,35 @@ impl<N: Notes> Server<N> {
             Ends N.note o past input self.old self.new result }
         ensures memory { WritesTakeNone input result }
     {
+        // A function pays for the room of all its values, so the two that come most take a way of their own.
+        match &input {
+            Input::Issue(job) => self.core.issue(*job),
+            Input::WriteDone(ticket, end) => self.core.end_write(*ticket, *end),
+            _ => self.take(input),
+        }
+    }
+
+    /// Takes what comes.
+    fn take(&mut self, input: Input) -> Result<Outs, Fault>
+        ensures { (o : Opening) (past : List FrameEntry) → StandsFor N.note self.old o past →
+            Ends N.note o past input self.old self.new result }
+    {
         match input {
             Input::Deliver(frame) => self.deliver(frame),
-            Input::Issue(job) => Outs::issued(self.alloc, self.core.issue(job)),
-            Input::WriteDone(ticket, end) => {
-                Outs::ended(self.alloc, self.core.end_write(ticket, end))
-            }
+            Input::Issue(job) => self.core.step(Event::Issue(job)),
+            Input::WriteDone(ticket, end) => self.core.step(Event::WriteDone(ticket, end)),
             Input::CheckDone {
                 boot,
                 attempt,
                 job,
                 report,
-            } => self.end_check(boot, attempt, job, report),
+            } => self.core.step(Event::CheckDone {
+                boot,
+                attempt,
+                job,
+                report,
+            }),
         }
-    }
-
-    /// Takes the report of a check.
-    fn end_check(
-        &mut self,
-        boot: u64,
-        attempt: Attempt,
-        job: JobNo,
-        report: CheckReport,
-    ) -> Result<Outs, Fault>
-        ensures { (o : Opening) (past : List FrameEntry) → StandsFor N.note self.old o past →
-            Ends N.note o past (CheckDone boot attempt job report) self.old self.new result }
-    {
-        self.core.step(Event::CheckDone {
-            boot,
-            attempt,
-            job,
-            report,
-        })
     }
 
     /// Takes a frame.
@@ -235,7 +232,7 @@ impl<N: Notes> Server<N> {
                 outs
             }
             Ok(None) => match self.pieces.take(piece) {
-                Ok(()) => Ok(Outs::nothing(self.alloc)),
+                Ok(()) => Ok(Outs::sent(Frames::new(self.alloc))),
                 Err(_) => Err(Fault::NoMemory),
             },
             Err(Fault::FrameBadField) => {

@@ -2,11 +2,14 @@
 
 ghost use Rattle.std.specs.Prelude.{◌≡◌, IsTrue};
 ghost use Rattle.messages.specs.Ranges.{is_attempt as in_range, is_run};
-ghost use Rattle.server_core.specs.Request.{ToStage, ToStart, ToTrigger, ToMark, ToStop, ToVerify, ToHold, ToPassFully, ToReport};
+ghost use Rattle.server_core.specs.Request.{ToStage, ToStart, ToTrigger, ToMark, ToStop, ToVerify, ToHold, ToPassFully, ToIssue, ToEnd, ToReport};
 ghost use Rattle.server_core.specs.Handles.{Handled, EachUndue};
+ghost use Rattle.server_core.specs.Memory.{TakesNone};
 
 use super::Machine;
+use crate::event::WriteEnd;
 use crate::outs::Outs;
+use engine::Ticket;
 use fc_base::{Attempt, CheckReport, Fault, JobNo, RunNo};
 use messages::{Act, Frames, Text};
 use verify_state::VerifyState;
@@ -101,7 +104,33 @@ impl Machine {
             (λ now. Handled now (ToPassFully attempt job) self.old self.new result) }
     {
         self.pass(attempt, job);
-        Ok(Outs::nothing(self.alloc))
+        Ok(Outs::sent(Frames::new(self.alloc)))
+    }
+
+    /// A worker asks for a write.
+    pub(crate) fn handle_issue(&mut self, job: JobNo) -> Result<Outs, Fault>
+        ensures handled { EachUndue self.old (ToIssue job)
+            (λ now. Handled now (ToIssue job) self.old self.new result) }
+        ensures memory { TakesNone result }
+    {
+        let issue = self.issue(job);
+        Ok(Outs {
+            frames: Frames::new(self.alloc),
+            issue: Some(issue),
+            act: Act::None,
+        })
+    }
+
+    /// A worker tells how a write ended.
+    pub(crate) fn handle_end(&mut self, ticket: Ticket, end: WriteEnd) -> Result<Outs, Fault>
+        ensures handled { EachUndue self.old (ToEnd ticket end)
+            (λ now. Handled now (ToEnd ticket end) self.old self.new result) }
+        ensures memory { TakesNone result }
+    {
+        match self.end_write(ticket, end) {
+            Ok(()) => Ok(Outs::sent(Frames::new(self.alloc))),
+            Err(fault) => Err(fault),
+        }
     }
 
     /// A worker tells what a check found.

@@ -6,6 +6,7 @@ use Rattle.messages.specs.Assemblies.{Row, Look, Gives, look, without, taken}
 use Rattle.messages.specs.Assemblies as looks
 use Rattle.server_core.specs.declared.input.Input.TheVariants.{Deliver}
 use Rattle.server_core.specs.Hearing.{packets_heard}
+use Rattle.server_core.specs.Handles.{sent_alone}
 use Rattle.server_core.specs.FrameEnds.{Ends}
 use Rattle.server_core.proofs.HearingLemmas.{gave, waited, spoiled, spoiled_gone}
 use Rattle.server_core.proofs.FrameEndLemmas.{arrives, given_ends, refused_ends, kept_ends, dropped_ends}
@@ -42,8 +43,8 @@ returns-in-Ok g c o past s =
     let waits = waited c.look.result (look old.pieces q) c.look.ensures (c.in-Ok-None.is ∙ ap Ok c.in-Ok-None.field-0-is) in
     let on = sym (c.on.ensures o (packets_heard o past) s.core) ∙ c.if-not-on.false in
     let is = arrives note old o past q c.me.result s on (c.me.ensures o (packets_heard o past) s.core) (sym c.is_piece_for.ensures ∙ c.if-not-is_piece_for.false) looks.Waits waits in
-    subst (λ rows. Ends note o past (Deliver (Piece q)) old (record old { pieces = rows }) (Ok c.nothing.result)) (sym c.in-Ok.ensures.taken)
-    (subst (λ outs. Ends note o past (Deliver (Piece q)) old (record old { pieces = taken old.pieces q }) (Ok outs)) (sym c.nothing.ensures) (kept_ends note o past (Deliver (Piece q)) q old is s))
+    subst (λ rows. Ends note o past (Deliver (Piece q)) old (record old { pieces = rows }) (Ok c.sent.result)) (sym c.in-Ok.ensures.taken)
+    (subst (λ outs. Ends note o past (Deliver (Piece q)) old (record old { pieces = taken old.pieces q }) (Ok outs)) (sym (c.sent.ensures ∙ ap sent_alone c.new.ensures)) (kept_ends note o past (Deliver (Piece q)) q old is s))
 
 pub returns-in-Err-FrameBadField : goal.returns-in-Err-FrameBadField
 returns-in-Err-FrameBadField g c o past s =
