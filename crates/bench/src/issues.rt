@@ -2,7 +2,9 @@
 
 use crate::trouble::Trouble;
 use engine::{Engine, Issue};
-use fc_base::{JobNo, JobParts, JobRecord, Key, Kind, RunNo, ServerNo, Verify, MAX_BLOCKS, MAX_WRITES};
+use fc_base::{
+    JobNo, JobParts, JobRecord, Key, Kind, MAX_BLOCKS, MAX_WRITES, RunNo, ServerNo, Verify,
+};
 use std::time::CpuClock;
 
 const JOB: JobParts = JobParts {

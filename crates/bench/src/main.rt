@@ -1,13 +1,14 @@
-//! Measures the check of a disk, the issue of writes, frames in pieces and a server's steps, but only
-//! when it is given a word: what it then prints differs from run to run.
+//! Measures the check of a disk, the issue of writes, frames in pieces, a server's steps and what a client
+//! takes, but only when it is given a word: what it then prints differs from run to run.
 //!
 //! `bench checks` times a check beside a copy of as many bytes, `bench issues` the slowest of a
 //! million calls of `issue`, `bench pieces` a text that is cut and comes together again beside a copy,
-//! and `bench servers` the steps of a server; `bench rot` rots 60,000 sectors, for a reader of the
+//! `bench servers` the steps of a server, and `bench clients` what a client takes; `bench rot` rots 60,000 sectors, for a reader of the
 //! process's memory.
 #![tactic(auto)]
 
 mod checks;
+mod clients;
 mod issues;
 mod pieces;
 mod rot;
@@ -37,12 +38,13 @@ fn run<R: Env + AllocGlobal + Print + CpuClock>(rt: &R) -> Result<(), Trouble> {
     let words = env::args(rt)?.collect::<Vec<String>>(rt.alloc())?;
     match words.get(1).map(String::as_str) {
         Some("checks") => checks::measure(rt),
+        Some("clients") => clients::measure(rt),
         Some("issues") => issues::measure(rt),
         Some("pieces") => pieces::measure(rt),
         Some("rot") => rot::measure(rt),
         Some("servers") => servers::measure(rt),
         _ => {
-            println!(rt; "give a word: checks, issues, pieces, rot or servers")?;
+            println!(rt; "give a word: checks, clients, issues, pieces, rot or servers")?;
             Ok(())
         }
     }

@@ -3,14 +3,15 @@ use Rattle.std.proofs.Common.{◌≡◌, refl, sym, ◌∙◌, ap, subst, ℕ, B
 use Rattle.std.specs.Prelude.{not, is_none, is_some}
 use Rattle.fc_base.specs.declared.fault.Fault.{Fault}
 use Rattle.messages.specs.declared.packet.PacketParts.{PacketParts}
+use Rattle.client_core.specs.declared.call.Call.{Call}
 use Rattle.client_core.specs.declared.call.Call.TheVariants.{Deliver}
-use Rattle.client_core.specs.declared.client.Client.{Client}
+use Rattle.client_core.specs.declared.packet_client.PacketClient.{PacketClient}
 use Rattle.disk_model.specs.Notes.{Note}
 use Rattle.client_core.specs.Stands.{StandsFor}
 use Rattle.client_core.specs.declared.noted.Noted.{Noted}
 use Rattle.client_core.specs.History.{Opening, Entry}
 use Rattle.client_core.specs.Refusals.{refusal_by}
-use Rattle.client_core.specs.Saves.{Addition, addition_by, unless_refused, due_by}
+use Rattle.client_core.specs.Saves.{Addition, addition_of, addition_by, unless_refused, due_by}
 use Rattle.client_core.specs.Words.{is_on, noted, would_save}
 use Rattle.client_core.proofs.Looked.{looks_at_all}
 
@@ -27,18 +28,44 @@ not_not : (b : Bool) → not (not b) ≡ b
 not_not true = refl
 not_not false = refl
 
-pub stands_on : {T : Type 0} (note : T → Note) (client : Client T) (o : Opening) (past : List Entry) → StandsFor note client o past → not client.down ≡ is_on past
+pub stands_on : {T : Type 0} (note : T → Note) (client : PacketClient T) (o : Opening) (past : List Entry) → StandsFor note client o past → not client.down ≡ is_on past
 stands_on note client o past s = ap not s.on ∙ not_not (is_on past)
 
-pub stands_known : {T : Type 0} (note : T → Note) (client : Client T) (o : Opening) (past : List Entry) → StandsFor note client o past → is_on past ≡ true → client.noted ≡ noted o past
+pub stands_known : {T : Type 0} (note : T → Note) (client : PacketClient T) (o : Opening) (past : List Entry) → StandsFor note client o past → is_on past ≡ true → client.noted ≡ noted o past
 stands_known note client o past s on = s.knows ∙ ap (noted o) (looks_at_all past on)
 
-pub stands_would : {T : Type 0} (note : T → Note) (client : Client T) (o : Opening) (past : List Entry) (p : PacketParts) → StandsFor note client o past
+pub stands_would : {T : Type 0} (note : T → Note) (client : PacketClient T) (o : Opening) (past : List Entry) (p : PacketParts) → StandsFor note client o past
     → (is_none (refusal_by (not client.down) client.servers client.noted (Deliver p)) && is_some (addition_by client.noted p.body)) ≡ would_save o past (Deliver p)
 stands_would note client o past p s =
     ap (λ on. is_none (refusal_by on client.servers client.noted (Deliver p)) && is_some (addition_by client.noted p.body)) (stands_on note client o past s)
     ∙ (ap (λ n. is_none (refusal_by (is_on past) n client.noted (Deliver p)) && is_some (addition_by client.noted p.body)) s.servers
     ∙ would_by (is_on past) o.servers (noted o past) client.noted p (stands_known note client o past s))
+
+-- ---- a call that adds something unless it is refused
+
+free_adds : (r : Option Fault) (a : Addition) → is_none r ≡ is_some (unless_refused r (Some a))
+free_adds None a = refl
+free_adds (Some f) a = refl
+
+call_would_by : (on : Bool) (servers : ℕ) (n m : Noted) (c : Call) (a : Addition) → ((x : Noted) → addition_of x c ≡ Some a) → (on ≡ true → m ≡ n)
+    → is_none (refusal_by on servers m c) ≡ is_some (due_by on servers n c)
+call_would_by true servers n m c a adds e =
+    ap (λ x. is_none (refusal_by true servers x c)) (e refl) ∙ free_adds (refusal_by true servers n c) a
+    ∙ ap (λ x. is_some (unless_refused (refusal_by true servers n c) x)) (sym (adds n))
+call_would_by false servers n m c a adds e = refl
+
+pub call_would : {T : Type 0} (note : T → Note) (client : PacketClient T) (o : Opening) (past : List Entry) (c : Call) (a : Addition) → ((x : Noted) → addition_of x c ≡ Some a) → StandsFor note client o past
+    → is_none (refusal_by (not client.down) client.servers client.noted c) ≡ would_save o past c
+call_would note client o past c a adds s =
+    ap (λ on. is_none (refusal_by on client.servers client.noted c)) (stands_on note client o past s)
+    ∙ (ap (λ n. is_none (refusal_by (is_on past) n client.noted c)) s.servers
+    ∙ call_would_by (is_on past) o.servers (noted o past) client.noted c a adds (stands_known note client o past s))
+
+pub not_some : (b : Bool) (r : Option Fault) → not b ≡ is_some r → b ≡ is_none r
+not_some true None h = refl
+not_some false None h = cc
+not_some true (Some f) h = cc
+not_some false (Some f) h = refl
 
 pub none_if : (r : Option Fault) → is_some r ≡ false → is_none r ≡ true
 none_if None h = refl

@@ -1,38 +1,32 @@
--- How the calls of a client end.
-use Rattle.std.proofs.Common.{◌≡◌, ◌⊎◌, inl, inr, refl, sym, ap, subst, ◌∙◌, ℕ, ◌≤◌, Bool, true, false, ◌&&◌, List, [], ◌∷◌, ◌++◌, Option, None, Some}
-use Rattle.std.specs.Prelude.{if◌then◌else◌, not, is_none, slice_get, Ok, Err}
-use Rattle.std.specs.List.{AllByRecursion}
+-- Which lists a client stands for behind a call.
+use Rattle.std.proofs.Common.{◌≡◌, ◌⊎◌, inl, inr, refl, sym, ap, subst, ◌∙◌, ◌≤◌, Bool, true, false, ◌&&◌, List, [], ◌∷◌, ◌++◌, Option, None, Some}
+use Rattle.std.specs.Prelude.{if◌then◌else◌, not, is_none, Ok}
 use Rattle.fc_base.specs.declared.fault.Fault.{Fault}
-use Rattle.fc_base.specs.declared.fault.Fault.TheVariants.{NoMemory, Down, JobTooLong, Misdirected, NoSuchRun, Conflict, NumbersSpent, TableFull}
+use Rattle.fc_base.specs.declared.fault.Fault.TheVariants.{NoMemory}
 use Rattle.fc_base.specs.declared.fault.FaultSort.{FaultSort}
 use Rattle.fc_base.specs.declared.fault.FaultSort.TheVariants as sorts
 use Rattle.fc_base.specs.Fault.{sort_of}
-use Rattle.fc_base.specs.Faults.{when}
 use Rattle.disk_model.specs.declared.left.Left.{Left}
 use Rattle.disk_model.specs.declared.left.Left.TheVariants.{NoSave, LostNew, LostOld}
 use Rattle.disk_model.specs.Left.{is_lost, has_new}
 use Rattle.disk_model.specs.Notes.{Note}
-use Rattle.messages.specs.declared.body.Body.{Body}
-use Rattle.messages.specs.declared.body.Body.TheVariants as bodies
-use Rattle.messages.specs.Ranges.{is_text}
 use Rattle.client_core.specs.declared.call.Call.{Call}
-use Rattle.client_core.specs.declared.call.Call.TheVariants.{Begin, Trigger, Stop, Verify, Deliver, Tick}
-use Rattle.client_core.specs.declared.client.Client.{Client}
+use Rattle.client_core.specs.declared.packet_client.PacketClient.{PacketClient}
 use Rattle.client_core.specs.declared.life.Life.{Life}
 use Rattle.client_core.specs.declared.noted.Noted.{Noted}
 use Rattle.client_core.specs.Note.{IsNoted, Says, SaysWhatIsWritten, spelling}
 use Rattle.client_core.specs.History.{Opening, Entry, Met}
 use Rattle.client_core.specs.Framed.{framed}
-use Rattle.client_core.specs.Kept.{kept_of}
 use Rattle.client_core.specs.Life.{life, deeds_of}
 use Rattle.client_core.specs.Lives.{LifeIs, EachLife}
-use Rattle.client_core.specs.Refusals.{is_for_client, is_begun, has_next, differs, lacks_room, faults_of, faults_of_body, refusal_by}
+use Rattle.client_core.specs.Refusals.{refusal_by}
 use Rattle.client_core.specs.Saves.{Addition, with_addition, addition_of, unless_refused, noted_after, left_by, is_answer}
 use Rattle.client_core.specs.Words.{is_on, noted, looked, refusal, due, is_answered}
 use Rattle.client_core.specs.Packets.{packets, packets_for}
 use Rattle.client_core.specs.Stands.{StandsFor}
-use Rattle.client_core.specs.Ends.{answered, Answers, Fails, Faults, Unsaved, Stores}
+use Rattle.client_core.specs.Ends.{answered, Fails, Faults, Unsaved, Stores}
 use Rattle.client_core.proofs.Looked.{looks_at_all}
+use Rattle.client_core.proofs.RefusalLemmas.{refusal_is, refusal_sort}
 
 -- ---- what a client that is up keeps
 
@@ -41,12 +35,12 @@ is_up true e = refl
 is_up false e = cc
 
 -- What a client that is up keeps is what its list says.
-pub record Knows {T : Type 0} (note : T → Note) (client : Client T) (o : Opening) (past : List Entry) : Type 0 where
+pub record Knows {T : Type 0} (note : T → Note) (client : PacketClient T) (o : Opening) (past : List Entry) : Type 0 where
   pub on : is_on past ≡ true
   pub knows : client.noted ≡ noted o past
   pub lives : LifeIs client.life (life o past)
 
-pub knows_now : {T : Type 0} (note : T → Note) (client : Client T) (o : Opening) (past : List Entry) → client.down ≡ false → StandsFor note client o past → Knows note client o past
+pub knows_now : {T : Type 0} (note : T → Note) (client : PacketClient T) (o : Opening) (past : List Entry) → client.down ≡ false → StandsFor note client o past → Knows note client o past
 knows_now note client o past up s =
     let on = is_up (is_on past) (sym up ∙ s.on) in
     record {
@@ -54,78 +48,6 @@ knows_now note client o past up s =
       knows = s.knows ∙ ap (noted o) (looks_at_all past on);
       lives = subst (λ p. LifeIs client.life (life o p)) (looks_at_all past on) s.lives;
     }
-
--- ---- refusals
-
-on_of : (down on : Bool) → down ≡ not on → not down ≡ on
-on_of true true e = cc
-on_of true false e = refl
-on_of false true e = refl
-on_of false false e = cc
-
-same_refusal : (on : Bool) (servers : ℕ) (n m : Noted) (c : Call) → (on ≡ true → m ≡ n) → refusal_by on servers m c ≡ refusal_by on servers n c
-same_refusal true servers n m c e = ap (λ x. refusal_by true servers x c) (e refl)
-same_refusal false servers n m c e = refl
-
--- What the client refuses is what the list says.
-pub refusal_is : {T : Type 0} (note : T → Note) (client : Client T) (o : Opening) (past : List Entry) (c : Call) → StandsFor note client o past → refusal_by (not client.down) client.servers client.noted c ≡ refusal o past c
-refusal_is note client o past c s =
-    ap (λ on. refusal_by on client.servers client.noted c) (on_of client.down (is_on past) s.on)
-    ∙ (ap (λ n. refusal_by (is_on past) n client.noted c) s.servers
-    ∙ same_refusal (is_on past) o.servers (noted o past) client.noted c (λ on. s.knows ∙ ap (noted o) (looks_at_all past on)))
-
-abbrev pub IsRefusal : Fault → Type 0
-IsRefusal fault = sort_of fault ≡ sorts.Refusal
-
-one_refusal : (b : Bool) (f : Fault) → IsRefusal f → AllByRecursion IsRefusal (when b f)
-one_refusal true f r = (r, tt)
-one_refusal false f r = tt
-
-more_refusals : (b : Bool) (f : Fault) (fs : List Fault) → IsRefusal f → AllByRecursion IsRefusal fs → AllByRecursion IsRefusal (when b f ++ fs)
-more_refusals true f fs r all = (r, all)
-more_refusals false f fs r all = all
-
-first_refusal : (fs : List Fault) (fault : Fault) → AllByRecursion IsRefusal fs → slice_get fs 0 ≡ Some fault → IsRefusal fault
-first_refusal [] fault all e = cc
-first_refusal (f ∷ fs) fault all e = subst IsRefusal (some_is e) all.0
-  where
-    some_is : Some f ≡ Some fault → f ≡ fault
-    some_is e = cc
-
-body_refusals : (n : Noted) (body : Body) → AllByRecursion IsRefusal (faults_of_body n body)
-body_refusals n (bodies.State jobs state) =
-    let full = lacks_room n.kept (kept_of state.key n.kept) in
-    more_refusals (differs state (kept_of state.key n.kept)) Conflict (when full TableFull) refl (one_refusal full TableFull refl)
-body_refusals n (bodies.Jobs r text) = tt
-body_refusals n (bodies.JobsOk r jobs) = tt
-body_refusals n (bodies.Start r) = tt
-body_refusals n (bodies.Started r) = tt
-body_refusals n (bodies.Trigger r act) = tt
-body_refusals n (bodies.NoState r job jobs) = tt
-body_refusals n (bodies.StateAck r job) = tt
-body_refusals n (bodies.Stop r) = tt
-body_refusals n (bodies.Stopped r) = tt
-body_refusals n (bodies.Verify r a text) = tt
-body_refusals n (bodies.WantState r a job) = tt
-body_refusals n (bodies.Saved a state) = tt
-body_refusals n (bodies.NoSaved r a job) = tt
-body_refusals n (bodies.Report r a job jobs report) = tt
-body_refusals n (bodies.Refused r) = tt
-
-call_refusals : (servers : ℕ) (n : Noted) (c : Call) → AllByRecursion IsRefusal (faults_of servers n c)
-call_refusals servers n (Begin text) = let spent = not (has_next n.runs) in more_refusals (not (is_text text)) JobTooLong (when spent NumbersSpent) refl (one_refusal spent NumbersSpent refl)
-call_refusals servers n (Trigger run act) = one_refusal (not (is_begun n run)) NoSuchRun refl
-call_refusals servers n (Stop run) = one_refusal (not (is_begun n run)) NoSuchRun refl
-call_refusals servers n (Verify run text) =
-    let spent = not (has_next n.attempts) in
-    let long = not (is_text text) in
-    more_refusals (not (is_begun n run)) NoSuchRun (when long JobTooLong ++ when spent NumbersSpent) refl
-    (more_refusals long JobTooLong (when spent NumbersSpent) refl (one_refusal spent NumbersSpent refl))
-call_refusals servers n (Deliver p) = more_refusals (not (is_for_client servers p)) Misdirected (faults_of_body n p.body) refl (body_refusals n p.body)
-call_refusals servers n Tick = tt
-
-pub refusal_sort : (on : Bool) (servers : ℕ) (n : Noted) (c : Call) (fault : Fault) → refusal_by on servers n c ≡ Some fault → IsRefusal fault
-refusal_sort on servers n c fault e = first_refusal _ fault (more_refusals (not on) Down (faults_of servers n c) refl (call_refusals servers n c)) e
 
 -- ---- one entry more
 
@@ -143,7 +65,7 @@ not_answered None fault b e = cc
 not_answered (Some g) fault b e = refl
 
 -- A refused call in the list changes none of its words.
-pub refused_stands : {T : Type 0} (note : T → Note) (client : Client T) (o : Opening) (past : List Entry) (c : Call) (fault : Fault) → refusal o past c ≡ Some fault → StandsFor note client o past → StandsFor note client o (Met c NoSave ∷ past)
+pub refused_stands : {T : Type 0} (note : T → Note) (client : PacketClient T) (o : Opening) (past : List Entry) (c : Call) (fault : Fault) → refusal o past c ≡ Some fault → StandsFor note client o past → StandsFor note client o (Met c NoSave ∷ past)
 refused_stands note client o past c fault r s = record {
   on = s.on ∙ ap not (sym (and_true (is_on past)));
   servers = s.servers;
@@ -186,7 +108,7 @@ new_noted None n = refl
 new_noted (Some a) n = refl
 
 -- An answered call is added, where what is kept and noted is what it leaves.
-pub answered_stands : {T : Type 0} (note : T → Note) (client : Client T) (o : Opening) (past : List Entry) (c : Call) → refusal o past c ≡ None → is_on past ≡ true → client.down ≡ false → client.servers ≡ o.servers → o.servers ≤ 8
+pub answered_stands : {T : Type 0} (note : T → Note) (client : PacketClient T) (o : Opening) (past : List Entry) (c : Call) → refusal o past c ≡ None → is_on past ≡ true → client.down ≡ false → client.servers ≡ o.servers → o.servers ≤ 8
     → Says (note client.notes).bytes (noted_after true (addition_of (noted o past) c) (noted o past)) → client.noted ≡ noted_after true (addition_of (noted o past) c) (noted o past) → LifeIs client.life (deeds_of (noted o past) c ++ life o past)
     → StandsFor note client o (answered o past c ∷ past)
 answered_stands note client o past c free on up servers few says knows lives = record {
@@ -210,17 +132,17 @@ answered_stands note client o past c free on up servers few says knows lives = r
 
 -- ---- calls that aren't answered
 
-pub refuses : {T : Type 0} (note : T → Note) (client : Client T) (o : Opening) (past : List Entry) (c : Call) (fault : Fault) → refusal_by (not client.down) client.servers client.noted c ≡ Some fault → StandsFor note client o past
+pub refuses : {T : Type 0} (note : T → Note) (client : PacketClient T) (o : Opening) (past : List Entry) (c : Call) (fault : Fault) → refusal_by (not client.down) client.servers client.noted c ≡ Some fault → StandsFor note client o past
     → Faults note o past c (sort_of fault) fault client client
 refuses note client o past c fault r s =
     let why = sym (refusal_is note client o past c s) ∙ r in
     subst (λ t. Faults note o past c t fault client client) (sym (refusal_sort (not client.down) client.servers client.noted c fault r))
     (record { why = why; same_note = refl; unchanged = s; stands = refused_stands note client o past c fault why s })
 
-pub with_life : {T : Type 0} (note : T → Note) (client : Client T) (kept : Life) (o : Opening) (past : List Entry) → EachLife client.life (LifeIs kept) → StandsFor note client o past → StandsFor note (record client { life = kept }) o past
+pub with_life : {T : Type 0} (note : T → Note) (client : PacketClient T) (kept : Life) (o : Opening) (past : List Entry) → EachLife client.life (LifeIs kept) → StandsFor note client o past → StandsFor note (record client { life = kept }) o past
 with_life note client kept o past same s = record { on = s.on; servers = s.servers; few = s.few; durable = s.durable; knows = s.knows; lives = same (life o (looked past)) s.lives }
 
-pub lacks : {T : Type 0} (note : T → Note) (client : Client T) (kept : Life) (o : Opening) (past : List Entry) (c : Call) → EachLife client.life (LifeIs kept) → StandsFor note client o past
+pub lacks : {T : Type 0} (note : T → Note) (client : PacketClient T) (kept : Life) (o : Opening) (past : List Entry) (c : Call) → EachLife client.life (LifeIs kept) → StandsFor note client o past
     → Faults note o past c sorts.Memory NoMemory client (record client { life = kept })
 lacks note client kept o past c same s = record { why = refl; same_note = refl; unchanged = with_life note client kept o past same s }
 
@@ -231,7 +153,7 @@ lost_off true left e = ap (λ b. not (true && not b)) (sym e)
 lost_off false left e = refl
 
 -- A client that is down at a failed save stands for the list with what was lost.
-lost_stands : {T : Type 0} (note : T → Note) (client : Client T) (notes : T) (o : Opening) (past : List Entry) (c : Call) (left : Left) → is_on past ≡ true → is_lost left ≡ true → StandsFor note client o past
+lost_stands : {T : Type 0} (note : T → Note) (client : PacketClient T) (notes : T) (o : Opening) (past : List Entry) (c : Call) (left : Left) → is_on past ≡ true → is_lost left ≡ true → StandsFor note client o past
     → Says (note notes).bytes (noted_after (has_new left) (due o past c) (noted o past)) → StandsFor note (record client { notes = notes; down = true }) o (Met c left ∷ past)
 lost_stands note client notes o past c left on lost s says = record {
   on = lost_off (is_on past) left lost;
@@ -246,7 +168,7 @@ lost_stands note client notes o past c left on lost s says = record {
     look = ap (λ b. if b then (if is_lost left then past else Met c left ∷ past) else looked past) on ∙ ap (λ b. if b then past else Met c left ∷ past) lost
 
 -- A call whose save isn't answered.
-pub unsaved : {T : Type 0} (note : T → Note) (old new : Client T) (kept : Life) (a : Addition) (fault : Fault) (o : Opening) (past : List Entry) (c : Call) → SaysWhatIsWritten → old.down ≡ false → StandsFor note old o past → refusal o past c ≡ None
+pub unsaved : {T : Type 0} (note : T → Note) (old new : PacketClient T) (kept : Life) (a : Addition) (fault : Fault) (o : Opening) (past : List Entry) (c : Call) → SaysWhatIsWritten → old.down ≡ false → StandsFor note old o past → refusal o past c ≡ None
     → addition_of (noted o past) c ≡ Some a → IsNoted (with_addition a (noted o past)) → EachLife old.life (LifeIs kept) → (t : FaultSort) → Unsaved note a t fault (record old { life = kept }) new → Faults note o past c t fault old new
 unsaved note old new kept a fault o past c read up s free adds fits same sorts.Memory u = record {
   why = u.0;
@@ -281,7 +203,7 @@ unsaved note old new kept a fault o past c read up s free adds fits same sorts.S
     by_bytes (inr e) = failed LostNew refl (subst (λ bytes. Says bytes (with_addition a (noted o past))) (sym (e ∙ ap (λ n. spelling (with_addition a n)) k.knows)) (read (with_addition a (noted o past)) fits))
 
 -- A call that is answered with a save.
-pub stored_stands : {T : Type 0} (note : T → Note) (old new : Client T) (kept after : Life) (a : Addition) (o : Opening) (past : List Entry) (c : Call) → SaysWhatIsWritten → old.down ≡ false → StandsFor note old o past → refusal o past c ≡ None
+pub stored_stands : {T : Type 0} (note : T → Note) (old new : PacketClient T) (kept after : Life) (a : Addition) (o : Opening) (past : List Entry) (c : Call) → SaysWhatIsWritten → old.down ≡ false → StandsFor note old o past → refusal o past c ≡ None
     → addition_of (noted o past) c ≡ Some a → IsNoted (with_addition a (noted o past)) → (r : Unit {0}) → Stores note a (record old { life = kept }) new (Ok r)
     → LifeIs after (deeds_of (noted o past) c ++ life o past) → StandsFor note (record new { life = after }) o (answered o past c ∷ past)
 stored_stands note old new kept after a o past c read up s free adds fits r stored lives =
@@ -289,79 +211,15 @@ stored_stands note old new kept after a o past c read up s free adds fits r stor
     let is : with_addition a old.noted ≡ with_addition a (noted o past) = ap (with_addition a) k.knows in
     let grown : with_addition a (noted o past) ≡ noted_after true (addition_of (noted o past) c) (noted o past) = ap (λ d. noted_after true d (noted o past)) (sym adds) in
     answered_stands note (record new { life = after }) o past c free k.on
-    (ap (λ (m : Client _). m.down) stored.1 ∙ up) (ap (λ (m : Client _). m.servers) stored.1 ∙ s.servers) s.few
+    (ap (λ (m : PacketClient _). m.down) stored.1 ∙ up) (ap (λ (m : PacketClient _). m.servers) stored.1 ∙ s.servers) s.few
     (subst (λ bytes. Says bytes (noted_after true (addition_of (noted o past) c) (noted o past))) (sym (ap (λ (n : Note). n.bytes) stored.0 ∙ ap spelling is))
     (subst (Says (spelling (with_addition a (noted o past)))) grown (read (with_addition a (noted o past)) fits)))
-    (ap (λ (m : Client _). m.noted) stored.1 ∙ is ∙ grown) lives
+    (ap (λ (m : PacketClient _). m.noted) stored.1 ∙ is ∙ grown) lives
 
 -- A call that is answered without a save.
-pub plain_stands : {T : Type 0} (note : T → Note) (old : Client T) (after : Life) (o : Opening) (past : List Entry) (c : Call) → old.down ≡ false → StandsFor note old o past → refusal o past c ≡ None → addition_of (noted o past) c ≡ None
+pub plain_stands : {T : Type 0} (note : T → Note) (old : PacketClient T) (after : Life) (o : Opening) (past : List Entry) (c : Call) → old.down ≡ false → StandsFor note old o past → refusal o past c ≡ None → addition_of (noted o past) c ≡ None
     → LifeIs after (deeds_of (noted o past) c ++ life o past) → StandsFor note (record old { life = after }) o (answered o past c ∷ past)
 plain_stands note old after o past c up s free adds lives =
     let k = knows_now note old o past up s in
     let same : noted o past ≡ noted_after true (addition_of (noted o past) c) (noted o past) = ap (λ d. noted_after true d (noted o past)) (sym adds) in
     answered_stands note (record old { life = after }) o past c free k.on up s.servers s.few (subst (Says (note old.notes).bytes) same s.durable) (k.knows ∙ same) lives
-
--- ---- calls, by what the client itself keeps
-
--- A client that isn't refused is up, and knows what its list says.
-pub free_now : {T : Type 0} (note : T → Note) (client : Client T) (o : Opening) (past : List Entry) (c : Call) → client.down ≡ false → StandsFor note client o past → refusal_by (not client.down) client.servers client.noted c ≡ None
-    → (refusal o past c ≡ None) × (noted o past ≡ client.noted) × (o.servers ≡ client.servers) × LifeIs client.life (life o past)
-free_now note client o past c up s r =
-    let k = knows_now note client o past up s in
-    (sym (refusal_is note client o past c s) ∙ r, sym k.knows, sym s.servers, k.lives)
-
--- The call's save fails.
-pub fails_stored : {T : Type 0} (note : T → Note) (old new : Client T) (kept : Life) (a : Addition) (fault : Fault) (o : Opening) (past : List Entry) (c : Call) → SaysWhatIsWritten → old.down ≡ false → refusal_by (not old.down) old.servers old.noted c ≡ None
-    → addition_of old.noted c ≡ Some a → (IsNoted old.noted → IsNoted (with_addition a old.noted)) → EachLife old.life (LifeIs kept) → Stores note a (record old { life = kept }) new (Err fault) → StandsFor note old o past → Faults note o past c (sort_of fault) fault old new
-fails_stored note old new kept a fault o past c read up r adds fits same stored s =
-    let f = free_now note old o past c up s r in
-    unsaved note old new kept a fault o past c read up s f.0 (ap (λ n. addition_of n c) f.1 ∙ adds)
-    (subst (λ n. IsNoted (with_addition a n)) (sym f.1) (fits (subst IsNoted f.1 s.durable.note))) same (sort_of fault) stored
-
--- The call is answered with a save.
-pub answers_stored : {T : Type 0} (note : T → Note) (old new : Client T) (kept after : Life) (a : Addition) (o : Opening) (past : List Entry) (c : Call) (frames : List (List ℕ)) → SaysWhatIsWritten → old.down ≡ false → refusal_by (not old.down) old.servers old.noted c ≡ None
-    → addition_of old.noted c ≡ Some a → (IsNoted old.noted → IsNoted (with_addition a old.noted)) → (u : Unit {0}) → Stores note a (record old { life = kept }) new (Ok u)
-    → EachLife old.life (λ deeds. frames ≡ framed (packets_for old.servers old.noted deeds c)) → EachLife old.life (λ deeds. LifeIs after (deeds_of old.noted c ++ deeds))
-    → StandsFor note old o past → Answers note o past c (record new { life = after }) frames
-answers_stored note old new kept after a o past c frames read up r adds fits u stored sends lives s =
-    let f = free_now note old o past c up s r in
-    record {
-      free = f.0;
-      frames_are = sends (life o past) f.3 ∙ ap (λ n. framed (packets_for n old.noted (life o past) c)) (sym f.2) ∙ ap (λ n. framed (packets_for o.servers n (life o past) c)) (sym f.1) ∙ sends_now o past c f.0;
-      stands = stored_stands note old new kept after a o past c read up s f.0 (ap (λ n. addition_of n c) f.1 ∙ adds) (subst (λ n. IsNoted (with_addition a n)) (sym f.1) (fits (subst IsNoted f.1 s.durable.note))) u stored
-          (subst (λ n. LifeIs after (deeds_of n c ++ life o past)) (sym f.1) (lives (life o past) f.3));
-    }
-
--- The call is answered without a save.
-pub answers_plain : {T : Type 0} (note : T → Note) (old : Client T) (after : Life) (o : Opening) (past : List Entry) (c : Call) (frames : List (List ℕ)) → old.down ≡ false → refusal_by (not old.down) old.servers old.noted c ≡ None
-    → addition_of old.noted c ≡ None
-    → EachLife old.life (λ deeds. frames ≡ framed (packets_for old.servers old.noted deeds c)) → EachLife old.life (λ deeds. LifeIs after (deeds_of old.noted c ++ deeds))
-    → StandsFor note old o past → Answers note o past c (record old { life = after }) frames
-answers_plain note old after o past c frames up r adds sends lives s =
-    let f = free_now note old o past c up s r in
-    record {
-      free = f.0;
-      frames_are = sends (life o past) f.3 ∙ ap (λ n. framed (packets_for n old.noted (life o past) c)) (sym f.2) ∙ ap (λ n. framed (packets_for o.servers n (life o past) c)) (sym f.1) ∙ sends_now o past c f.0;
-      stands = plain_stands note old after o past c up s f.0 (ap (λ n. addition_of n c) f.1 ∙ adds) (subst (λ n. LifeIs after (deeds_of n c ++ life o past)) (sym f.1) (lives (life o past) f.3));
-    }
-
--- ---- what a call that isn't refused has
-
-pub begin_free : (down b c : Bool) → slice_get (when (not (not down)) Down ++ (when (not b) JobTooLong ++ when (not c) NumbersSpent)) 0 ≡ None → (down ≡ false) × (b ≡ true) × (c ≡ true)
-begin_free false true true h = (refl, refl, refl)
-begin_free false true false h = cc
-begin_free false false c h = cc
-begin_free true b c h = cc
-
-pub run_free : (down b : Bool) → slice_get (when (not (not down)) Down ++ when (not b) NoSuchRun) 0 ≡ None → (down ≡ false) × (b ≡ true)
-run_free false true h = (refl, refl)
-run_free false false h = cc
-run_free true b h = cc
-
-pub verify_free : (down a b c : Bool) → slice_get (when (not (not down)) Down ++ (when (not a) NoSuchRun ++ (when (not b) JobTooLong ++ when (not c) NumbersSpent))) 0 ≡ None → (down ≡ false) × (a ≡ true) × (b ≡ true) × (c ≡ true)
-verify_free false true true true h = (refl, refl, refl, refl)
-verify_free false true true false h = cc
-verify_free false true false c h = cc
-verify_free false false b c h = cc
-verify_free true a b c h = cc

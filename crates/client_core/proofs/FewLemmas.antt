@@ -1,11 +1,19 @@
--- A call sends few packets.
+-- A call sends few packets, in few and short frames.
 use Rattle.std.proofs.Common.{◌≡◌, refl, ℕ, zero, suc, ◌+◌, ◌≤◌, arith, Bool, true, false, List, [], ◌∷◌, length, length-append}
 use Rattle.std.specs.Prelude.{if◌then◌else◌}
+use Rattle.std.specs.List.{AllByRecursion}
 use Rattle.std.proofs.lemmas.List.{length-map}
+use Rattle.std.proofs.lemmas.List.Sums.{sum_by-append}
 use Rattle.fc_base.specs.Counted.{numbers_below}
 use Rattle.messages.specs.declared.packet.PacketParts.{PacketParts}
 use Rattle.messages.specs.declared.body.Body.{Body}
 use Rattle.messages.specs.declared.body.Body.TheVariants as bodies
+use Rattle.messages.specs.declared.kind.PacketKind.{PacketKind}
+use Rattle.messages.specs.declared.kind.PacketKind.TheVariants as kinds
+use Rattle.messages.specs.Bodies.{kind_of, length_of, length_limit}
+use Rattle.messages.specs.FrameLaws.{FramesAreFew}
+use Rattle.messages.specs.FramesOf.{spelled_frames}
+use Rattle.messages.specs.Laws.{IsPacket, LengthsAreBounded}
 use Rattle.messages.specs.Nodes.{node_number}
 use Rattle.client_core.specs.declared.call.Call.{Call}
 use Rattle.client_core.specs.declared.call.Call.TheVariants.{Begin, Trigger, Stop, Verify, Deliver, Tick}
@@ -15,8 +23,13 @@ use Rattle.client_core.specs.Life.{Deed, life, text_of}
 use Rattle.client_core.specs.declared.beginning.Beginning.{Beginning}
 use Rattle.client_core.specs.Begins.{begin_at}
 use Rattle.client_core.specs.declared.beginning.Beginning.TheVariants as begins
-use Rattle.client_core.specs.Packets.{to_server, to_all, start_for, jobs_for, lacks_jobs, replies, packets_for}
-use Rattle.client_core.specs.Laws.{is_tick, PacketsAreFew}
+use Rattle.client_core.specs.Packets.{to_server, to_all, start_for, jobs_for, lacks_jobs, replies, packets_for, packets}
+use Rattle.client_core.specs.Bounds.{most_packets, AreShort, PacketsAreFew, FramesAreShort}
+use Rattle.client_core.specs.Framed.{framed}
+use Rattle.client_core.specs.History.{Opening, Entry, Met}
+use Rattle.client_core.specs.Laws.{PacketsAreInRange}
+use Rattle.client_core.proofs.DeliverLemmas.{body_of_packet}
+use Rattle.client_core.proofs.TickLemmas.{all_again_few}
 
 pub length_below : (n : ℕ) → length (numbers_below n) ≡ n
 length_below zero = refl
@@ -33,25 +46,66 @@ jobs_one : (run : ℕ) (text : List ℕ) (s : ℕ) (b : Beginning) → length (j
 jobs_one run text s begins.Starting = omega arith
 jobs_one run text s _ = omega arith
 
-where_so : (b : Bool) (ps : List PacketParts) → length ps ≤ 8 → length (if b then ps else []) ≤ 8
-where_so true ps h = h
-where_so false ps h = omega arith
+where_so : (b : Bool) (most : ℕ) (ps : List PacketParts) → length ps ≤ most → length (if b then ps else []) ≤ most
+where_so true most ps h = h
+where_so false most ps h = omega arith
 
 replied : (n : Noted) (deeds : List Deed) (s : ℕ) (body : Body) → length (replies n deeds s body) ≤ 8
 replied n deeds s (bodies.JobsOk run jobs) = start_one run s (begin_at run s deeds)
 replied n deeds s (bodies.State jobs state) = omega arith
 replied n deeds s (bodies.NoState run job jobs) = omega arith
 replied n deeds s (bodies.WantState run attempt job) = omega arith
-replied n deeds s (bodies.Refused r) = where_so (lacks_jobs r.asked r.reason) (jobs_for r.run (text_of r.run deeds) s (begin_at r.run s deeds)) (jobs_one r.run (text_of r.run deeds) s (begin_at r.run s deeds))
+replied n deeds s (bodies.Refused r) = where_so (lacks_jobs r.asked r.reason) 8 (jobs_for r.run (text_of r.run deeds) s (begin_at r.run s deeds)) (jobs_one r.run (text_of r.run deeds) s (begin_at r.run s deeds))
 replied n deeds s _ = omega arith
 
-called : (servers : ℕ) (n : Noted) (deeds : List Deed) (c : Call) → servers ≤ 8 → is_tick c ≡ false → length (packets_for servers n deeds c) ≤ 8
-called servers n deeds (Begin text) l t = each_server servers (bodies.Jobs (n.runs + 1) text) l
-called servers n deeds (Trigger run act) l t = each_server servers (bodies.Trigger run act) l
-called servers n deeds (Stop run) l t = each_server servers (bodies.Stop run) l
-called servers n deeds (Verify run text) l t = each_server servers (bodies.Verify run (n.attempts + 1) text) l
-called servers n deeds (Deliver p) l t = replied n deeds (node_number p.from) p.body
-called servers n deeds Tick l t = cc
+called : (o : Opening) (past : List Entry) (c : Call) → o.servers ≤ 8 → length (packets_for o.servers (noted o past) (life o past) c) ≤ most_packets o past c
+called o past (Begin text) l = each_server o.servers (bodies.Jobs ((noted o past).runs + 1) text) l
+called o past (Trigger run act) l = each_server o.servers (bodies.Trigger run act) l
+called o past (Stop run) l = each_server o.servers (bodies.Stop run) l
+called o past (Verify run text) l = each_server o.servers (bodies.Verify run ((noted o past).attempts + 1) text) l
+called o past (Deliver p) l = replied (noted o past) (life o past) (node_number p.from) p.body
+called o past Tick l = all_again_few o.servers (noted o past) (life o past)
 
 pub packets_are_few : PacketsAreFew
-packets_are_few o past c left l t = where_so (is_answered o past c left) (packets_for o.servers (noted o past) (life o past) c) (called o.servers (noted o past) (life o past) c l t)
+packets_are_few o past c left l = where_so (is_answered o past c left) (most_packets o past c) (packets_for o.servers (noted o past) (life o past) c) (called o past c l)
+
+-- ---- the frames of packets
+
+limited : (kind : PacketKind) → length_limit kind ≤ 16400
+limited kinds.Jobs = omega arith
+limited kinds.JobsOk = omega arith
+limited kinds.Start = omega arith
+limited kinds.Started = omega arith
+limited kinds.Trigger = omega arith
+limited kinds.State = omega arith
+limited kinds.NoState = omega arith
+limited kinds.StateAck = omega arith
+limited kinds.Stop = omega arith
+limited kinds.Stopped = omega arith
+limited kinds.Verify = omega arith
+limited kinds.WantState = omega arith
+limited kinds.Saved = omega arith
+limited kinds.NoSaved = omega arith
+limited kinds.Report = omega arith
+limited kinds.Refused = omega arith
+
+-- So many packets are as many times the frames of one.
+all_short : FramesAreFew → LengthsAreBounded → (ps : List PacketParts) → AllByRecursion IsPacket ps → AreShort (length ps) (framed ps)
+all_short few bounded [] h = record { few = omega arith; short = omega arith }
+all_short few bounded (p ∷ ps) h =
+    let one = few p h.0 in
+    let rest = all_short few bounded ps h.1 in
+    let frames = spelled_frames p in
+    let long : length_of p.body ≤ 16400 = omega (arith, bounded p.body (body_of_packet p h.0.in_range) h.0.state, limited (kind_of p.body)) in
+    record {
+      few = omega (arith, length-append frames (framed ps), one.few, rest.few);
+      short = omega (arith, sum_by-append (λ (frame : List ℕ). length frame) frames (framed ps), one.few, one.total, rest.short);
+    }
+
+more : (few most : ℕ) (frames : List (List ℕ)) → few ≤ most → AreShort few frames → AreShort most frames
+more few most frames l h = record { few = omega (arith, h.few); short = omega (arith, h.short) }
+
+pub frames_are_short : PacketsAreFew → PacketsAreInRange → FramesAreFew → LengthsAreBounded → FramesAreShort
+frames_are_short few ranges frames bounded o past c left i h =
+    let ps = packets o past (Met c left) in
+    more (length ps) (most_packets o past c) (framed ps) (few o past c left i.servers) (all_short frames bounded ps (ranges o past (Met c left) i h))

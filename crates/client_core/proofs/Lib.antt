@@ -1,5 +1,6 @@
 mod AgainLemmas
 mod AskedLemmas
+mod CallLemmas
 mod ClientLemmas
 mod DeedLemmas
 mod DeliverLemmas
@@ -7,9 +8,11 @@ mod EndLemmas
 mod EntryLemmas
 mod ExampleLemmas
 mod FewLemmas
+mod FrameEndLemmas
 mod FrameLemmas
 mod FreshLemmas
 mod HeardLemmas
+mod HearingLemmas
 mod KeptLemmas
 mod LifeLemmas
 mod ListLemmas
@@ -20,12 +23,14 @@ mod PlaceLemmas
 mod RangeLemmas
 mod ReadingLemmas
 mod ReasonLemmas
+mod RefusalLemmas
 mod ReportLemmas
 mod RisingLemmas
 mod SentLemmas
 mod StandingLemmas
 mod TableLemmas
 mod TextLemmas
+mod TickLemmas
 mod TriggerLemmas
 mod UnaskedLemmas
 mod WithinLemmas

@@ -89,7 +89,7 @@ verify_not_refused asks.Trigger t reason = refl
 verify_not_refused asks.Stop t reason = refl
 verify_not_refused asks.Verify t reason = not_checked t reason
 
-begin_unasked : (run : ℕ) (body : Body) → begin_heard run body Unbegun ≡ Unbegun
+pub begin_unasked : (run : ℕ) (body : Body) → begin_heard run body Unbegun ≡ Unbegun
 begin_unasked run (bodies.Jobs r text) = refl
 begin_unasked run (bodies.JobsOk r jobs) = if_both _ _ _ refl
 begin_unasked run (bodies.Start r) = refl
@@ -107,7 +107,7 @@ begin_unasked run (bodies.NoSaved r a job) = refl
 begin_unasked run (bodies.Report r a job jobs report) = refl
 begin_unasked run (bodies.Refused r) = if_both _ _ _ (begin_not_refused r.asked r.reason)
 
-trigger_unasked : (run : ℕ) (body : Body) → trigger_heard run body Unasked ≡ Unasked
+pub trigger_unasked : (run : ℕ) (body : Body) → trigger_heard run body Unasked ≡ Unasked
 trigger_unasked run (bodies.Jobs r text) = refl
 trigger_unasked run (bodies.JobsOk r jobs) = refl
 trigger_unasked run (bodies.Start r) = refl
@@ -125,7 +125,7 @@ trigger_unasked run (bodies.NoSaved r a job) = refl
 trigger_unasked run (bodies.Report r a job jobs report) = refl
 trigger_unasked run (bodies.Refused r) = if_both _ _ _ (trigger_not_refused r.asked r.reason)
 
-stop_unasked : (run : ℕ) (body : Body) → stop_heard run body Unasked ≡ Unasked
+pub stop_unasked : (run : ℕ) (body : Body) → stop_heard run body Unasked ≡ Unasked
 stop_unasked run (bodies.Jobs r text) = refl
 stop_unasked run (bodies.JobsOk r jobs) = refl
 stop_unasked run (bodies.Start r) = refl
@@ -143,7 +143,7 @@ stop_unasked run (bodies.NoSaved r a job) = refl
 stop_unasked run (bodies.Report r a job jobs report) = refl
 stop_unasked run (bodies.Refused r) = if_both _ _ _ (stop_not_refused r.asked r.reason)
 
-verify_unasked : (run attempt : ℕ) (body : Body) → verify_heard run attempt body Unasked ≡ Unasked
+pub verify_unasked : (run attempt : ℕ) (body : Body) → verify_heard run attempt body Unasked ≡ Unasked
 verify_unasked run attempt (bodies.Jobs r text) = refl
 verify_unasked run attempt (bodies.JobsOk r jobs) = refl
 verify_unasked run attempt (bodies.Start r) = refl

@@ -19,7 +19,7 @@ use Rattle.client_core.specs.Refusals.{is_begun, refusal_by}
 use Rattle.client_core.specs.Saves.{addition_by, addition_of, unless_refused, noted_after, is_answer}
 use Rattle.client_core.specs.Words.{is_on, noted, refusal}
 use Rattle.client_core.proofs.DeedLemmas.{run_stays, attempt_stays, begins_other, triggers_other, stops_other, verifies_no_run, begins_no_attempt, triggers_no_attempt, stops_no_attempt, verifies_other}
-use Rattle.client_core.proofs.EndLemmas.{run_free}
+use Rattle.client_core.proofs.RefusalLemmas.{run_free}
 use Rattle.client_core.proofs.FreshLemmas.{body_only}
 use Rattle.client_core.proofs.ListLemmas.{all_weaker}
 use Rattle.client_core.proofs.UnaskedLemmas.{unnamed_hears, unmade_hears}

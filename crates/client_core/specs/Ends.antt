@@ -10,7 +10,7 @@ use Rattle.disk_model.specs.declared.left.Left.TheVariants.{NoSave}
 use Rattle.disk_model.specs.Left.{is_lost}
 use Rattle.disk_model.specs.Notes.{Note}
 use Rattle.client_core.specs.declared.call.Call.{Call}
-use Rattle.client_core.specs.declared.client.Client.{Client}
+use Rattle.client_core.specs.declared.packet_client.PacketClient.{PacketClient}
 use Rattle.client_core.specs.Note.{spelling}
 use Rattle.client_core.specs.History.{Opening, Entry, Met}
 use Rattle.client_core.specs.Framed.{framed}
@@ -24,20 +24,20 @@ abbrev pub answered : Opening → List Entry → Call → Entry
 answered o past c = Met c (left_by (due o past c))
 
 -- The call isn't refused, it sends what the list says, and it is added.
-pub record Answers {T : Type 0} (note : T → Note) (o : Opening) (past : List Entry) (c : Call) (new : Client T) (frames : List (List ℕ)) : Type 0 where
+pub record Answers {T : Type 0} (note : T → Note) (o : Opening) (past : List Entry) (c : Call) (new : PacketClient T) (frames : List (List ℕ)) : Type 0 where
   pub free : refusal o past c ≡ None
   pub frames_are : frames ≡ framed (packets o past (answered o past c))
   pub stands : StandsFor note new o (answered o past c ∷ past)
 
 -- The call is refused for this reason, and nothing changes; it may also stand in the list.
-pub record Refuses {T : Type 0} (note : T → Note) (o : Opening) (past : List Entry) (c : Call) (fault : Fault) (old new : Client T) : Type 0 where
+pub record Refuses {T : Type 0} (note : T → Note) (o : Opening) (past : List Entry) (c : Call) (fault : Fault) (old new : PacketClient T) : Type 0 where
   pub why : refusal o past c ≡ Some fault
   pub same_note : note new.notes ≡ note old.notes
   pub unchanged : StandsFor note new o past
   pub stands : StandsFor note new o (Met c NoSave ∷ past)
 
 -- The device failed in the save of what was due: it is durable, or it isn't.
-pub record Fails {T : Type 0} (note : T → Note) (o : Opening) (past : List Entry) (c : Call) (old new : Client T) : Type 0 where
+pub record Fails {T : Type 0} (note : T → Note) (o : Opening) (past : List Entry) (c : Call) (old new : PacketClient T) : Type 0 where
   pub cause : (note old.notes).failures < (note new.notes).failures
   pub free : refusal o past c ≡ None
   pub addition : Addition
@@ -47,31 +47,31 @@ pub record Fails {T : Type 0} (note : T → Note) (o : Opening) (past : List Ent
   pub stands : StandsFor note new o (Met c left ∷ past)
 
 -- For want of memory nothing changes.
-pub record Lacks {T : Type 0} (note : T → Note) (o : Opening) (past : List Entry) (fault : Fault) (old new : Client T) : Type 0 where
+pub record Lacks {T : Type 0} (note : T → Note) (o : Opening) (past : List Entry) (fault : Fault) (old new : PacketClient T) : Type 0 where
   pub why : fault ≡ NoMemory
   pub same_note : note new.notes ≡ note old.notes
   pub unchanged : StandsFor note new o past
 
 -- How a call that isn't answered ends, by the sort of its fault.
-abbrev pub Faults : {T : Type 0} → (T → Note) → Opening → List Entry → Call → FaultSort → Fault → Client T → Client T → Type 0
+abbrev pub Faults : {T : Type 0} → (T → Note) → Opening → List Entry → Call → FaultSort → Fault → PacketClient T → PacketClient T → Type 0
 Faults note o past c sorts.Memory fault old new = Lacks note o past fault old new
 Faults note o past c sorts.Save fault old new = Fails note o past c old new
 Faults note o past c sorts.Refusal fault old new = Refuses note o past c fault old new
 
 -- How a call ends.
-abbrev pub Ends : {T : Type 0} → (T → Note) → Opening → List Entry → Call → Client T → Client T → Result (List (List ℕ)) Fault → Type 0
+abbrev pub Ends : {T : Type 0} → (T → Note) → Opening → List Entry → Call → PacketClient T → PacketClient T → Result (List (List ℕ)) Fault → Type 0
 Ends note o past c old new (Ok frames) = Answers note o past c new frames
 Ends note o past c old new (Err fault) = Faults note o past c (sort_of fault) fault old new
 
 -- How a call ends that gives a number: the one above those that were used.
-abbrev pub Gives : {T : Type 0} → (T → Note) → Opening → List Entry → Call → ℕ → Client T → Client T → Result (ℕ × List (List ℕ)) Fault → Type 0
+abbrev pub Gives : {T : Type 0} → (T → Note) → Opening → List Entry → Call → ℕ → PacketClient T → PacketClient T → Result (ℕ × List (List ℕ)) Fault → Type 0
 Gives note o past c used old new (Ok given) =
     (given.0 ≡ used + 1) × Answers note o past c new given.1
 Gives note o past c used old new (Err fault) = Faults note o past c (sort_of fault) fault old new
 
 -- How the save of an addition ends that isn't answered: memory ran out, and nothing changes; or the device
 -- failed, the durable bytes are the old or the new, and the client is down.
-abbrev pub Unsaved : {T : Type 0} → (T → Note) → Addition → FaultSort → Fault → Client T → Client T → Type 0
+abbrev pub Unsaved : {T : Type 0} → (T → Note) → Addition → FaultSort → Fault → PacketClient T → PacketClient T → Type 0
 Unsaved note a sorts.Memory fault old new =
     (fault ≡ NoMemory) × (note new.notes ≡ note old.notes)
     × (new ≡ record old { notes = new.notes })
@@ -83,14 +83,14 @@ Unsaved note a sorts.Save fault old new =
 Unsaved note a sorts.Refusal fault old new = ⊥
 
 -- How the save of an addition ends: the note has it.
-abbrev pub Stores : {T : Type 0} → (T → Note) → Addition → Client T → Client T → Result (Unit {0}) Fault → Type 0
+abbrev pub Stores : {T : Type 0} → (T → Note) → Addition → PacketClient T → PacketClient T → Result (Unit {0}) Fault → Type 0
 Stores note a old new (Ok _) =
     (note new.notes ≡ record (note old.notes) { bytes = spelling (with_addition a old.noted) })
     × (new ≡ record old { notes = new.notes; noted = with_addition a old.noted })
 Stores note a old new (Err fault) = Unsaved note a (sort_of fault) fault old new
 
 -- How the save of what is noted ends that isn't answered.
-abbrev pub Unwritten : {T : Type 0} → (T → Note) → FaultSort → Fault → Client T → Client T → Type 0
+abbrev pub Unwritten : {T : Type 0} → (T → Note) → FaultSort → Fault → PacketClient T → PacketClient T → Type 0
 Unwritten note sorts.Memory fault old new =
     (fault ≡ NoMemory) × (note new.notes ≡ note old.notes)
     × (new ≡ record old { notes = new.notes })
@@ -102,7 +102,7 @@ Unwritten note sorts.Save fault old new =
 Unwritten note sorts.Refusal fault old new = ⊥
 
 -- How the save of what is noted ends: the note says it.
-abbrev pub Writes : {T : Type 0} → (T → Note) → Client T → Client T → Result (Unit {0}) Fault → Type 0
+abbrev pub Writes : {T : Type 0} → (T → Note) → PacketClient T → PacketClient T → Result (Unit {0}) Fault → Type 0
 Writes note old new (Ok _) =
     (note new.notes ≡ record (note old.notes) { bytes = spelling old.noted })
     × (new ≡ record old { notes = new.notes })

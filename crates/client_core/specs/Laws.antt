@@ -1,5 +1,5 @@
 -- What holds of every list of what came to a client.
-use Rattle.std.specs.Prelude.{◌≡◌, ◌⊎◌, ℕ, ◌<◌, ◌≤◌, Bool, true, false, not, ◌&&◌, List, [], ◌∷◌, ◌++◌, length, Some, Contains, IsTrue}
+use Rattle.std.specs.Prelude.{◌≡◌, ◌⊎◌, ℕ, ◌<◌, ◌≤◌, Bool, true, not, ◌&&◌, List, [], ◌∷◌, ◌++◌, Some, Contains, IsTrue}
 use Rattle.std.specs.List.{AllByRecursion, flat_map}
 use Rattle.fc_base.specs.declared.numbers.Key.{Key}
 use Rattle.fc_base.specs.Counted.{is_distinct}
@@ -12,7 +12,6 @@ use Rattle.messages.specs.declared.node.Node.TheVariants as nodes
 use Rattle.messages.specs.Bodies.{kind_of}
 use Rattle.messages.specs.Kinds.{is_of_client}
 use Rattle.messages.specs.Laws.{IsPacket}
-use Rattle.client_core.specs.declared.call.Call.{Call}
 use Rattle.client_core.specs.declared.call.Call.TheVariants.{Tick}
 use Rattle.client_core.specs.declared.received.Received.{Received}
 use Rattle.client_core.specs.Kept.{kept_of}
@@ -170,17 +169,6 @@ abbrev pub PacketsAreInRange : Type 0
 PacketsAreInRange =
     (o : Opening) (past : List Entry) (entry : Entry) →
     OpensInRange o → CameInRange (entry ∷ past) → AllByRecursion IsPacket (packets o past entry)
-
--- A tick.
-abbrev pub is_tick : Call → Bool
-is_tick Tick = true
-is_tick _ = false
-
--- Any other call sends at most 8 packets.
-abbrev pub PacketsAreFew : Type 0
-PacketsAreFew =
-    (o : Opening) (past : List Entry) (c : Call) (left : Left) →
-    o.servers ≤ 8 → is_tick c ≡ false → length (packets o past (Met c left)) ≤ 8
 
 -- The reports of this life came from their servers.
 abbrev pub ReportsCame : Type 0

@@ -1,7 +1,11 @@
 pub mod Begins
+pub mod Bounds
 pub mod Ends
 pub mod Examples
+pub mod FrameAnswers
+pub mod FrameEnds
 pub mod Framed
+pub mod Hearing
 pub mod History
 pub mod Kept
 pub mod Laws
@@ -16,6 +20,7 @@ pub mod Refusals
 pub mod Reports
 pub mod Requests
 pub mod Saves
+pub mod Sensing
 pub mod Standing
 pub mod Stands
 pub mod Table

@@ -4,7 +4,7 @@ use Rattle.fc_base.specs.declared.fault.Fault.{Fault}
 use Rattle.fc_base.specs.declared.fault.Fault.TheVariants.{NoMemory, LoadFault, BadNote}
 use Rattle.disk_model.specs.Notes.{Note}
 use Rattle.client_core.specs.declared.noted.Noted.{Noted}
-use Rattle.client_core.specs.declared.client.Client.{Client}
+use Rattle.client_core.specs.declared.packet_client.PacketClient.{PacketClient}
 use Rattle.client_core.specs.Note.{Says}
 use Rattle.client_core.specs.History.{Opening, Entry, Restart}
 use Rattle.client_core.specs.Life.{life}
@@ -14,7 +14,7 @@ use Rattle.client_core.specs.Words.{is_on, noted, looked}
 -- A client stands for a list where it is on as the list says, drives as many servers, at most 8, where
 -- the durable bytes say what the list says, and where it knows of its note, and keeps of its requests,
 -- what it did before the first failed save.
-pub record StandsFor {T : Type 0} (note : T → Note) (client : Client T) (o : Opening) (past : List Entry) : Type 0 where
+pub record StandsFor {T : Type 0} (note : T → Note) (client : PacketClient T) (o : Opening) (past : List Entry) : Type 0 where
   pub on : client.down ≡ not (is_on past)
   pub servers : client.servers ≡ o.servers
   pub few : o.servers ≤ 8
@@ -24,7 +24,7 @@ pub record StandsFor {T : Type 0} (note : T → Note) (client : Client T) (o : O
 
 -- For each list of which the durable bytes say what it says, the client stands for that list with a
 -- restart. They say something, so there is such a list: the empty one. They stay as they were.
-pub record Opens {T : Type 0} (note : T → Note) (servers : ℕ) (old : Note) (client : Client T) : Type 0 where
+pub record Opens {T : Type 0} (note : T → Note) (servers : ℕ) (old : Note) (client : PacketClient T) : Type 0 where
   pub same : note client.notes ≡ old
   pub said : Noted
   pub says : Says old.bytes said
@@ -41,6 +41,6 @@ NotOpened old new NoMemory = new ≡ old
 NotOpened old new _ = ⊥
 
 -- A client is opened, or the notes come back with the reason.
-abbrev pub Restarts : {T : Type 0} → (T → Note) → ℕ → Note → Result (Client T) (T × Fault) → Type 0
+abbrev pub Restarts : {T : Type 0} → (T → Note) → ℕ → Note → Result (PacketClient T) (T × Fault) → Type 0
 Restarts note servers old (Ok client) = Opens note servers old client
 Restarts note servers old (Err back) = NotOpened old (note back.0) back.1

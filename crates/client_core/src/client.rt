@@ -1,45 +1,37 @@
-//! The client over its durable note.
+//! A client over its durable note.
 
-ghost use Rattle.std.specs.Prelude.{◌≡◌, ◌≤◌, ◌∷◌, List, Some, None, not};
+ghost use Rattle.std.specs.Prelude.{◌≡◌, ◌≤◌, List};
 ghost use Rattle.std.specs.Option.{option_copied};
-ghost use Rattle.client_core.specs.History.{Opening, Entry};
-ghost use Rattle.client_core.specs.Note.{Says, is_blank};
-ghost use Rattle.client_core.specs.declared.call.Call.TheVariants.{Deliver};
-ghost use Rattle.client_core.specs.Refusals.{refusal_by};
-ghost use Rattle.client_core.specs.Words.{is_on, noted, kept, looked, would_save};
 
-mod begin;
+mod ask;
 mod deliver;
-mod look;
-mod save;
-mod tick;
-mod trigger;
-mod verify;
 
-use crate::life::Life;
-use crate::noted::{Noted, one_note};
-use crate::refusal::{adds, fault_of, is_for_client};
-use crate::servers::Servers;
+use crate::outcome::{Outcome, RequestKind};
+use crate::packet_client::PacketClient;
+use crate::received::Received;
 use disk_model::Notes;
-use fc_base::{Fault, Key};
-use messages::Packet;
+use fc_base::{Fault, Key, RunNo, ServerNo};
+use messages::Assembly;
 use std::alloc::Global;
 use verify_state::VerifyState;
 
-/// A client: its durable note, how many servers it drives, what it knows of its note, and what it keeps
-/// of its requests.
+/// A client.
 #[derive(Drop)]
 pub struct Client<N> {
     alloc: Global,
-    notes: N,
-    servers: Servers,
-    down: bool,
-    noted: Noted,
-    life: Life,
+    core: PacketClient<N>,
+    pieces: Assembly,
 }
 
 impl<N: Notes> Client<N> {
-    ghost use Rattle.client_core.specs.Stands.{StandsFor, Restarts};
+    ghost use Rattle.client_core.specs.History.{Opening};
+    ghost use Rattle.client_core.specs.Note.{Says, is_blank};
+    ghost use Rattle.client_core.specs.Words.{is_on, noted, kept, looked};
+    ghost use Rattle.client_core.specs.Life.{life};
+    ghost use Rattle.client_core.specs.Outcomes.{outcome, settled};
+    ghost use Rattle.client_core.specs.Reports.{reports};
+    ghost use Rattle.client_core.specs.Hearing.{FrameEntry, packets_heard};
+    ghost use Rattle.client_core.specs.FrameEnds.{StandsFor, Restarts};
 
     /// Opens a client of so many servers over its note, and saves nothing. The notes come back where it
     /// can't: [`Fault::LoadFault`], the device failed; [`Fault::BadNote`], the bytes are no note;
@@ -49,98 +41,93 @@ impl<N: Notes> Client<N> {
         requires few { servers ≤ 8 }
         ensures { Restarts N.note servers (N.note notes) result }
     {
-        one_note();
-        let mut notes = notes;
-        let bytes = match notes.load() {
-            Ok(bytes) => bytes,
-            Err(fault) => return Err((notes, fault)),
-        };
-        match Noted::decode(alloc, &bytes) {
-            Ok(Some(noted)) => {
-                let servers = Servers::new(servers);
-                let life = Life::new(alloc);
-                Ok(Client {
-                    alloc,
-                    notes,
-                    servers,
-                    down: false,
-                    noted,
-                    life,
-                })
-            }
-            Ok(None) => Err((notes, Fault::BadNote)),
-            Err(_) => Err((notes, Fault::NoMemory)),
-        }
+        let core = PacketClient::restart(alloc, servers, notes)?;
+        let pieces = Assembly::new(alloc);
+        Ok(Client {
+            alloc,
+            core,
+            pieces,
+        })
     }
 
     /// The notes of a client that is taken off.
     pub fn off(self) -> N
-        ensures { (o : Opening) (past : List Entry) → StandsFor N.note self o past → Says (N.note result).bytes (noted o past) }
+        ensures { (o : Opening) (past : List FrameEntry) → StandsFor N.note self o past →
+            Says (N.note result).bytes (noted o (packets_heard o past)) }
     {
         let Client {
             alloc: _,
-            notes,
-            servers: _,
-            down: _,
-            noted: _,
-            life: _,
+            core,
+            pieces: _,
         } = self;
-        notes
+        core.off()
     }
 
     /// Whether it is on: a client whose save failed is down until it is restarted.
     pub fn on(&self) -> bool
-        ensures { (o : Opening) (past : List Entry) → StandsFor N.note self.now o past → result ≡ is_on past }
+        ensures { (o : Opening) (past : List FrameEntry) → StandsFor N.note self.now o past →
+            result ≡ is_on (packets_heard o past) }
     {
-        !self.down
+        self.core.on()
     }
 
-    /// How many runs were begun.
+    /// How many runs were begun. Where a save has failed, up to it.
     pub fn runs_used(&self) -> u64
-        ensures { (o : Opening) (past : List Entry) → StandsFor N.note self.now o past → result ≡ (noted o (looked past)).runs }
+        ensures { (o : Opening) (past : List FrameEntry) → StandsFor N.note self.now o past →
+            result ≡ (noted o (looked (packets_heard o past))).runs }
     {
-        self.noted.runs
+        self.core.runs_used()
     }
 
-    /// How many attempts to verify were begun.
+    /// How many attempts to verify were begun. Where a save has failed, up to it.
     pub fn attempts_used(&self) -> u64
-        ensures { (o : Opening) (past : List Entry) → StandsFor N.note self.now o past → result ≡ (noted o (looked past)).attempts }
+        ensures { (o : Opening) (past : List FrameEntry) → StandsFor N.note self.now o past →
+            result ≡ (noted o (looked (packets_heard o past))).attempts }
     {
-        self.noted.attempts
+        self.core.attempts_used()
     }
 
-    /// Whether its note says what a blank one says: nothing was begun, and no state is kept.
+    /// Whether its note says what a blank one says: nothing was begun, and no state is kept. Where a save
+    /// has failed, up to it.
     pub fn is_blank(&self) -> bool
-        ensures { (o : Opening) (past : List Entry) → StandsFor N.note self.now o past → result ≡ is_blank (noted o (looked past)) }
+        ensures { (o : Opening) (past : List FrameEntry) → StandsFor N.note self.now o past →
+            result ≡ is_blank (noted o (looked (packets_heard o past))) }
     {
-        self.noted.is_blank()
+        self.core.is_blank()
     }
 
-    /// Whether the delivery of this packet would make a save: it is a State that isn't refused, of a key of
-    /// which no state is kept.
-    pub fn would_save(&self, packet: &Packet) -> bool
-        ensures { (o : Opening) (past : List Entry) → StandsFor N.note self.now o past → result ≡ would_save o past (Deliver packet.now) }
-    {
-        self.refusal(packet).is_none() && adds(&self.noted, packet.body())
-    }
-
-    /// Why the delivery of this packet is refused.
-    fn refusal(&self, packet: &Packet) -> Option<Fault>
-        ensures { result ≡ refusal_by (not self.now.down) self.now.servers self.now.noted (Deliver packet.now) }
-    {
-        if self.down {
-            return Some(Fault::Down);
-        }
-        if !is_for_client(self.servers.count(), packet) {
-            return Some(Fault::Misdirected);
-        }
-        fault_of(&self.noted, packet.body())
-    }
-
-    /// The kept state of a key.
+    /// The kept state of a key. Where a save has failed, up to it.
     pub fn saved(&self, key: Key) -> Option<&VerifyState>
-        ensures { (o : Opening) (past : List Entry) → StandsFor N.note self.now o past → option_copied result ≡ kept o (looked past) key }
+        ensures { (o : Opening) (past : List FrameEntry) → StandsFor N.note self.now o past →
+            option_copied result ≡ kept o (looked (packets_heard o past)) key }
     {
-        self.noted.kept.get(key)
+        self.core.saved(key)
+    }
+
+    /// The reports of this life, in order of arrival: of each attempt, server and job the first that
+    /// counted. Where a save has failed, those up to it.
+    pub fn reports(&self) -> &[Received]
+        ensures { (o : Opening) (past : List FrameEntry) → StandsFor N.note self.now o past →
+            result.now ≡ reports (life o (looked (packets_heard o past))) }
+    {
+        self.core.reports()
+    }
+
+    /// How a request of this life stands at a server, by the number of its run or attempt. Where a save
+    /// has failed, up to it.
+    pub fn outcome(&self, kind: RequestKind, number: u64, server: ServerNo) -> Outcome
+        ensures { (o : Opening) (past : List FrameEntry) → StandsFor N.note self.now o past →
+            result ≡ outcome o (looked (packets_heard o past)) kind number server }
+    {
+        self.core.outcome(kind, number, server)
+    }
+
+    /// Whether the trigger of a run has ended at every server: a local trigger waits for it. Where a save
+    /// has failed, up to it.
+    pub fn settled(&self, run: RunNo) -> bool
+        ensures { (o : Opening) (past : List FrameEntry) → StandsFor N.note self.now o past →
+            result ≡ settled o (looked (packets_heard o past)) run }
+    {
+        self.core.settled(run)
     }
 }

@@ -1,6 +1,7 @@
 //! What holds of every list of what came to a client. The functions have nothing to run.
 
-ghost use Rattle.client_core.specs.Laws.{FirstKeptStays, KeptWasSent, SavedIsKept, AcksAreFor, RunsAreFresh, AttemptsAreFresh, OneTextOfARun, OneTextOfAnAttempt, LooksAtAll, TickOnlyLooks, NotesKeepRanges, TriggersEndWell, PacketsGoToServers, PacketsAreInRange, PacketsAreFew, ReportsCame, OneReportEach};
+ghost use Rattle.client_core.specs.Laws.{FirstKeptStays, KeptWasSent, SavedIsKept, AcksAreFor, RunsAreFresh, AttemptsAreFresh, OneTextOfARun, OneTextOfAnAttempt, LooksAtAll, TickOnlyLooks, NotesKeepRanges, TriggersEndWell, PacketsGoToServers, PacketsAreInRange, ReportsCame, OneReportEach};
+ghost use Rattle.client_core.specs.Bounds.{PacketsAreFew, FramesAreShort};
 ghost use Rattle.client_core.specs.Examples.{Begins, WaitsForTheBusy, KeepsTheFirst, TriggersToTheEnd, Verifies, GoesDown, KeepsWhatIsNoted, ForgetsByACut, AsksAgainInOrder, SpendsNumbers};
 
 /// A kept state is never replaced.
@@ -66,10 +67,20 @@ pub fn packets_are_in_range()
     ensures { PacketsAreInRange }
 {}
 
-/// A call sends at most 8 packets, but for a tick.
+/// A call sends at most 8 packets, and a tick one to each server for each request of this life.
 pub fn packets_are_few()
     ensures { PacketsAreFew }
 {}
+
+/// Each packet goes in at most 17 frames of together 17,233 bytes, where what came is within its ranges.
+pub fn frames_are_short()
+    ensures { FramesAreShort }
+{
+    packets_are_few();
+    packets_are_in_range();
+    messages::frames_are_few();
+    messages::lengths_are_bounded();
+}
 
 /// Each report came from its server, and of each attempt, server and job one is kept.
 pub fn reports_came()

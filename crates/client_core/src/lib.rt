@@ -8,11 +8,13 @@ mod beginning;
 mod call;
 mod client;
 mod frames;
+mod input;
 mod kept;
 mod law;
 mod life;
 mod noted;
 mod outcome;
+mod packet_client;
 mod received;
 mod refusal;
 mod replies;
@@ -24,15 +26,15 @@ mod told;
 pub use beginning::Beginning;
 pub use call::Call;
 pub use client::Client;
+pub use input::Input;
 pub use kept::{KEPT_LIMIT, Kept};
 pub use law::{
-    acks_are_for_kept_states, examples, first_kept_stays, kept_was_sent, looks_at_all,
-    notes_keep_ranges, numbers_are_fresh, one_text, packets_are_few, packets_are_in_range,
-    packets_go_to_servers, reports_came, saved_is_kept, tick_only_looks, triggers_end_well,
+    acks_are_for_kept_states, examples, first_kept_stays, frames_are_short, kept_was_sent,
+    looks_at_all, notes_keep_ranges, numbers_are_fresh, one_text, packets_are_few,
+    packets_are_in_range, packets_go_to_servers, reports_came, saved_is_kept, tick_only_looks,
+    triggers_end_well,
 };
 pub use noted::{Noted, notes_are_read_back, one_note};
 pub use outcome::{Outcome, RequestKind};
+pub use packet_client::PacketClient;
 pub use received::Received;
-
-#[cfg(test)]
-mod tests;

@@ -23,7 +23,7 @@ pub(crate) fn is_for_client(servers: u32, packet: &Packet) -> bool
 }
 
 /// Whether the node is one of so many servers.
-fn is_server_of(servers: u32, node: Node) -> bool
+pub(crate) fn is_server_of(servers: u32, node: Node) -> bool
     ensures { result ≡ is_server_of servers node }
 {
     match node {

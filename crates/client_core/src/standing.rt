@@ -159,7 +159,8 @@ impl Standing {
 
     /// The one answer of a request that isn't asked for each job.
     pub fn end(&mut self)
-        ensures { (q : Request) → IsKept self.old q → IsKept self.new (answered q) }
+        ensures outcome { (q : Request) → IsKept self.old q → IsKept self.new (answered q) }
+        ensures rest { self.new ≡ record self.old { outcome = self.new.outcome } }
     {
         if self.outcome == Outcome::Open {
             self.outcome = Outcome::Good;

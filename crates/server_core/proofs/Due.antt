@@ -1,12 +1,14 @@
 -- What is due is a Start of a run above the last one.
 use Rattle.std.proofs.Common.{◌≡◌, refl, sym, ap, subst, ℕ, ◌<◌, ◌≤◌, arith, Bool, true, false, ◌&&◌, ◌==◌, List, ◌∷◌, Option, None, Some}
 use Rattle.std.specs.Prelude.{not, nat_lt, if◌then◌else◌}
-use Rattle.std.proofs.lemmas.Bool.{eqb-true, ltb-true, and_parts}
+use Rattle.std.proofs.lemmas.Bool.{eqb-true, ltb-true}
 use Rattle.disk_model.specs.declared.left.Left.{Left}
 use Rattle.disk_model.specs.Left.{has_new}
+use Rattle.server_core.specs.DueStart.{IsDueStart}
 use Rattle.server_core.specs.History.{Opening, Entry, Met, Cut, Restart}
 use Rattle.server_core.specs.Request.{Request, ToStage, ToStart, ToTrigger, ToMark, ToStop, ToVerify, ToHold, ToPassFully, ToIssue, ToEnd, ToReport, ToNobody, asked}
 use Rattle.server_core.specs.Run.{Work, is_open}
+use Rattle.server_core.specs.declared.event.Event.{Event}
 use Rattle.server_core.specs.Words.{Staged, for_run, is_on, is_due, recorded, last_run, work, staged, due}
 
 -- What is due: a Start of the staged run, which is above the last one.
@@ -14,39 +16,51 @@ pub record IsStart (last : ℕ) (x : Request) (s : Staged) : Type 0 where
   pub start : x ≡ ToStart s.run
   pub above : last < s.run
 
--- Both tests hold where the whole gives something.
-both : {X : Type 0} (a b : Bool) (y : Option X) (s : X) → (if a && b then y else None) ≡ Some s → (b ≡ true) × (y ≡ Some s)
-both true true y s h = (refl, h)
-both true false y s h = cc
-both false b y s h = cc
+-- All tests hold where the whole gives something.
+all_hold : {X : Type 0} (a b c : Bool) (y : Option X) (s : X) → (if a && (b && not c) then y else None) ≡ Some s → (a ≡ true) × (b ≡ true) × (c ≡ false) × (y ≡ Some s)
+all_hold true true false y s h = (refl, refl, refl, h)
+all_hold true true true y s h = cc
+all_hold true false c y s h = cc
+all_hold false b c y s h = cc
 
 same_run : (t : Bool) (s found : Staged) → (if t then Some s else None) ≡ Some found → (t ≡ true) × (s ≡ found)
 same_run true s found h = (refl, cc)
 same_run false s found h = cc
 
-of_run : (r : ℕ) (staged : Option Staged) (s : Staged) → for_run r staged ≡ Some s → s.run ≡ r
+of_run : (r : ℕ) (staged : Option Staged) (s : Staged) → for_run r staged ≡ Some s → (staged ≡ Some s) × (s.run ≡ r)
 of_run r None s h = cc
 of_run r (Some t) s h =
     let p = same_run (t.run == r) t s h in
-    subst (λ (u : Staged). u.run ≡ r) p.1 (eqb-true t.run r p.0)
+    (ap Some p.1, subst (λ (u : Staged). u.run ≡ r) p.1 (eqb-true t.run r p.0))
+
+pub rests : (on : Bool) (last : ℕ) (staged : Option Staged) (now : Option Work) (x : Request) (s : Staged) → is_due on last staged now x ≡ Some s → IsDueStart on last staged now x s
+rests on last staged now (ToStart r) s h =
+    let p = all_hold on (nat_lt last r) (is_open now) (for_run r staged) s h in
+    let q = of_run r staged s p.3 in
+    record {
+      is_up = p.0;
+      start = ap ToStart (sym q.1);
+      staged_is = q.0;
+      above = subst (λ n. last < n) (sym q.1) (ltb-true last r p.1);
+      none_open = p.2;
+    }
+rests on last staged now (ToStage r text) s h = cc
+rests on last staged now (ToTrigger r act) s h = cc
+rests on last staged now (ToMark r j) s h = cc
+rests on last staged now (ToStop r) s h = cc
+rests on last staged now (ToVerify r a text) s h = cc
+rests on last staged now (ToHold a state) s h = cc
+rests on last staged now (ToPassFully a j) s h = cc
+rests on last staged now (ToIssue j) s h = cc
+rests on last staged now (ToEnd ticket end) s h = cc
+rests on last staged now (ToReport b a j report) s h = cc
+rests on last staged now ToNobody s h = cc
+
+pub due_is_start : (o : Opening) (past : List Entry) (e : Event) (s : Staged) → due o past e ≡ Some s → IsDueStart (is_on past) (last_run o past) (staged o past) (work o past) (asked o.me e) s
+due_is_start o past e s h = rests (is_on past) (last_run o past) (staged o past) (work o past) (asked o.me e) s h
 
 pub due_start : (on : Bool) (last : ℕ) (staged : Option Staged) (now : Option Work) (x : Request) (s : Staged) → is_due on last staged now x ≡ Some s → IsStart last x s
-due_start on last staged now (ToStart r) s h =
-    let p = both on (nat_lt last r && not (is_open now)) (for_run r staged) s h in
-    let q = and_parts (nat_lt last r) (not (is_open now)) p.0 in
-    let same = of_run r staged s p.1 in
-    record { start = ap ToStart (sym same); above = subst (λ n. last < n) (sym same) (ltb-true last r q.0) }
-due_start on last staged now (ToStage r text) s h = cc
-due_start on last staged now (ToTrigger r act) s h = cc
-due_start on last staged now (ToMark r j) s h = cc
-due_start on last staged now (ToStop r) s h = cc
-due_start on last staged now (ToVerify r a text) s h = cc
-due_start on last staged now (ToHold a state) s h = cc
-due_start on last staged now (ToPassFully a j) s h = cc
-due_start on last staged now (ToIssue j) s h = cc
-due_start on last staged now (ToEnd ticket end) s h = cc
-due_start on last staged now (ToReport b a j report) s h = cc
-due_start on last staged now ToNobody s h = cc
+due_start on last staged now x s h = let r = rests on last staged now x s h in record { start = r.start; above = r.above }
 
 raises : (b : Bool) (n last : ℕ) → last ≤ n → last ≤ (if b then n else last)
 raises true n last h = h

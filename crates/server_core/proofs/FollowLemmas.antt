@@ -1,17 +1,18 @@
 -- The words behind one more event are read from the words before it.
 use Rattle.std.proofs.Common.{◌≡◌, refl, ap, subst, ◌∙◌, ℕ, ◌≤◌, ◌<◌, arith, Bool, true, false, List, [], ◌∷◌, Option, None, Some}
-use Rattle.std.specs.Prelude.{if◌then◌else◌, nat_lt, not, ◌&&◌, ◌==◌}
+use Rattle.std.specs.Prelude.{if◌then◌else◌, nat_lt}
 use Rattle.std.proofs.lemmas.Bool.Decides.{nat_tests}
 use Rattle.disk_model.specs.declared.left.Left.TheVariants.{NoSave, Saved}
 use Rattle.server_core.specs.declared.event.Event.{Event}
 use Rattle.server_core.specs.History.{Opening, Entry, Met}
-use Rattle.server_core.specs.Request.{Request, ToStage, ToStart, ToTrigger, ToMark, ToStop, ToVerify, ToHold, ToPassFully, ToIssue, ToEnd, ToReport, ToNobody, asked}
-use Rattle.server_core.specs.Run.{Work, is_open}
-use Rattle.server_core.specs.Words.{Staged, is_on, boot, last_run, stagings, staged, work, due, stages, staged_after, greater, greatest, for_run, is_due, recorded, work_after}
+use Rattle.server_core.specs.Request.{Request, asked}
+use Rattle.server_core.specs.Run.{Work}
+use Rattle.server_core.specs.Words.{Staged, is_on, boot, last_run, stagings, staged, work, due, stages, staged_after, greater, greatest, is_due, recorded, work_after}
 use Rattle.server_core.specs.Check.{Check, check, opens, check_after, check_goes_on, or_opened}
 use Rattle.server_core.specs.Replies.{Now}
 use Rattle.server_core.specs.Answers.{now}
 use Rattle.server_core.specs.Stands.{after, begun_by, with_staged}
+use Rattle.server_core.proofs.Due.{rests, due_is_start}
 
 abbrev now_by : ℕ → ℕ → ℕ → Option Staged → Option Work → Option Check → Now
 now_by me b l s w c = record { server = me; boot = b; last = l; staged = s; run = w; check = c }
@@ -89,52 +90,14 @@ none_above last (new ∷ older) s e = by_older (none_above last older) (greatest
             subst (λ x. (greatest x.run (new ∷ older) ≡ None) × (last < x.run)) same
             (ap (greater t.run new) below.0 ∙ ap (λ b. if b then Some new else None) u, below.1)
 
-for_which : (r : ℕ) (found : Option Staged) (s : Staged) → for_run r found ≡ Some s → found ≡ Some s
-for_which r None s e = cc
-for_which r (Some t) s e = pick (t.run == r) e
-  where
-    pick : (b : Bool) → (if b then Some t else None) ≡ Some s → Some t ≡ Some s
-    pick true e = e
-    pick false e = cc
-
--- What is due is staged.
-pub due_is_staged : (on : Bool) (last : ℕ) (found : Option Staged) (w : Option Work) (x : Request) (s : Staged) → is_due on last found w x ≡ Some s → found ≡ Some s
-due_is_staged on last found w (ToStart r) s e = pick (on && (nat_lt last r && not (is_open w))) e
-  where
-    pick : (b : Bool) → (if b then for_run r found else None) ≡ Some s → found ≡ Some s
-    pick true e = for_which r found s e
-    pick false e = cc
-due_is_staged on last found w (ToStage r text) s e = cc
-due_is_staged on last found w (ToTrigger r act) s e = cc
-due_is_staged on last found w (ToMark r j) s e = cc
-due_is_staged on last found w (ToStop r) s e = cc
-due_is_staged on last found w (ToVerify r a text) s e = cc
-due_is_staged on last found w (ToHold a state) s e = cc
-due_is_staged on last found w (ToPassFully a j) s e = cc
-due_is_staged on last found w (ToIssue j) s e = cc
-due_is_staged on last found w (ToEnd ticket end) s e = cc
-due_is_staged on last found w (ToReport b a j report) s e = cc
-due_is_staged on last found w ToNobody s e = cc
-
 -- A request that is due to record a run stages none.
 due_stages_none : (on : Bool) (last : ℕ) (found : Option Staged) (w : Option Work) (x : Request) (s : Staged) (b : Bool) (l : ℕ) (v : Option Work) → is_due on last found w x ≡ Some s → stages b l v x ≡ None
-due_stages_none on last found w (ToStart r) s b l v e = refl
-due_stages_none on last found w (ToStage r text) s b l v e = cc
-due_stages_none on last found w (ToTrigger r act) s b l v e = cc
-due_stages_none on last found w (ToMark r j) s b l v e = cc
-due_stages_none on last found w (ToStop r) s b l v e = cc
-due_stages_none on last found w (ToVerify r a text) s b l v e = cc
-due_stages_none on last found w (ToHold a state) s b l v e = cc
-due_stages_none on last found w (ToPassFully a j) s b l v e = cc
-due_stages_none on last found w (ToIssue j) s b l v e = cc
-due_stages_none on last found w (ToEnd ticket end) s b l v e = cc
-due_stages_none on last found w (ToReport c a j report) s b l v e = cc
-due_stages_none on last found w ToNobody s b l v e = cc
+due_stages_none on last found w x s b l v e = ap (stages b l v) (rests on last found w x s e).start
 
 pub starts_follow : (o : Opening) (past : List Entry) (e : Event) (s : Staged) → due o past e ≡ Some s → now o (Met e Saved ∷ past) ≡ begun_by (now o past) s
 starts_follow o past e s is =
     let x = asked o.me e in
-    let found : staged o past ≡ Some s = due_is_staged (is_on past) (last_run o past) (staged o past) (work o past) x s is in
+    let found : staged o past ≡ Some s = (due_is_start o past e s is).staged_is in
     let last : last_run o (Met e Saved ∷ past) ≡ s.run = ap (λ d. recorded Saved d (last_run o past)) is in
     same_now o.me (boot o past) _ _ _ _ _ _ _ _ last
     (ap (λ l. greatest l (staged_after Saved (stages (is_on past) (last_run o past) (work o past) x) (stagings o past))) last

@@ -1,8 +1,8 @@
 -- A server takes a Start that is due as its list does.
-use Rattle.std.proofs.Common.{◌≡◌, ◌⊎◌, inl, inr, refl, sym, ap, subst, ◌∙◌, ℕ, ◌<◌, ◌^◌, Bool, true, false, ◌&&◌, ◌==◌, List, ◌∷◌, Option, None, Some}
-use Rattle.std.specs.Prelude.{if◌then◌else◌, not, nat_le, nat_lt, is_some, Result, Ok, Err}
+use Rattle.std.proofs.Common.{◌≡◌, ◌⊎◌, inl, inr, refl, sym, ap, subst, ◌∙◌, ℕ, ◌<◌, ◌^◌, true, false, ◌&&◌, List, ◌∷◌, Option, None, Some}
+use Rattle.std.specs.Prelude.{if◌then◌else◌, not, nat_le, is_some, Result, Ok, Err}
 use Rattle.std.specs.List.{flat_map}
-use Rattle.std.proofs.lemmas.Bool.{and_parts, ltb-true, eqb-true}
+use Rattle.std.proofs.lemmas.Bool.{and_parts, ltb-true}
 use Rattle.fc_base.specs.declared.fault.Fault.{Fault}
 use Rattle.fc_base.specs.declared.fault.Fault.TheVariants.{Down}
 use Rattle.fc_base.specs.declared.fault.FaultSort.{FaultSort}
@@ -18,33 +18,22 @@ use Rattle.server_core.specs.declared.packet_server.PacketServer.{PacketServer}
 use Rattle.server_core.specs.History.{Opening, Entry, Met}
 use Rattle.server_core.specs.Note.{Says, spelling}
 use Rattle.server_core.specs.Request.{ToStart, asked}
-use Rattle.server_core.specs.Run.{Work, is_open}
-use Rattle.server_core.specs.Words.{Staged, is_on, boot, last_run, due, is_due, for_run, recorded, work}
+use Rattle.server_core.specs.Run.{Work}
+use Rattle.server_core.specs.Words.{Staged, is_on, boot, last_run, due, is_due, recorded, work}
 use Rattle.server_core.specs.Replies.{replies}
 use Rattle.server_core.specs.Answers.{now, refusal, refusal_of, packets, to_client, sent_by, issue_for, act_of, looked}
 use Rattle.server_core.specs.Framed.{framed}
 use Rattle.server_core.specs.Stands.{MachineIs, EachNow, IsDueFor}
 use Rattle.server_core.specs.Bounds.{AreShort}
 use Rattle.server_core.specs.Serves.{StandsFor, Starts, Unstarted, Answers, Fails, Faults, Ends, saved_for, answered}
+use Rattle.server_core.proofs.Due.{rests}
 use Rattle.server_core.proofs.FollowLemmas.{starts_follow}
 use Rattle.server_core.proofs.UndueLemmas.{no_act}
 use Rattle.server_core.proofs.ServeLemmas.{keeps_now, IsSendable}
 
 -- What is due of a Start is of its run.
 due_run : (last r : ℕ) (found : Option Staged) (w : Option Work) (s : Staged) → is_due true last found w (ToStart r) ≡ Some s → s.run ≡ r
-due_run last r found w s e = by_test (nat_lt last r && not (is_open w)) e
-  where
-    by_found : (o : Option Staged) → for_run r o ≡ Some s → s.run ≡ r
-    by_found None e = cc
-    by_found (Some t) e = pick (t.run == r) refl e
-      where
-        pick : (b : Bool) → (t.run == r) ≡ b → (if b then Some t else None) ≡ Some s → s.run ≡ r
-        pick false q e = cc
-        pick true q e = let same : t ≡ s = cc in ap (λ (x : Staged). x.run) (sym same) ∙ eqb-true t.run r q
-
-    by_test : (b : Bool) → (if b then for_run r found else None) ≡ Some s → s.run ≡ r
-    by_test true e = by_found found e
-    by_test false e = cc
+due_run last r found w s e = let same : ToStart r ≡ ToStart s.run = (rests true last found w (ToStart r) s e).start in cc
 
 there : (o : Option Staged) → is_some o ≡ true → (s : Staged) × (o ≡ Some s)
 there None e = cc

@@ -1,6 +1,7 @@
 pub mod Accepted
 pub mod Answers
 pub mod Check
+pub mod DueStart
 pub mod Examples
 pub mod Heard
 pub mod History

@@ -2,6 +2,7 @@
 
 ghost use Rattle.server_core.specs.Laws.{TakenAtMostOnce, NumbersGrow, StartsOnce, PresentIsLast, LooksAtAll, HoldsTheTaken, SendsTheTaken, StatesTellJobs, NoStateIsUntaken, TakingsStay, TextsGiveSets, StagingsHaveSets, RunsHaveSets, ChecksHaveSets, HistoriesAreLegal, CountsTheDone, QuietWhileLast, QuietUntilChecked, WithWasHeard, CutsWhenKept, PacketsAreFew, PacketsAreInRange};
 ghost use Rattle.server_core.specs.Bounds.{FramesAreShort};
+ghost use Rattle.server_core.specs.DueStart.{DueIsStart};
 ghost use Rattle.server_core.specs.Follows.{WordsFollow, StartsFollow};
 ghost use Rattle.server_core.specs.Handles.{RefusedStays};
 ghost use Rattle.server_core.specs.Examples.{StartsAndIssues, TakesOnce, ForgetsByACut, SavesBeforeItStarts, StopsForGood, ChecksTheLastRun, RefusesAMisfit};
@@ -20,6 +21,12 @@ pub fn numbers_grow()
 pub fn starts()
     ensures once { StartsOnce }
     ensures last { PresentIsLast }
+{}
+
+/// What is due to be recorded is a Start of the staged run, above the last run, with no write open, of a
+/// server that is on.
+pub fn due_starts()
+    ensures { DueIsStart }
 {}
 
 /// A run's job is taken at most once.

@@ -28,9 +28,9 @@ pub use event::{Event, WriteEnd};
 pub use input::Input;
 pub use job_run::{End, JobRun};
 pub use law::{
-    counts_the_done, cuts_when_kept, examples, few_packets, frames_are_short, legal_histories,
-    looks_at_all, numbers_grow, one_taking, packets_are_in_range, quiet, refused_stays, starts,
-    the_taken, the_untaken, with_was_heard, words_follow,
+    counts_the_done, cuts_when_kept, due_starts, examples, few_packets, frames_are_short,
+    legal_histories, looks_at_all, numbers_grow, one_taking, packets_are_in_range, quiet,
+    refused_stays, starts, the_taken, the_untaken, with_was_heard, words_follow,
 };
 pub use machine::Machine;
 pub use note::{Noted, one_note};

@@ -20,7 +20,7 @@ use server_core::Server;
 use std::alloc::{AllocGlobal, Global};
 use std::process::Abort;
 use std::test::Fail;
-use stories::{LostSave, Story, checks, elsewhere, losses, pieces, runs, starts, triggers};
+use stories::{LostSave, Story, checks, elsewhere, losses, pieces, runs, starts, states, triggers};
 use trouble::Trouble;
 
 fn blank(alloc: Global) -> MemNotes {
@@ -60,6 +60,7 @@ fn are_answered_after(rt: &(impl Abort + AllocGlobal), stories: &[LostSave]) {
 #[test]
 fn frames_from_elsewhere(rt: HostRuntime) {
     are_answered(&rt, &elsewhere::STORIES);
+    are_answered(&rt, &states::STORIES);
     are_answered_after(&rt, &elsewhere::LOST_SAVES);
 }
 

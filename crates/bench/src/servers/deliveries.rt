@@ -43,14 +43,12 @@ impl Client {
         self.tell(Body::Start { run })
     }
 
-    /// The next write of job 0, or why none is issued.
-    pub fn issue(&mut self) -> Result<Issue, Trouble> {
-        let outs = self.server.step(Input::Issue(JobNo(0)))?;
-        outs.issue.ok_or(Trouble::NoWrite)
-    }
-
-    /// The write is done.
-    pub fn done(&mut self, ticket: Ticket) -> Result<(), Trouble> {
+    /// The next write of job 0 is issued, and done.
+    pub fn write(&mut self) -> Result<(), Trouble> {
+        let answer = self.server.step(Input::Issue(JobNo(0)))?.issue;
+        let Some(Issue::Write(ticket)) = answer else {
+            return Err(Trouble::NoWrite);
+        };
         self.server.step(Input::WriteDone(ticket, WriteEnd::Done))?;
         Ok(())
     }

@@ -4,7 +4,9 @@ use super::deliveries::{Client, issued};
 use crate::rounds::{ROUNDS, median};
 use crate::trouble::Trouble;
 use engine::{Engine, Issue};
-use fc_base::{JobNo, JobParts, JobRecord, Key, Kind, RunNo, ServerNo, Verify, MAX_BLOCKS, MAX_WRITES};
+use fc_base::{
+    JobNo, JobParts, JobRecord, Key, Kind, MAX_BLOCKS, MAX_WRITES, RunNo, ServerNo, Verify,
+};
 use std::alloc::Global;
 use std::time::CpuClock;
 
@@ -51,8 +53,7 @@ fn time_steps<R: AllocGlobal + CpuClock>(rt: &R) -> Result<u128, Trouble> {
     client.begin(1, TEXT)?;
     let start = rt.process_cpu_time()?;
     for _ in 0..JOB.total {
-        let ticket = issued(client.issue()?)?;
-        client.done(ticket)?;
+        client.write()?;
     }
     Ok(rt.process_cpu_time()?.saturating_sub(start).as_nanos())
 }

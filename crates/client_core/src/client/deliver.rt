@@ -1,70 +1,127 @@
-//! A packet of a server is delivered.
+//! A frame of a server is delivered.
 
-ghost use Rattle.std.specs.Prelude.{◌≡◌, ◌<◌, [], not, false, List, None, IsTrue};
-ghost use Rattle.messages.specs.declared.packet.PacketParts.{PacketParts as Parts};
-ghost use Rattle.messages.specs.Nodes.{node_number};
-ghost use Rattle.messages.specs.Ranges.{is_body, KeepsState};
-ghost use Rattle.client_core.specs.declared.call.Call.TheVariants.{Deliver};
-ghost use Rattle.client_core.specs.Ends.{Ends};
-ghost use Rattle.client_core.specs.History.{Opening, Entry};
-ghost use Rattle.client_core.specs.Refusals.{refusal_by, faults_of_body};
-ghost use Rattle.client_core.specs.Stands.{StandsFor};
+ghost use Rattle.std.specs.Prelude.{◌≡◌, List, IfOk, OnErr};
+ghost use Rattle.messages.specs.declared.frame.Frame.TheVariants.{Whole, Piece as OfPiece};
+ghost use Rattle.client_core.specs.declared.input.Input.TheVariants.{Deliver};
+ghost use Rattle.client_core.specs.History.{Opening};
+ghost use Rattle.client_core.specs.Hearing.{FrameEntry, is_piece_for};
+ghost use Rattle.client_core.specs.FrameAnswers.{would_save, IsPiece};
+ghost use Rattle.client_core.specs.FrameEnds.{StandsFor, Ends};
+ghost use Rattle.client_core.specs.Sensing.{IsSensed};
 
 use super::Client;
-use crate::noted::notes_are_read_back;
-use crate::refusal::new_state;
-use crate::replies::replies;
+use crate::law::frames_are_short;
+use crate::refusal::is_server_of;
 use disk_model::Notes;
 use fc_base::Fault;
-use messages::{Body, Frames, Packet, PacketParts};
+use messages::{Frame, Frames, Packet, Piece};
+use std::alloc::AllocError;
 
 impl<N: Notes> Client<N> {
-    /// Takes a packet, and replies to it. A State of a new key is saved before it is acknowledged.
-    ///
-    /// In this order: `Down`; `Misdirected`; `Conflict`, another state of the key is kept; `TableFull`;
-    /// `NoMemory`, and nothing changes; `SaveFault`, and the client is down.
-    pub fn deliver(&mut self, packet: Packet) -> Result<Frames, Fault>
-        ensures { (o : Opening) (past : List Entry) → StandsFor N.note self.old o past →
-            Ends N.note o past (Deliver packet) self.old self.new result }
+    /// Whether the delivery of this frame would make a save: it is a State that isn't refused, of a key of
+    /// which no state is kept, or the piece that completes one. Memory may be wanted only for a piece.
+    pub fn would_save(&self, frame: &Frame) -> Result<bool, AllocError>
+        ensures memory { OnErr result (IsPiece frame.now) }
+        ensures saves { (o : Opening) (past : List FrameEntry) → StandsFor N.note self.now o past →
+            IfOk result (λ saves. saves ≡ would_save o past frame.now) }
     {
-        if let Some(fault) = self.refusal(&packet) {
-            return Err(fault);
+        match frame {
+            Frame::Whole(packet) => Ok(self.core.would_save(packet)),
+            Frame::Piece(piece) => self.piece_would_save(piece),
         }
-        self.servers.are_few();
-        let server = packet.from().number();
-        let PacketParts { body, .. } = packet.into_parts();
-        self.hear(server, body)
     }
 
-    /// Takes what a server says, which isn't refused.
-    fn hear(&mut self, server: u32, body: Body) -> Result<Frames, Fault>
-        requires up { self.old.down ≡ false }
-        requires server { server < 8 }
-        requires body { IsTrue (is_body body) }
-        requires state { KeepsState body }
-        requires free { faults_of_body self.old.noted body ≡ [] }
-        ensures { (o : Opening) (past : List Entry) (p : Parts) → p.body ≡ body →
-            node_number p.from ≡ server →
-            refusal_by (not self.old.down) self.old.servers self.old.noted (Deliver p) ≡ None →
-            StandsFor N.note self.old o past →
-            Ends N.note o past (Deliver p) self.old self.new result }
+    /// Whether the delivery of a piece would make a save.
+    fn piece_would_save(&self, piece: &Piece) -> Result<bool, AllocError>
+        ensures { (o : Opening) (past : List FrameEntry) → StandsFor N.note self.now o past →
+            IfOk result (λ saves. saves ≡ would_save o past (OfPiece piece.now)) }
     {
-        notes_are_read_back();
-        let Ok(frames) = replies(self.alloc, &self.noted, &self.life, server, &body) else {
-            return Err(Fault::NoMemory);
-        };
-        match new_state(&self.noted, &body) {
-            Some(state) => match self.keep(state) {
-                Ok(()) => {
-                    self.life.hear(server, &body);
-                    Ok(frames)
-                }
-                Err(fault) => Err(fault),
-            },
-            None => match self.life.hear_any(server, body) {
-                Ok(()) => Ok(frames),
-                Err(_) => Err(Fault::NoMemory),
-            },
+        match self.look(piece) {
+            Ok(Some(packet)) => Ok(self.core.would_save(&packet)),
+            Err(Fault::NoMemory) => Err(AllocError),
+            _ => Ok(false),
         }
     }
+
+    /// Takes a frame, and replies to the packet that it is or completes. A State of a new key is saved
+    /// before it is acknowledged.
+    ///
+    /// In this order: `Down`; `Misdirected`; `FrameBadField`, a piece completes a body that isn't the packet
+    /// of its tag, which is dropped; `Conflict`, another state of the key is kept; `TableFull`; `NoMemory`,
+    /// and nothing changes; `SaveFault`, and the client is down.
+    pub fn deliver(&mut self, frame: Frame) -> Result<Frames, Fault>
+        ensures { (o : Opening) (past : List FrameEntry) → StandsFor N.note self.old o past →
+            Ends N.note o past (Deliver frame) self.old self.new result }
+    {
+        match frame {
+            Frame::Whole(packet) => self.take(packet),
+            Frame::Piece(piece) => self.join(&piece),
+        }
+    }
+
+    /// Takes a packet.
+    fn take(&mut self, packet: Packet) -> Result<Frames, Fault>
+        ensures { (o : Opening) (past : List FrameEntry) → StandsFor N.note self.old o past →
+            Ends N.note o past (Deliver (Whole packet)) self.old self.new result }
+    {
+        frames_are_short();
+        packet.keeps_its_ranges();
+        self.core.deliver(packet)
+    }
+
+    /// Takes a piece: the packet that it completes, or else the piece alone.
+    fn join(&mut self, piece: &Piece) -> Result<Frames, Fault>
+        ensures { (o : Opening) (past : List FrameEntry) → StandsFor N.note self.old o past →
+            Ends N.note o past (Deliver (OfPiece piece.now)) self.old self.new result }
+    {
+        frames_are_short();
+        match self.look(piece) {
+            Ok(Some(packet)) => {
+                packet.keeps_its_ranges();
+                let sent = self.core.deliver(packet);
+                if sent.is_ok() {
+                    self.pieces.drop(piece.tag());
+                }
+                sent
+            }
+            Ok(None) => match self.pieces.take(piece) {
+                Ok(()) => Ok(Frames::new(self.alloc)),
+                Err(_) => Err(Fault::NoMemory),
+            },
+            Err(Fault::FrameBadField) => {
+                self.pieces.drop(piece.tag());
+                Err(Fault::FrameBadField)
+            }
+            Err(Fault::Down) => Err(Fault::Down),
+            Err(Fault::Misdirected) => Err(Fault::Misdirected),
+            Err(_) => Err(Fault::NoMemory),
+        }
+    }
+
+    /// The packet that a piece completes, if it completes one; or why it is refused.
+    fn look(&self, piece: &Piece) -> Result<Option<Packet>, Fault>
+        ensures { (o : Opening) (past : List FrameEntry) → StandsFor N.note self.now o past →
+            IsSensed o past piece.now result }
+    {
+        if !self.core.on() {
+            return Err(Fault::Down);
+        }
+        if !is_piece_for(self.core.servers(), piece) {
+            return Err(Fault::Misdirected);
+        }
+        match self.pieces.look(piece) {
+            Ok(given) => Ok(given),
+            Err(Fault::FrameBadField) => Err(Fault::FrameBadField),
+            Err(_) => Err(Fault::NoMemory),
+        }
+    }
+}
+
+/// Whether the piece is for a client of so many servers: from one of them to it, of a kind that servers
+/// send.
+fn is_piece_for(servers: u32, piece: &Piece) -> bool
+    ensures { result ≡ is_piece_for servers piece.now }
+{
+    piece.to().is_client()
+        && (is_server_of(servers, piece.from()) && piece.tag().whole.is_of_server())
 }

@@ -3,8 +3,10 @@
 use super::named::put_word;
 use super::spelling::first_word;
 use super::trouble::Trouble;
+use super::words::ticket_in;
 use disk_model::Notes;
-use fc_base::JobNo;
+use engine::Ticket;
+use fc_base::{JobNo, Seq};
 use job_file::Job;
 use server_core::{Progress, Server, Stage, Status};
 use std::alloc::Global;
@@ -14,11 +16,12 @@ use verify_state::VerifyState;
 pub fn is_look(word: &str) -> bool {
     matches!(
         word,
-        "on" | "status" | "taken" | "run_job" | "check_job" | "check_state"
+        "on" | "status" | "taken" | "run_job" | "open_write" | "check_job" | "check_state"
     )
 }
 
-/// Whether the server shows what the words say: of a job, its number stands in front.
+/// Whether the server shows what the words say: of a job, its number stands in front, and of a write
+/// its own behind that.
 pub fn shows<N: Notes>(
     alloc: Global,
     server: &Server<N>,
@@ -26,12 +29,17 @@ pub fn shows<N: Notes>(
     job: &str,
     words: &str,
 ) -> Result<bool, Trouble> {
+    let (job, write) = first_word(job);
     let job = JobNo(job.parse::<u32>().unwrap_or(0));
     match word {
         "on" => Ok(words == if server.on() { "1" } else { "0" }),
         "status" => Ok(is_status(server.status(), words)),
         "taken" => is_state(alloc, server.taken(job), words),
         "run_job" => Ok(is_job(server.run_job(job), words)),
+        "open_write" => {
+            let write = Seq(write.parse::<u64>().unwrap_or(0));
+            Ok(is_ticket(server.open_write(job, write), words))
+        }
         "check_job" => Ok(is_job(server.check_job(job), words)),
         "check_state" => is_progress(alloc, server.check_progress(job), words),
         _ => Err(Trouble::BadRow),
@@ -74,6 +82,14 @@ fn is_state(alloc: Global, state: Option<&VerifyState>, word: &str) -> Result<bo
     let mut wanted = Vec::with_capacity(alloc, 136)?;
     put_word(&mut wanted, word)?;
     Ok(state.encode(alloc)? == wanted)
+}
+
+/// The ticket has these numbers; `none` says that there is no ticket.
+fn is_ticket(ticket: Option<Ticket>, words: &str) -> bool {
+    match ticket {
+        Some(_) => ticket == ticket_in(&mut words.split_whitespace()),
+        None => words == "none",
+    }
 }
 
 /// The job has this name; `none` says that there is no job.

@@ -16,6 +16,7 @@ pub mod losses;
 pub mod pieces;
 pub mod runs;
 pub mod starts;
+pub mod states;
 pub mod triggers;
 
 /// The name of a story, and its rows.

@@ -3,7 +3,8 @@ use Rattle.std.specs.List.{flat_map}
 use Rattle.fc_base.specs.Counted.{numbers_below}
 use Rattle.client_core.specs.Framed.{framed}
 use Rattle.client_core.specs.Packets.{begin_again}
-use Rattle.client_core.proofs.FrameLemmas.{framed_each, none_yet, read_at}
+use Rattle.std.proofs.lemmas.Option.{slice_get-get_or}
+use Rattle.client_core.proofs.FrameLemmas.{framed_each, none_yet}
 use Rattle.client_core.proofs.frames.begin_again.Goals as goal
 
 pub loop-server-init : goal.loop-server-init
@@ -14,7 +15,7 @@ loop-server-preserved c = λ at h.
     let s = c.loop-server.server in
     let next : c.loop-server.server + 1 ≡ suc c.loop-server.server = omega arith in
     framed_each (λ k. begin_again c.args.run c.args.text.now k (at k)) s (c.loop-server.server + 1) next c.args.frames.now c.loop-server.frames c.begin_at_server.new.frames (c.loop-server.invariant at h)
-    (c.in_ok-begin_at_server.ensures ∙ ap (λ b. c.loop-server.frames ++ framed (begin_again c.args.run c.args.text.now s b)) (h s _ (read_at c.args.begins.now s _ (omega arith))))
+    (c.in_ok-begin_at_server.ensures ∙ ap (λ b. c.loop-server.frames ++ framed (begin_again c.args.run c.args.text.now s b)) (h s _ (slice_get-get_or c.args.begins.now s _ (omega arith))))
 
 pub returns : goal.returns
 returns c = λ at h.

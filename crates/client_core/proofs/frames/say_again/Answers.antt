@@ -5,7 +5,8 @@ use Rattle.fc_base.specs.Counted.{numbers_below}
 use Rattle.messages.specs.Ranges.{is_body}
 use Rattle.client_core.specs.Framed.{framed}
 use Rattle.client_core.specs.Packets.{to_server, again}
-use Rattle.client_core.proofs.FrameLemmas.{framed_each, none_yet, read_at, again_if}
+use Rattle.std.proofs.lemmas.Option.{slice_get-get_or}
+use Rattle.client_core.proofs.FrameLemmas.{framed_each, none_yet, again_if}
 use Rattle.client_core.proofs.frames.say_again.Goals as goal
 
 pub loop-server-init : goal.loop-server-init
@@ -20,7 +21,7 @@ loop-server-preserved c = (
   λ at h.
       let s = c.loop-server.server in
       let next : c.loop-server.server + 1 ≡ suc c.loop-server.server = omega arith in
-      let opened = c.is_open-is_open.ensures (at s) (h s _ (read_at c.args.standings.now s _ (omega arith))) in
+      let opened = c.is_open-is_open.ensures (at s) (h s _ (slice_get-get_or c.args.standings.now s _ (omega arith))) in
       framed_each (λ k. again c.args.body k (at k)) s (c.loop-server.server + 1) next c.args.frames.now c.loop-server.frames c.say_if.new.frames (c.loop-server.invariant.1 at h)
       (c.in_ok-body.ensures.said
       ∙ ap (λ b. c.loop-server.frames ++ framed (if c.is_open-is_open.result then to_server b s ∷ [] else [])) c.loop-server.invariant.0

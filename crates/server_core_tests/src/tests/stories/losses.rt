@@ -2,36 +2,7 @@
 
 use super::LostSave;
 
-pub const LOST_SAVES: [LostSave; 6] = [
-    LostSave {
-        name: "a start that is stopped before its save",
-        at: 1,
-        landed: false,
-        rows: "
-        restart => -
-        Jobs 1 writes => JobsOk 1 1
-        Start 1 => 53
-        restart => 1 0
-        Start 1 => Refused 3 62 0 0 1 0 0
-        Jobs 1 writes => JobsOk 1 1
-        Start 1 => Started 1
-        issue 0 => write 2 1 0 0 0 0
-        restart => 2 1
-        ",
-    },
-    LostSave {
-        name: "a start that is stopped behind its save",
-        at: 1,
-        landed: true,
-        rows: "
-        restart => -
-        Jobs 1 writes => JobsOk 1 1
-        Start 1 => 53
-        restart => 1 1
-        Start 1 => Refused 3 60 0 0 1 0 1
-        issue 0 => stopped
-        ",
-    },
+pub const LOST_SAVES: [LostSave; 4] = [
     LostSave {
         name: "a server that is down shows what was before",
         at: 2,

@@ -1,61 +1,11 @@
-use Rattle.std.proofs.Common.{refl, sym, subst, ◌∙◌, ap, ◌+◌, ◌∷◌, true, arith}
-use Rattle.messages.specs.declared.body.Body.TheVariants.{Verify}
-use Rattle.client_core.specs.declared.call.Call.TheVariants.{Verify as Verifying}
-use Rattle.client_core.specs.declared.client.Client.{Client}
-use Rattle.client_core.specs.declared.noted.Noted.{Noted}
-use Rattle.client_core.specs.Ends.{Stores}
-use Rattle.client_core.specs.Framed.{framed}
-use Rattle.client_core.specs.Life.{Verifies}
-use Rattle.client_core.specs.Lives.{LifeIs, AttemptIs}
-use Rattle.client_core.specs.Packets.{to_all}
-use Rattle.client_core.specs.Saves.{NextAttempt}
-use Rattle.client_core.proofs.EndLemmas.{refuses, fails_stored, answers_stored, verify_free, free_now}
-use Rattle.client_core.proofs.NotedLemmas.{next_left, one_attempt}
-use Rattle.client_core.proofs.RangeLemmas.{next_in_range}
+use Rattle.std.proofs.Common.{refl}
+use Rattle.client_core.specs.declared.call.Call.TheVariants as calls
+use Rattle.client_core.specs.declared.input.Input.TheVariants as inputs
+use Rattle.client_core.specs.Hearing.{packets_heard}
+use Rattle.client_core.specs.Words.{noted}
+use Rattle.client_core.proofs.FrameEndLemmas.{whole_gives}
 use Rattle.client_core.proofs.client.Client.verify.Goals as goal
 
-pub returns-in-Some : goal.returns-in-Some
-returns-in-Some g c o past s = refuses g.N.Notes.note c.args.self.now o past (Verifying c.args.run c.args.text.now) c.in-Some.fault (sym c.verify_refusal.ensures.why ∙ c.in-Some.is) s
-
-pub overflow_add-attempt : goal.overflow_add-attempt
-overflow_add-attempt g c = omega (arith, next_left c.args.self.now.noted.attempts (verify_free _ _ _ _ (sym c.verify_refusal.ensures.why ∙ c.in_default.is)).3)
-
-pub verify_frames-requires-clause-run : goal.verify_frames-requires-clause-run
-verify_frames-requires-clause-run g c = c.verify_refusal.ensures.range c.in_default.is
-
-pub verify_frames-requires-clause-attempt : goal.verify_frames-requires-clause-attempt
-verify_frames-requires-clause-attempt g c = next_in_range c.args.self.now.noted.attempts (verify_free _ _ _ _ (sym c.verify_refusal.ensures.why ∙ c.in_default.is)).3
-
-pub use_attempt-requires : goal.use_attempt-requires
-use_attempt-requires g c = next_left c.args.self.now.noted.attempts (verify_free _ _ _ _ (sym c.verify_refusal.ensures.why ∙ c.in_default.is)).3
-
-pub verify-requires-clause-asked : goal.verify-requires-clause-asked
-verify-requires-clause-asked g c deeds =
-    subst (λ r. AttemptIs (c.args.self.now.noted.attempts + 1) (Verifies r (c.args.self.now.noted.attempts + 1) c.in-Ok.asked.text ∷ deeds) c.in-Ok.asked) (sym c.in-Ok.ensures.run_is)
-    (subst (λ t. AttemptIs (c.args.self.now.noted.attempts + 1) (Verifies c.args.run (c.args.self.now.noted.attempts + 1) t ∷ deeds) c.in-Ok.asked) (sym c.in-Ok.ensures.text_is) (c.in-Ok.ensures.asked deeds))
-
-pub returns-in-Err : goal.returns-in-Err
-returns-in-Err g c o past s =
-    let call = Verifying c.args.run c.args.text.now in
-    let old = c.args.self.now in
-    let free = sym c.verify_refusal.ensures.why ∙ c.in_default.is in
-    let f = verify_free _ _ _ _ free in
-    fails_stored g.N.Notes.note old c.use_attempt.new.self c.make_room_for_attempt.new.self NextAttempt c.in-Err.fault o past call c.notes_are_read_back.ensures f.0 free refl
-    (one_attempt true old.noted (next_left old.noted.attempts f.3)) c.make_room_for_attempt.ensures.same (subst (Stores g.N.Notes.note NextAttempt _ c.use_attempt.new.self) c.in-Err.is c.use_attempt.ensures) s
-
-pub returns-in-Ok-use_attempt : goal.returns-in-Ok-use_attempt
-returns-in-Ok-use_attempt g c o past s =
-    let call = Verifying c.args.run c.args.text.now in
-    let old = c.args.self.now in
-    let attempt = old.noted.attempts + 1 in
-    let free = sym c.verify_refusal.ensures.why ∙ c.in_default.is in
-    let f = verify_free _ _ _ _ free in
-    let stored = subst (Stores g.N.Notes.note NextAttempt _ c.use_attempt.new.self) c.in-Ok-use_attempt.is c.use_attempt.ensures in (
-      ap (λ (n : Noted). n.attempts + 1) (sym (free_now g.N.Notes.note old o past call f.0 s free).1),
-      answers_stored g.N.Notes.note old c.use_attempt.new.self c.make_room_for_attempt.new.self c.verify.new.self NextAttempt o past call c.in-Ok.frames c.notes_are_read_back.ensures f.0 free refl
-          (one_attempt true old.noted (next_left old.noted.attempts f.3)) _ stored
-          (λ deeds h. c.in-Ok.ensures.frames ∙ ap (λ n. framed (to_all n (Verify c.args.run attempt c.args.text.now))) c.count-servers.ensures.count)
-          (λ deeds h. subst (λ r. LifeIs c.verify.new.self (Verifies r attempt c.args.text.now ∷ deeds)) c.in-Ok.ensures.run_is
-          (subst (λ t. LifeIs c.verify.new.self (Verifies c.in-Ok.asked.run attempt t ∷ deeds)) c.in-Ok.ensures.text_is
-          (c.verify.ensures deeds (subst (λ l. LifeIs l deeds) (sym (ap (λ (m : Client _). m.life) stored.1)) (c.make_room_for_attempt.ensures.same deeds h))))) s,
-    )
+pub returns : goal.returns
+returns g c o past s =
+    whole_gives g.N.Notes.note o past (inputs.Verify c.args.run c.args.text.now) (calls.Verify c.args.run c.args.text.now) (noted o (packets_heard o past)).attempts c.args.self.now c.verify.new.self c.verify.result c.frames_are_short.ensures tt refl refl s (c.verify.ensures o (packets_heard o past) s.core)

@@ -2,7 +2,7 @@ use Rattle.std.proofs.Common.{List, ℕ, refl, true, ap, ◌∙◌}
 use Rattle.disk_model.specs.Notes.{Note}
 use Rattle.server_core.specs.Request.{ToStart}
 use Rattle.server_core.specs.Handles.{sent_alone}
-use Rattle.server_core.proofs.FollowLemmas.{due_is_staged}
+use Rattle.server_core.proofs.Due.{rests}
 use Rattle.server_core.proofs.packet_server.PacketServer.start.Goals as goal
 
 -- A note with these bytes.
@@ -15,6 +15,6 @@ returns-in-Ok g c = (
   refl,
   λ words s h d. (
     c.sent.ensures ∙ ap sent_alone (c.in_ok-frames.ensures.sent words h),
-    c.begin.ensures words h s (due_is_staged true words.last words.staged words.run (ToStart c.args.run) s d),
+    c.begin.ensures words h s (rests true words.last words.staged words.run (ToStart c.args.run) s d).staged_is,
   ),
 )

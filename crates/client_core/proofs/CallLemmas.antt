@@ -1,0 +1,64 @@
+-- How a call ends, by what the client itself keeps.
+use Rattle.std.proofs.Common.{◌≡◌, sym, ap, subst, ◌∙◌, ℕ, false, List, ◌++◌, None, Some}
+use Rattle.std.specs.Prelude.{not, Ok, Err}
+use Rattle.fc_base.specs.declared.fault.Fault.{Fault}
+use Rattle.fc_base.specs.Fault.{sort_of}
+use Rattle.disk_model.specs.Notes.{Note}
+use Rattle.client_core.specs.declared.call.Call.{Call}
+use Rattle.client_core.specs.declared.packet_client.PacketClient.{PacketClient}
+use Rattle.client_core.specs.declared.life.Life.{Life}
+use Rattle.client_core.specs.Note.{IsNoted, SaysWhatIsWritten}
+use Rattle.client_core.specs.History.{Opening, Entry}
+use Rattle.client_core.specs.Framed.{framed}
+use Rattle.client_core.specs.Life.{life, deeds_of}
+use Rattle.client_core.specs.Lives.{LifeIs, EachLife}
+use Rattle.client_core.specs.Refusals.{refusal_by}
+use Rattle.client_core.specs.Saves.{Addition, with_addition, addition_of}
+use Rattle.client_core.specs.Words.{noted, refusal}
+use Rattle.client_core.specs.Packets.{packets_for}
+use Rattle.client_core.specs.Stands.{StandsFor}
+use Rattle.client_core.specs.Ends.{Answers, Faults, Stores}
+use Rattle.client_core.proofs.EndLemmas.{knows_now, unsaved, stored_stands, plain_stands, sends_now}
+use Rattle.client_core.proofs.RefusalLemmas.{refusal_is}
+
+-- A client that isn't refused is up, and knows what its list says.
+pub free_now : {T : Type 0} (note : T → Note) (client : PacketClient T) (o : Opening) (past : List Entry) (c : Call) → client.down ≡ false → StandsFor note client o past → refusal_by (not client.down) client.servers client.noted c ≡ None
+    → (refusal o past c ≡ None) × (noted o past ≡ client.noted) × (o.servers ≡ client.servers) × LifeIs client.life (life o past)
+free_now note client o past c up s r =
+    let k = knows_now note client o past up s in
+    (sym (refusal_is note client o past c s) ∙ r, sym k.knows, sym s.servers, k.lives)
+
+-- The call's save fails.
+pub fails_stored : {T : Type 0} (note : T → Note) (old new : PacketClient T) (kept : Life) (a : Addition) (fault : Fault) (o : Opening) (past : List Entry) (c : Call) → SaysWhatIsWritten → old.down ≡ false → refusal_by (not old.down) old.servers old.noted c ≡ None
+    → addition_of old.noted c ≡ Some a → (IsNoted old.noted → IsNoted (with_addition a old.noted)) → EachLife old.life (LifeIs kept) → Stores note a (record old { life = kept }) new (Err fault) → StandsFor note old o past → Faults note o past c (sort_of fault) fault old new
+fails_stored note old new kept a fault o past c read up r adds fits same stored s =
+    let f = free_now note old o past c up s r in
+    unsaved note old new kept a fault o past c read up s f.0 (ap (λ n. addition_of n c) f.1 ∙ adds)
+    (subst (λ n. IsNoted (with_addition a n)) (sym f.1) (fits (subst IsNoted f.1 s.durable.note))) same (sort_of fault) stored
+
+-- The call is answered with a save.
+pub answers_stored : {T : Type 0} (note : T → Note) (old new : PacketClient T) (kept after : Life) (a : Addition) (o : Opening) (past : List Entry) (c : Call) (frames : List (List ℕ)) → SaysWhatIsWritten → old.down ≡ false → refusal_by (not old.down) old.servers old.noted c ≡ None
+    → addition_of old.noted c ≡ Some a → (IsNoted old.noted → IsNoted (with_addition a old.noted)) → (u : Unit {0}) → Stores note a (record old { life = kept }) new (Ok u)
+    → EachLife old.life (λ deeds. frames ≡ framed (packets_for old.servers old.noted deeds c)) → EachLife old.life (λ deeds. LifeIs after (deeds_of old.noted c ++ deeds))
+    → StandsFor note old o past → Answers note o past c (record new { life = after }) frames
+answers_stored note old new kept after a o past c frames read up r adds fits u stored sends lives s =
+    let f = free_now note old o past c up s r in
+    record {
+      free = f.0;
+      frames_are = sends (life o past) f.3 ∙ ap (λ n. framed (packets_for n old.noted (life o past) c)) (sym f.2) ∙ ap (λ n. framed (packets_for o.servers n (life o past) c)) (sym f.1) ∙ sends_now o past c f.0;
+      stands = stored_stands note old new kept after a o past c read up s f.0 (ap (λ n. addition_of n c) f.1 ∙ adds) (subst (λ n. IsNoted (with_addition a n)) (sym f.1) (fits (subst IsNoted f.1 s.durable.note))) u stored
+          (subst (λ n. LifeIs after (deeds_of n c ++ life o past)) (sym f.1) (lives (life o past) f.3));
+    }
+
+-- The call is answered without a save.
+pub answers_plain : {T : Type 0} (note : T → Note) (old : PacketClient T) (after : Life) (o : Opening) (past : List Entry) (c : Call) (frames : List (List ℕ)) → old.down ≡ false → refusal_by (not old.down) old.servers old.noted c ≡ None
+    → addition_of old.noted c ≡ None
+    → EachLife old.life (λ deeds. frames ≡ framed (packets_for old.servers old.noted deeds c)) → EachLife old.life (λ deeds. LifeIs after (deeds_of old.noted c ++ deeds))
+    → StandsFor note old o past → Answers note o past c (record old { life = after }) frames
+answers_plain note old after o past c frames up r adds sends lives s =
+    let f = free_now note old o past c up s r in
+    record {
+      free = f.0;
+      frames_are = sends (life o past) f.3 ∙ ap (λ n. framed (packets_for n old.noted (life o past) c)) (sym f.2) ∙ ap (λ n. framed (packets_for o.servers n (life o past) c)) (sym f.1) ∙ sends_now o past c f.0;
+      stands = plain_stands note old after o past c up s f.0 (ap (λ n. addition_of n c) f.1 ∙ adds) (subst (λ n. LifeIs after (deeds_of n c ++ life o past)) (sym f.1) (lives (life o past) f.3));
+    }

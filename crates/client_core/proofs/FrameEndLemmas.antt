@@ -1,0 +1,238 @@
+-- A client takes what comes over a network of frames as its list does.
+use Rattle.std.proofs.Common.{◌≡◌, refl, sym, ◌∙◌, ap, subst, ℕ, arith, Bool, true, false, ◌&&◌, List, [], ◌∷◌, ◌++◌, Option, Some, None, Result, Ok, Err}
+use Rattle.std.specs.Prelude.{if◌then◌else◌, map, not}
+use Rattle.std.specs.List.{flat_map}
+use Rattle.std.specs.Result.{is_ok}
+use Rattle.std.proofs.lemmas.List.{map-append}
+use Rattle.fc_base.specs.declared.fault.Fault.{Fault}
+use Rattle.fc_base.specs.declared.fault.Fault.TheVariants.{NoMemory, Down, Misdirected, FrameBadField}
+use Rattle.fc_base.specs.declared.fault.FaultSort.{FaultSort}
+use Rattle.fc_base.specs.declared.fault.FaultSort.TheVariants as sorts
+use Rattle.fc_base.specs.Fault.{sort_of}
+use Rattle.disk_model.specs.declared.left.Left.{Left}
+use Rattle.disk_model.specs.declared.left.Left.TheVariants.{NoSave}
+use Rattle.disk_model.specs.Left.{is_lost}
+use Rattle.disk_model.specs.Notes.{Note}
+use Rattle.messages.specs.declared.packet.PacketParts.{PacketParts}
+use Rattle.messages.specs.declared.piece.PieceParts.{PieceParts}
+use Rattle.messages.specs.declared.frame.Frame.TheVariants.{Whole, Piece}
+use Rattle.messages.specs.Assemblies.{Row, taken, without}
+use Rattle.messages.specs.FrameBytes.{frame_spelling}
+use Rattle.messages.specs.FramesOf.{spelled_frames}
+use Rattle.messages.specs.Laws.{IsPacket}
+use Rattle.messages.specs.Pieces.{frames_of}
+use Rattle.messages.specs.Hearing.{Meaning, Says, Waits, Spoils, Strays, meaning, with_entry}
+use Rattle.client_core.specs.declared.call.Call.{Call}
+use Rattle.client_core.specs.declared.call.Call.TheVariants as calls
+use Rattle.client_core.specs.declared.input.Input.{Input}
+use Rattle.client_core.specs.declared.input.Input.TheVariants.{Begin, Trigger, Stop, Verify, Deliver, Tick}
+use Rattle.client_core.specs.declared.packet_client.PacketClient.{PacketClient}
+use Rattle.client_core.specs.declared.client.Client.{Client}
+use Rattle.client_core.specs.History as history
+use Rattle.client_core.specs.History.{Opening}
+use Rattle.client_core.specs.Words as words
+use Rattle.client_core.specs.Packets.{packets}
+use Rattle.client_core.specs.Ranges.{CameInRange}
+use Rattle.client_core.specs.Saves.{left_by}
+use Rattle.client_core.specs.Stands as whole
+use Rattle.client_core.specs.Ends as ends
+use Rattle.client_core.specs.Bounds.{AreShort, FramesAreShort}
+use Rattle.client_core.specs.Bounds as bounds
+use Rattle.client_core.specs.Hearing.{FrameEntry, Met, rules, heard_at, packets_heard, assembly}
+use Rattle.client_core.specs.FrameAnswers.{Sense, Hears, Keeps, Drops, Misses, sense_of, sense, is_drop, refusal, refusal_in, due, due_in, answered, entry_heard, frames_by}
+use Rattle.client_core.specs.FrameEnds.{StandsFor, most_packets, Answers, Refuses, Faults, Ends, Gives}
+use Rattle.client_core.proofs.HearingLemmas.{rows_after, entry_by, entry_is, heard_is, taken_by, same_rows, refused_rows, said_rows, dropped_rows}
+
+-- ---- the frames of packets
+
+spelled : (ps : List PacketParts) → flat_map spelled_frames ps ≡ map frame_spelling (flat_map frames_of ps)
+spelled [] = refl
+spelled (p ∷ ps) = ap (λ fs. spelled_frames p ++ fs) (spelled ps) ∙ sym (map-append frame_spelling (frames_of p) (flat_map frames_of ps))
+
+-- What a call brings is within the ranges of packets.
+abbrev pub BringsInRange : Call → Type 0
+BringsInRange (calls.Deliver p) = IsPacket p
+BringsInRange _ = Unit {0}
+
+came_with : (c : Call) (left : Left) (past : List history.Entry) → BringsInRange c → CameInRange past → CameInRange (history.Met c left ∷ past)
+came_with (calls.Begin text) left past b h = h
+came_with (calls.Trigger run act) left past b h = h
+came_with (calls.Stop run) left past b h = h
+came_with (calls.Verify run text) left past b h = h
+came_with (calls.Deliver p) left past b h = (b, h)
+came_with calls.Tick left past b h = h
+
+-- How many packets at most, by what the input is.
+abbrev most_in : Opening → List history.Entry → Sense → ℕ
+most_in o past (Hears c) = bounds.most_packets o past c
+most_in o past (Keeps q) = 8
+most_in o past (Drops q) = 8
+most_in o past Misses = 8
+
+piece_most : (o : Opening) (past : List history.Entry) (q : PieceParts) (m : Meaning) → most_in o past (sense_of q m) ≡ 8
+piece_most o past q (Says p) = refl
+piece_most o past q Waits = refl
+piece_most o past q Spoils = refl
+piece_most o past q Strays = refl
+
+most_is : (o : Opening) (past : List FrameEntry) (e : Input) → most_in o (packets_heard o past) (sense o past e) ≡ most_packets o past e
+most_is o past (Begin text) = refl
+most_is o past (Trigger run act) = refl
+most_is o past (Stop run) = refl
+most_is o past (Verify run text) = refl
+most_is o past (Deliver (Whole p)) = refl
+most_is o past (Deliver (Piece q)) = piece_most o (packets_heard o past) q (meaning (rules o) (heard_at o past) (Piece q))
+most_is o past Tick = refl
+
+-- ---- whether the client is on
+
+on_before : (on lost : Bool) → (on && not lost) ≡ true → on ≡ true
+on_before true lost h = refl
+on_before false lost h = cc
+
+off_lost : (on lost : Bool) → lost ≡ true → (on && not lost) ≡ true → ⊥
+off_lost true true l h = cc
+off_lost false true l h = cc
+off_lost on false l h = cc
+
+on_is : (o : Opening) (past : List FrameEntry) (e : Input) (c : Call) (left : Left) → sense o past e ≡ Hears c → words.is_on (packets_heard o (Met e left ∷ past)) ≡ (words.is_on (packets_heard o past) && not (is_lost left))
+on_is o past e c left is = ap words.is_on (heard_is o past e left (Hears c) is)
+
+-- ---- a call that is heard
+
+heard_stands : {T : Type 0} (note : T → Note) (o : Opening) (past : List FrameEntry) (e : Input) (c : Call) (left : Left) (new : Client T) → sense o past e ≡ Hears c
+    → whole.StandsFor note new.core o (history.Met c left ∷ packets_heard o past) → (words.is_on (packets_heard o (Met e left ∷ past)) ≡ true → new.pieces ≡ rows_after o past e left) → StandsFor note new o (Met e left ∷ past)
+heard_stands note o past e c left new is h k = record {
+  core = subst (λ (list : List history.Entry). whole.StandsFor note new.core o list) (sym (heard_is o past e left (Hears c) is)) h;
+  pieces = k;
+}
+
+heard_answers : {T : Type 0} (note : T → Note) (o : Opening) (past : List FrameEntry) (e : Input) (c : Call) (new : Client T) (sent : List (List ℕ)) → FramesAreShort → BringsInRange c → sense o past e ≡ Hears c
+    → ends.Answers note o (packets_heard o past) c new.core sent → (words.is_on (packets_heard o past) ≡ true → new.pieces ≡ rows_after o past e NoSave) → Answers note o past e new sent
+heard_answers note o past e c new sent short brings is a k =
+    let list = packets_heard o past in
+    let left = left_by (words.due o list c) in
+    let same_entry : answered o past e ≡ Met e left = ap (λ y. Met e (left_by (due_in o list y))) is in
+    let says : entry_heard o past (answered o past e) ≡ Some (history.Met c left) = ap (entry_heard o past) same_entry ∙ entry_is o past e left ∙ ap (λ y. entry_by y left) is in
+    record {
+      free = ap (refusal_in o list) is ∙ a.free;
+      frames_are = a.frames_are ∙ spelled (packets o list (history.Met c left)) ∙ ap (λ y. map frame_spelling (frames_by o list y)) (sym says);
+      short = λ i h. subst (λ n. AreShort n sent) (sym (ap (most_in o list) is) ∙ most_is o past e)
+          (subst (AreShort (bounds.most_packets o list c)) (sym a.frames_are) (short o list c left i (came_with c left list brings h)));
+      stands = subst (λ y. StandsFor note new o (y ∷ past)) (sym same_entry)
+          (heard_stands note o past e c left new is a.stands (λ on. k (on_before (words.is_on list) (is_lost left) (sym (on_is o past e c left is) ∙ on)) ∙ same_rows o past e NoSave left));
+    }
+
+pub heard_faults : {T : Type 0} (note : T → Note) (o : Opening) (past : List FrameEntry) (e : Input) (c : Call) (old new : Client T) (fault : Fault) → sense o past e ≡ Hears c → StandsFor note old o past
+    → (sort : FaultSort) → ends.Faults note o (packets_heard o past) c sort fault old.core new.core → new.pieces ≡ old.pieces → Faults note o past e sort fault old new
+heard_faults note o past e c old new fault is w sorts.Memory h k =
+    record { why = h.why; same_note = h.same_note; unchanged = record { core = h.unchanged; pieces = λ on. k ∙ w.pieces on } }
+heard_faults note o past e c old new fault is w sorts.Save h k = record {
+  cause = h.cause;
+  free = ap (refusal_in o (packets_heard o past)) is ∙ h.free;
+  addition = h.addition;
+  makes_one = ap (due_in o (packets_heard o past)) is ∙ h.makes_one;
+  left = h.left;
+  lost = h.lost;
+  stands = heard_stands note o past e c h.left new is h.stands (λ on. absurd (off_lost (words.is_on (packets_heard o past)) (is_lost h.left) h.lost (sym (on_is o past e c h.left is) ∙ on)));
+}
+heard_faults note o past e c old new fault is w sorts.Refusal h k =
+    let why : refusal o past e ≡ Some fault = ap (refusal_in o (packets_heard o past)) is ∙ h.why in
+    let rows = refused_rows o past e NoSave fault why (ap is_drop is) in
+    record {
+      why = why;
+      same_note = h.same_note;
+      stands = heard_stands note o past e c NoSave new is h.stands (λ on. k ∙ w.pieces (on_before (words.is_on (packets_heard o past)) false (sym (on_is o past e c NoSave is) ∙ on)) ∙ sym rows);
+      unchanged = λ d. record { core = h.unchanged; pieces = λ on. k ∙ w.pieces on };
+    }
+
+-- ---- what leaves the pieces as they are
+
+abbrev with_core : {T : Type 0} → Client T → PacketClient T → Client T
+with_core client core = record client { core = core }
+
+pub whole_ends : {T : Type 0} (note : T → Note) (o : Opening) (past : List FrameEntry) (e : Input) (c : Call) (old : Client T) (core : PacketClient T) (result : Result (List (List ℕ)) Fault) → FramesAreShort → BringsInRange c → sense o past e ≡ Hears c
+    → rows_after o past e NoSave ≡ assembly o past → StandsFor note old o past → ends.Ends note o (packets_heard o past) c old.core core result → Ends note o past e old (with_core old core) result
+whole_ends note o past e c old core (Ok sent) short brings is same w h = heard_answers note o past e c (with_core old core) sent short brings is h (λ on. w.pieces on ∙ sym same)
+whole_ends note o past e c old core (Err fault) short brings is same w h = heard_faults note o past e c old (with_core old core) fault is w (sort_of fault) h refl
+
+pub whole_gives : {T : Type 0} (note : T → Note) (o : Opening) (past : List FrameEntry) (e : Input) (c : Call) (used : ℕ) (old : Client T) (core : PacketClient T) (result : Result (ℕ × List (List ℕ)) Fault) → FramesAreShort → BringsInRange c → sense o past e ≡ Hears c
+    → rows_after o past e NoSave ≡ assembly o past → StandsFor note old o past → ends.Gives note o (packets_heard o past) c used old.core core result → Gives note o past e used old (with_core old core) result
+whole_gives note o past e c used old core (Ok given) short brings is same w h = (h.0, heard_answers note o past e c (with_core old core) given.1 short brings is h.1 (λ on. w.pieces on ∙ sym same))
+whole_gives note o past e c used old core (Err fault) short brings is same w h = heard_faults note o past e c old (with_core old core) fault is w (sort_of fault) h refl
+
+-- ---- a piece that says a packet
+
+-- The packet is answered, and its tag goes.
+pub given_answers : {T : Type 0} (note : T → Note) (old : Client T) (core : PacketClient T) (o : Opening) (past : List FrameEntry) (q : PieceParts) (p : PacketParts) (result : Result (List (List ℕ)) Fault) → FramesAreShort → IsPacket p → StandsFor note old o past
+    → sense o past (Deliver (Piece q)) ≡ Hears (calls.Deliver p) → ends.Ends note o (packets_heard o past) (calls.Deliver p) old.core core result → is_ok result ≡ true
+    → Ends note o past (Deliver (Piece q)) old (record { alloc = old.alloc; core = core; pieces = without q.tag old.pieces }) result
+given_answers note old core o past q p (Ok sent) short brings w is h ok =
+    heard_answers note o past (Deliver (Piece q)) (calls.Deliver p) (record { alloc = old.alloc; core = core; pieces = without q.tag old.pieces }) sent short brings is h
+    (λ on. ap (without q.tag) (w.pieces on) ∙ sym (said_rows o past q p NoSave is h.free))
+given_answers note old core o past q p (Err fault) short brings w is h ok = absurd cc
+
+-- The packet is refused, and its tag stays.
+pub given_refused : {T : Type 0} (note : T → Note) (old : Client T) (core : PacketClient T) (o : Opening) (past : List FrameEntry) (q : PieceParts) (p : PacketParts) (result : Result (List (List ℕ)) Fault) → StandsFor note old o past
+    → sense o past (Deliver (Piece q)) ≡ Hears (calls.Deliver p) → ends.Ends note o (packets_heard o past) (calls.Deliver p) old.core core result → is_ok result ≡ false
+    → Ends note o past (Deliver (Piece q)) old (with_core old core) result
+given_refused note old core o past q p (Ok sent) w is h ok = absurd cc
+given_refused note old core o past q p (Err fault) w is h ok = heard_faults note o past (Deliver (Piece q)) (calls.Deliver p) old (with_core old core) fault is w (sort_of fault) h refl
+
+-- ---- a piece that says nothing
+
+abbrev with_pieces : {T : Type 0} → Client T → List Row → Client T
+with_pieces client rows = record client { pieces = rows }
+
+silent_stands : {T : Type 0} (note : T → Note) (o : Opening) (past : List FrameEntry) (e : Input) (s : Sense) (left : Left) (old : Client T) (rows : List Row) → sense o past e ≡ s → entry_by s left ≡ None
+    → StandsFor note old o past → (old.pieces ≡ assembly o past → rows ≡ rows_after o past e left) → StandsFor note (with_pieces old rows) o (Met e left ∷ past)
+silent_stands note o past e s left old rows is none w k =
+    let same = heard_is o past e left s is ∙ ap (λ (y : Option history.Entry). with_entry y (packets_heard o past)) none in
+    record {
+      core = subst (λ (list : List history.Entry). whole.StandsFor note old.core o list) (sym same) w.core;
+      pieces = λ on. k (w.pieces (sym (ap words.is_on same) ∙ on));
+    }
+
+pub kept_ends : {T : Type 0} (note : T → Note) (o : Opening) (past : List FrameEntry) (q : PieceParts) (old : Client T) → sense o past (Deliver (Piece q)) ≡ Keeps q → StandsFor note old o past
+    → Ends note o past (Deliver (Piece q)) old (with_pieces old (taken old.pieces q)) (Ok [])
+kept_ends note o past q old is w =
+    let e = Deliver (Piece q) in
+    let list = packets_heard o past in
+    let left = left_by (due o past e) in
+    record {
+      free = ap (refusal_in o list) is;
+      frames_are = ap (λ y. map frame_spelling (frames_by o list y)) (sym (entry_is o past e left ∙ ap (λ y. entry_by y left) is));
+      short = λ i h. record { few = omega arith; short = omega arith };
+      stands = silent_stands note o past e (Keeps q) left old (taken old.pieces q) is refl w (λ r. ap (λ x. taken x q) r ∙ sym (taken_by o past e left (Keeps q) is));
+    }
+
+pub dropped_ends : {T : Type 0} (note : T → Note) (o : Opening) (past : List FrameEntry) (q : PieceParts) (old : Client T) → sense o past (Deliver (Piece q)) ≡ Drops q → StandsFor note old o past
+    → Ends note o past (Deliver (Piece q)) old (with_pieces old (without q.tag old.pieces)) (Err FrameBadField)
+dropped_ends note o past q old is w = record {
+  why = ap (refusal_in o (packets_heard o past)) is;
+  same_note = refl;
+  stands = silent_stands note o past (Deliver (Piece q)) (Drops q) NoSave old (without q.tag old.pieces) is refl w (λ r. ap (without q.tag) r ∙ sym (dropped_rows o past q NoSave is));
+  unchanged = λ d. absurd (no_drop (sym (ap is_drop is) ∙ d));
+}
+  where
+    no_drop : true ≡ false → ⊥
+    no_drop d = cc
+
+-- A piece that isn't for the client changes nothing.
+pub missed_refuses : {T : Type 0} (note : T → Note) (o : Opening) (past : List FrameEntry) (q : PieceParts) (old : Client T) (fault : Fault) → sense o past (Deliver (Piece q)) ≡ Misses → StandsFor note old o past
+    → refusal_in o (packets_heard o past) Misses ≡ Some fault → Refuses note o past (Deliver (Piece q)) fault old old
+missed_refuses note o past q old fault is w f = record {
+  why = ap (refusal_in o (packets_heard o past)) is ∙ f;
+  same_note = refl;
+  stands = silent_stands note o past (Deliver (Piece q)) Misses NoSave old old.pieces is refl w (λ r. r ∙ sym (taken_by o past (Deliver (Piece q)) NoSave Misses is));
+  unchanged = λ d. w;
+}
+
+pub down_ends : {T : Type 0} (note : T → Note) (o : Opening) (past : List FrameEntry) (q : PieceParts) (old : Client T) → sense o past (Deliver (Piece q)) ≡ Misses → words.is_on (packets_heard o past) ≡ false → StandsFor note old o past → Ends note o past (Deliver (Piece q)) old old (Err Down)
+down_ends note o past q old is off w = missed_refuses note o past q old Down is w (ap (λ b. if b then Some Misdirected else Some Down) off)
+
+pub missed_ends : {T : Type 0} (note : T → Note) (o : Opening) (past : List FrameEntry) (q : PieceParts) (old : Client T) → sense o past (Deliver (Piece q)) ≡ Misses → words.is_on (packets_heard o past) ≡ true → StandsFor note old o past → Ends note o past (Deliver (Piece q)) old old (Err Misdirected)
+missed_ends note o past q old is on w = missed_refuses note o past q old Misdirected is w (ap (λ b. if b then Some Misdirected else Some Down) on)
+
+pub lacking_ends : {T : Type 0} (note : T → Note) (o : Opening) (past : List FrameEntry) (e : Input) (old : Client T) → StandsFor note old o past → Ends note o past e old old (Err NoMemory)
+lacking_ends note o past e old w = record { why = refl; same_note = refl; unchanged = w }

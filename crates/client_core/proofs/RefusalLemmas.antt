@@ -1,0 +1,113 @@
+-- Why a client refuses a call.
+use Rattle.std.proofs.Common.{◌≡◌, refl, ap, subst, ◌∙◌, ℕ, Bool, true, false, List, [], ◌∷◌, ◌++◌, None, Some}
+use Rattle.std.specs.Prelude.{not, slice_get}
+use Rattle.std.specs.List.{AllByRecursion}
+use Rattle.fc_base.specs.declared.fault.Fault.{Fault}
+use Rattle.fc_base.specs.declared.fault.Fault.TheVariants.{Down, JobTooLong, Misdirected, NoSuchRun, Conflict, NumbersSpent, TableFull}
+use Rattle.fc_base.specs.declared.fault.FaultSort.TheVariants as sorts
+use Rattle.fc_base.specs.Fault.{sort_of}
+use Rattle.fc_base.specs.Faults.{when}
+use Rattle.disk_model.specs.Notes.{Note}
+use Rattle.messages.specs.declared.body.Body.{Body}
+use Rattle.messages.specs.declared.body.Body.TheVariants as bodies
+use Rattle.messages.specs.Ranges.{is_text}
+use Rattle.client_core.specs.declared.call.Call.{Call}
+use Rattle.client_core.specs.declared.call.Call.TheVariants.{Begin, Trigger, Stop, Verify, Deliver, Tick}
+use Rattle.client_core.specs.declared.packet_client.PacketClient.{PacketClient}
+use Rattle.client_core.specs.declared.noted.Noted.{Noted}
+use Rattle.client_core.specs.History.{Opening, Entry}
+use Rattle.client_core.specs.Kept.{kept_of}
+use Rattle.client_core.specs.Refusals.{is_for_client, is_begun, has_next, differs, lacks_room, faults_of, faults_of_body, refusal_by}
+use Rattle.client_core.specs.Words.{is_on, noted, refusal}
+use Rattle.client_core.specs.Stands.{StandsFor}
+use Rattle.client_core.proofs.Looked.{looks_at_all}
+
+on_of : (down on : Bool) → down ≡ not on → not down ≡ on
+on_of true true e = cc
+on_of true false e = refl
+on_of false true e = refl
+on_of false false e = cc
+
+same_refusal : (on : Bool) (servers : ℕ) (n m : Noted) (c : Call) → (on ≡ true → m ≡ n) → refusal_by on servers m c ≡ refusal_by on servers n c
+same_refusal true servers n m c e = ap (λ x. refusal_by true servers x c) (e refl)
+same_refusal false servers n m c e = refl
+
+-- What the client refuses is what the list says.
+pub refusal_is : {T : Type 0} (note : T → Note) (client : PacketClient T) (o : Opening) (past : List Entry) (c : Call) → StandsFor note client o past → refusal_by (not client.down) client.servers client.noted c ≡ refusal o past c
+refusal_is note client o past c s =
+    ap (λ on. refusal_by on client.servers client.noted c) (on_of client.down (is_on past) s.on)
+    ∙ (ap (λ n. refusal_by (is_on past) n client.noted c) s.servers
+    ∙ same_refusal (is_on past) o.servers (noted o past) client.noted c (λ on. s.knows ∙ ap (noted o) (looks_at_all past on)))
+
+abbrev pub IsRefusal : Fault → Type 0
+IsRefusal fault = sort_of fault ≡ sorts.Refusal
+
+one_refusal : (b : Bool) (f : Fault) → IsRefusal f → AllByRecursion IsRefusal (when b f)
+one_refusal true f r = (r, tt)
+one_refusal false f r = tt
+
+more_refusals : (b : Bool) (f : Fault) (fs : List Fault) → IsRefusal f → AllByRecursion IsRefusal fs → AllByRecursion IsRefusal (when b f ++ fs)
+more_refusals true f fs r all = (r, all)
+more_refusals false f fs r all = all
+
+first_refusal : (fs : List Fault) (fault : Fault) → AllByRecursion IsRefusal fs → slice_get fs 0 ≡ Some fault → IsRefusal fault
+first_refusal [] fault all e = cc
+first_refusal (f ∷ fs) fault all e = subst IsRefusal (some_is e) all.0
+  where
+    some_is : Some f ≡ Some fault → f ≡ fault
+    some_is e = cc
+
+body_refusals : (n : Noted) (body : Body) → AllByRecursion IsRefusal (faults_of_body n body)
+body_refusals n (bodies.State jobs state) =
+    let full = lacks_room n.kept (kept_of state.key n.kept) in
+    more_refusals (differs state (kept_of state.key n.kept)) Conflict (when full TableFull) refl (one_refusal full TableFull refl)
+body_refusals n (bodies.Jobs r text) = tt
+body_refusals n (bodies.JobsOk r jobs) = tt
+body_refusals n (bodies.Start r) = tt
+body_refusals n (bodies.Started r) = tt
+body_refusals n (bodies.Trigger r act) = tt
+body_refusals n (bodies.NoState r job jobs) = tt
+body_refusals n (bodies.StateAck r job) = tt
+body_refusals n (bodies.Stop r) = tt
+body_refusals n (bodies.Stopped r) = tt
+body_refusals n (bodies.Verify r a text) = tt
+body_refusals n (bodies.WantState r a job) = tt
+body_refusals n (bodies.Saved a state) = tt
+body_refusals n (bodies.NoSaved r a job) = tt
+body_refusals n (bodies.Report r a job jobs report) = tt
+body_refusals n (bodies.Refused r) = tt
+
+call_refusals : (servers : ℕ) (n : Noted) (c : Call) → AllByRecursion IsRefusal (faults_of servers n c)
+call_refusals servers n (Begin text) = let spent = not (has_next n.runs) in more_refusals (not (is_text text)) JobTooLong (when spent NumbersSpent) refl (one_refusal spent NumbersSpent refl)
+call_refusals servers n (Trigger run act) = one_refusal (not (is_begun n run)) NoSuchRun refl
+call_refusals servers n (Stop run) = one_refusal (not (is_begun n run)) NoSuchRun refl
+call_refusals servers n (Verify run text) =
+    let spent = not (has_next n.attempts) in
+    let long = not (is_text text) in
+    more_refusals (not (is_begun n run)) NoSuchRun (when long JobTooLong ++ when spent NumbersSpent) refl
+    (more_refusals long JobTooLong (when spent NumbersSpent) refl (one_refusal spent NumbersSpent refl))
+call_refusals servers n (Deliver p) = more_refusals (not (is_for_client servers p)) Misdirected (faults_of_body n p.body) refl (body_refusals n p.body)
+call_refusals servers n Tick = tt
+
+pub refusal_sort : (on : Bool) (servers : ℕ) (n : Noted) (c : Call) (fault : Fault) → refusal_by on servers n c ≡ Some fault → IsRefusal fault
+refusal_sort on servers n c fault e = first_refusal _ fault (more_refusals (not on) Down (faults_of servers n c) refl (call_refusals servers n c)) e
+
+-- ---- what a call that isn't refused has
+
+pub begin_free : (down b c : Bool) → slice_get (when (not (not down)) Down ++ (when (not b) JobTooLong ++ when (not c) NumbersSpent)) 0 ≡ None → (down ≡ false) × (b ≡ true) × (c ≡ true)
+begin_free false true true h = (refl, refl, refl)
+begin_free false true false h = cc
+begin_free false false c h = cc
+begin_free true b c h = cc
+
+pub run_free : (down b : Bool) → slice_get (when (not (not down)) Down ++ when (not b) NoSuchRun) 0 ≡ None → (down ≡ false) × (b ≡ true)
+run_free false true h = (refl, refl)
+run_free false false h = cc
+run_free true b h = cc
+
+pub verify_free : (down a b c : Bool) → slice_get (when (not (not down)) Down ++ (when (not a) NoSuchRun ++ (when (not b) JobTooLong ++ when (not c) NumbersSpent))) 0 ≡ None → (down ≡ false) × (a ≡ true) × (b ≡ true) × (c ≡ true)
+verify_free false true true true h = (refl, refl, refl, refl)
+verify_free false true true false h = cc
+verify_free false true false c h = cc
+verify_free false false b c h = cc
+verify_free true a b c h = cc

@@ -1,0 +1,11 @@
+use Rattle.std.proofs.Common.{refl}
+use Rattle.messages.specs.declared.frame.Frame.TheVariants.{Whole}
+use Rattle.client_core.specs.declared.call.Call.TheVariants as calls
+use Rattle.client_core.specs.declared.input.Input.TheVariants.{Deliver}
+use Rattle.client_core.specs.Hearing.{packets_heard}
+use Rattle.client_core.proofs.FrameEndLemmas.{whole_ends}
+use Rattle.client_core.proofs.client.Client.take.Goals as goal
+
+pub returns : goal.returns
+returns g c o past s =
+    whole_ends g.N.Notes.note o past (Deliver (Whole c.args.packet)) (calls.Deliver c.args.packet) c.args.self.now c.deliver.new.self c.deliver.result c.frames_are_short.ensures c.keeps_its_ranges.ensures refl refl s (c.deliver.ensures o (packets_heard o past) s.core)

@@ -1,0 +1,55 @@
+use Rattle.std.proofs.Common.{refl, sym, subst, ◌∙◌, ap, ◌+◌, ◌∷◌, true, arith}
+use Rattle.client_core.specs.declared.call.Call.TheVariants.{Begin}
+use Rattle.client_core.specs.declared.packet_client.PacketClient.{PacketClient}
+use Rattle.client_core.specs.declared.noted.Noted.{Noted}
+use Rattle.messages.specs.declared.body.Body.TheVariants.{Jobs}
+use Rattle.client_core.specs.Ends.{Stores}
+use Rattle.client_core.specs.Framed.{framed}
+use Rattle.client_core.specs.Packets.{to_all}
+use Rattle.client_core.specs.Life.{Begins}
+use Rattle.client_core.specs.Lives.{LifeIs}
+use Rattle.client_core.specs.Saves.{NextRun}
+use Rattle.client_core.proofs.CallLemmas.{fails_stored, answers_stored, free_now}
+use Rattle.client_core.proofs.EndLemmas.{refuses}
+use Rattle.client_core.proofs.RefusalLemmas.{begin_free}
+use Rattle.client_core.proofs.NotedLemmas.{next_left, one_run}
+use Rattle.client_core.proofs.RangeLemmas.{next_in_range}
+use Rattle.client_core.proofs.packet_client.PacketClient.begin.Goals as goal
+
+pub returns-in-Some : goal.returns-in-Some
+returns-in-Some g c o past s = refuses g.N.Notes.note c.args.self.now o past (Begin c.args.text.now) c.in-Some.fault (sym c.begin_refusal.ensures ∙ c.in-Some.is) s
+
+pub overflow_add-run : goal.overflow_add-run
+overflow_add-run g c = omega (arith, next_left c.args.self.now.noted.runs (begin_free _ _ _ (sym c.begin_refusal.ensures ∙ c.in_default.is)).2)
+
+pub begin_frames-requires-clause-run : goal.begin_frames-requires-clause-run
+begin_frames-requires-clause-run g c = next_in_range c.args.self.now.noted.runs (begin_free _ _ _ (sym c.begin_refusal.ensures ∙ c.in_default.is)).2
+
+pub make_room_for_run-requires : goal.make_room_for_run-requires
+make_room_for_run-requires g c = next_in_range c.args.self.now.noted.runs (begin_free _ _ _ (sym c.begin_refusal.ensures ∙ c.in_default.is)).2
+
+pub use_run-requires : goal.use_run-requires
+use_run-requires g c = next_left c.args.self.now.noted.runs (begin_free _ _ _ (sym c.begin_refusal.ensures ∙ c.in_default.is)).2
+
+pub returns-in-Err : goal.returns-in-Err
+returns-in-Err g c o past s =
+    let call = Begin c.args.text.now in
+    let old = c.args.self.now in
+    let free = sym c.begin_refusal.ensures ∙ c.in_default.is in
+    let f = begin_free _ _ _ free in
+    fails_stored g.N.Notes.note old c.use_run.new.self c.make_room_for_run.new.self NextRun c.in-Err.fault o past call c.notes_are_read_back.ensures f.0 free refl
+    (one_run true old.noted (next_left old.noted.runs f.2)) c.make_room_for_run.ensures.same (subst (Stores g.N.Notes.note NextRun _ c.use_run.new.self) c.in-Err.is c.use_run.ensures) s
+
+pub returns-in-Ok-use_run : goal.returns-in-Ok-use_run
+returns-in-Ok-use_run g c o past s =
+    let call = Begin c.args.text.now in
+    let old = c.args.self.now in
+    let free = sym c.begin_refusal.ensures ∙ c.in_default.is in
+    let f = begin_free _ _ _ free in
+    let stored = subst (Stores g.N.Notes.note NextRun _ c.use_run.new.self) c.in-Ok-use_run.is c.use_run.ensures in (
+      ap (λ (n : Noted). n.runs + 1) (sym (free_now g.N.Notes.note old o past call f.0 s free).1),
+      answers_stored g.N.Notes.note old c.use_run.new.self c.make_room_for_run.new.self c.begin.new.self NextRun o past call c.in-Ok.frames c.notes_are_read_back.ensures f.0 free refl
+          (one_run true old.noted (next_left old.noted.runs f.2)) _ stored
+          (λ deeds h. c.in-Ok.ensures.frames ∙ ap (λ n. framed (to_all n (Jobs (old.noted.runs + 1) c.args.text.now))) c.count.ensures.count)
+          (λ deeds h. subst (λ t. LifeIs c.begin.new.self (Begins (old.noted.runs + 1) t ∷ deeds)) c.in-Ok.ensures.text (c.begin.ensures deeds (subst (λ l. LifeIs l deeds) (sym (ap (λ (m : PacketClient _). m.life) stored.1)) (c.make_room_for_run.ensures.same deeds h)))) s,
+    )

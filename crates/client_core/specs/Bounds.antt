@@ -1,0 +1,43 @@
+-- How much a client sends in answer to one call.
+use Rattle.std.specs.Prelude.{ℕ, ◌*◌, ◌≤◌, Bool, true, false, List, ◌∷◌, filter, length, sum_by}
+use Rattle.disk_model.specs.declared.left.Left.{Left}
+use Rattle.client_core.specs.declared.call.Call.{Call}
+use Rattle.client_core.specs.declared.call.Call.TheVariants.{Tick}
+use Rattle.client_core.specs.History.{Opening, Entry, Met}
+use Rattle.client_core.specs.Framed.{framed}
+use Rattle.client_core.specs.Life.{Deed, Hears, life}
+use Rattle.client_core.specs.Packets.{packets}
+use Rattle.client_core.specs.Ranges.{OpensInRange, CameInRange}
+
+-- A begin, a trigger, a stop or a verify.
+abbrev pub is_request : Deed → Bool
+is_request (Hears server body) = false
+is_request _ = true
+
+-- How many requests were made in this life.
+abbrev pub requests : Opening → List Entry → ℕ
+requests o past = length (filter is_request (life o past))
+
+-- A tick sends at most one packet to each server for each request of this life, and any other call at
+-- most 8 packets.
+abbrev pub most_packets : Opening → List Entry → Call → ℕ
+most_packets o past Tick = o.servers * requests o past
+most_packets o past _ = 8
+
+-- A call sends no more.
+abbrev pub PacketsAreFew : Type 0
+PacketsAreFew =
+    (o : Opening) (past : List Entry) (c : Call) (left : Left) →
+    o.servers ≤ 8 → length (packets o past (Met c left)) ≤ most_packets o past c
+
+-- The frames are those of at most so many packets: 17 for each, of together 17,233 bytes.
+pub record AreShort (most : ℕ) (frames : List (List ℕ)) : Type 0 where
+  pub few : length frames ≤ 17 * most
+  pub short : sum_by (λ frame. length frame) frames ≤ 17233 * most
+
+-- What a call sends is short, where what came is within its ranges.
+abbrev pub FramesAreShort : Type 0
+FramesAreShort =
+    (o : Opening) (past : List Entry) (c : Call) (left : Left) →
+    OpensInRange o → CameInRange (Met c left ∷ past) →
+    AreShort (most_packets o past c) (framed (packets o past (Met c left)))

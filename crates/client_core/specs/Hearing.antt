@@ -1,0 +1,63 @@
+-- A client's list of frames, and the list of packets that it hears in them.
+use Rattle.std.specs.Prelude.{ℕ, Bool, true, false, ◌&&◌, List, map, is_some}
+use Rattle.messages.specs.Kinds.{is_of_server}
+use Rattle.messages.specs.Nodes.{is_client}
+use Rattle.messages.specs.declared.piece.PieceParts.{PieceParts}
+use Rattle.messages.specs.Assemblies.{Row}
+use Rattle.messages.specs.Hearing.{Rules, Heard, Coming, Comes, Happens, heard}
+use Rattle.disk_model.specs.declared.left.Left.{Left}
+use Rattle.client_core.specs.declared.call.Call.TheVariants as calls
+use Rattle.client_core.specs.declared.input.Input.{Input}
+use Rattle.client_core.specs.declared.input.Input.TheVariants.{Begin, Trigger, Stop, Verify, Deliver, Tick}
+use Rattle.client_core.specs.History as history
+use Rattle.client_core.specs.History.{Opening}
+use Rattle.client_core.specs.Refusals.{is_server_of}
+use Rattle.client_core.specs.Words.{is_on, refusal}
+
+-- What came to a client, with what its save left; a cut; a restart, which makes no save.
+pub data FrameEntry : Type 0 where
+  Met : Input → Left → FrameEntry
+  Cut : FrameEntry
+  Restart : FrameEntry
+
+-- A piece is for a client of so many servers: it is from one of them to it, of a kind that servers send.
+abbrev pub is_piece_for : ℕ → PieceParts → Bool
+is_piece_for servers q = is_client q.to && (is_server_of servers q.from && is_of_server q.tag.whole)
+
+-- The entry is a cut or a restart.
+abbrev pub is_end : history.Entry → Bool
+is_end (history.Met c left) = false
+is_end history.Cut = true
+is_end history.Restart = true
+
+-- How a client hears.
+abbrev pub rules : Opening → Rules history.Entry Left
+rules o = record {
+  delivers = λ p left. history.Met (calls.Deliver p) left;
+  refuses = λ past p. is_some (refusal o past (calls.Deliver p));
+  takes = λ past q. is_on past && is_piece_for o.servers q;
+  ends = is_end;
+}
+
+-- What happens to a client, in the terms of hearing.
+abbrev pub coming : FrameEntry → Coming history.Entry Left
+coming (Met (Begin text) left) = Happens (history.Met (calls.Begin text) left)
+coming (Met (Trigger run act) left) = Happens (history.Met (calls.Trigger run act) left)
+coming (Met (Stop run) left) = Happens (history.Met (calls.Stop run) left)
+coming (Met (Verify run text) left) = Happens (history.Met (calls.Verify run text) left)
+coming (Met (Deliver f) left) = Comes f left
+coming (Met Tick left) = Happens (history.Met calls.Tick left)
+coming Cut = Happens history.Cut
+coming Restart = Happens history.Restart
+
+-- What a client has heard.
+abbrev pub heard_at : Opening → List FrameEntry → Heard history.Entry
+heard_at o past = heard (rules o) (map coming past)
+
+-- The list of packets that a list of frames says.
+abbrev pub packets_heard : Opening → List FrameEntry → List history.Entry
+packets_heard o past = (heard_at o past).entries
+
+-- What has come together of pieces.
+abbrev pub assembly : Opening → List FrameEntry → List Row
+assembly o past = (heard_at o past).rows

@@ -1,0 +1,157 @@
+//! A client over its durable note, to which whole packets come.
+
+ghost use Rattle.std.specs.Prelude.{◌≡◌, ◌≤◌, ◌∷◌, List, Some, None, not};
+ghost use Rattle.std.specs.Option.{option_copied};
+ghost use Rattle.client_core.specs.History.{Opening, Entry};
+ghost use Rattle.client_core.specs.Note.{Says, is_blank};
+ghost use Rattle.client_core.specs.declared.call.Call.TheVariants.{Deliver};
+ghost use Rattle.client_core.specs.Refusals.{refusal_by};
+ghost use Rattle.client_core.specs.Words.{is_on, noted, kept, looked, would_save};
+
+mod begin;
+mod deliver;
+mod look;
+mod save;
+mod tick;
+mod trigger;
+mod verify;
+
+use crate::life::Life;
+use crate::noted::{Noted, one_note};
+use crate::refusal::{adds, fault_of, is_for_client};
+use crate::servers::Servers;
+use disk_model::Notes;
+use fc_base::{Fault, Key};
+use messages::Packet;
+use std::alloc::Global;
+use verify_state::VerifyState;
+
+/// A client to which whole packets come: its durable note, how many servers it drives, what it knows of
+/// its note, and what it keeps of its requests.
+#[derive(Drop)]
+pub struct PacketClient<N> {
+    alloc: Global,
+    notes: N,
+    servers: Servers,
+    down: bool,
+    noted: Noted,
+    life: Life,
+}
+
+impl<N: Notes> PacketClient<N> {
+    ghost use Rattle.client_core.specs.Stands.{StandsFor, Restarts};
+
+    /// Opens a client of so many servers over its note, and saves nothing. The notes come back where it
+    /// can't: [`Fault::LoadFault`], the device failed; [`Fault::BadNote`], the bytes are no note;
+    /// [`Fault::NoMemory`].
+    pub(crate) fn restart(
+        alloc: Global,
+        servers: u32,
+        notes: N,
+    ) -> Result<PacketClient<N>, (N, Fault)>
+        requires some { 1 ≤ servers }
+        requires few { servers ≤ 8 }
+        ensures { Restarts N.note servers (N.note notes) result }
+    {
+        one_note();
+        let mut notes = notes;
+        let bytes = match notes.load() {
+            Ok(bytes) => bytes,
+            Err(fault) => return Err((notes, fault)),
+        };
+        match Noted::decode(alloc, &bytes) {
+            Ok(Some(noted)) => {
+                let servers = Servers::new(servers);
+                let life = Life::new(alloc);
+                Ok(PacketClient {
+                    alloc,
+                    notes,
+                    servers,
+                    down: false,
+                    noted,
+                    life,
+                })
+            }
+            Ok(None) => Err((notes, Fault::BadNote)),
+            Err(_) => Err((notes, Fault::NoMemory)),
+        }
+    }
+
+    /// The notes of a client that is taken off.
+    pub(crate) fn off(self) -> N
+        ensures { (o : Opening) (past : List Entry) → StandsFor N.note self o past → Says (N.note result).bytes (noted o past) }
+    {
+        let PacketClient {
+            alloc: _,
+            notes,
+            servers: _,
+            down: _,
+            noted: _,
+            life: _,
+        } = self;
+        notes
+    }
+
+    /// Whether it is on: a client whose save failed is down until it is restarted.
+    pub(crate) fn on(&self) -> bool
+        ensures { (o : Opening) (past : List Entry) → StandsFor N.note self.now o past → result ≡ is_on past }
+    {
+        !self.down
+    }
+
+    /// How many servers it drives.
+    pub(crate) fn servers(&self) -> u32
+        ensures { (o : Opening) (past : List Entry) → StandsFor N.note self.now o past → result ≡ o.servers }
+    {
+        self.servers.count()
+    }
+
+    /// How many runs were begun.
+    pub(crate) fn runs_used(&self) -> u64
+        ensures { (o : Opening) (past : List Entry) → StandsFor N.note self.now o past → result ≡ (noted o (looked past)).runs }
+    {
+        self.noted.runs
+    }
+
+    /// How many attempts to verify were begun.
+    pub(crate) fn attempts_used(&self) -> u64
+        ensures { (o : Opening) (past : List Entry) → StandsFor N.note self.now o past → result ≡ (noted o (looked past)).attempts }
+    {
+        self.noted.attempts
+    }
+
+    /// Whether its note says what a blank one says: nothing was begun, and no state is kept.
+    pub(crate) fn is_blank(&self) -> bool
+        ensures { (o : Opening) (past : List Entry) → StandsFor N.note self.now o past → result ≡ is_blank (noted o (looked past)) }
+    {
+        self.noted.is_blank()
+    }
+
+    /// Whether the delivery of this packet would make a save: it is a State that isn't refused, of a key of
+    /// which no state is kept.
+    pub(crate) fn would_save(&self, packet: &Packet) -> bool
+        ensures { (o : Opening) (past : List Entry) → StandsFor N.note self.now o past → result ≡ would_save o past (Deliver packet.now) }
+    {
+        self.refusal(packet).is_none() && adds(&self.noted, packet.body())
+    }
+
+    /// Why the delivery of this packet is refused.
+    fn refusal(&self, packet: &Packet) -> Option<Fault>
+        ensures { result ≡ refusal_by (not self.now.down) self.now.servers self.now.noted (Deliver packet.now) }
+    {
+        if self.down {
+            return Some(Fault::Down);
+        }
+        if !is_for_client(self.servers.count(), packet) {
+            return Some(Fault::Misdirected);
+        }
+        fault_of(&self.noted, packet.body())
+    }
+
+    /// The kept state of a key.
+    pub(crate) fn saved(&self, key: Key) -> Option<&VerifyState>
+        ensures { (o : Opening) (past : List Entry) → StandsFor N.note self.now o past → option_copied result ≡ kept o (looked past) key }
+    {
+        self.noted.kept.get(key)
+    }
+}

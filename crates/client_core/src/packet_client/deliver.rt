@@ -1,0 +1,70 @@
+//! A packet of a server is delivered.
+
+ghost use Rattle.std.specs.Prelude.{◌≡◌, ◌<◌, [], not, false, List, None, IsTrue};
+ghost use Rattle.messages.specs.declared.packet.PacketParts.{PacketParts as Parts};
+ghost use Rattle.messages.specs.Nodes.{node_number};
+ghost use Rattle.messages.specs.Ranges.{is_body, KeepsState};
+ghost use Rattle.client_core.specs.declared.call.Call.TheVariants.{Deliver};
+ghost use Rattle.client_core.specs.Ends.{Ends};
+ghost use Rattle.client_core.specs.History.{Opening, Entry};
+ghost use Rattle.client_core.specs.Refusals.{refusal_by, faults_of_body};
+ghost use Rattle.client_core.specs.Stands.{StandsFor};
+
+use super::PacketClient;
+use crate::noted::notes_are_read_back;
+use crate::refusal::new_state;
+use crate::replies::replies;
+use disk_model::Notes;
+use fc_base::Fault;
+use messages::{Body, Frames, Packet, PacketParts};
+
+impl<N: Notes> PacketClient<N> {
+    /// Takes a packet, and replies to it. A State of a new key is saved before it is acknowledged.
+    ///
+    /// In this order: `Down`; `Misdirected`; `Conflict`, another state of the key is kept; `TableFull`;
+    /// `NoMemory`, and nothing changes; `SaveFault`, and the client is down.
+    pub(crate) fn deliver(&mut self, packet: Packet) -> Result<Frames, Fault>
+        ensures { (o : Opening) (past : List Entry) → StandsFor N.note self.old o past →
+            Ends N.note o past (Deliver packet) self.old self.new result }
+    {
+        if let Some(fault) = self.refusal(&packet) {
+            return Err(fault);
+        }
+        self.servers.are_few();
+        let server = packet.from().number();
+        let PacketParts { body, .. } = packet.into_parts();
+        self.hear(server, body)
+    }
+
+    /// Takes what a server says, which isn't refused.
+    fn hear(&mut self, server: u32, body: Body) -> Result<Frames, Fault>
+        requires up { self.old.down ≡ false }
+        requires server { server < 8 }
+        requires body { IsTrue (is_body body) }
+        requires state { KeepsState body }
+        requires free { faults_of_body self.old.noted body ≡ [] }
+        ensures { (o : Opening) (past : List Entry) (p : Parts) → p.body ≡ body →
+            node_number p.from ≡ server →
+            refusal_by (not self.old.down) self.old.servers self.old.noted (Deliver p) ≡ None →
+            StandsFor N.note self.old o past →
+            Ends N.note o past (Deliver p) self.old self.new result }
+    {
+        notes_are_read_back();
+        let Ok(frames) = replies(self.alloc, &self.noted, &self.life, server, &body) else {
+            return Err(Fault::NoMemory);
+        };
+        match new_state(&self.noted, &body) {
+            Some(state) => match self.keep(state) {
+                Ok(()) => {
+                    self.life.hear(server, &body);
+                    Ok(frames)
+                }
+                Err(fault) => Err(fault),
+            },
+            None => match self.life.hear_any(server, body) {
+                Ok(()) => Ok(frames),
+                Err(_) => Err(Fault::NoMemory),
+            },
+        }
+    }
+}

@@ -1,0 +1,31 @@
+//! What isn't answered is asked for again.
+
+ghost use Rattle.std.specs.Prelude.{List};
+ghost use Rattle.client_core.specs.declared.call.Call.TheVariants.{Tick};
+ghost use Rattle.client_core.specs.Ends.{Ends};
+ghost use Rattle.client_core.specs.History.{Opening, Entry};
+ghost use Rattle.client_core.specs.Stands.{StandsFor};
+
+use super::PacketClient;
+use disk_model::Notes;
+use fc_base::Fault;
+use messages::Frames;
+
+impl<N: Notes> PacketClient<N> {
+    /// Asks again for all that isn't answered: by run its begin, its trigger and its stop, each by
+    /// server, and then by attempt the verifies. It changes nothing.
+    ///
+    /// In this order: `Down`; `NoMemory`.
+    pub(crate) fn tick(&self) -> Result<Frames, Fault>
+        ensures { (o : Opening) (past : List Entry) → StandsFor N.note self.now o past →
+            Ends N.note o past Tick self.now self.now result }
+    {
+        if self.down {
+            return Err(Fault::Down);
+        }
+        match self.life.all_again(self.alloc, self.servers.count()) {
+            Ok(frames) => Ok(frames),
+            Err(_) => Err(Fault::NoMemory),
+        }
+    }
+}

@@ -1,0 +1,184 @@
+//! What no clause shows: that a client answers as the manual and its rules say, with frames that others
+//! computed, and that each call answers where memory is there.
+
+mod calls;
+mod life;
+mod looks;
+mod named;
+mod notes;
+mod spelling;
+mod stages;
+mod stories;
+mod trouble;
+mod words;
+
+use disk_model::{FaultNotes, MemNotes};
+use life::Life;
+use notes::NOTES;
+use std::alloc::{AllocGlobal, Global};
+use std::process::Abort;
+use std::test::Fail;
+use stories::stages::STAGES;
+use stories::{
+    LostSave, Story, begins, elsewhere, losses, numbers, pieces, states, stopped, triggers,
+    verifies,
+};
+use trouble::Trouble;
+
+fn blank(alloc: Global) -> MemNotes {
+    MemNotes::new(Vec::new(alloc))
+}
+
+/// A client of so many servers over blank notes answers the rows of each story.
+fn are_answered(rt: &(impl Abort + AllocGlobal), servers: u32, stories: &[Story]) {
+    for (name, rows) in stories {
+        let mut life = Life::new(rt.alloc(), servers, blank(rt.alloc()));
+        let unlike = life.first_unlike(rows);
+        assert!(rt; unlike.is_none() && life.wants <= 1, "{name}: {unlike:?}");
+    }
+}
+
+/// The first row that isn't answered so by a client over these notes.
+fn first_unlike(
+    alloc: Global,
+    note: Result<Vec<u8>, Trouble>,
+    rows: &str,
+) -> Option<(usize, Option<Trouble>)> {
+    match note {
+        Ok(bytes) => Life::new(alloc, 1, MemNotes::new(bytes)).first_unlike(rows),
+        Err(trouble) => Some((0, Some(trouble))),
+    }
+}
+
+/// The first row of a story that isn't answered so, where a save fails.
+fn unlike_after(alloc: Global, story: &LostSave) -> Option<(usize, Option<Trouble>)> {
+    let notes = FaultNotes::new(blank(alloc), story.at, story.landed);
+    let mut life = Life::new(alloc, 1, notes);
+    let unlike = life.first_unlike(story.rows);
+    // A save that finds no memory counts as one, so that another fails. The story is told anew.
+    if life.wants == 1 {
+        let notes = FaultNotes::new(blank(alloc), story.at, story.landed);
+        return Life::new(alloc, 1, notes).first_unlike(story.rows);
+    }
+    unlike
+}
+
+/// A client over blank notes answers the rows of each story, in which a save fails.
+fn are_answered_after(rt: &(impl Abort + AllocGlobal), stories: &[LostSave]) {
+    for story in stories {
+        let unlike = unlike_after(rt.alloc(), story);
+        assert!(rt; unlike.is_none(), "{}: {unlike:?}", story.name);
+    }
+}
+
+#[test]
+fn frames_from_elsewhere(rt: HostRuntime) {
+    are_answered(&rt, 1, &elsewhere::STORIES);
+    are_answered_after(&rt, &stopped::LOST_SAVES);
+}
+
+#[test]
+fn runs_begin(rt: HostRuntime) {
+    are_answered(&rt, 1, &begins::STORIES);
+    are_answered(&rt, 2, &begins::OF_TWO);
+}
+
+#[test]
+fn numbers_are_given(rt: HostRuntime) {
+    are_answered(&rt, 1, &numbers::STORIES);
+    let note = notes::bytes_in(rt.alloc(), "18446744073709551615 18446744073709551615");
+    let unlike = first_unlike(rt.alloc(), note, numbers::SPENT);
+    assert!(rt; unlike.is_none(), "{unlike:?}");
+}
+
+#[test]
+fn runs_are_triggered_and_stopped(rt: HostRuntime) {
+    are_answered(&rt, 1, &triggers::STORIES);
+}
+
+#[test]
+fn runs_are_verified(rt: HostRuntime) {
+    are_answered(&rt, 1, &verifies::STORIES);
+}
+
+#[test]
+fn states_are_kept(rt: HostRuntime) {
+    are_answered(&rt, 1, &states::STORIES);
+    let note = notes::bytes_in(rt.alloc(), "1 1 listed");
+    let unlike = first_unlike(rt.alloc(), note, states::LISTED);
+    assert!(rt; unlike.is_none(), "{unlike:?}");
+}
+
+/// Whether a client is restarted over so many states, and then answers the rows.
+fn holds_of_full(alloc: Global, count: u32, rows: &str) -> Result<bool, Trouble> {
+    let mut life = Life::new(alloc, 1, MemNotes::new(notes::note_of(alloc, count)?));
+    let notes = life.off()?;
+    Ok(life.restart(notes) == 0 && life.first_unlike(rows).is_none())
+}
+
+#[test]
+fn a_full_table(rt: HostRuntime) -> Result<(), Fail> {
+    assert!(rt; holds_of_full(rt.alloc(), 1_024, states::FULL)?);
+    assert!(rt; !holds_of_full(rt.alloc(), 1_025, "")?);
+    Ok(())
+}
+
+#[test]
+fn states_in_pieces(rt: HostRuntime) {
+    are_answered(&rt, 1, &pieces::STORIES);
+}
+
+#[test]
+fn packets_in_each_stage(rt: HostRuntime) {
+    for stage in STAGES {
+        let unlike = stages::first_unlike(rt.alloc(), stage);
+        assert!(rt; unlike.is_none(), "{}: {unlike:?}", stage.name);
+        let unlike = stages::first_unlike_change(rt.alloc(), stage);
+        assert!(rt; unlike.is_none(), "{}: {unlike:?}", stage.name);
+    }
+}
+
+#[test]
+fn saves_that_fail(rt: HostRuntime) {
+    are_answered_after(&rt, &losses::LOST_SAVES);
+}
+
+#[test]
+fn notes_that_a_client_is_restarted_over(rt: HostRuntime) -> Result<(), Fail> {
+    for row in NOTES.lines() {
+        assert!(rt; notes::holds(rt.alloc(), row)?, "{row}");
+    }
+    assert!(rt; notes::comes_back(rt.alloc()));
+    Ok(())
+}
+
+/// The first length of which the bytes of a note are one, too, or the first bit of which another
+/// makes a note that isn't written as it was read.
+fn first_accepted(alloc: Global, words: &str) -> Result<Option<usize>, Trouble> {
+    let mut note = notes::bytes_in(alloc, words)?;
+    for len in 1..note.len() {
+        let (front, _) = note.split_at(len);
+        if !notes::is_refused(alloc, front)? {
+            return Ok(Some(len));
+        }
+    }
+    for at in 0..note.len() {
+        for bit in 0..8u32 {
+            let before = note[at];
+            note[at] = before ^ 1u8.wrapping_shl(bit);
+            let holds = notes::is_refused_or_same(alloc, &note)?;
+            note[at] = before;
+            if !holds {
+                return Ok(Some(at));
+            }
+        }
+    }
+    Ok(None)
+}
+
+#[test]
+fn notes_that_are_changed(rt: HostRuntime) -> Result<(), Fail> {
+    let accepted = first_accepted(rt.alloc(), notes::TWO)?;
+    assert!(rt; accepted.is_none(), "{accepted:?}");
+    Ok(())
+}

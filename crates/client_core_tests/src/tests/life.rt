@@ -1,0 +1,255 @@
+//! A client that is taken through a story.
+
+use super::calls::{Given, ask, asked_in, frame_in, spell_answer, would_save};
+use super::looks::{is_look, shows};
+use super::named::put_word;
+use super::spelling::{Spelling, first_word, put_hex, put_number};
+use super::trouble::Trouble;
+use client_core::Client;
+use disk_model::Notes;
+use fc_base::Fault;
+use std::alloc::Global;
+
+/// A client, or the notes of one that is off.
+#[derive(Drop)]
+pub struct Life<N> {
+    alloc: Global,
+    servers: u32,
+    notes: Option<N>,
+    pub client: Option<Client<N>>,
+    spelling: Spelling,
+    /// The bytes that are wanted of the notes.
+    wanted: Vec<u8>,
+    /// How often memory ran out.
+    pub wants: u32,
+}
+
+impl<N: Notes + Drop> Life<N> {
+    /// A client of so many servers that is off, with these notes.
+    pub fn new(alloc: Global, servers: u32, notes: N) -> Life<N> {
+        Life {
+            alloc,
+            servers,
+            notes: Some(notes),
+            client: None,
+            spelling: Spelling::new(alloc),
+            wanted: Vec::new(alloc),
+            wants: 0,
+        }
+    }
+
+    /// Goes through the rows of a story, up to the first that isn't answered so: which line that is, and
+    /// what trouble there was, if any.
+    pub fn first_unlike(&mut self, story: &str) -> Option<(usize, Option<Trouble>)> {
+        for (line, row) in story.lines().enumerate() {
+            if row.trim().is_empty() {
+                continue;
+            }
+            match self.holds(row) {
+                Ok(true) => {}
+                Ok(false) => return Some((line, None)),
+                Err(trouble) => return Some((line, Some(trouble))),
+            }
+        }
+        None
+    }
+
+    /// Takes a row, and tells whether it is answered so.
+    pub fn holds(&mut self, row: &str) -> Result<bool, Trouble> {
+        let Some((event, answer)) = row.split_once("=>") else {
+            return Err(Trouble::BadRow);
+        };
+        let (event, answer) = (event.trim(), answer.trim());
+        let (word, rest) = first_word(event);
+        match word {
+            "restart" => self.restarts(answer),
+            "would_save" => self.would_save(rest, answer),
+            _ if is_look(word) => self.is_shown(word, rest, answer),
+            _ => {
+                let outcome = self.take(event)?;
+                self.is_said(&outcome, answer)
+            }
+        }
+    }
+
+    /// Whether the client says just this of the delivery of a frame.
+    fn would_save(&mut self, event: &str, answer: &str) -> Result<bool, Trouble> {
+        let frame = frame_in(self.alloc, &mut self.spelling, event)?;
+        let Some(client) = &self.client else {
+            return Err(Trouble::NoClient);
+        };
+        let saves = would_save(client, &frame)?;
+        Ok(answer == if saves { "1" } else { "0" })
+    }
+
+    /// Whether the client shows what the words say. Where memory ran out, it is asked once more.
+    fn is_shown(&self, word: &str, of: &str, words: &str) -> Result<bool, Trouble> {
+        let Some(client) = &self.client else {
+            return Err(Trouble::NoClient);
+        };
+        match shows(self.alloc, client, word, of, words) {
+            Err(Trouble::NoMemory) => shows(self.alloc, client, word, of, words),
+            answer => answer,
+        }
+    }
+
+    /// Takes the client off, and restarts it: whether its note had the bytes of the answer, and it is
+    /// opened, or refused by the number behind `/`.
+    fn restarts(&mut self, answer: &str) -> Result<bool, Trouble> {
+        let (note, fault) = match answer.split_once('/') {
+            Some((note, fault)) => (note, fault.trim().parse::<u8>().unwrap_or(0)),
+            None => (answer, 0),
+        };
+        let mut notes = self.off()?;
+        let said = self.is_noted(&mut notes, note.trim())?;
+        Ok(said && self.restart(notes) == fault)
+    }
+
+    /// The notes of the client, which then is off.
+    pub fn off(&mut self) -> Result<N, Trouble> {
+        match self.client.take() {
+            Some(client) => Ok(client.off()),
+            None => self.notes.take().ok_or(Trouble::NoClient),
+        }
+    }
+
+    /// Whether the notes say this. Where memory ran out, they are asked once more.
+    pub fn is_noted(&mut self, notes: &mut N, words: &str) -> Result<bool, Trouble> {
+        match self.is_noted_once(notes, words) {
+            Err(Trouble::NoMemory) => self.is_noted_once(notes, words),
+            answer => answer,
+        }
+    }
+
+    fn is_noted_once(&mut self, notes: &mut N, words: &str) -> Result<bool, Trouble> {
+        self.wanted.clear();
+        put_note(&mut self.wanted, words)?;
+        match notes.load() {
+            Ok(bytes) => Ok(bytes == self.wanted),
+            Err(_) => Err(Trouble::NoMemory),
+        }
+    }
+
+    /// Restarts the client over its notes, once more where memory ran out: 0, or the fault's number.
+    pub fn restart(&mut self, notes: N) -> u8 {
+        match self.open(notes) {
+            Err((notes, Fault::NoMemory)) => {
+                self.wants = self.wants.saturating_add(1);
+                let again = self.open(notes);
+                self.opened(again)
+            }
+            answer => self.opened(answer),
+        }
+    }
+
+    fn open(&self, notes: N) -> Result<Client<N>, (N, Fault)> {
+        if self.servers == 1 {
+            Client::restart(self.alloc, 1, notes)
+        } else {
+            Client::restart(self.alloc, 2, notes)
+        }
+    }
+
+    fn opened(&mut self, answer: Result<Client<N>, (N, Fault)>) -> u8 {
+        match answer {
+            Ok(client) => {
+                self.client = Some(client);
+                0
+            }
+            Err((notes, fault)) => {
+                self.notes = Some(notes);
+                fault.number()
+            }
+        }
+    }
+
+    /// What the client answers to an event; where memory ran out, to the same once more.
+    pub fn take(&mut self, event: &str) -> Result<Result<Given, Fault>, Trouble> {
+        match self.take_once(event)? {
+            Err(Fault::NoMemory) => {
+                self.wants = self.wants.saturating_add(1);
+                self.take_once(event)
+            }
+            outcome => Ok(outcome),
+        }
+    }
+
+    /// A refused event has to leave what the client shows.
+    fn take_once(&mut self, event: &str) -> Result<Result<Given, Fault>, Trouble> {
+        let asked = asked_in(self.alloc, &mut self.spelling, event)?;
+        let Some(client) = &mut self.client else {
+            return Err(Trouble::NoClient);
+        };
+        let before = shown(client);
+        let outcome = ask(client, asked);
+        if outcome.is_err() && shown(client) != before {
+            return Err(Trouble::Changed);
+        }
+        Ok(outcome)
+    }
+
+    /// Whether the words say what was answered: a fault's number, or `run` or `attempt` and the number
+    /// that is given, and frames, joined by `+`.
+    fn is_said(&mut self, outcome: &Result<Given, Fault>, words: &str) -> Result<bool, Trouble> {
+        match (outcome, words.parse::<u8>()) {
+            (Ok(given), Err(_)) => self.are_given(given, words),
+            (Err(fault), Ok(number)) => Ok(fault.number() == number),
+            _ => Ok(false),
+        }
+    }
+
+    fn are_given(&mut self, given: &Given, words: &str) -> Result<bool, Trouble> {
+        let mut frames: usize = 0;
+        let mut number = None;
+        for part in words.split('+') {
+            let part = part.trim();
+            let (word, rest) = first_word(part);
+            if word == "run" || word == "attempt" {
+                number = rest.parse::<u64>().ok();
+            } else if !part.is_empty() {
+                spell_answer(&mut self.spelling, part)?;
+                if given.frames.get(frames) != Some(self.spelling.frame()) {
+                    return Ok(false);
+                }
+                frames = frames.saturating_add(1);
+            }
+        }
+        Ok(given.frames.len() == frames && given.number == number)
+    }
+}
+
+/// What a client shows without memory: its runs, its attempts, how many reports came, and whether its
+/// note is blank.
+fn shown<N: Notes>(client: &Client<N>) -> (u64, u64, usize, bool) {
+    (
+        client.runs_used(),
+        client.attempts_used(),
+        client.reports().len(),
+        client.is_blank(),
+    )
+}
+
+/// Puts the bytes of a note: none for `-`; those that stand there in hexadecimal; or those of so many
+/// runs, so many attempts and these states.
+pub fn put_note(bytes: &mut Vec<u8>, words: &str) -> Result<(), Trouble> {
+    if words == "-" {
+        return Ok(());
+    }
+    if words.starts_with("4643") {
+        return put_hex(bytes, words);
+    }
+    let states = words.split_whitespace().count().saturating_sub(2);
+    let mut words = words.split_whitespace();
+    let runs = words.next().and_then(|word| word.parse::<u64>().ok());
+    let attempts = words.next().and_then(|word| word.parse::<u64>().ok());
+    bytes.extend_from_slice(b"FCC1")?;
+    put_number(bytes, runs.unwrap_or(0), 8)?;
+    put_number(bytes, attempts.unwrap_or(0), 8)?;
+    put_number(bytes, states as u64, 4)?;
+    for word in words {
+        let length = if word.starts_with("listed") { 108 } else { 136 };
+        put_number(bytes, length, 4)?;
+        put_word(bytes, word)?;
+    }
+    Ok(())
+}

@@ -1,0 +1,156 @@
+//! What a client is restarted over.
+
+use super::life::{Life, put_note};
+use super::named::put_word;
+use super::spelling::put_number;
+use super::trouble::Trouble;
+use client_core::{Client, Noted};
+use disk_model::{MemNotes, Notes};
+use fc_base::Fault;
+use std::alloc::Global;
+
+/// Two states, of two jobs.
+pub const TWO: &str = "3 2 first first~19=1";
+
+/// Notes, and the number of the refusal, or 0.
+pub const NOTES: &str = "
+    - => 0
+    464343310000000000000000000000000000000000000000 => 0
+    46434331000000000000000100000000000000010000000000 => 54
+    4643433100000000000000010000000000000001000000 => 54
+    46434331 => 54
+    4643 => 54
+    464343320000000000000001000000000000000000000000 => 54
+    46434e3100000000000000010000000000000000 => 54
+    46434e31000000000000000100000000000000 => 54
+    464343310000000000000000000000000000000000000400 => 54
+    464343310000000000000000000000000000000000000401 => 54
+    4643433100000000000000000000000000000000ffffffff => 54
+    464343310000000000000000000000000000000000000001ffffffff => 54
+    3 2 first first~19=1 => 0
+    3 2 listed first~19=1 => 0
+    3 2 first listed => 54
+    3 2 first first => 54
+    3 2 first~19=1 first~19=1~111=3 => 54
+    3 2 first~11=0 => 54
+";
+
+/// The bytes of a note. Where memory runs out, it is tried again.
+pub fn bytes_in(alloc: Global, words: &str) -> Result<Vec<u8>, Trouble> {
+    match bytes_once(alloc, words) {
+        Err(Trouble::NoMemory) => bytes_once(alloc, words),
+        answer => answer,
+    }
+}
+
+fn bytes_once(alloc: Global, words: &str) -> Result<Vec<u8>, Trouble> {
+    let mut bytes = Vec::new(alloc);
+    put_note(&mut bytes, words)?;
+    Ok(bytes)
+}
+
+/// Whether a client is restarted over a note as the row says. The notes hold what they held.
+pub fn holds(alloc: Global, row: &str) -> Result<bool, Trouble> {
+    let Some((words, answer)) = row.split_once("=>") else {
+        return Ok(row.trim().is_empty());
+    };
+    let words = words.trim();
+    let mut life = Life::new(alloc, 1, MemNotes::new(bytes_in(alloc, words)?));
+    let notes = life.off()?;
+    let fault = life.restart(notes);
+    let mut notes = life.off()?;
+    Ok(answer.trim().parse::<u8>().ok() == Some(fault) && life.is_noted(&mut notes, words)?)
+}
+
+/// The note that keeps so many states: of server 0, those of 16 jobs for each run.
+pub fn note_of(alloc: Global, count: u32) -> Result<Vec<u8>, Trouble> {
+    match note_once(alloc, count) {
+        Err(Trouble::NoMemory) => note_once(alloc, count),
+        answer => answer,
+    }
+}
+
+fn note_once(alloc: Global, count: u32) -> Result<Vec<u8>, Trouble> {
+    let mut bytes = Vec::new(alloc);
+    put_note(&mut bytes, "0 0")?;
+    bytes.truncate(20);
+    put_number(&mut bytes, u64::from(count), 4)?;
+    for index in 0..count {
+        put_number(&mut bytes, 136, 4)?;
+        put_state(&mut bytes, index)?;
+    }
+    Ok(bytes)
+}
+
+/// Puts the state `first`, as that of the job with this index.
+fn put_state(bytes: &mut Vec<u8>, index: u32) -> Result<(), Trouble> {
+    let start = bytes.len();
+    put_word(bytes, "first")?;
+    for (at, byte) in [(11, index / 16 + 1), (19, index % 16)] {
+        if let Some(place) = bytes.get_mut(start.saturating_add(at)) {
+            *place = (byte % 256) as u8;
+        }
+    }
+    Ok(())
+}
+
+/// Whether bytes are refused, or are a note that is written as just these bytes. Where memory runs out,
+/// they are read again.
+pub fn is_refused_or_same(alloc: Global, bytes: &[u8]) -> Result<bool, Trouble> {
+    match same_once(alloc, bytes) {
+        Err(Trouble::NoMemory) => same_once(alloc, bytes),
+        answer => answer,
+    }
+}
+
+fn same_once(alloc: Global, bytes: &[u8]) -> Result<bool, Trouble> {
+    match Noted::decode(alloc, bytes)? {
+        Some(noted) => Ok(noted.encode(alloc)?.as_slice() == bytes),
+        None => Ok(true),
+    }
+}
+
+/// Whether bytes are no note. Where memory runs out, they are read again.
+pub fn is_refused(alloc: Global, bytes: &[u8]) -> Result<bool, Trouble> {
+    match Noted::decode(alloc, bytes) {
+        Ok(noted) => Ok(noted.is_none()),
+        Err(_) => Ok(Noted::decode(alloc, bytes)?.is_none()),
+    }
+}
+
+/// Notes of which the first load fails. They save nothing.
+#[derive(Drop)]
+pub struct UnreadNotes {
+    pub alloc: Global,
+    pub failed: bool,
+}
+
+impl Notes for UnreadNotes {
+    ghost use Rattle.std.specs.Prelude.{[], if◌then◌else◌};
+
+    ghost note = { λ n. record { bytes = []; failures = if n.failed then 1 else 0 } };
+
+    fn load(&mut self) -> Result<Vec<u8>, Fault> {
+        if self.failed {
+            return Ok(Vec::new(self.alloc));
+        }
+        self.failed = true;
+        Err(Fault::LoadFault)
+    }
+
+    fn save(&mut self, _bytes: &[u8]) -> Result<(), Fault> {
+        Err(Fault::NoMemory)
+    }
+}
+
+/// Whether notes whose load fails come back with that.
+pub fn comes_back(alloc: Global) -> bool {
+    let notes = UnreadNotes {
+        alloc,
+        failed: false,
+    };
+    match Client::restart(alloc, 1, notes) {
+        Err((notes, Fault::LoadFault)) => notes.failed,
+        _ => false,
+    }
+}

@@ -1,0 +1,23 @@
+-- What a Start that is due rests on.
+use Rattle.std.specs.Prelude.{◌≡◌, ℕ, ◌<◌, Bool, true, false, List, Option, Some}
+use Rattle.server_core.specs.declared.event.Event.{Event}
+use Rattle.server_core.specs.History.{Opening, Entry}
+use Rattle.server_core.specs.Request.{Request, ToStart, asked}
+use Rattle.server_core.specs.Run.{Work, is_open}
+use Rattle.server_core.specs.Words.{Staged, is_on, last_run, staged, work, due}
+
+-- The server is on, a Start of the staged run is asked, the run is above the last one, and no write is
+-- open.
+pub record IsDueStart (on : Bool) (last : ℕ) (found : Option Staged) (now : Option Work) (x : Request) (s : Staged) : Type 0 where
+  pub is_up : on ≡ true
+  pub start : x ≡ ToStart s.run
+  pub staged_is : found ≡ Some s
+  pub above : last < s.run
+  pub none_open : is_open now ≡ false
+
+-- So it is where an event is due to record a run.
+abbrev pub DueIsStart : Type 0
+DueIsStart =
+    (o : Opening) (past : List Entry) (e : Event) (s : Staged) →
+    due o past e ≡ Some s
+    → IsDueStart (is_on past) (last_run o past) (staged o past) (work o past) (asked o.me e) s
