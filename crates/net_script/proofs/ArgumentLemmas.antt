@@ -28,6 +28,7 @@ module _ (ws : List (List ℕ)) (a : ℕ) (rest : List (List ℕ)) (is : leading
       by_numbers w ws ns None = refl
       by_numbers w ws None (Some n) = refl
       by_numbers w ws (Some ns) (Some n) = refl
+
       by_rest : (rest : List (List ℕ)) → (length rest == 0) ≡ false → read_as (one line) (option_map (λ ns. a ∷ ns) (numbers_of rest)) ≡ Unread
       by_rest [] more = absurd cc
       by_rest (w ∷ ws) more = by_numbers w ws (numbers_of ws) (number_of w)

@@ -58,7 +58,7 @@ pub parsed : {E : Type 0} (ds : List ℕ) (r : Result ℕ E) → list_all is_asc
 parsed ds (Ok n) all reads =
     let same = no_plus ds all in
     sym (fits ds all (subst (λ bs. 0 < length bs) same reads.0.0.0) (subst (λ bs. digits_value 10 bs < 2 ^ 64) same reads.0.1)
-        ∙ ap Some (ap (digits_value 10) (sym same) ∙ sym reads.1))
+    ∙ ap Some (ap (digits_value 10) (sym same) ∙ sym reads.1))
 parsed ds (Err e) all reads =
     let same = no_plus ds all in
     sym (misfits ds (λ fit. reads (subst (λ bs. IsNumeral 10 bs × (digits_value 10 bs < 2 ^ 64)) (sym same) ((fit.0, all_digits ds all), fit.1))) all)

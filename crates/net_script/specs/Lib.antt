@@ -3,3 +3,7 @@ pub mod Arguments
 pub mod Asked
 pub mod Table
 pub mod Orders
+pub mod Commands
+pub mod Printed
+pub mod Script
+pub mod Runs

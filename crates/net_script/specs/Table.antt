@@ -56,8 +56,8 @@ trigger (run ∷ behind) = read_as (λ r. triggered r (act_of behind)) (number_o
 abbrev pub land : List (List ℕ) → Line
 land words =
     read_as
-        (λ mask. numbers (three (λ s j k. Asks (Land (place s) (place j) k mask))) (take 3 words))
-        (sectors_of (drop 3 words))
+    (λ mask. numbers (three (λ s j k. Asks (Land (place s) (place j) k mask))) (take 3 words))
+    (sectors_of (drop 3 words))
 
 -- `rot S J SECTOR BYTE`: a byte has eight bits.
 abbrev pub rot : ℕ → ℕ → ℕ → ℕ → Line

@@ -95,7 +95,11 @@ pub(crate) fn sectors(words: &[u8]) -> Option<u128>
 {
     let (word, rest) = split_word(words)?;
     if is_end(rest) {
-        return if is_word(word, b"all") { Some(u128::MAX) } else { None };
+        return if is_word(word, b"all") {
+            Some(u128::MAX)
+        } else {
+            None
+        };
     }
     let (count, behind) = split_word(rest)?;
     if !is_end(behind) {

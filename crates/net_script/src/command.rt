@@ -5,7 +5,7 @@ use messages::{Act, Node};
 
 /// A command in which a node may save.
 #[derive(Clone, Copy, Debug, PartialEq, Eq)]
-pub(crate) enum Saving {
+pub enum Saving {
     /// `begin`: the text below it begins a run.
     Begin,
     /// `verify R`: the text below it checks a run.
@@ -18,20 +18,29 @@ pub(crate) enum Saving {
 
 /// A command.
 #[derive(Clone, Copy, Debug, PartialEq, Eq)]
-pub(crate) enum Command {
+pub enum Command {
     /// A command in which a node may save.
     Saves(Saving),
     /// The same, whose node loses its power within the save: `cutold`, or `cutnew` where the new bytes
     /// have landed.
-    CutShort { landed: bool, command: Saving },
+    CutShort {
+        landed: bool,
+        command: Saving,
+    },
     /// `trigger R`, `trigger R cut`.
-    Trigger { run: RunNo, act: Act },
+    Trigger {
+        run: RunNo,
+        act: Act,
+    },
     /// `stop R`.
     Stop(RunNo),
     /// `tick`.
     Tick,
     /// `issue S J`.
-    Issue { server: ServerNo, job: JobNo },
+    Issue {
+        server: ServerNo,
+        job: JobNo,
+    },
     /// `land S J K all`, `land S J K first N`.
     Land {
         server: ServerNo,
@@ -59,7 +68,10 @@ pub(crate) enum Command {
         byte: u8,
     },
     /// `check S J`.
-    Check { server: ServerNo, job: JobNo },
+    Check {
+        server: ServerNo,
+        job: JobNo,
+    },
     /// `cut NODE`.
     Cut(Node),
 }

@@ -11,8 +11,9 @@ mod runs;
 use crate::line::Line;
 use crate::words::split_word;
 
-/// What a line asks for.
-pub(crate) fn line_of(line: &[u8]) -> Line
+/// What a line of a script asks for, whatever its bytes are. Blanks around words mean nothing, and words are
+/// matched as they are written.
+pub fn line_of(line: &[u8]) -> Line
     ensures { result ≡ line_of line.now }
 {
     match split_word(line) {

@@ -1,0 +1,131 @@
+-- The lines that are printed.
+use Rattle.std.specs.Prelude.{ℕ, ◌+◌, List, [], ◌∷◌, ◌++◌, length, map, Option, Some, None, codes, decimal, Result, Ok, Err, slice_get}
+use Rattle.std.specs.List.{join_with_byte}
+use Rattle.fc_base.specs.declared.fault.Fault.{Fault}
+use Rattle.fc_base.specs.Fault.{number_of, name_of}
+use Rattle.fc_base.specs.declared.report.ReportEnd.{ReportEnd}
+use Rattle.fc_base.specs.declared.report.ReportEnd.TheVariants.{Whole, AtFault, ReadFault}
+use Rattle.fc_base.specs.declared.report.ReportParts.{ReportParts}
+use Rattle.engine.specs.declared.issue.Issue.{Issue}
+use Rattle.engine.specs.declared.issue.Issue.TheVariants.{Write, Full, Held, Overlap, Finished, Stopped}
+use Rattle.messages.specs.declared.node.Node.{Node}
+use Rattle.messages.specs.declared.node.Node.TheVariants.{Server, Client}
+use Rattle.messages.specs.declared.frame.Frame.{Frame}
+use Rattle.messages.specs.declared.frame.Frame.TheVariants as frames
+use Rattle.messages.specs.declared.refusal.Act.{Act}
+use Rattle.messages.specs.declared.refusal.Act.TheVariants as acts
+use Rattle.messages.specs.Bodies.{kind_of}
+use Rattle.messages.specs.Kinds as kinds
+use Rattle.messages.specs.FrameBytes.{frame_spelling}
+use Rattle.net_world.specs.declared.told.Answer.{Answer}
+use Rattle.net_world.specs.declared.told.Answer.TheVariants.{Plain, Run, Attempt, Issued, Checked}
+use Rattle.net_world.specs.Happenings.{Happening, Deliver}
+use Rattle.net_world.specs.Frames.{frames_sent, frames_of_step, to_of}
+use Rattle.net_world.specs.Changes.{Change, Met, Landed, Rotted, steps}
+use Rattle.net_world.specs.Outcomes.{Outcome, Does, Refuses, Drops, outcome}
+use Rattle.net_world.specs.World.{answer, act}
+use Rattle.fc_base.specs.declared.fault.Fault.TheVariants.{FrameBadField}
+
+-- Words separated by blanks.
+abbrev pub spaced : List (List ℕ) → List ℕ
+spaced words = join_with_byte 32 words
+
+-- The blocks of a report, or `-`.
+abbrev pub block_words : List ℕ → List (List ℕ)
+block_words [] = codes "-" ∷ []
+block_words blocks = map decimal blocks
+
+-- How a check ended.
+abbrev pub end_words : ReportEnd → List (List ℕ)
+end_words Whole = codes "whole" ∷ []
+end_words AtFault = codes "fault" ∷ []
+end_words (ReadFault block) = codes "read" ∷ decimal block ∷ []
+
+-- The words of a report.
+abbrev pub report_words : ReportParts → List (List ℕ)
+report_words report =
+    (codes "checked" ∷ decimal report.checked ∷ codes "faults" ∷ decimal report.faults ∷ codes "end" ∷ [])
+    ++ (end_words report.end ++ (codes "first" ∷ block_words report.first))
+
+-- What a worker is told that asks for a write.
+abbrev pub issue_words : Issue → List (List ℕ)
+issue_words (Write ticket) = codes "write" ∷ decimal ticket.seq ∷ codes "block" ∷ decimal ticket.block ∷ []
+issue_words Full = codes "full" ∷ []
+issue_words Held = codes "held" ∷ []
+issue_words Overlap = codes "overlap" ∷ []
+issue_words Finished = codes "finished" ∷ []
+issue_words Stopped = codes "stopped" ∷ []
+
+-- The words of an answer.
+abbrev pub answer_words : Answer → List (List ℕ)
+answer_words Plain = []
+answer_words (Run run) = codes "run" ∷ decimal run ∷ []
+answer_words (Attempt attempt) = codes "attempt" ∷ decimal attempt ∷ []
+answer_words (Issued issue) = issue_words issue
+answer_words (Checked report) = codes "report" ∷ report_words report
+
+-- The line of an answer.
+abbrev pub answer_line : Answer → List ℕ
+answer_line answer = spaced (codes "ok" ∷ answer_words answer)
+
+-- The line of a refusal.
+abbrev pub refusal_line : Fault → List ℕ
+refusal_line fault = spaced (codes "refused" ∷ decimal (number_of fault) ∷ name_of fault ∷ [])
+
+-- The line of a bad line.
+abbrev pub bad_line : ℕ → List ℕ
+bad_line number = spaced (codes "bad" ∷ codes "line" ∷ decimal number ∷ [])
+
+-- A node's word.
+abbrev pub node_word : Node → List ℕ
+node_word (Server s) = decimal s
+node_word Client = codes "client"
+
+-- The node that a frame is from.
+abbrev pub from_of : Frame → Node
+from_of (frames.Whole p) = p.from
+from_of (frames.Piece q) = q.from
+
+-- The name of a frame's kind.
+abbrev pub kind_word : Frame → List ℕ
+kind_word (frames.Whole p) = kinds.name_of (kind_of p.body)
+kind_word (frames.Piece q) = codes "Piece"
+
+-- The line of a frame that was sent: its number, the nodes, its kind and its length.
+abbrev pub sent_line : ℕ → Frame → List ℕ
+sent_line i f =
+    spaced (codes "sent" ∷ decimal i ∷ node_word (from_of f) ∷ node_word (to_of f) ∷ kind_word f
+    ∷ decimal (length (frame_spelling f)) ∷ [])
+
+-- The lines of frames, numbered on from a number.
+abbrev pub sent_lines : ℕ → List Frame → List (List ℕ)
+sent_lines i [] = []
+sent_lines i (f ∷ fs) = sent_line i f ∷ sent_lines (i + 1) fs
+
+-- The frames that are sent with a change.
+abbrev pub frames_with : ℕ → List Change → Change → List Frame
+frames_with n past (Met step) = frames_of_step n (steps past) step
+frames_with n past (Landed s j k mask) = []
+frames_with n past (Rotted s j sector bytes) = []
+
+-- The line of a cut that a server asks for, to which a frame came.
+abbrev pub cut_lines : Option Frame → List (List ℕ)
+cut_lines None = []
+cut_lines (Some f) = spaced (codes "act" ∷ codes "cut" ∷ node_word (to_of f) ∷ []) ∷ []
+
+-- The line of what a server asks.
+abbrev pub act_lines : ℕ → List Change → Happening → Act → List (List ℕ)
+act_lines n past (Deliver i) acts.Cut = cut_lines (slice_get (frames_sent n (steps past)) i)
+act_lines n past e asked = []
+
+-- The lines of what happens, by what comes of it.
+abbrev pub lines_by : ℕ → List Change → Happening → Outcome → List (List ℕ)
+lines_by n past e (Refuses fault) = refusal_line fault ∷ []
+lines_by n past e (Drops step) = refusal_line FrameBadField ∷ []
+lines_by n past e (Does change) =
+    (answer_line (answer n past e) ∷ sent_lines (length (frames_sent n (steps past))) (frames_with n past change))
+    ++ act_lines n past e (act n past change)
+
+-- The lines of what happens.
+abbrev pub lines_at : ℕ → List Change → Happening → List (List ℕ)
+lines_at n past e = lines_by n past e (outcome n past e)

@@ -1,0 +1,85 @@
+-- What a script prints, and its status.
+use Rattle.std.specs.Prelude.{ℕ, Bool, true, false, ◌||◌, nat_lt, List, [], ◌∷◌, ◌++◌, length, codes, if◌then◌else◌}
+use Rattle.std.specs.List.{flat_map}
+use Rattle.net_world.specs.declared.told.Answer.{Answer}
+use Rattle.net_world.specs.declared.told.Answer.TheVariants.{Checked}
+use Rattle.net_world.specs.Happenings.{Happening}
+use Rattle.net_world.specs.Outcomes.{Outcome, Does, Refuses, Drops, outcome}
+use Rattle.net_world.specs.World.{world, answer}
+use Rattle.net_script.specs.Commands.{happens}
+use Rattle.net_script.specs.Orders.{Order, Opens, Asks, Fails, ended, orders_of}
+use Rattle.net_script.specs.Printed.{lines_at, bad_line}
+
+-- The lines of orders behind these happenings, the newest first: each command answered in the world
+-- that those before it have made; a bad line ends them. `servers` stands first, and only there.
+abbrev pub lines_in : ℕ → List Happening → List Order → List (List ℕ)
+lines_in n before [] = []
+lines_in n before (Asks line command text ∷ orders) =
+    lines_at n (world n before) (happens command text)
+    ++ lines_in n (happens command text ∷ before) orders
+lines_in n before (Fails line at ∷ orders) = bad_line at ∷ []
+lines_in n before (Opens line more ∷ orders) = bad_line line ∷ []
+
+-- The lines of all orders: the first makes the world.
+abbrev pub lines_of_orders : List Order → List (List ℕ)
+lines_of_orders [] = []
+lines_of_orders (Opens line n ∷ orders) = codes "ok" ∷ lines_in n [] orders
+lines_of_orders (Asks line command text ∷ orders) = bad_line line ∷ []
+lines_of_orders (Fails line at ∷ orders) = bad_line line ∷ []
+
+-- All of these are commands.
+abbrev pub are_commands : List Order → Bool
+are_commands [] = true
+are_commands (Asks line command text ∷ orders) = are_commands orders
+are_commands (order ∷ orders) = false
+
+-- No line is bad.
+abbrev pub reads_well : List Order → Bool
+reads_well [] = true
+reads_well (Opens line n ∷ orders) = are_commands orders
+reads_well (order ∷ orders) = false
+
+-- A report has faults.
+abbrev pub has_faults : Answer → Bool
+has_faults (Checked report) = nat_lt 0 report.faults
+has_faults _ = false
+
+-- What comes of it isn't refused, and tells of faults.
+abbrev pub tells_faults : Answer → Outcome → Bool
+tells_faults answer (Does change) = has_faults answer
+tells_faults answer (Refuses fault) = false
+tells_faults answer (Drops step) = false
+
+-- What happens in a world of n servers behind these happenings tells of faults.
+abbrev pub finds_fault : ℕ → List Happening → Happening → Bool
+finds_fault n before e = tells_faults (answer n (world n before) e) (outcome n (world n before) e)
+
+-- Some command tells of faults.
+abbrev pub some_faults : ℕ → List Happening → List Order → Bool
+some_faults n before (Asks line command text ∷ orders) =
+    finds_fault n before (happens command text)
+    || some_faults n (happens command text ∷ before) orders
+some_faults n before _ = false
+
+-- Some report of the script has faults.
+abbrev pub finds_faults : List Order → Bool
+finds_faults (Opens line n ∷ orders) = some_faults n [] orders
+finds_faults _ = false
+
+-- The status of orders: 2 where a line is bad, 1 where a report has faults, else 0.
+abbrev pub status_of_orders : List Order → ℕ
+status_of_orders orders = if reads_well orders then (if finds_faults orders then 1 else 0) else 2
+
+-- A script has at most 1,048,576 bytes.
+abbrev pub is_too_long : List ℕ → Bool
+is_too_long script = nat_lt 1048576 (length script)
+
+-- What a script prints.
+abbrev pub text_of : List ℕ → List ℕ
+text_of script =
+    if is_too_long script then codes "too long\n"
+    else flat_map ended (lines_of_orders (orders_of script))
+
+-- Its status.
+abbrev pub status_of : List ℕ → ℕ
+status_of script = if is_too_long script then 2 else status_of_orders (orders_of script)
