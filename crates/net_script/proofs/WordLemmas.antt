@@ -1,5 +1,5 @@
 -- The first word of a line, and the words behind it.
-use Rattle.std.proofs.Common.{◌≡◌, ℕ, ◌+◌, ◌<◌, ◌==◌, Bool, true, false, cond, not, ◌||◌, zero, suc, List, [], ◌∷◌, length, take, drop, filter, nat_lt, refl, sym, ◌∙◌, ap, arith}
+use Rattle.std.proofs.Common.{◌≡◌, ℕ, ◌+◌, ◌<◌, Bool, true, false, cond, not, suc, List, [], ◌∷◌, length, take, drop, filter, nat_lt, refl, sym, ◌∙◌, ap, arith}
 use Rattle.std.specs.List.{slice_split, onto_first, prefix_len, position_or_len}
 use Rattle.std.proofs.lemmas.Bool.Decides.{nat_tests}
 use Rattle.net_script.specs.Words.{is_blank, is_word, words_of}

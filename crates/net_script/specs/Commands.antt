@@ -1,5 +1,5 @@
 -- What the commands of a script make happen in a world.
-use Rattle.std.specs.Prelude.{ℕ, Bool, List, replicate}
+use Rattle.std.specs.Prelude.{ℕ, List, replicate}
 use Rattle.net_world.specs.Happenings as worlds
 use Rattle.net_world.specs.Happenings.{Happening, CutIn}
 use Rattle.net_script.specs.declared.command.Saving.{Saving}

@@ -1,6 +1,5 @@
-use Rattle.std.proofs.Common.{◌≡◌, List, ℕ, sym, ◌∙◌, ap, subst}
+use Rattle.std.proofs.Common.{sym, ◌∙◌, subst}
 use Rattle.std.specs.Str.Parse.{ParsesUnsigned}
-use Rattle.net_script.specs.Words.{number_of}
 use Rattle.net_script.proofs.NumberLemmas.{digits_are_text, parsed}
 use Rattle.net_script.proofs.words.number_of.Goals as goal
 

@@ -1,4 +1,4 @@
-use Rattle.std.proofs.Common.{◌≡◌, ◌∷◌, List, ℕ, drop, sym, ◌∙◌, ap}
+use Rattle.std.proofs.Common.{◌∷◌, drop, sym, ◌∙◌, ap}
 use Rattle.net_script.specs.Words.{words_of}
 use Rattle.net_script.proofs.WordLemmas.{no_words, splits_word}
 use Rattle.net_script.proofs.words.split_word.Goals as goal

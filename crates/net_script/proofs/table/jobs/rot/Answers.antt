@@ -1,10 +1,5 @@
-use Rattle.std.proofs.Common.{sym, ◌∙◌, ap}
-use Rattle.net_script.specs.declared.command.Saving.TheVariants.{Verify, Deliver}
-use Rattle.net_script.specs.declared.command.Command.TheVariants.{Stop, Issue, Done, Fail, Check}
-use Rattle.net_script.specs.declared.line.Line.TheVariants.{Asks}
-use Rattle.net_script.specs.Arguments.{place}
-use Rattle.net_script.specs.Asked.{asked}
-use Rattle.net_script.specs.Table.{servers, rot}
+use Rattle.std.proofs.Common.{sym, ◌∙◌}
+use Rattle.net_script.specs.Table.{rot}
 use Rattle.net_script.proofs.table.jobs.rot.Goals as goal
 
 pub returns-in-Some : goal.returns-in-Some
