@@ -28,7 +28,8 @@ use Rattle.net_world.specs.Frames as frames
 use Rattle.net_world.specs.Frames.{OfServer, OfClient, at_server, at_client}
 use Rattle.net_world.specs.Changes.{steps}
 use Rattle.net_world.proofs.HearingLemmas.{server_with, server_by_client}
-use Rattle.net_world.specs.Writes.{open_of_job, open_in, open_at}
+use Rattle.server_core.specs.OpenWrites.{open_origin_of, open_origin}
+use Rattle.net_world.specs.Writes.{open_at}
 use Rattle.net_world.specs.Contents.{with_write, is_file, content}
 use Rattle.net_world.specs.Honest.{HoldsWrite, IsInFile, AreHonest}
 use Rattle.net_world.proofs.ListLemmas.{none_in}
@@ -60,8 +61,8 @@ no_end_if true b ticket end h = no_end b ticket end h
 no_end_if false b ticket end h = cc
 
 -- The write of this ticket is open.
-open_in_job : (w : Work) (j k : ℕ) (job : Job) → slice_get w.jobs j ≡ Some job → has (window.open_writes (history (origin_of w j job) w.since)) k ≡ true → open_in (Some w) j k ≡ Some (origin_of w j job)
-open_in_job w j k job is o = ap (open_of_job w j k) is ∙ ap (λ b. if b then Some (origin_of w j job) else None) o
+open_in_job : (w : Work) (j k : ℕ) (job : Job) → slice_get w.jobs j ≡ Some job → has (window.open_writes (history (origin_of w j job) w.since)) k ≡ true → open_origin (Some w) j k ≡ Some (origin_of w j job)
+open_in_job w j k job is o = ap (open_origin_of w j k) is ∙ ap (λ b. if b then Some (origin_of w j job) else None) o
 
 the_ticket : (a b : Ticket) (e f : WriteEnd) → ToEnd a e ≡ ToEnd b f → a ≡ b
 the_ticket a b e f h = cc
@@ -71,7 +72,7 @@ tells : (n s : ℕ) (past : List Change) (e : Event) (left : Left) → IsInFile 
 tells n s past (WriteDone given Done) left honest = λ w is j job has_job ticket told key is_open.
     let same : given ≡ ticket = the_ticket given ticket Done Done told in
     let here : ticket.key.job ≡ j = ap (λ (k : Rattle.fc_base.specs.declared.numbers.Key.Key). k.job) key in
-    let at : open_at (trace n past) s j ticket.seq ≡ Some (origin_of w j job) = ap (λ x. open_in x j ticket.seq) is ∙ open_in_job w j ticket.seq job has_job is_open in
+    let at : open_at (trace n past) s j ticket.seq ≡ Some (origin_of w j job) = ap (λ x. open_origin x j ticket.seq) is ∙ open_in_job w j ticket.seq job has_job is_open in
     let honest_now : (origin : Origin) → open_at (trace n past) s ticket.key.job ticket.seq ≡ Some origin → HoldsWrite (content n past s ticket.key.job) origin.key origin.job ticket.seq =
     subst (λ (t : Ticket). (origin : Origin) → open_at (trace n past) s t.key.job t.seq ≡ Some origin → HoldsWrite (content n past s t.key.job) origin.key origin.job t.seq) same honest in
     subst (λ i. (origin : Origin) → open_at (trace n past) s i ticket.seq ≡ Some origin → HoldsWrite (content n past s i) origin.key origin.job ticket.seq) here honest_now (origin_of w j job) at
@@ -105,7 +106,7 @@ found_open : (w : Work) (j k : ℕ) (job : Job) (b : Bool) (origin : Origin) →
 found_open w j k job true origin h = (refl, cc)
 found_open w j k job false origin h = absurd cc
 
-lands_job : (May : ℕ → JobParts → Type 0) (n s : ℕ) (past : List Change) (j k mask : ℕ) (w : Work) (origin : Origin) (x : Option Job) → work (opening_of s) (of_server s (trace n past)) ≡ Some w → slice_get w.jobs j ≡ x → open_of_job w j k x ≡ Some origin → May mask origin.job
+lands_job : (May : ℕ → JobParts → Type 0) (n s : ℕ) (past : List Change) (j k mask : ℕ) (w : Work) (origin : Origin) (x : Option Job) → work (opening_of s) (of_server s (trace n past)) ≡ Some w → slice_get w.jobs j ≡ x → open_origin_of w j k x ≡ Some origin → May mask origin.job
     → Lands May (opening_of s) (of_server s (trace n past)) j (content n past s j) (with_write k mask (Some origin) (content n past s j))
 lands_job May n s past j k mask w origin None is has_job h may = absurd cc
 lands_job May n s past j k mask w origin (Some job) is has_job h may =
@@ -122,7 +123,7 @@ lands_job May n s past j k mask w origin (Some job) is has_job h may =
       content = ap (λ (x : Origin). with_write k mask (Some x) (content n past s j)) (sym f.1);
     })
 
-lands_in : (May : ℕ → JobParts → Type 0) (n s : ℕ) (past : List Change) (j k mask : ℕ) (x : Option Work) (origin : Origin) → work (opening_of s) (of_server s (trace n past)) ≡ x → open_in x j k ≡ Some origin → May mask origin.job
+lands_in : (May : ℕ → JobParts → Type 0) (n s : ℕ) (past : List Change) (j k mask : ℕ) (x : Option Work) (origin : Origin) → work (opening_of s) (of_server s (trace n past)) ≡ x → open_origin x j k ≡ Some origin → May mask origin.job
     → Lands May (opening_of s) (of_server s (trace n past)) j (content n past s j) (with_write k mask (Some origin) (content n past s j))
 lands_in May n s past j k mask None origin is h may = absurd cc
 lands_in May n s past j k mask (Some w) origin is h may = lands_job May n s past j k mask w origin (slice_get w.jobs j) is refl h may

@@ -52,7 +52,7 @@ abbrev pub IsFrameOf : List PacketParts → Frame → Type 0
 IsFrameOf ps (Whole p) = Contains ps p
 IsFrameOf ps (Piece q) = (p : PacketParts) × Contains ps p × IsPieceOf p q
 
-of_map : {X Y : Type 0} (f : X → Y) (xs : List X) (y : Y) → Contains (map f xs) y → (x : X) × Contains xs x × (f x ≡ y)
+pub of_map : {X Y : Type 0} (f : X → Y) (xs : List X) (y : Y) → Contains (map f xs) y → (x : X) × Contains xs x × (f x ≡ y)
 of_map f [] y h = absurd (none_in y h)
 of_map f (x ∷ xs) y h = elim (first_or_rest (f x) (map f xs) y h) [
   | inl e ↦ (x, first_in x xs, e)

@@ -17,7 +17,7 @@ use Rattle.net_world.specs.Fresh.{OneTextOfEachRun, OneTextOfEachAttempt}
 use Rattle.net_world.specs.FrameLaws.{TagsNameOneBody}
 
 -- A body that is cut has a job file.
-data Long (b : Body) : Type 0 where
+pub data Long (b : Body) : Type 0 where
   OfJobs : (run : ℕ) (text : List ℕ) → b ≡ bodies.Jobs run text → Long b
   OfVerify : (run attempt : ℕ) (text : List ℕ) → b ≡ bodies.Verify run attempt text → Long b
 
@@ -27,7 +27,7 @@ short b limit l m c = absurd (below (length_of b) limit l m c)
     below : (a limit : ℕ) → a ≤ limit → limit ≤ 1024 → nat_lt 1024 a ≡ true → ⊥
     below a limit l m c = grind (arith, nat_tests)
 
-long : LengthsAreBounded → (b : Body) → IsTrue (is_body b) → KeepsState b → is_cut b ≡ true → Long b
+pub long : LengthsAreBounded → (b : Body) → IsTrue (is_body b) → KeepsState b → is_cut b ≡ true → Long b
 long law (bodies.Jobs run text) h k c = OfJobs run text refl
 long law (bodies.Verify run attempt text) h k c = OfVerify run attempt text refl
 long law (bodies.JobsOk run jobs) h k c = short (bodies.JobsOk run jobs) 12 (law (bodies.JobsOk run jobs) h k) (omega arith) c
@@ -64,7 +64,7 @@ same_body texts checks n t p q i j e (OfJobs run text h) (OfVerify other b more 
 same_body texts checks n t p q i j e (OfVerify run a text h) (OfJobs other more k) =
     let x = ap (λ (y : Tag). y.whole) (tags_are p.body q.body (bodies.Verify run a text) (bodies.Jobs other more) h k e) in absurd cc
 
-in_range : (p : PacketParts) → IsPacket p → is_body p.body ≡ true
+pub in_range : (p : PacketParts) → IsPacket p → is_body p.body ≡ true
 in_range p h = (and_parts (is_node p.from && is_node p.to) (is_body p.body) h.in_range).1
 
 pub tags_name_one_body : LengthsAreBounded → OneTextOfEachRun → OneTextOfEachAttempt → TagsNameOneBody

@@ -17,9 +17,11 @@ use Rattle.server_core.specs.declared.input.Input.TheVariants as inputs
 use Rattle.server_core.specs.History as server
 use Rattle.server_core.specs.Hearing as server_hearing
 use Rattle.server_core.specs.Answers as servers
+use Rattle.client_core.specs.declared.call.Call.TheVariants as calls
+use Rattle.client_core.specs.declared.input.Input.TheVariants as client_inputs
 use Rattle.client_core.specs.History as client
 use Rattle.client_core.specs.Packets as clients
-use Rattle.net_world.specs.ClientHearing as client_hearing
+use Rattle.client_core.specs.Hearing as client_hearing
 use Rattle.net_world.specs.Trace.{Step, AtServer, AtClient, opening_of, client_opening, taken_by}
 
 -- A step: a frame comes to the server with this number, or anything else happens to it; or to the
@@ -115,3 +117,21 @@ frame_entry (Happens (server.Restart left)) = server_hearing.Restart left
 -- The list of frames of server s.
 abbrev pub server_entries : ℕ → List FrameStep → List server_hearing.FrameEntry
 server_entries s t = map frame_entry (of_server s t)
+
+-- What happens to the client, as an entry of its list of frames.
+abbrev pub client_frame_entry : Coming client.Entry Left → client_hearing.FrameEntry
+client_frame_entry (Comes f left) = client_hearing.Met (client_inputs.Deliver f) left
+client_frame_entry (Happens (client.Met (calls.Begin text) left)) = client_hearing.Met (client_inputs.Begin text) left
+client_frame_entry (Happens (client.Met (calls.Trigger run act) left)) = client_hearing.Met (client_inputs.Trigger run act) left
+client_frame_entry (Happens (client.Met (calls.Stop run) left)) = client_hearing.Met (client_inputs.Stop run) left
+client_frame_entry (Happens (client.Met (calls.Verify run text) left)) =
+    client_hearing.Met (client_inputs.Verify run text) left
+client_frame_entry (Happens (client.Met (calls.Deliver p) left)) =
+    client_hearing.Met (client_inputs.Deliver (Whole p)) left
+client_frame_entry (Happens (client.Met calls.Tick left)) = client_hearing.Met client_inputs.Tick left
+client_frame_entry (Happens client.Cut) = client_hearing.Cut
+client_frame_entry (Happens client.Restart) = client_hearing.Restart
+
+-- The client's list of frames.
+abbrev pub client_entries : List FrameStep → List client_hearing.FrameEntry
+client_entries t = map client_frame_entry (of_client t)

@@ -1,5 +1,5 @@
 -- What holds of every world.
-use Rattle.std.specs.Prelude.{◌≡◌, ◌≤◌, ℕ, List, Option, Some, None, Ok, Err, slice_get}
+use Rattle.std.specs.Prelude.{◌≡◌, ◌≤◌, ℕ, List, [], Option, Some, None, Ok, Err, slice_get, Contains}
 use Rattle.fc_base.specs.declared.fault.Fault.TheVariants.{Conflict}
 use Rattle.fc_base.specs.declared.report.ReportParts.{ReportParts}
 use Rattle.job_file.specs.declared.job.Job.{Job}
@@ -13,7 +13,9 @@ use Rattle.net_world.specs.Happenings as happenings
 use Rattle.net_world.specs.Trace.{opening_of, of_server, IsTrace}
 use Rattle.net_world.specs.Verdict.{IsBased}
 use Rattle.net_world.specs.Changes.{Change, steps, trace}
-use Rattle.net_world.specs.Frames.{IsFrameTrace}
+use Rattle.messages.specs.declared.frame.Frame.{Frame}
+use Rattle.messages.specs.FrameBytes.{frame_at, frame_faults, frame_spelling}
+use Rattle.net_world.specs.Frames.{IsFrameTrace, frames_sent}
 use Rattle.net_world.specs.Contents.{content}
 use Rattle.net_world.specs.Checks.{key_of, report_of}
 use Rattle.net_world.specs.World.{world, told}
@@ -56,3 +58,13 @@ abbrev pub NoneIsAConflict : Type 0
 NoneIsAConflict =
     (n : ℕ) (events : List Happening) (e : Happening) →
     n ≤ 8 → told n (world n events) e ≡ Err Conflict → ⊥
+
+-- A frame's bytes have no fault, and say that frame.
+abbrev pub IsReadBack : Frame → Type 0
+IsReadBack f = (frame_faults (frame_spelling f) ≡ []) × (frame_at (frame_spelling f) ≡ Some f)
+
+-- Each frame that was sent in a world is read back from its bytes.
+abbrev pub SentFramesAreRead : Type 0
+SentFramesAreRead =
+    (n : ℕ) (events : List Happening) (f : Frame) →
+    n ≤ 8 → Contains (frames_sent n (steps (world n events))) f → IsReadBack f

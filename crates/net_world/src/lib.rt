@@ -3,15 +3,27 @@
 //! files, and what each check tells.
 #![tactic(auto)]
 
+mod asked;
+mod client_node;
+mod config;
+mod event;
 mod example;
 mod frame_law;
 mod fresh;
 mod honest;
 mod passes;
+mod playing;
+mod ready;
+mod sent;
+mod served;
+mod server_node;
 mod told;
 mod verdict;
+mod world;
 mod world_law;
 
+pub use config::Config;
+pub use event::{Event, PlainEvent};
 pub use example::examples;
 pub use frame_law::{
     frames_are_of_packets, frames_hold_the_taken, only_sent_is_heard, sent_are_in_range,
@@ -22,6 +34,11 @@ pub use honest::honest_disks;
 pub use passes::{
     checked_states_were_sent, kept_states_were_sent, saved_states_are_kept, sent_states_were_taken,
 };
+pub use playing::play;
+pub use sent::Sent;
 pub use told::{Answer, Told};
 pub use verdict::one_state_of_each_job;
-pub use world_law::{checks_are_exact, each_world_is_a_trace, none_is_a_conflict};
+pub use world::World;
+pub use world_law::{
+    checks_are_exact, each_world_is_a_trace, none_is_a_conflict, sent_frames_are_read,
+};

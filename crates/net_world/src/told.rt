@@ -1,5 +1,8 @@
 //! What is told of what happens in a world.
 
+ghost use Rattle.std.specs.Prelude.{◌≡◌};
+ghost use Rattle.net_world.specs.Telling.{plainly_told};
+
 use engine::Issue;
 use fc_base::{Attempt, CheckReport, RunNo};
 use messages::Act;
@@ -27,4 +30,18 @@ pub struct Told {
     pub first: u64,
     pub sent: u64,
     pub act: Act,
+}
+
+impl Told {
+    /// It is told that it has happened, behind so many frames.
+    pub(crate) fn plain(first: usize) -> Told
+        ensures { result ≡ plainly_told first }
+    {
+        Told {
+            answer: Answer::Plain,
+            first: first as u64,
+            sent: 0,
+            act: Act::None,
+        }
+    }
 }

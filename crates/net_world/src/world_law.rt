@@ -1,13 +1,13 @@
 //! What holds of every world. The functions have nothing to run.
 
-ghost use Rattle.net_world.specs.WorldLaws.{EachWorldIsAFrameTrace, EachWorldIsATrace, ChecksAreExact, NoneIsAConflict};
+ghost use Rattle.net_world.specs.WorldLaws.{EachWorldIsAFrameTrace, EachWorldIsATrace, ChecksAreExact, NoneIsAConflict, SentFramesAreRead};
 
 use crate::frame_law::{
     frames_are_of_packets, only_sent_is_heard, sent_are_in_range, tags_name_one_body,
 };
 use crate::fresh::nothing_differs;
 use crate::verdict::one_state_of_each_job;
-use messages::only_sent_comes_together;
+use messages::{frames_are_read_back, lengths_are_bounded, only_sent_comes_together};
 use recheck::reports_fit;
 use server_core::legal_histories;
 
@@ -40,6 +40,19 @@ pub fn none_is_a_conflict()
     tags_name_one_body();
     sent_are_in_range();
     nothing_differs();
+    reports_fit();
+    legal_histories();
+}
+
+/// Each frame that was sent is read back from its bytes.
+pub fn sent_frames_are_read()
+    ensures { SentFramesAreRead }
+{
+    each_world_is_a_trace();
+    frames_are_of_packets();
+    sent_are_in_range();
+    frames_are_read_back();
+    lengths_are_bounded();
     reports_fit();
     legal_histories();
 }

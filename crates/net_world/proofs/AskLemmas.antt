@@ -1,0 +1,167 @@
+-- What a call of the client comes to in a world.
+use Rattle.std.proofs.Common.{◌≡◌, refl, sym, ◌∙◌, ap, subst, inl, inr, ◌⊎◌, ℕ, ◌+◌, ◌*◌, true, false, List, [], ◌∷◌, ◌++◌, length, Some, None, Result, Ok, Err, append-nil}
+use Rattle.std.specs.Prelude.{map, slice_get, Vec}
+use Rattle.std.specs.declared.alloc.Global.{Global}
+use Rattle.std.proofs.lemmas.List.{length-map}
+use Rattle.fc_base.specs.declared.fault.Fault.{Fault}
+use Rattle.fc_base.specs.declared.fault.Fault.TheVariants.{NodeOff}
+use Rattle.fc_base.specs.declared.fault.FaultSort.{FaultSort}
+use Rattle.fc_base.specs.declared.fault.FaultSort.TheVariants as sorts
+use Rattle.fc_base.specs.Fault.{sort_of}
+use Rattle.disk_model.specs.declared.left.Left.TheVariants.{NoSave}
+use Rattle.disk_model.specs.declared.mem_disk.MemDisk.{MemDisk}
+use Rattle.messages.specs.FrameBytes.{frame_spelling}
+use Rattle.messages.specs.declared.node.Node.TheVariants.{Client}
+use Rattle.messages.specs.declared.piece.PieceParts.{PieceParts}
+use Rattle.messages.specs.declared.frame.Frame.TheVariants.{Whole, Piece}
+use Rattle.messages.specs.Hearing.{Meaning, Says, Waits, Spoils, Strays, meaning, heard_by}
+use Rattle.client_core.specs.declared.call.Call.{Call}
+use Rattle.client_core.specs.declared.call.Call.TheVariants as calls
+use Rattle.client_core.specs.declared.input.Input.{Input}
+use Rattle.client_core.specs.declared.input.Input.TheVariants as inputs
+use Rattle.client_core.specs.History as client
+use Rattle.client_core.specs.Words as words
+use Rattle.client_core.specs.Hearing.{FrameEntry, Met, rules, heard_at, packets_heard}
+use Rattle.client_core.specs.FrameAnswers as answers
+use Rattle.net_world.specs.declared.asked.Asked.{Asked}
+use Rattle.net_world.specs.declared.server_node.ServerNode.{ServerNode}
+use Rattle.messages.specs.declared.refusal.Act.TheVariants as acts
+use Rattle.net_world.specs.declared.told.Answer.{Answer}
+use Rattle.net_world.specs.declared.told.Told.{Told}
+use Rattle.net_world.specs.declared.world.World.{World}
+use Rattle.net_world.specs.Trace.{client_opening}
+use Rattle.net_world.specs.Frames.{frames_sent, frames_of_step}
+use Rattle.net_world.specs.Changes as changes
+use Rattle.net_world.specs.Changes.{Change, steps, trace}
+use Rattle.net_world.specs.Barred.{off, is_on, unless}
+use Rattle.net_world.specs.World.{frames}
+use Rattle.net_world.specs.Sending.{sent_in}
+use Rattle.net_world.specs.ClientNodes as nodes
+use Rattle.net_world.specs.ClientNodes.{is_up}
+use Rattle.net_world.specs.Stands.{StandsFor}
+use Rattle.net_world.specs.Asking.{entries, step_of, step_by, told_of, IsBarred, Refuses, Faults, ClientEnds}
+use Rattle.net_world.proofs.ClientHeardLemmas.{heard_is, frames_are, entry_again}
+use Rattle.net_world.proofs.MetLemmas.{frames_more}
+use Rattle.net_world.proofs.ServeLemmas.{first_is}
+
+-- ---- whether the client is on
+
+pub up_is : (n : ℕ) (past : List Change) → is_up (client_opening n) (entries past) ≡ is_on (trace n past) Client
+up_is n past = ap words.is_on (heard_is n past)
+
+is_there : (n : ℕ) (past : List Change) → is_up (client_opening n) (entries past) ≡ true → off n (trace n past) Client ≡ None
+is_there n past h = ap (λ on. unless on NodeOff) (sym (up_is n past) ∙ h)
+
+is_off : (n : ℕ) (past : List Change) → is_up (client_opening n) (entries past) ≡ false → off n (trace n past) Client ≡ Some NodeOff
+is_off n past h = ap (λ on. unless on NodeOff) (sym (up_is n past) ∙ h)
+
+-- ---- what is refused sends nothing
+
+none_sent : (o : client.Opening) (list : List client.Entry) (c : Call) (fault : Fault) → words.refusal o list c ≡ Some fault → answers.frames_by o list (Some (client.Met c NoSave)) ≡ []
+none_sent o list c fault h = rw h refl
+
+piece_sends : (o : client.Opening) (list : List client.Entry) (q : PieceParts) (m : Meaning) (fault : Fault) → answers.refusal_in o list (answers.sense_of q m) ≡ Some fault
+    → answers.frames_by o list (heard_by (rules o) NoSave m) ≡ []
+piece_sends o list q (Says p) fault h = none_sent o list (calls.Deliver p) fault h
+piece_sends o list q Waits fault h = refl
+piece_sends o list q Spoils fault h = refl
+piece_sends o list q Strays fault h = refl
+
+refused_sends : (o : client.Opening) (past : List FrameEntry) (e : Input) (fault : Fault) → answers.refusal o past e ≡ Some fault → answers.frames o past (Met e NoSave) ≡ []
+refused_sends o past (inputs.Begin text) fault h = none_sent o (packets_heard o past) (calls.Begin text) fault h
+refused_sends o past (inputs.Trigger run act) fault h = none_sent o (packets_heard o past) (calls.Trigger run act) fault h
+refused_sends o past (inputs.Stop run) fault h = none_sent o (packets_heard o past) (calls.Stop run) fault h
+refused_sends o past (inputs.Verify run text) fault h = none_sent o (packets_heard o past) (calls.Verify run text) fault h
+refused_sends o past (inputs.Deliver (Whole p)) fault h = none_sent o (packets_heard o past) (calls.Deliver p) fault h
+refused_sends o past (inputs.Deliver (Piece q)) fault h = piece_sends o (packets_heard o past) q (meaning (rules o) (heard_at o past) (Piece q)) fault h
+refused_sends o past inputs.Tick fault h = none_sent o (packets_heard o past) calls.Tick fault h
+
+-- ---- the world behind a call
+
+-- Frames were added, and all but the client is as it was.
+pub record HasMoved (sent : List (List ℕ)) (old new : World) : Type 0 where
+  pub sent_is : sent_in new.sent ≡ sent_in old.sent ++ sent
+  pub servers_are : new.servers ≡ old.servers
+  pub files_are : new.files ≡ old.files
+
+-- The client was asked, and the world has moved.
+pub record HasAsked (e : Input) (result : Result Asked Fault) (sent : List (List ℕ)) (old new : World) : Type 0 where
+  pub asks : (o : client.Opening) (past : List FrameEntry) → nodes.Stands o past old.client → nodes.Asks o past e new.client result
+  pub moved : HasMoved sent old new
+
+-- The client has made a step, for which its node stands and whose frames were added.
+pub client_stepped : (n : ℕ) (past : List Change) (e : FrameEntry) (sent : List (List ℕ)) (old new : World) → StandsFor n past old → HasMoved sent old new
+    → sent ≡ map frame_spelling (frames_of_step n (steps past) (step_of e)) → nodes.Stands (client_opening n) (e ∷ entries past) new.client → StandsFor n (changes.Met (step_of e) ∷ past) new
+client_stepped n past e sent old new stands h is node_is = record {
+  some = stands.some;
+  few = stands.few;
+  number = ap (λ (v : Vec ServerNode Global). length v.items) h.servers_are ∙ stands.number;
+  sent_is = h.sent_is ∙ ap (λ fs. fs ++ sent) stands.sent_is ∙ ap (λ fs. frames n past ++ fs) is ∙ sym (frames_more n past (step_of e));
+  servers_are = λ s node at. stands.servers_are s node (ap (λ (v : Vec ServerNode Global). slice_get v.items s) (sym h.servers_are) ∙ at);
+  client_is = subst (λ x. nodes.Stands (client_opening n) (x ∷ entries past) new.client) (sym (entry_again e)) node_is;
+  files = ap (λ (v : Vec MemDisk Global). length v.items) h.files_are ∙ stands.files;
+  files_are = λ s j disk l at. stands.files_are s j disk l (ap (λ (v : Vec MemDisk Global). slice_get v.items (16 * s + j)) (sym h.files_are) ∙ at);
+}
+
+-- The client stands for what it did, and nothing was sent.
+pub client_kept : (n : ℕ) (past : List Change) (old new : World) → StandsFor n past old → HasMoved [] old new
+    → nodes.Stands (client_opening n) (entries past) new.client → StandsFor n past new
+client_kept n past old new stands h node_is = record {
+  some = stands.some;
+  few = stands.few;
+  number = ap (λ (v : Vec ServerNode Global). length v.items) h.servers_are ∙ stands.number;
+  sent_is = h.sent_is ∙ append-nil (sent_in old.sent) ∙ stands.sent_is;
+  servers_are = λ s node at. stands.servers_are s node (ap (λ (v : Vec ServerNode Global). slice_get v.items s) (sym h.servers_are) ∙ at);
+  client_is = node_is;
+  files = ap (λ (v : Vec MemDisk Global). length v.items) h.files_are ∙ stands.files;
+  files_are = λ s j disk l at. stands.files_are s j disk l (ap (λ (v : Vec MemDisk Global). slice_get v.items (16 * s + j)) (sym h.files_are) ∙ at);
+}
+
+same_told : (first first' sent' : ℕ) (asked : Asked) (answer : Answer) → first ≡ first' → length asked.frames ≡ sent' → asked.answer ≡ answer → told_of first asked ≡ record { answer = answer; first = first'; sent = sent'; act = acts.None }
+same_told first first' sent' asked answer f k a = rw (f, k, a) refl
+
+-- It is answered.
+pub answered : (n : ℕ) (past : List Change) (e : Input) (asked : Asked) (first : ℕ) (told : Told) (old new : World) → StandsFor n past old → HasAsked e (Ok asked) asked.frames old new
+    → first ≡ length (sent_in old.sent) → told ≡ told_of first asked → ClientEnds n past e new (Ok told)
+answered n past e asked first told old new stands h is tells =
+    let o = client_opening n in
+    let es = entries past in
+    let a = h.asks o es stands.client_is in
+    let sent : asked.frames ≡ map frame_spelling (frames_of_step n (steps past) (step_by n past e)) =
+    a.frames_are ∙ ap (map frame_spelling) (frames_are n past (answers.answered o es e)) in
+    record {
+      on = is_there n past a.on;
+      free = a.free;
+      told_is =
+          tells
+          ∙ same_told first (length (frames_sent n (steps past))) (length (frames_of_step n (steps past) (step_by n past e))) asked (nodes.answer_to o es e)
+          (is ∙ first_is n past old stands)
+          (ap (λ (fs : List (List ℕ)). length fs) sent ∙ length-map (frames_of_step n (steps past) (step_by n past e)) frame_spelling)
+          a.answer_is;
+      stands = client_stepped n past (answers.answered o es e) asked.frames old new stands h.moved sent a.stands;
+    }
+
+refused : (n : ℕ) (past : List Change) (e : Input) (fault : Fault) (old new : World) → StandsFor n past old → HasAsked e (Err fault) [] old new
+    → nodes.IsOff (client_opening n) (entries past) fault new.client ⊎ nodes.Refuses (client_opening n) (entries past) e fault new.client
+    → IsBarred n past fault new ⊎ Refuses n past e fault new
+refused n past e fault old new stands h (inl off) =
+    inl (record { why = is_off n past off.off ∙ ap Some (sym off.why); unchanged = client_kept n past old new stands h.moved off.unchanged })
+refused n past e fault old new stands h (inr r) =
+    let nothing : [] ≡ map frame_spelling (frames_of_step n (steps past) (step_of (Met e NoSave))) =
+    ap (map frame_spelling) (sym (refused_sends (client_opening n) (entries past) e fault r.why) ∙ frames_are n past (Met e NoSave)) in
+    inr (record {
+      on = is_there n past r.on;
+      why = r.why;
+      stands = client_stepped n past (Met e NoSave) [] old new stands h.moved nothing r.stands;
+      unchanged = λ d. client_kept n past old new stands h.moved (r.unchanged d);
+    })
+
+by_sort : (n : ℕ) (past : List Change) (e : Input) (fault : Fault) (old new : World) → StandsFor n past old → HasAsked e (Err fault) [] old new
+    → (sort : FaultSort) → nodes.Faults (client_opening n) (entries past) e sort fault new.client → Faults n past e sort fault new
+by_sort n past e fault old new stands h sorts.Memory f = (f.0, client_kept n past old new stands h.moved f.1)
+by_sort n past e fault old new stands h sorts.Save f = f
+by_sort n past e fault old new stands h sorts.Refusal f = refused n past e fault old new stands h f
+
+-- It isn't answered.
+pub unanswered : (n : ℕ) (past : List Change) (e : Input) (fault : Fault) (old new : World) → StandsFor n past old → HasAsked e (Err fault) [] old new → ClientEnds n past e new (Err fault)
+unanswered n past e fault old new stands h = by_sort n past e fault old new stands h (sort_of fault) (h.asks (client_opening n) (entries past) stands.client_is)

@@ -1,0 +1,111 @@
+-- The file of a job is checked, and its server is told.
+use Rattle.std.proofs.Common.{◌≡◌, refl, sym, ◌∙◌, ap, subst, inl, inr, ◌⊎◌, ℕ, arith, Bool, List, Option, Some, None, Ok, Err}
+use Rattle.fc_base.specs.declared.fault.Fault.{Fault}
+use Rattle.fc_base.specs.declared.fault.Fault.TheVariants as faults
+use Rattle.fc_base.specs.declared.fault.Fault.TheVariants.{NotInFlight}
+use Rattle.fc_base.specs.declared.numbers.Key.{Key}
+use Rattle.fc_base.specs.declared.record.JobParts.{JobParts}
+use Rattle.fc_base.specs.declared.report.ReportParts.{ReportParts}
+use Rattle.job_file.specs.declared.job.Job.{Job}
+use Rattle.verify_state.specs.State.{State}
+use Rattle.disk_model.specs.File.{File}
+use Rattle.recheck.specs.Disk.{ChecksDisk, IsWhole, IsCut}
+use Rattle.recheck.specs.Expected.{expected_by}
+use Rattle.server_core.specs.declared.event.Event.TheVariants as events
+use Rattle.server_core.specs.declared.input.Input.TheVariants as inputs
+use Rattle.server_core.specs.Check.{Check, progress_after}
+use Rattle.server_core.specs.Hearing.{packets_heard}
+use Rattle.net_world.specs.declared.ready.Ready.{Ready}
+use Rattle.net_world.specs.declared.served.Served.{Served}
+use Rattle.net_world.specs.declared.told.Answer.TheVariants.{Checked}
+use Rattle.net_world.specs.declared.told.Told.{Told}
+use Rattle.net_world.specs.declared.world.World.{World}
+use Rattle.net_world.specs.Happenings as happenings
+use Rattle.net_world.specs.Trace.{opening_of}
+use Rattle.net_world.specs.Changes.{Change, trace}
+use Rattle.net_world.specs.Contents.{content}
+use Rattle.net_world.specs.Checks.{key_of, report_of, report_by, report_for, check_end, checked_in, checked}
+use Rattle.net_world.specs.Outcomes.{stepped, met_by_server, reported, brings}
+use Rattle.net_world.specs.World.{report_in}
+use Rattle.net_world.specs.Telling.{told_of}
+use Rattle.net_world.specs.Stands.{StandsFor, file}
+use Rattle.net_world.specs.Ends.{Ends}
+use Rattle.net_world.specs.Serving.{entries, ServerEnds}
+use Rattle.net_world.specs.Finding.{IsMadeBy, IsReady, IsUnready}
+use Rattle.net_world.proofs.ServeLemmas.{heard_is}
+use Rattle.net_world.proofs.OutcomeLemmas.{met_ok, met_err}
+use Rattle.net_world.proofs.EndsLemmas.{ComesTo, goes, stops, refuses, served_ends, unserved_ends}
+
+-- ---- the report
+
+by_made : (c : Check) (j : ℕ) (job : Job) (held : ℕ → List ℕ) (state : Option State) → IsMadeBy c j job state → report_by c j job (progress_after c j job c.since) held ≡ Some (report_of (key_of c j) job state held)
+by_made c j job held None h = ap (λ p. report_by c j job p held) h
+by_made c j job held (Some state) h = ap (λ p. report_by c j job p held) h
+
+-- What the check of a disk answers, where the disk holds the file.
+pub report_is : (n : ℕ) (past : List Change) (s j : ℕ) (ready : Ready) (h : IsReady n past s j ready) (r : ReportParts) (old new : File) → old ≡ file n past s j → new.failures ≡ 0 → ChecksDisk (Ok r) ready.key ready.rec ready.state ready.fatal old new
+    → (r ≡ report_of (key_of h.now j) h.job ready.state (content n past s j)) × (new ≡ old)
+report_is n past s j ready h r old new is calm checks = by_end checks.1
+  where
+    same : (key : Key) (rec : JobParts) (fatal : Bool) (old : File) → IsWhole (expected_by key rec ready.state) fatal old new r → key ≡ key_of h.now j → rec ≡ h.job.rec → fatal ≡ h.job.fatal → old ≡ file n past s j
+        → r ≡ report_of (key_of h.now j) h.job ready.state (content n past s j)
+    same key rec fatal old w a b c d =
+        subst (λ (f : File). IsWhole (expected_by (key_of h.now j) h.job.rec ready.state) h.job.fatal f new r → r ≡ report_of (key_of h.now j) h.job ready.state (content n past s j)) (sym d) (λ x. x.report)
+        (subst (λ t. IsWhole (expected_by (key_of h.now j) h.job.rec ready.state) t old new r) c
+        (subst (λ x. IsWhole (expected_by (key_of h.now j) x ready.state) fatal old new r) b
+        (subst (λ x. IsWhole (expected_by x rec ready.state) fatal old new r) a w)))
+
+    by_end : IsWhole (expected_by ready.key ready.rec ready.state) ready.fatal old new r ⊎ ((block : ℕ) × IsCut (expected_by ready.key ready.rec ready.state) ready.fatal old new r block)
+        → (r ≡ report_of (key_of h.now j) h.job ready.state (content n past s j)) × (new ≡ old)
+    by_end (inl w) = (same ready.key ready.rec ready.fatal old w h.key h.rec_is h.fatal is, w.file)
+    by_end (inr cut) = let failed = (cut.1).failed in absurd (omega (arith, failed, calm))
+
+-- The end of the check.
+pub checked_is : (n : ℕ) (past : List Change) (s j : ℕ) (ready : Ready) (h : IsReady n past s j ready) (r : ReportParts) → r ≡ report_of (key_of h.now j) h.job ready.state (content n past s j)
+    → checked n past s j ≡ Some (events.CheckDone ready.boot ready.attempt j r)
+checked_is n past s j ready h r is =
+    let held = content n past s j in
+    ap (λ x. checked_in x j held) h.is_open
+    ∙ ap (λ y. check_end h.now j (report_for h.now j y held)) h.has_job
+    ∙ ap (check_end h.now j) (by_made h.now j h.job held ready.state h.made)
+    ∙ ap (λ x. Some (events.CheckDone h.now.boot h.now.attempt j x)) (sym is)
+    ∙ ap (λ b. Some (events.CheckDone b h.now.attempt j r)) (sym h.boot)
+    ∙ ap (λ a. Some (events.CheckDone ready.boot a j r)) (sym h.attempt)
+
+-- A check that isn't made leaves the file.
+pub unchecked : (key : Key) (rec : JobParts) (state : Option State) (fatal : Bool) (fault : Fault) (old new : File) → ChecksDisk (Err fault) key rec state fatal old new → new ≡ old
+unchecked key rec state fatal faults.OtherKey old new h = h.1
+unchecked key rec state fatal faults.OtherJob old new h = h.1
+unchecked key rec state fatal faults.OtherPlace old new h = h.1
+unchecked key rec state fatal faults.NoMemory old new h = h
+unchecked key rec state fatal faults.Off old new h = h.3
+unchecked key rec state fatal _ old new h = absurd h
+
+-- ---- how the event ends
+
+check_comes : (n : ℕ) (past : List Change) (s j : ℕ) (ready : Ready) (h : IsReady n past s j ready) (r : ReportParts) → r ≡ report_of (key_of h.now j) h.job ready.state (content n past s j)
+    → ComesTo n past s (happenings.Check s j) (inputs.CheckDone ready.boot ready.attempt j r)
+check_comes n past s j ready h r is =
+    let e = events.CheckDone ready.boot ready.attempt j r in
+    let meets : brings n past (happenings.Check s j) ≡ stepped (met_by_server (trace n past) s e) = ap (λ x. stepped (reported (trace n past) s x)) (checked_is n past s j ready h r is) in
+    record {
+      bar = refl;
+      ok = λ served new g. meets ∙ ap stepped (met_ok (trace n past) s e (packets_heard (opening_of s) (entries past s)) (heard_is n past s) g.free);
+      err = λ fault new g. meets ∙ ap stepped (met_err (trace n past) s e (packets_heard (opening_of s) (entries past s)) fault (heard_is n past s) g.why);
+      keeps = refl;
+    }
+
+pub check_ends : (n : ℕ) (past : List Change) (s j : ℕ) (ready : Ready) (h : IsReady n past s j ready) (r : ReportParts) (served : Served) (t : Told) (new : World) → r ≡ report_of (key_of h.now j) h.job ready.state (content n past s j)
+    → ServerEnds n past s (inputs.CheckDone ready.boot ready.attempt j r) new (Ok served) → t ≡ told_of served (Checked r) → Ends n past (happenings.Check s j) new (Ok t)
+check_ends n past s j ready h r served t new is g tells =
+    served_ends n past s (happenings.Check s j) (inputs.CheckDone ready.boot ready.attempt j r) served (Checked r) t new (check_comes n past s j ready h r is) g (sym (ap report_in (checked_is n past s j ready h r is))) tells
+
+pub check_fails : (n : ℕ) (past : List Change) (s j : ℕ) (ready : Ready) (h : IsReady n past s j ready) (r : ReportParts) (fault : Fault) (new : World) → r ≡ report_of (key_of h.now j) h.job ready.state (content n past s j)
+    → ServerEnds n past s (inputs.CheckDone ready.boot ready.attempt j r) new (Err fault) → Ends n past (happenings.Check s j) new (Err fault)
+check_fails n past s j ready h r fault new is g = unserved_ends n past s (happenings.Check s j) (inputs.CheckDone ready.boot ready.attempt j r) fault new (check_comes n past s j ready h r is) g
+
+pub unready_ends : (n : ℕ) (past : List Change) (s j : ℕ) (fault : Fault) (w : World) → StandsFor n past w → IsUnready n past s j fault → Ends n past (happenings.Check s j) w (Err fault)
+unready_ends n past s j fault w stands (inl h) = refuses n past (happenings.Check s j) fault w h.1 (stops n past (happenings.Check s j) fault h.0) stands
+unready_ends n past s j fault w stands (inr h) =
+    subst (λ x. Ends n past (happenings.Check s j) w (Err x)) (sym h.1)
+    (refuses n past (happenings.Check s j) NotInFlight w refl (goes n past (happenings.Check s j) h.0 ∙ ap (λ x. stepped (reported (trace n past) s x)) h.2) stands)

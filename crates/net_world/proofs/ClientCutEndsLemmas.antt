@@ -1,0 +1,199 @@
+-- How a cut of the client within a save ends, as an event of a world.
+use Rattle.std.proofs.Common.{◌≡◌, refl, sym, ◌∙◌, ap, ℕ, Bool, true, false, ◌&&◌, List, [], length, Option, Some, None, Ok, Err}
+use Rattle.std.specs.Prelude.{if◌then◌else◌, is_some, is_none}
+use Rattle.std.specs.List.{flat_map}
+use Rattle.fc_base.specs.declared.fault.Fault.{Fault}
+use Rattle.fc_base.specs.declared.fault.Fault.TheVariants.{NodeOff, NoMemory, NoSave}
+use Rattle.messages.specs.declared.packet.PacketParts.{PacketParts}
+use Rattle.messages.specs.declared.piece.PieceParts.{PieceParts}
+use Rattle.messages.specs.Pieces.{frames_of}
+use Rattle.messages.specs.Hearing.{Meaning, Says, Waits, Spoils, Strays, Comes, Happens, meaning, heard_by}
+use Rattle.messages.specs.declared.frame.Frame.{Frame}
+use Rattle.messages.specs.declared.frame.Frame.TheVariants.{Whole, Piece}
+use Rattle.messages.specs.declared.node.Node.TheVariants.{Client}
+use Rattle.messages.specs.declared.refusal.Act.TheVariants as acts
+use Rattle.client_core.specs.Saves.{Addition, is_answer}
+use Rattle.client_core.specs.History as client
+use Rattle.client_core.specs.Life.{life}
+use Rattle.client_core.specs.Packets.{packets_for}
+use Rattle.client_core.specs.Words as words
+use Rattle.client_core.specs.declared.call.Call.{Call}
+use Rattle.client_core.specs.declared.call.Call.TheVariants as calls
+use Rattle.client_core.specs.declared.input.Input.TheVariants as inputs
+use Rattle.client_core.specs.declared.input.Input.{Input}
+use Rattle.client_core.specs.Hearing.{Met, rules, heard_at, packets_heard}
+use Rattle.client_core.specs.FrameAnswers as framed
+use Rattle.client_core.specs.FrameAnswers.{due, due_in, sense_of}
+use Rattle.net_world.specs.declared.told.Told.{Told}
+use Rattle.net_world.specs.declared.world.World.{World}
+use Rattle.net_world.specs.Happenings.{Happening, Begin, Verify, Deliver, CutIn}
+use Rattle.net_world.specs.Trace.{of_client, client_opening}
+use Rattle.net_world.specs.Frames.{OfClient, frames_sent, frames_of_step}
+use Rattle.net_world.specs.Changes as changes
+use Rattle.net_world.specs.Changes.{Change, steps, trace}
+use Rattle.net_world.specs.Barred.{off, unless, barred}
+use Rattle.net_world.specs.Outcomes.{Does, Refuses, stepped, where_saved, client_cut_in, client_frame_cut, delivery_cut_in, frame_cut, said_to_client, brings, lost_by}
+use Rattle.net_world.specs.World.{answer, act}
+use Rattle.net_world.specs.declared.told.Answer.TheVariants.{Plain}
+use Rattle.net_world.specs.Telling.{plainly_told}
+use Rattle.net_world.specs.Sending.{sent_in}
+use Rattle.net_world.specs.ClientNodes.{CutsIn}
+use Rattle.net_world.specs.Stands.{StandsFor}
+use Rattle.net_world.specs.Ends.{Ends}
+use Rattle.net_world.specs.Asking.{entries, step_of}
+use Rattle.net_world.proofs.EndsLemmas.{goes, stops, refuses}
+use Rattle.net_world.proofs.AskLemmas.{up_is, HasMoved, client_kept}
+use Rattle.net_world.proofs.ClientPlainLemmas.{plain_ends}
+use Rattle.net_world.proofs.ClientHeardLemmas.{heard_is, frames_are}
+use Rattle.net_world.proofs.ClientFrameLemmas.{GoesTo, frame_bar, said_is}
+use Rattle.net_world.proofs.AskEndsLemmas.{client_act}
+
+-- Within the save of this the client loses its power: it is barred as what the client meets, and comes of
+-- it what is due.
+pub record CutsClient (n : ℕ) (past : List Change) (landed : Bool) (e : Happening) (i : Input) : Type 0 where
+  pub bar : barred n (trace n past) (frames_sent n (steps past)) e ≡ off n (trace n past) Client
+  pub saves : is_some (due (client_opening n) (entries past) i) ≡ true → brings n past e ≡ Does (changes.Met (step_of (Met i (lost_by landed))))
+  pub none : due (client_opening n) (entries past) i ≡ None → brings n past e ≡ Refuses NoSave
+  pub answered : answer n past e ≡ Plain
+  pub silent : frames_of_step n (steps past) (step_of (Met i (lost_by landed))) ≡ []
+  pub asks : act n past (changes.Met (step_of (Met i (lost_by landed)))) ≡ acts.None
+
+-- It was cut.
+pub cut_ends : (n : ℕ) (past : List Change) (landed : Bool) (e : Happening) (i : Input) (first : ℕ) (t : Told) (old new : World) → StandsFor n past old → HasMoved [] old new → CutsClient n past landed e i
+    → CutsIn (client_opening n) (entries past) landed i new.client (Ok tt) → first ≡ length (sent_in old.sent) → t ≡ plainly_told first → Ends n past e new (Ok t)
+cut_ends n past landed e i first t old new stands moved c cut f tells =
+    plain_ends n past e (Met i (lost_by landed)) first t old new stands moved cut.2
+    (record {
+      comes = goes n past e (c.bar ∙ ap (λ on. unless on NodeOff) (sym (up_is n past) ∙ cut.0)) ∙ c.saves cut.1;
+      answered = c.answered;
+      silent = c.silent;
+      asks = c.asks;
+    }) f tells
+
+-- It wasn't.
+pub uncut_ends : (n : ℕ) (past : List Change) (landed : Bool) (e : Happening) (i : Input) (fault : Fault) (old new : World) → StandsFor n past old → HasMoved [] old new → CutsClient n past landed e i
+    → CutsIn (client_opening n) (entries past) landed i new.client (Err fault) → Ends n past e new (Err fault)
+uncut_ends n past landed e i NodeOff old new stands moved c cut =
+    refuses n past e NodeOff new refl (stops n past e NodeOff (c.bar ∙ ap (λ on. unless on NodeOff) (sym (up_is n past) ∙ cut.0))) (client_kept n past old new stands moved cut.1)
+uncut_ends n past landed e i NoSave old new stands moved c cut =
+    refuses n past e NoSave new refl (goes n past e (c.bar ∙ ap (λ on. unless on NodeOff) (sym (up_is n past) ∙ cut.0)) ∙ c.none cut.1) (client_kept n past old new stands moved cut.2)
+uncut_ends n past landed e i NoMemory old new stands moved c cut = (refl, client_kept n past old new stands moved cut.1)
+uncut_ends n past landed e i _ old new stands moved c cut = absurd cut
+
+-- ---- a save that is lost sends nothing
+
+no_answer : (free : Bool) (x : Option Addition) (landed : Bool) → (free && is_answer x (lost_by landed)) ≡ false
+no_answer true None true = refl
+no_answer true None false = refl
+no_answer true (Some a) true = refl
+no_answer true (Some a) false = refl
+no_answer false x landed = refl
+
+call_silent : (o : client.Opening) (list : List client.Entry) (c : Call) (landed : Bool) → framed.frames_by o list (Some (client.Met c (lost_by landed))) ≡ []
+call_silent o list c landed =
+    ap (λ b. flat_map frames_of (if b then packets_for o.servers (words.noted o list) (life o list) c else [])) (no_answer (is_none (words.refusal o list c)) (words.due o list c) landed)
+
+piece_silent : (o : client.Opening) (list : List client.Entry) (landed : Bool) (m : Meaning) → framed.frames_by o list (heard_by (rules o) (lost_by landed) m) ≡ []
+piece_silent o list landed (Says p) = call_silent o list (calls.Deliver p) landed
+piece_silent o list landed Waits = refl
+piece_silent o list landed Spoils = refl
+piece_silent o list landed Strays = refl
+
+-- ---- what comes of it
+
+some_save : {X Y : Type 0} (x : Option X) (y : Y) → is_some x ≡ true → where_saved x y ≡ Ok y
+some_save None y h = absurd cc
+some_save (Some a) y h = refl
+
+no_save : {X Y : Type 0} (x : Option X) (y : Y) → x ≡ None → where_saved x y ≡ Err NoSave
+no_save x y h = rw h refl
+
+module _ (n : ℕ) (past : List Change) (landed : Bool) where
+  call_saves : (c : Call) → is_some (words.due (client_opening n) (packets_heard (client_opening n) (entries past)) c) ≡ true
+      → stepped (client_cut_in n (trace n past) landed c) ≡ Does (changes.Met (OfClient (Happens (client.Met c (lost_by landed)))))
+  call_saves c h =
+      ap stepped (some_save (words.due (client_opening n) (of_client (trace n past)) c) (OfClient (Happens (client.Met c (lost_by landed))))
+      (ap (λ l. is_some (words.due (client_opening n) l c)) (sym (heard_is n past)) ∙ h))
+
+  call_none : (c : Call) → words.due (client_opening n) (packets_heard (client_opening n) (entries past)) c ≡ None → stepped (client_cut_in n (trace n past) landed c) ≡ Refuses NoSave
+  call_none c h =
+      ap stepped (no_save (words.due (client_opening n) (of_client (trace n past)) c) (OfClient (Happens (client.Met c (lost_by landed))))
+      (ap (λ l. words.due (client_opening n) l c) (sym (heard_is n past)) ∙ h))
+
+  pub cuts_begin : (text : List ℕ) → CutsClient n past landed (CutIn landed (Begin text)) (inputs.Begin text)
+  cuts_begin text = record {
+    bar = refl;
+    saves = call_saves (calls.Begin text);
+    none = call_none (calls.Begin text);
+    answered = refl;
+    silent = sym (frames_are n past (Met (inputs.Begin text) (lost_by landed))) ∙ call_silent (client_opening n) (packets_heard (client_opening n) (entries past)) (calls.Begin text) landed;
+    asks = refl;
+  }
+
+  pub cuts_verify : (run : ℕ) (text : List ℕ) → CutsClient n past landed (CutIn landed (Verify run text)) (inputs.Verify run text)
+  cuts_verify run text = record {
+    bar = refl;
+    saves = call_saves (calls.Verify run text);
+    none = call_none (calls.Verify run text);
+    answered = refl;
+    silent = sym (frames_are n past (Met (inputs.Verify run text) (lost_by landed))) ∙ call_silent (client_opening n) (packets_heard (client_opening n) (entries past)) (calls.Verify run text) landed;
+    asks = refl;
+  }
+
+  -- A frame's packet.
+  said_saves : (f : Frame) (p : PacketParts) → is_some (words.due (client_opening n) (packets_heard (client_opening n) (entries past)) (calls.Deliver p)) ≡ true
+      → client_frame_cut n (trace n past) landed f (Says p) ≡ Ok (OfClient (Comes f (lost_by landed)))
+  said_saves f p h =
+      some_save (words.due (client_opening n) (of_client (trace n past)) (calls.Deliver p)) (OfClient (Comes f (lost_by landed)))
+      (ap (λ l. is_some (words.due (client_opening n) l (calls.Deliver p))) (sym (heard_is n past)) ∙ h)
+
+  said_none : (f : Frame) (p : PacketParts) → words.due (client_opening n) (packets_heard (client_opening n) (entries past)) (calls.Deliver p) ≡ None
+      → client_frame_cut n (trace n past) landed f (Says p) ≡ Err NoSave
+  said_none f p h =
+      no_save (words.due (client_opening n) (of_client (trace n past)) (calls.Deliver p)) (OfClient (Comes f (lost_by landed)))
+      (ap (λ l. words.due (client_opening n) l (calls.Deliver p)) (sym (heard_is n past)) ∙ h)
+
+  piece_saves : (q : PieceParts) (m : Meaning) → is_some (due_in (client_opening n) (packets_heard (client_opening n) (entries past)) (sense_of q m)) ≡ true
+      → client_frame_cut n (trace n past) landed (Piece q) m ≡ Ok (OfClient (Comes (Piece q) (lost_by landed)))
+  piece_saves q (Says p) h = said_saves (Piece q) p h
+  piece_saves q Waits h = absurd cc
+  piece_saves q Spoils h = absurd cc
+  piece_saves q Strays h = absurd cc
+
+  piece_none : (q : PieceParts) (m : Meaning) → due_in (client_opening n) (packets_heard (client_opening n) (entries past)) (sense_of q m) ≡ None
+      → client_frame_cut n (trace n past) landed (Piece q) m ≡ Err NoSave
+  piece_none q (Says p) h = said_none (Piece q) p h
+  piece_none q Waits h = refl
+  piece_none q Spoils h = refl
+  piece_none q Strays h = refl
+
+  frame_saves : (f : Frame) → is_some (due (client_opening n) (entries past) (inputs.Deliver f)) ≡ true
+      → client_frame_cut n (trace n past) landed f (said_to_client n (steps past) f) ≡ Ok (OfClient (Comes f (lost_by landed)))
+  frame_saves (Whole p) h = said_saves (Whole p) p h
+  frame_saves (Piece q) h =
+      ap (client_frame_cut n (trace n past) landed (Piece q)) (sym (said_is n past (Piece q)))
+      ∙ piece_saves q (meaning (rules (client_opening n)) (heard_at (client_opening n) (entries past)) (Piece q)) h
+
+  frame_none : (f : Frame) → due (client_opening n) (entries past) (inputs.Deliver f) ≡ None
+      → client_frame_cut n (trace n past) landed f (said_to_client n (steps past) f) ≡ Err NoSave
+  frame_none (Whole p) h = said_none (Whole p) p h
+  frame_none (Piece q) h =
+      ap (client_frame_cut n (trace n past) landed (Piece q)) (sym (said_is n past (Piece q)))
+      ∙ piece_none q (meaning (rules (client_opening n)) (heard_at (client_opening n) (entries past)) (Piece q)) h
+
+  frame_silent : (f : Frame) → framed.frames (client_opening n) (entries past) (Met (inputs.Deliver f) (lost_by landed)) ≡ []
+  frame_silent (Whole p) = call_silent (client_opening n) (packets_heard (client_opening n) (entries past)) (calls.Deliver p) landed
+  frame_silent (Piece q) = piece_silent (client_opening n) (packets_heard (client_opening n) (entries past)) landed (meaning (rules (client_opening n)) (heard_at (client_opening n) (entries past)) (Piece q))
+
+  brings_is : (number : ℕ) (f : Frame) → GoesTo n past number f → brings n past (CutIn landed (Deliver number)) ≡ stepped (client_frame_cut n (trace n past) landed f (said_to_client n (steps past) f))
+  brings_is number f g = ap (λ x. stepped (delivery_cut_in n past landed x)) g.is_sent ∙ ap (λ node. stepped (frame_cut n past landed node f)) g.goes_to
+
+  pub cuts_delivery : (number : ℕ) (f : Frame) → GoesTo n past number f → CutsClient n past landed (CutIn landed (Deliver number)) (inputs.Deliver f)
+  cuts_delivery number f g = record {
+    bar = frame_bar n past number f g;
+    saves = λ h. brings_is number f g ∙ ap stepped (frame_saves f h);
+    none = λ h. brings_is number f g ∙ ap stepped (frame_none f h);
+    answered = refl;
+    silent = sym (frames_are n past (Met (inputs.Deliver f) (lost_by landed))) ∙ frame_silent f;
+    asks = client_act n past (Comes f (lost_by landed));
+  }

@@ -1,0 +1,190 @@
+-- A client's node loses its power within a save.
+use Rattle.std.proofs.Common.{◌≡◌, refl, sym, ap, subst, inl, inr, ℕ, Bool, true, false, ◌&&◌, List, ◌∷◌, Option, Some, None, Ok, Err}
+use Rattle.std.specs.Prelude.{not, is_some}
+use Rattle.fc_base.specs.declared.fault.Fault.{Fault}
+use Rattle.fc_base.specs.declared.fault.Fault.TheVariants.{NoMemory, NoSave}
+use Rattle.fc_base.specs.declared.fault.FaultSort.{FaultSort}
+use Rattle.fc_base.specs.declared.fault.FaultSort.TheVariants as sorts
+use Rattle.fc_base.specs.Fault.{sort_of}
+use Rattle.disk_model.specs.MemNotes.{note_of}
+use Rattle.disk_model.specs.declared.left.Left.{Left}
+use Rattle.disk_model.specs.declared.left.Left.TheVariants.{Saved, LostNew, LostOld}
+use Rattle.disk_model.specs.Left.{is_lost, has_new}
+use Rattle.messages.specs.declared.frame.Frame.TheVariants.{Whole, Piece}
+use Rattle.messages.specs.declared.piece.PieceParts.{PieceParts}
+use Rattle.messages.specs.Hearing.{Meaning, Says, Waits, Spoils, Strays, meaning, heard_by, with_entry}
+use Rattle.client_core.specs.declared.call.Call.{Call}
+use Rattle.client_core.specs.declared.call.Call.TheVariants as calls
+use Rattle.client_core.specs.declared.input.Input.{Input}
+use Rattle.client_core.specs.declared.input.Input.TheVariants as inputs
+use Rattle.client_core.specs.declared.noted.Noted.{Noted}
+use Rattle.client_core.specs.History as client
+use Rattle.client_core.specs.History.{Opening}
+use Rattle.client_core.specs.Note.{Says as NoteSays}
+use Rattle.client_core.specs.Words as words
+use Rattle.client_core.specs.Words.{noted}
+use Rattle.client_core.specs.Saves.{Addition, unless_refused, due_by, left_by, noted_after}
+use Rattle.client_core.specs.Hearing.{FrameEntry, Met, Cut, rules, heard_at, packets_heard}
+use Rattle.client_core.specs.FrameAnswers.{Sense, Hears, Keeps, Drops, Misses, sense, sense_of, refusal, refusal_in, due, due_in, answered}
+use Rattle.net_world.specs.declared.asked.Asked.{Asked}
+use Rattle.net_world.specs.declared.client_node.ClientNode.{ClientNode}
+use Rattle.net_world.specs.declared.client_node.ClientNode.TheVariants.{On, Off}
+use Rattle.net_world.specs.ClientNodes.{is_up, Stands, Faults, Asks, CutsIn}
+
+-- ---- what the note says behind what a save left
+
+said : Opening → List FrameEntry → Noted
+said o past = noted o (packets_heard o past)
+
+call_left : (o : Opening) (list : List client.Entry) (c : Call) (a b : Left) → has_new a ≡ has_new b → noted o (client.Met c a ∷ list) ≡ noted o (client.Met c b ∷ list)
+call_left o list c a b h = ap (λ new. noted_after new (words.due o list c) (noted o list)) h
+
+piece_left : (o : Opening) (list : List client.Entry) (a b : Left) (m : Meaning) → has_new a ≡ has_new b → noted o (with_entry (heard_by (rules o) a m) list) ≡ noted o (with_entry (heard_by (rules o) b m) list)
+piece_left o list a b (Says p) h = call_left o list (calls.Deliver p) a b h
+piece_left o list a b Waits h = refl
+piece_left o list a b Spoils h = refl
+piece_left o list a b Strays h = refl
+
+same_left : (o : Opening) (past : List FrameEntry) (e : Input) (a b : Left) → has_new a ≡ has_new b → said o (Met e a ∷ past) ≡ said o (Met e b ∷ past)
+unfolding said
+same_left o past (inputs.Begin text) a b h = call_left o (packets_heard o past) (calls.Begin text) a b h
+same_left o past (inputs.Trigger run act) a b h = call_left o (packets_heard o past) (calls.Trigger run act) a b h
+same_left o past (inputs.Stop run) a b h = call_left o (packets_heard o past) (calls.Stop run) a b h
+same_left o past (inputs.Verify run text) a b h = call_left o (packets_heard o past) (calls.Verify run text) a b h
+same_left o past (inputs.Deliver (Whole p)) a b h = call_left o (packets_heard o past) (calls.Deliver p) a b h
+same_left o past (inputs.Deliver (Piece q)) a b h = piece_left o (packets_heard o past) a b (meaning (rules o) (heard_at o past) (Piece q)) h
+same_left o past inputs.Tick a b h = call_left o (packets_heard o past) calls.Tick a b h
+
+none_new : (x : Option Addition) (n : Noted) → noted_after false x n ≡ n
+none_new None n = refl
+none_new (Some a) n = refl
+
+piece_old : (o : Opening) (list : List client.Entry) (m : Meaning) → noted o (with_entry (heard_by (rules o) LostOld m) list) ≡ noted o list
+piece_old o list (Says p) = none_new (words.due o list (calls.Deliver p)) (noted o list)
+piece_old o list Waits = refl
+piece_old o list Spoils = refl
+piece_old o list Strays = refl
+
+same_old : (o : Opening) (past : List FrameEntry) (e : Input) → said o (Met e LostOld ∷ past) ≡ said o past
+unfolding said
+same_old o past (inputs.Begin text) = none_new (words.due o (packets_heard o past) (calls.Begin text)) (noted o (packets_heard o past))
+same_old o past (inputs.Trigger run act) = none_new (words.due o (packets_heard o past) (calls.Trigger run act)) (noted o (packets_heard o past))
+same_old o past (inputs.Stop run) = none_new (words.due o (packets_heard o past) (calls.Stop run)) (noted o (packets_heard o past))
+same_old o past (inputs.Verify run text) = none_new (words.due o (packets_heard o past) (calls.Verify run text)) (noted o (packets_heard o past))
+same_old o past (inputs.Deliver (Whole p)) = none_new (words.due o (packets_heard o past) (calls.Deliver p)) (noted o (packets_heard o past))
+same_old o past (inputs.Deliver (Piece q)) = piece_old o (packets_heard o past) (meaning (rules o) (heard_at o past) (Piece q))
+same_old o past inputs.Tick = none_new (words.due o (packets_heard o past) calls.Tick) (noted o (packets_heard o past))
+
+-- ---- it is down behind a lost save that was due
+
+falls : (on lost : Bool) → lost ≡ true → (on && not lost) ≡ false
+falls true true h = refl
+falls false true h = refl
+falls on false h = absurd cc
+
+piece_falls : (o : Opening) (list : List client.Entry) (q : PieceParts) (left : Left) (m : Meaning) → is_lost left ≡ true → is_some (due_in o list (sense_of q m)) ≡ true → words.is_on (with_entry (heard_by (rules o) left m) list) ≡ false
+piece_falls o list q left (Says p) h d = falls (words.is_on list) (is_lost left) h
+piece_falls o list q left Waits h d = absurd cc
+piece_falls o list q left Spoils h d = absurd cc
+piece_falls o list q left Strays h d = absurd cc
+
+down : (o : Opening) (past : List FrameEntry) (e : Input) (left : Left) → is_lost left ≡ true → is_some (due o past e) ≡ true → is_up o (Met e left ∷ past) ≡ false
+down o past (inputs.Begin text) left h d = falls (is_up o past) (is_lost left) h
+down o past (inputs.Trigger run act) left h d = falls (is_up o past) (is_lost left) h
+down o past (inputs.Stop run) left h d = falls (is_up o past) (is_lost left) h
+down o past (inputs.Verify run text) left h d = falls (is_up o past) (is_lost left) h
+down o past (inputs.Deliver (Whole p)) left h d = falls (is_up o past) (is_lost left) h
+down o past (inputs.Deliver (Piece q)) left h d = piece_falls o (packets_heard o past) q left (meaning (rules o) (heard_at o past) (Piece q)) h d
+down o past inputs.Tick left h d = falls (is_up o past) (is_lost left) h
+
+-- ---- a node that is off stands for each list that says so, with what its note says
+
+off_again : (o : Opening) (a b : List FrameEntry) (node : ClientNode) → Stands o a node → is_up o a ≡ false → is_up o b ≡ false → said o a ≡ said o b → Stands o b node
+unfolding said
+off_again o a b (On client) s up down same = absurd (both (is_up o a) s.1 up)
+  where
+    both : (t : Bool) → t ≡ true → t ≡ false → ⊥
+    both true h k = cc
+    both false h k = cc
+off_again o a b (Off notes) s up down same = (subst (λ n. NoteSays (note_of notes).bytes n) same s.0, down)
+
+saves : (x : Option Addition) → is_some x ≡ true → left_by x ≡ Saved
+saves None h = cc
+saves (Some a) h = refl
+
+-- The new bytes have landed.
+pub landed_new : (o : Opening) (past : List FrameEntry) (e : Input) (node : ClientNode) → is_some (due o past e) ≡ true → Stands o (Cut ∷ answered o past e ∷ past) node → Stands o (Met e LostNew ∷ past) node
+unfolding said
+landed_new o past e node d s =
+    off_again o (Cut ∷ answered o past e ∷ past) (Met e LostNew ∷ past) node s refl (down o past e LostNew refl d)
+    (same_left o past e (left_by (due o past e)) LostNew (ap has_new (saves (due o past e) d)))
+
+-- They haven't.
+pub landed_old : (o : Opening) (past : List FrameEntry) (e : Input) (node : ClientNode) → is_some (due o past e) ≡ true → Stands o (Cut ∷ past) node → Stands o (Met e LostOld ∷ past) node
+unfolding said
+landed_old o past e node d s = off_again o (Cut ∷ past) (Met e LostOld ∷ past) node s refl (down o past e LostOld refl d) (sym (same_old o past e))
+
+-- ---- what is due isn't refused
+
+free_by : (r : Option Fault) (x : Option Addition) → is_some (unless_refused r x) ≡ true → r ≡ None
+free_by None x h = refl
+free_by (Some fault) x h = cc
+
+free_in : (o : Opening) (list : List client.Entry) (s : Sense) → is_some (due_in o list s) ≡ true → refusal_in o list s ≡ None
+free_in o list (Hears c) h = free_by (words.refusal o list c) _ h
+free_in o list (Keeps q) h = absurd cc
+free_in o list (Drops q) h = absurd cc
+free_in o list Misses h = absurd cc
+
+-- What is due comes to a client that is on.
+up_call : (on : Bool) (servers : ℕ) (n : Noted) (c : Call) → is_some (due_by on servers n c) ≡ true → on ≡ true
+up_call true servers n c h = refl
+up_call false servers n c h = absurd cc
+
+up_in : (o : Opening) (list : List client.Entry) (s : Sense) → is_some (due_in o list s) ≡ true → words.is_on list ≡ true
+up_in o list (Hears c) h = up_call (words.is_on list) o.servers (noted o list) c h
+up_in o list (Keeps q) h = absurd cc
+up_in o list (Drops q) h = absurd cc
+up_in o list Misses h = absurd cc
+
+up_by : (r : Option Fault) → r ≡ None → (fault : Fault) → r ≡ Some fault → ⊥
+up_by None h fault k = cc
+up_by (Some f) h fault k = cc
+
+-- What is due was on.
+module _ (o : Opening) (past : List FrameEntry) (e : Input) where
+  by_sort : (fault : Fault) (new : ClientNode) → is_some (due o past e) ≡ true → is_up o past ≡ true → (sort : FaultSort) → Faults o past e sort fault new → (fault ≡ NoMemory) × Stands o past new
+  by_sort fault new d up sorts.Memory h = h
+  by_sort fault new d up sorts.Save h = absurd h
+  by_sort fault new d up sorts.Refusal (inl off) = absurd (both (is_up o past) up off.off)
+    where
+      both : (t : Bool) → t ≡ true → t ≡ false → ⊥
+      both true h k = cc
+      both false h k = cc
+  by_sort fault new d up sorts.Refusal (inr r) = absurd (up_by (refusal o past e) (free_in o (packets_heard o past) (sense o past e) d) fault r.why)
+
+  cut_lacks : (fault : Fault) (new : ClientNode) → is_up o past ≡ true → (fault ≡ NoMemory) × Stands o past new → (landed : Bool) → CutsIn o past landed e new (Err fault)
+  cut_lacks fault new up h landed = subst (λ f. CutsIn o past landed e new (Err f)) (sym h.0) (up, h.1)
+
+  up : is_some (due o past e) ≡ true → is_up o past ≡ true
+  up d = up_in o (packets_heard o past) (sense o past e) d
+
+  -- It was asked, and then cut.
+  pub behind_ok : (asked : Asked) (was new : ClientNode) → is_some (due o past e) ≡ true → Asks o past e was (Ok asked) → (Stands o (answered o past e ∷ past) was → Stands o (Cut ∷ answered o past e ∷ past) new) → CutsIn o past true e new (Ok tt)
+  behind_ok asked was new d a s = (a.on, d, landed_new o past e new d (s a.stands))
+
+  -- It wants for memory.
+  pub behind_err : (fault : Fault) (new : ClientNode) → is_some (due o past e) ≡ true → Asks o past e new (Err fault) → CutsIn o past true e new (Err fault)
+  behind_err fault new d h = cut_lacks fault new (up d) (by_sort fault new d (up d) (sort_of fault) h) true
+
+  -- It is cut as it is.
+  pub cut_old : (new : ClientNode) → is_some (due o past e) ≡ true → Stands o (Cut ∷ past) new → CutsIn o past false e new (Ok tt)
+  cut_old new d s = (up d, d, landed_old o past e new d s)
+
+  none_of : (x : Option Addition) → is_some x ≡ false → x ≡ None
+  none_of None h = refl
+  none_of (Some a) h = cc
+
+  -- It would save nothing.
+  pub saves_none : (landed : Bool) (node : ClientNode) → is_up o past ≡ true → is_some (due o past e) ≡ false → Stands o past node → CutsIn o past landed e node (Err NoSave)
+  saves_none landed node on d s = (on, none_of (due o past e) d, s)

@@ -1,0 +1,81 @@
+-- The client's list of frames says what the client hears in the trace.
+use Rattle.std.proofs.Common.{◌≡◌, refl, sym, ◌∙◌, ap, ℕ, List, [], ◌∷◌, Option, None, Some}
+use Rattle.std.specs.Prelude.{map}
+use Rattle.messages.specs.Hearing.{Heard, Coming, Comes, Happens, entry_of, rows_of, with_entry, heard}
+use Rattle.disk_model.specs.declared.left.Left.{Left}
+use Rattle.client_core.specs.declared.call.Call.TheVariants as calls
+use Rattle.client_core.specs.declared.input.Input.TheVariants as inputs
+use Rattle.client_core.specs.History as client
+use Rattle.client_core.specs.Hearing as hearing
+use Rattle.client_core.specs.Hearing.{FrameEntry, coming, packets_heard, heard_at}
+use Rattle.client_core.specs.FrameAnswers as answers
+use Rattle.client_core.specs.Packets as packets
+use Rattle.net_world.specs.Trace as traces
+use Rattle.net_world.specs.Trace.{client_opening}
+use Rattle.net_world.specs.Frames.{FrameStep, OfClient, of_client, at_client, frames_by, frames_of_step, client_frame_entry, client_entries}
+use Rattle.net_world.specs.Changes.{Change, steps, trace}
+use Rattle.net_world.proofs.HearingLemmas.{nodes_hear_their_own}
+
+-- What is heard with one more.
+next : ℕ → Heard client.Entry → Coming client.Entry Left → Heard client.Entry
+next n h c = record { entries = with_entry (entry_of (at_client n) h c) h.entries; rows = rows_of (at_client n) h c }
+
+entry_same : (n : ℕ) (h : Heard client.Entry) (c : Coming client.Entry Left) → entry_of (at_client n) h (coming (client_frame_entry c)) ≡ entry_of (at_client n) h c
+entry_same n h (Comes f left) = refl
+entry_same n h (Happens (client.Met (calls.Begin text) left)) = refl
+entry_same n h (Happens (client.Met (calls.Trigger run act) left)) = refl
+entry_same n h (Happens (client.Met (calls.Stop run) left)) = refl
+entry_same n h (Happens (client.Met (calls.Verify run text) left)) = refl
+entry_same n h (Happens (client.Met (calls.Deliver p) left)) = refl
+entry_same n h (Happens (client.Met calls.Tick left)) = refl
+entry_same n h (Happens client.Cut) = refl
+entry_same n h (Happens client.Restart) = refl
+
+next_same : (n : ℕ) (h : Heard client.Entry) (c : Coming client.Entry Left) → next n h (coming (client_frame_entry c)) ≡ next n h c
+unfolding next
+next_same n h (Comes f left) = refl
+next_same n h (Happens (client.Met (calls.Begin text) left)) = refl
+next_same n h (Happens (client.Met (calls.Trigger run act) left)) = refl
+next_same n h (Happens (client.Met (calls.Stop run) left)) = refl
+next_same n h (Happens (client.Met (calls.Verify run text) left)) = refl
+next_same n h (Happens (client.Met (calls.Deliver p) left)) = refl
+next_same n h (Happens (client.Met calls.Tick left)) = refl
+next_same n h (Happens client.Cut) = refl
+next_same n h (Happens client.Restart) = refl
+
+pub hears_same : (n : ℕ) (list : List (Coming client.Entry Left)) → heard (at_client n) (map coming (map client_frame_entry list)) ≡ heard (at_client n) list
+unfolding next
+hears_same n [] = refl
+hears_same n (c ∷ past) = ap (λ h. next n h (coming (client_frame_entry c))) (hears_same n past) ∙ next_same n (heard (at_client n) past) c
+
+frames_same : (n : ℕ) (list : List client.Entry) (x : Option client.Entry) → answers.frames_by (client_opening n) list x ≡ frames_by (packets.packets (client_opening n)) list x
+frames_same n list None = refl
+frames_same n list (Some e) = refl
+
+-- The packets that the client hears are its own in the trace.
+pub heard_is : (n : ℕ) (past : List Change) → packets_heard (client_opening n) (client_entries (steps past)) ≡ traces.of_client (trace n past)
+heard_is n past =
+    ap (λ (h : Heard client.Entry). h.entries) (hears_same n (of_client (steps past))) ∙ sym (nodes_hear_their_own n (steps past)).client
+
+-- The frames of what happens are those of its step.
+sends_same : (n : ℕ) (t : List FrameStep) (c : Coming client.Entry Left) → answers.frames (client_opening n) (client_entries t) (client_frame_entry c) ≡ frames_of_step n t (OfClient c)
+sends_same n t c =
+    let same = hears_same n (of_client t) in
+    let h = heard (at_client n) (of_client t) in
+    ap (λ (k : Heard client.Entry). answers.frames_by (client_opening n) k.entries (entry_of (at_client n) k (coming (client_frame_entry c)))) same
+    ∙ ap (λ x. answers.frames_by (client_opening n) h.entries x) (entry_same n h c)
+    ∙ frames_same n h.entries (entry_of (at_client n) h c)
+
+pub entry_again : (e : FrameEntry) → client_frame_entry (coming e) ≡ e
+entry_again (hearing.Met (inputs.Begin text) left) = refl
+entry_again (hearing.Met (inputs.Trigger run act) left) = refl
+entry_again (hearing.Met (inputs.Stop run) left) = refl
+entry_again (hearing.Met (inputs.Verify run text) left) = refl
+entry_again (hearing.Met (inputs.Deliver f) left) = refl
+entry_again (hearing.Met inputs.Tick left) = refl
+entry_again hearing.Cut = refl
+entry_again hearing.Restart = refl
+
+pub frames_are : (n : ℕ) (past : List Change) (e : FrameEntry) → answers.frames (client_opening n) (client_entries (steps past)) e ≡ frames_of_step n (steps past) (OfClient (coming e))
+frames_are n past e =
+    ap (answers.frames (client_opening n) (client_entries (steps past))) (sym (entry_again e)) ∙ sends_same n (steps past) (coming e)

@@ -1,0 +1,191 @@
+-- A server of a world loses its power within a save.
+use Rattle.std.proofs.Common.{◌≡◌, refl, sym, ◌∙◌, ap, ℕ, ◌<◌, Bool, true, false, List, [], Option, Some, None, Ok, Err}
+use Rattle.std.specs.Prelude.{if◌then◌else◌, is_some, slice_get}
+use Rattle.std.specs.List.{flat_map}
+use Rattle.std.specs.Option.{option_map}
+use Rattle.fc_base.specs.declared.fault.Fault.{Fault}
+use Rattle.fc_base.specs.declared.fault.Fault.TheVariants.{NoMemory, NodeOff, NodeOn, NoSave}
+use Rattle.disk_model.specs.declared.left.Left.{Left}
+use Rattle.disk_model.specs.Left.{is_lost}
+use Rattle.messages.specs.declared.frame.Frame.{Frame}
+use Rattle.messages.specs.declared.frame.Frame.TheVariants.{Whole, Piece}
+use Rattle.messages.specs.declared.piece.PieceParts.{PieceParts}
+use Rattle.messages.specs.declared.packet.PacketParts.{PacketParts}
+use Rattle.messages.specs.declared.body.Body.{Body}
+use Rattle.messages.specs.declared.node.Node.TheVariants as nodes
+use Rattle.messages.specs.declared.refusal.Act.TheVariants as acts
+use Rattle.messages.specs.Pieces.{frames_of}
+use Rattle.messages.specs.Hearing.{Meaning, Says, Waits, Spoils, Strays, meaning, heard_by}
+use Rattle.server_core.specs.declared.event.Event.{Event}
+use Rattle.server_core.specs.declared.event.Event.TheVariants as events
+use Rattle.server_core.specs.declared.input.Input.TheVariants as inputs
+use Rattle.server_core.specs.History as server
+use Rattle.server_core.specs.History.{Opening}
+use Rattle.server_core.specs.Request.{asked}
+use Rattle.server_core.specs.Replies.{replies}
+use Rattle.server_core.specs.Words as words
+use Rattle.server_core.specs.Words.{Staged}
+use Rattle.server_core.specs.Answers as answers
+use Rattle.server_core.specs.Answers.{to_client, sent_by}
+use Rattle.server_core.specs.Hearing as hearing
+use Rattle.server_core.specs.Hearing.{FrameEntry, rules, heard_at, packets_heard}
+use Rattle.server_core.specs.FrameAnswers as framed
+use Rattle.server_core.specs.FrameAnswers.{sense_of, due_in, would_save}
+use Rattle.net_world.specs.declared.server_node.ServerNode.{ServerNode}
+use Rattle.net_world.specs.declared.world.World.{World}
+use Rattle.net_world.specs.Happenings.{Deliver, Restart, CutIn}
+use Rattle.net_world.specs.Trace.{Step, AtServer, opening_of, of_server}
+use Rattle.net_world.specs.Frames.{FrameStep, frames_sent}
+use Rattle.net_world.specs.Changes.{Change, Met, steps, trace}
+use Rattle.net_world.specs.Barred.{off, on, unsent}
+use Rattle.net_world.specs.Outcomes.{lost_by, where_saved, stepped, said_to_server, server_frame_cut, frame_cut, delivery_cut_in, cut_in}
+use Rattle.net_world.specs.World.{act, act_of}
+use Rattle.net_world.specs.ServerNodes as servers
+use Rattle.net_world.specs.ServerNodes.{is_up, has_boot}
+use Rattle.net_world.specs.Stands.{StandsFor}
+use Rattle.net_world.specs.Ends.{Ends}
+use Rattle.net_world.specs.Serving.{entries, step_of}
+use Rattle.net_world.proofs.MetLemmas.{HasMoved, server_kept}
+use Rattle.net_world.proofs.ServeLemmas.{heard_is, frames_are, is_off, is_there}
+use Rattle.net_world.proofs.EndsLemmas.{GoesTo, goes, stops, refuses}
+use Rattle.net_world.proofs.OutcomeLemmas.{said_is}
+use Rattle.net_world.proofs.PlainLemmas.{IsPlain, boot_is, may_restart, runs_on}
+
+false_true : false ≡ true → ⊥
+false_true e = cc
+
+lost : (landed : Bool) → is_lost (lost_by landed) ≡ true
+lost true = refl
+lost false = refl
+
+-- ---- nothing is sent, and nothing is asked for
+
+lost_sends : (me : ℕ) (b : Bool) (x : Option Fault) (bodies : List Body) → b ≡ true → flat_map frames_of (to_client me (sent_by b x bodies)) ≡ []
+lost_sends me b None bodies h = ap (λ t. flat_map frames_of (to_client me (if t then [] else bodies))) h
+lost_sends me b (Some fault) bodies h = refl
+
+event_silent : (o : Opening) (list : List server.Entry) (e : Event) (left : Left) → is_lost left ≡ true → framed.frames_by o list (Some (server.Met e left)) ≡ []
+event_silent o list e left h = lost_sends o.me (is_lost left) (answers.refusal o list e) (replies (answers.now o list) (asked o.me e)) h
+
+piece_silent : (o : Opening) (list : List server.Entry) (m : Meaning) (left : Left) → is_lost left ≡ true → framed.frames_by o list (heard_by (rules o) left m) ≡ []
+piece_silent o list (Says p) left h = event_silent o list (events.Deliver p) left h
+piece_silent o list Waits left h = refl
+piece_silent o list Spoils left h = refl
+piece_silent o list Strays left h = refl
+
+silent : (o : Opening) (past : List FrameEntry) (f : Frame) (left : Left) → is_lost left ≡ true → framed.frames o past (hearing.Met (inputs.Deliver f) left) ≡ []
+silent o past (Whole p) left h = event_silent o (packets_heard o past) (events.Deliver p) left h
+silent o past (Piece q) left h = piece_silent o (packets_heard o past) (meaning (rules o) (heard_at o past) (Piece q)) left h
+
+asks_nothing : (t : List Step) (s : ℕ) (e : Event) (left : Left) → is_lost left ≡ true → act_of t (Some (AtServer s (server.Met e left))) ≡ acts.None
+asks_nothing t s e left h = ap (λ b. if b then acts.None else answers.act (opening_of s) (of_server s t) e) h
+
+-- ---- a frame
+
+due_cut : (x : Option Staged) (step : FrameStep) → is_some x ≡ true → where_saved x step ≡ Ok step
+due_cut None step h = absurd (false_true h)
+due_cut (Some s) step h = refl
+
+none_cut : (x : Option Staged) (step : FrameStep) → is_some x ≡ false → where_saved x step ≡ Err NoSave
+none_cut None step h = refl
+none_cut (Some s) step h = absurd (false_true (sym h))
+
+says_cut : (t : List Step) (s : ℕ) (landed : Bool) (f : Frame) (p : PacketParts) (list : List server.Entry) → list ≡ of_server s t → is_some (words.due (opening_of s) list (events.Deliver p)) ≡ true
+    → server_frame_cut t s landed f (Says p) ≡ Ok (step_of s (hearing.Met (inputs.Deliver f) (lost_by landed)))
+says_cut t s landed f p list is h =
+    due_cut (words.due (opening_of s) (of_server s t) (events.Deliver p)) (step_of s (hearing.Met (inputs.Deliver f) (lost_by landed))) (ap (λ l. is_some (words.due (opening_of s) l (events.Deliver p))) (sym is) ∙ h)
+
+says_none : (t : List Step) (s : ℕ) (landed : Bool) (f : Frame) (p : PacketParts) (list : List server.Entry) → list ≡ of_server s t → is_some (words.due (opening_of s) list (events.Deliver p)) ≡ false
+    → server_frame_cut t s landed f (Says p) ≡ Err NoSave
+says_none t s landed f p list is h =
+    none_cut (words.due (opening_of s) (of_server s t) (events.Deliver p)) (step_of s (hearing.Met (inputs.Deliver f) (lost_by landed))) (ap (λ l. is_some (words.due (opening_of s) l (events.Deliver p))) (sym is) ∙ h)
+
+piece_cut : (t : List Step) (s : ℕ) (landed : Bool) (q : PieceParts) (list : List server.Entry) → list ≡ of_server s t → (m : Meaning) → is_some (due_in (opening_of s) list (sense_of q m)) ≡ true
+    → server_frame_cut t s landed (Piece q) m ≡ Ok (step_of s (hearing.Met (inputs.Deliver (Piece q)) (lost_by landed)))
+piece_cut t s landed q list is (Says p) h = says_cut t s landed (Piece q) p list is h
+piece_cut t s landed q list is Waits h = absurd (false_true h)
+piece_cut t s landed q list is Spoils h = absurd (false_true h)
+piece_cut t s landed q list is Strays h = absurd (false_true h)
+
+piece_none : (t : List Step) (s : ℕ) (landed : Bool) (q : PieceParts) (list : List server.Entry) → list ≡ of_server s t → (m : Meaning) → is_some (due_in (opening_of s) list (sense_of q m)) ≡ false
+    → server_frame_cut t s landed (Piece q) m ≡ Err NoSave
+piece_none t s landed q list is (Says p) h = says_none t s landed (Piece q) p list is h
+piece_none t s landed q list is Waits h = refl
+piece_none t s landed q list is Spoils h = refl
+piece_none t s landed q list is Strays h = refl
+
+frame_is_cut : (n : ℕ) (past : List Change) (s : ℕ) (landed : Bool) (f : Frame) → would_save (opening_of s) (entries past s) f ≡ true
+    → server_frame_cut (trace n past) s landed f (said_to_server (steps past) s f) ≡ Ok (step_of s (hearing.Met (inputs.Deliver f) (lost_by landed)))
+frame_is_cut n past s landed (Whole p) h = says_cut (trace n past) s landed (Whole p) p (packets_heard (opening_of s) (entries past s)) (heard_is n past s) h
+frame_is_cut n past s landed (Piece q) h =
+    ap (server_frame_cut (trace n past) s landed (Piece q)) (sym (said_is n s past (Piece q)))
+    ∙ piece_cut (trace n past) s landed q (packets_heard (opening_of s) (entries past s)) (heard_is n past s) (meaning (rules (opening_of s)) (heard_at (opening_of s) (entries past s)) (Piece q)) h
+
+frame_not_cut : (n : ℕ) (past : List Change) (s : ℕ) (landed : Bool) (f : Frame) → would_save (opening_of s) (entries past s) f ≡ false
+    → server_frame_cut (trace n past) s landed f (said_to_server (steps past) s f) ≡ Err NoSave
+frame_not_cut n past s landed (Whole p) h = says_none (trace n past) s landed (Whole p) p (packets_heard (opening_of s) (entries past s)) (heard_is n past s) h
+frame_not_cut n past s landed (Piece q) h =
+    ap (server_frame_cut (trace n past) s landed (Piece q)) (sym (said_is n s past (Piece q)))
+    ∙ piece_none (trace n past) s landed q (packets_heard (opening_of s) (entries past s)) (heard_is n past s) (meaning (rules (opening_of s)) (heard_at (opening_of s) (entries past s)) (Piece q)) h
+
+pub cut_bar : (n : ℕ) (past : List Change) (number : ℕ) (landed : Bool) (f : Frame) (s : ℕ) → GoesTo n past number f s → unsent n (trace n past) (slice_get (frames_sent n (steps past)) number) ≡ off n (trace n past) (nodes.Server s)
+cut_bar n past number landed f s g = ap (unsent n (trace n past)) g.is_sent ∙ ap (off n (trace n past)) g.goes_to
+
+cut_brings : (n : ℕ) (past : List Change) (number : ℕ) (landed : Bool) (f : Frame) (s : ℕ) → GoesTo n past number f s
+    → cut_in n past landed (Deliver number) ≡ server_frame_cut (trace n past) s landed f (said_to_server (steps past) s f)
+cut_brings n past number landed f s g = ap (delivery_cut_in n past landed) g.is_sent ∙ ap (λ node. frame_cut n past landed node f) g.goes_to
+
+act_silent : (n : ℕ) (past : List Change) (s : ℕ) (f : Frame) (left : Left) → is_lost left ≡ true → act n past (Met (step_of s (hearing.Met (inputs.Deliver f) left))) ≡ acts.None
+act_silent n past s (Whole p) left h = asks_nothing (trace n past) s (events.Deliver p) left h
+act_silent n past s (Piece q) left h =
+    ap (λ m. act_of (trace n past) (option_map (AtServer s) (heard_by (rules (opening_of s)) left m))) (sym (said_is n s past (Piece q)))
+    ∙ by_meaning (meaning (rules (opening_of s)) (heard_at (opening_of s) (entries past s)) (Piece q))
+  where
+    by_meaning : (m : Meaning) → act_of (trace n past) (option_map (AtServer s) (heard_by (rules (opening_of s)) left m)) ≡ acts.None
+    by_meaning (Says p) = asks_nothing (trace n past) s (events.Deliver p) left h
+    by_meaning Waits = refl
+    by_meaning Spoils = refl
+    by_meaning Strays = refl
+
+pub frame_cut_plain : (n : ℕ) (past : List Change) (number : ℕ) (landed : Bool) (f : Frame) (s : ℕ) → GoesTo n past number f s → off n (trace n past) (nodes.Server s) ≡ None → would_save (opening_of s) (entries past s) f ≡ true
+    → IsPlain n past (CutIn landed (Deliver number)) (step_of s (hearing.Met (inputs.Deliver f) (lost_by landed)))
+frame_cut_plain n past number landed f s g on h = record {
+  comes = goes n past (CutIn landed (Deliver number)) (cut_bar n past number landed f s g ∙ on) ∙ ap stepped (cut_brings n past number landed f s g ∙ frame_is_cut n past s landed f h);
+  answered = refl;
+  silent = sym (frames_are n past s (hearing.Met (inputs.Deliver f) (lost_by landed))) ∙ silent (opening_of s) (entries past s) f (lost_by landed) (lost landed);
+  asks = act_silent n past s f (lost_by landed) (lost landed);
+}
+
+-- How a cut within the save of a frame ends in a world, where it isn't made.
+pub frame_cut_ends : (n : ℕ) (past : List Change) (number : ℕ) (landed : Bool) (f : Frame) (s : ℕ) (node : ServerNode) (fault : Fault) (old new : World) → StandsFor n past old → HasMoved s node [] old new → s < n → GoesTo n past number f s
+    → servers.CutsIn (opening_of s) (entries past s) landed f node (Err fault) → Ends n past (CutIn landed (Deliver number)) new (Err fault)
+frame_cut_ends n past number landed f s node NodeOff old new stands moved l g h =
+    refuses n past (CutIn landed (Deliver number)) NodeOff new refl (stops n past (CutIn landed (Deliver number)) NodeOff (cut_bar n past number landed f s g ∙ is_off n past s l h.0)) (server_kept n past s node old new stands moved h.1)
+frame_cut_ends n past number landed f s node NoSave old new stands moved l g h =
+    refuses n past (CutIn landed (Deliver number)) NoSave new refl
+    (goes n past (CutIn landed (Deliver number)) (cut_bar n past number landed f s g ∙ is_there n past s l h.0) ∙ ap stepped (cut_brings n past number landed f s g ∙ frame_not_cut n past s landed f h.1))
+    (server_kept n past s node old new stands moved h.2)
+frame_cut_ends n past number landed f s node NoMemory old new stands moved l g h = (refl, server_kept n past s node old new stands moved h.1)
+frame_cut_ends n past number landed f s node _ old new stands moved l g h = absurd h
+
+-- ---- a restart
+
+pub restart_cut_plain : (n : ℕ) (past : List Change) (s : ℕ) (landed : Bool) → on n (trace n past) (nodes.Server s) ≡ None → has_boot (opening_of s) (entries past s) ≡ true
+    → IsPlain n past (CutIn landed (Restart (nodes.Server s))) (step_of s (hearing.Restart (lost_by landed)))
+restart_cut_plain n past s landed h b = record {
+  comes = goes n past (CutIn landed (Restart (nodes.Server s))) h ∙ ap (λ x. stepped (if x then Ok (step_of s (hearing.Restart (lost_by landed))) else Err NoSave)) (sym (boot_is n past s) ∙ b);
+  answered = refl;
+  silent = sym (frames_are n past s (hearing.Restart (lost_by landed)));
+  asks = refl;
+}
+
+pub restart_cut_ends : (n : ℕ) (past : List Change) (s : ℕ) (landed : Bool) (node : ServerNode) (fault : Fault) (old new : World) → StandsFor n past old → HasMoved s node [] old new → s < n
+    → servers.CutsInRestart (opening_of s) (entries past s) landed node (Err fault) → Ends n past (CutIn landed (Restart (nodes.Server s))) new (Err fault)
+restart_cut_ends n past s landed node NodeOn old new stands moved l h =
+    refuses n past (CutIn landed (Restart (nodes.Server s))) NodeOn new refl (stops n past (CutIn landed (Restart (nodes.Server s))) NodeOn (runs_on n past s l h.0)) (server_kept n past s node old new stands moved h.1)
+restart_cut_ends n past s landed node NoSave old new stands moved l h =
+    refuses n past (CutIn landed (Restart (nodes.Server s))) NoSave new refl
+    (goes n past (CutIn landed (Restart (nodes.Server s))) (may_restart n past s l h.0) ∙ ap (λ x. stepped (if x then Ok (step_of s (hearing.Restart (lost_by landed))) else Err NoSave)) (sym (boot_is n past s) ∙ h.1))
+    (server_kept n past s node old new stands moved h.2)
+restart_cut_ends n past s landed node NoMemory old new stands moved l h = (refl, server_kept n past s node old new stands moved h.1)
+restart_cut_ends n past s landed node _ old new stands moved l h = absurd h

@@ -1,0 +1,228 @@
+-- A server loses its power within a save.
+use Rattle.std.proofs.Common.{◌≡◌, refl, sym, ◌∙◌, ap, subst, inl, inr, ◌⊎◌, ℕ, ◌+◌, ◌-◌, ◌^◌, ◌<◌, ◌≤◌, arith, Bool, true, false, ◌&&◌, List, ◌∷◌, Option, Some, None, Result, Ok, Err}
+use Rattle.std.specs.Prelude.{if◌then◌else◌, is_some, nat_lt}
+use Rattle.std.proofs.lemmas.Bool.Decides.{nat_tests}
+use Rattle.fc_base.specs.declared.fault.Fault.{Fault}
+use Rattle.fc_base.specs.declared.fault.Fault.TheVariants.{NoMemory, NodeOn, NoSave, NumbersSpent, Down}
+use Rattle.fc_base.specs.declared.fault.FaultSort.{FaultSort}
+use Rattle.fc_base.specs.declared.fault.FaultSort.TheVariants as sorts
+use Rattle.fc_base.specs.Fault.{sort_of}
+use Rattle.disk_model.specs.MemNotes.{Saved as Kept, note_of}
+use Rattle.disk_model.specs.declared.left.Left.{Left}
+use Rattle.disk_model.specs.declared.left.Left.TheVariants.{Saved, LostNew, LostOld}
+use Rattle.disk_model.specs.Left.{has_new}
+use Rattle.messages.specs.declared.frame.Frame.{Frame}
+use Rattle.messages.specs.declared.frame.Frame.TheVariants.{Whole, Piece}
+use Rattle.messages.specs.declared.piece.PieceParts.{PieceParts}
+use Rattle.messages.specs.Hearing.{Meaning, Says, Waits, Spoils, Strays, meaning, heard_by, with_entry}
+use Rattle.server_core.specs.declared.event.Event.{Event}
+use Rattle.server_core.specs.declared.event.Event.TheVariants as events
+use Rattle.server_core.specs.declared.input.Input.TheVariants as inputs
+use Rattle.server_core.specs.declared.note.Noted.{Noted}
+use Rattle.server_core.specs.History as server
+use Rattle.server_core.specs.History.{Opening}
+use Rattle.server_core.specs.Note.{Says as NoteSays, SaysOneThing}
+use Rattle.server_core.specs.Request.{Request, ToStart, asked}
+use Rattle.server_core.specs.Run.{Work}
+use Rattle.server_core.specs.Replies.{Now}
+use Rattle.server_core.specs.Words.{Staged, is_on, boot, last_run, staged, work, is_due, recorded}
+use Rattle.server_core.specs.Words as words
+use Rattle.server_core.specs.Answers.{now, refusal_of}
+use Rattle.server_core.specs.Answers as answers
+use Rattle.server_core.specs.Serves.{saved_for}
+use Rattle.server_core.specs.Hearing.{FrameEntry, Met, Cut, Restart, rules, heard_at, packets_heard}
+use Rattle.server_core.specs.FrameAnswers.{sense_of, refusal, refusal_in, due, due_in, would_save, answered}
+use Rattle.net_world.specs.declared.server_node.ServerNode.{ServerNode}
+use Rattle.net_world.specs.declared.server_node.ServerNode.TheVariants.{On, Off}
+use Rattle.net_world.specs.ServerNodes.{noted, is_up, has_boot, Stands, Steps, Faults, IsOff, Refuses, Restarts, CutsIn, CutsInRestart, no_save, boots}
+
+false_true : false ≡ true → ⊥
+false_true e = cc
+
+-- A node that is off stands for each list that is off and says the same.
+pub relabel : (o : Opening) (old new : List FrameEntry) (node : ServerNode) → Stands o old node → is_up o old ≡ false → is_up o new ≡ false → noted o (packets_heard o old) ≡ noted o (packets_heard o new) → Stands o new node
+relabel o old new (On server) s off down same = absurd (false_true (sym off ∙ s.1))
+relabel o old new (Off notes) s off down same = (subst (λ x. NoteSays (note_of notes).bytes x) same s.0, down)
+
+-- ---- what is noted of an event, by what its save left
+
+noted_as : (b l : ℕ) (x : Option Staged) (left : Left) → Noted
+noted_as b l x left = record { boot = b; last_run = recorded left x l }
+
+recorded_same : (a b : Left) (x : Option Staged) (last : ℕ) → has_new a ≡ has_new b → recorded a x last ≡ recorded b x last
+recorded_same a b None last h = refl
+recorded_same a b (Some s) last h = ap (λ t. if t then s.run else last) h
+
+recorded_old : (x : Option Staged) (last : ℕ) → recorded LostOld x last ≡ last
+recorded_old None last = refl
+recorded_old (Some s) last = refl
+
+same_new : (o : Opening) (list : List server.Entry) (e : Event) (a b : Left) → has_new a ≡ has_new b → noted o (server.Met e a ∷ list) ≡ noted o (server.Met e b ∷ list)
+same_new o list e a b h = ap (λ l. noted_with (boot o list) l) (recorded_same a b (words.due o list e) (last_run o list) h)
+  where
+    noted_with : ℕ → ℕ → Noted
+    noted_with x l = record { boot = x; last_run = l }
+
+same_old : (o : Opening) (list : List server.Entry) (e : Event) → noted o list ≡ noted o (server.Met e LostOld ∷ list)
+same_old o list e = ap (λ l. noted_with (boot o list) l) (sym (recorded_old (words.due o list e) (last_run o list)))
+  where
+    noted_with : ℕ → ℕ → Noted
+    noted_with x l = record { boot = x; last_run = l }
+
+and_false : (a : Bool) → (a && false) ≡ false
+and_false true = refl
+and_false false = refl
+
+-- ---- a frame that would make a save
+
+-- The list with it, by what the save left: the server is off where it was lost; and what is noted.
+pub record IsLost (o : Opening) (past : List FrameEntry) (f : Frame) : Type 0 where
+  pub off_new : is_up o (Met (inputs.Deliver f) LostNew ∷ past) ≡ false
+  pub off_old : is_up o (Met (inputs.Deliver f) LostOld ∷ past) ≡ false
+  pub new : noted o (packets_heard o (Met (inputs.Deliver f) Saved ∷ past)) ≡ noted o (packets_heard o (Met (inputs.Deliver f) LostNew ∷ past))
+  pub old : noted o (packets_heard o past) ≡ noted o (packets_heard o (Met (inputs.Deliver f) LostOld ∷ past))
+
+lost_whole : (o : Opening) (list : List server.Entry) (e : Event) → (is_on (server.Met e LostNew ∷ list) ≡ false) × (is_on (server.Met e LostOld ∷ list) ≡ false)
+lost_whole o list e = (and_false (is_on list), and_false (is_on list))
+
+nothing_due : (x : Option Staged) → x ≡ None → is_some x ≡ true → ⊥
+nothing_due x e h = false_true (sym (ap is_some e) ∙ h)
+
+heard_list : Opening → List server.Entry → Left → Meaning → List server.Entry
+heard_list o list left m = with_entry (heard_by (rules o) left m) list
+
+record LostPiece (o : Opening) (list : List server.Entry) (m : Meaning) : Type 0 where
+  off_new : is_on (heard_list o list LostNew m) ≡ false
+  off_old : is_on (heard_list o list LostOld m) ≡ false
+  new : noted o (heard_list o list Saved m) ≡ noted o (heard_list o list LostNew m)
+  old : noted o list ≡ noted o (heard_list o list LostOld m)
+
+lost_piece : (o : Opening) (list : List server.Entry) (q : PieceParts) (m : Meaning) → is_some (due_in o list (sense_of q m)) ≡ true → LostPiece o list m
+unfolding heard_list
+lost_piece o list q (Says p) h = record {
+  off_new = and_false (is_on list);
+  off_old = and_false (is_on list);
+  new = same_new o list (events.Deliver p) Saved LostNew refl;
+  old = same_old o list (events.Deliver p);
+}
+lost_piece o list q Waits h = absurd (false_true h)
+lost_piece o list q Spoils h = absurd (false_true h)
+lost_piece o list q Strays h = absurd (false_true h)
+
+pub is_lost_in : (o : Opening) (past : List FrameEntry) (f : Frame) → would_save o past f ≡ true → IsLost o past f
+unfolding heard_list
+is_lost_in o past (Whole p) h = record {
+  off_new = and_false (is_up o past);
+  off_old = and_false (is_up o past);
+  new = same_new o (packets_heard o past) (events.Deliver p) Saved LostNew refl;
+  old = same_old o (packets_heard o past) (events.Deliver p);
+}
+is_lost_in o past (Piece q) h =
+    let l = lost_piece o (packets_heard o past) q (meaning (rules o) (heard_at o past) (Piece q)) h in
+    record { off_new = l.off_new; off_old = l.off_old; new = l.new; old = l.old }
+
+-- ---- what is due isn't refused
+
+due_free : (on : Bool) (w : Now) (last : ℕ) (s : Option Staged) (x : Option Work) (r : Request) → is_some (is_due on last s x r) ≡ true → (if on then refusal_of w r else Some Down) ≡ None
+due_free true w last s x (ToStart run) h = refl
+due_free false w last s x (ToStart run) h = absurd (false_true h)
+due_free on w last s x _ h = absurd (false_true h)
+
+event_free : (o : Opening) (list : List server.Entry) (e : Event) → is_some (words.due o list e) ≡ true → answers.refusal o list e ≡ None
+event_free o list e h = due_free (is_on list) (now o list) (last_run o list) (staged o list) (work o list) (asked o.me e) h
+
+piece_free : (o : Opening) (list : List server.Entry) (q : PieceParts) (m : Meaning) → is_some (due_in o list (sense_of q m)) ≡ true → refusal_in o list (sense_of q m) ≡ None
+piece_free o list q (Says p) h = event_free o list (events.Deliver p) h
+piece_free o list q Waits h = refl
+piece_free o list q Spoils h = absurd (false_true h)
+piece_free o list q Strays h = absurd (false_true h)
+
+pub save_free : (o : Opening) (past : List FrameEntry) (f : Frame) → would_save o past f ≡ true → refusal o past (inputs.Deliver f) ≡ None
+save_free o past (Whole p) h = event_free o (packets_heard o past) (events.Deliver p) h
+save_free o past (Piece q) h = piece_free o (packets_heard o past) q (meaning (rules o) (heard_at o past) (Piece q)) h
+
+saved_by : (x : Option Staged) → is_some x ≡ true → saved_for x ≡ Saved
+saved_by None h = absurd (false_true h)
+saved_by (Some s) h = refl
+
+-- What an answered frame that makes a save leaves.
+pub saves : (o : Opening) (past : List FrameEntry) (f : Frame) → would_save o past f ≡ true → answered o past (inputs.Deliver f) ≡ Met (inputs.Deliver f) Saved
+saves o past f h = ap (λ left. Met (inputs.Deliver f) left) (saved_by (due o past (inputs.Deliver f)) h)
+
+-- ---- how the cut ends
+
+pub cut_old : (o : Opening) (past : List FrameEntry) (f : Frame) (node : ServerNode) → is_up o past ≡ true → would_save o past f ≡ true → Stands o (Cut ∷ past) node → CutsIn o past false f node (Ok tt)
+cut_old o past f node up h s =
+    let l = is_lost_in o past f h in
+    (up, h, relabel o (Cut ∷ past) (Met (inputs.Deliver f) LostOld ∷ past) node s refl l.off_old l.old)
+
+pub cut_new : (o : Opening) (past : List FrameEntry) (f : Frame) (node : ServerNode) → is_up o past ≡ true → would_save o past f ≡ true → Stands o (Cut ∷ (answered o past (inputs.Deliver f) ∷ past)) node → CutsIn o past true f node (Ok tt)
+cut_new o past f node up h s =
+    let l = is_lost_in o past f h in
+    let t = subst (λ e. Stands o (Cut ∷ (e ∷ past)) node) (saves o past f h) s in
+    (up, h, relabel o (Cut ∷ (Met (inputs.Deliver f) Saved ∷ past)) (Met (inputs.Deliver f) LostNew ∷ past) node t refl l.off_new l.new)
+
+some_none : (fault : Fault) (x : Option Fault) → x ≡ Some fault → x ≡ None → ⊥
+some_none fault x e h = bad (sym e ∙ h)
+  where
+    bad : Some fault ≡ None → ⊥
+    bad e = cc
+
+by_refusal : (o : Opening) (past : List FrameEntry) (f : Frame) (landed : Bool) (fault : Fault) (node : ServerNode) → is_up o past ≡ true → would_save o past f ≡ true
+    → IsOff o past fault node ⊎ Refuses o past (inputs.Deliver f) fault node → ⊥
+by_refusal o past f landed fault node up h (inl off) = false_true (sym off.off ∙ up)
+by_refusal o past f landed fault node up h (inr r) = some_none fault (refusal o past (inputs.Deliver f)) r.why (save_free o past f h)
+
+by_sort : (o : Opening) (past : List FrameEntry) (f : Frame) (landed : Bool) (fault : Fault) (node : ServerNode) → is_up o past ≡ true → would_save o past f ≡ true → (sort : FaultSort) → Faults o past (inputs.Deliver f) sort fault node
+    → CutsIn o past landed f node (Err fault)
+by_sort o past f landed fault node up h sorts.Memory x = subst (λ (y : Fault). CutsIn o past landed f node (Err y)) (sym x.0) (up, x.1)
+by_sort o past f landed fault node up h sorts.Save x = absurd x
+by_sort o past f landed fault node up h sorts.Refusal x = absurd (by_refusal o past f landed fault node up h x)
+
+pub cut_fails : (o : Opening) (past : List FrameEntry) (f : Frame) (landed : Bool) (fault : Fault) (node : ServerNode) → is_up o past ≡ true → would_save o past f ≡ true → Steps o past (inputs.Deliver f) node (Err fault)
+    → CutsIn o past landed f node (Err fault)
+cut_fails o past f landed fault node up h x = by_sort o past f landed fault node up h (sort_of fault) x
+
+-- ---- a restart
+
+pub restart_new : (o : Opening) (past : List FrameEntry) (node : ServerNode) → is_up o past ≡ false → has_boot o past ≡ true → Stands o (Cut ∷ (Restart Saved ∷ past)) node → CutsInRestart o past true node (Ok tt)
+restart_new o past node off b s = (off, b, relabel o (Cut ∷ (Restart Saved ∷ past)) (Restart LostNew ∷ past) node s refl refl refl)
+
+pub restart_old : (o : Opening) (past : List FrameEntry) (node : ServerNode) → is_up o past ≡ false → has_boot o past ≡ true → Stands o past node → CutsInRestart o past false node (Ok tt)
+restart_old o past node off b s = (off, b, relabel o past (Restart LostOld ∷ past) node s off refl refl)
+
+pub restart_fails : (o : Opening) (past : List FrameEntry) (landed : Bool) (node : ServerNode) (fault : Fault) → Restarts o past node (Err fault) → CutsInRestart o past landed node (Err (no_save fault))
+restart_fails o past landed node NodeOn h = h
+restart_fails o past landed node NumbersSpent h = h
+restart_fails o past landed node NoMemory h = h
+restart_fails o past landed node _ h = absurd h
+
+-- ---- a note that says how many boots there were
+
+boots_left : (b : ℕ) → b < 2 ^ 64 - 1 → nat_lt (b + 1) (2 ^ 64) ≡ true
+boots_left b h = lt_true (b + 1) (2 ^ 64) (omega (arith, h))
+  where
+    lt_true : (a b : ℕ) → a < b → nat_lt a b ≡ true
+    lt_true a b h = grind (arith, nat_tests)
+
+boots_spent : (b : ℕ) → b < 2 ^ 64 → 2 ^ 64 - 1 ≤ b → nat_lt (b + 1) (2 ^ 64) ≡ false
+boots_spent b l h = lt_false (b + 1) (2 ^ 64) (omega (arith, h))
+  where
+    lt_false : (a b : ℕ) → b ≤ a → nat_lt a b ≡ false
+    lt_false a b h = grind (arith, nat_tests)
+
+pub boots_yes : SaysOneThing → (bytes : List ℕ) (m n : Noted) → NoteSays bytes m → NoteSays bytes n → m.boot < 2 ^ 64 - 1 → Ok tt ≡ boots n
+boots_yes law bytes m n s t h =
+    ap (λ (x : Bool). if x then Ok tt else Err NoSave) (sym (boots_left m.boot h)) ∙ ap boots (law bytes m n s t)
+
+pub boots_no : SaysOneThing → (bytes : List ℕ) (m n : Noted) → NoteSays bytes m → NoteSays bytes n → 2 ^ 64 - 1 ≤ m.boot → Err NoSave ≡ boots n
+boots_no law bytes m n s t h =
+    ap (λ (x : Bool). if x then Ok tt else Err NoSave) (sym (boots_spent m.boot s.boot_range h)) ∙ ap boots (law bytes m n s t)
+
+tried_by : (o : Opening) (past : List FrameEntry) (notes : Kept) → Stands o past (Off notes) → (b : Bool) → has_boot o past ≡ b → CutsInRestart o past false (Off notes) (if b then Ok tt else Err NoSave)
+tried_by o past notes s true h = restart_old o past (Off notes) s.1 h s
+tried_by o past notes s false h = (s.1, h, s)
+
+pub tried : (o : Opening) (past : List FrameEntry) (notes now : Kept) (result : Result (Unit {0}) Fault) → Stands o past (Off notes) → now ≡ notes → result ≡ boots (noted o (packets_heard o past)) → CutsInRestart o past false (Off now) result
+tried o past notes now result s e r =
+    subst (λ x. CutsInRestart o past false (Off now) x) (sym r) (tried_by o past now (subst (λ k. Stands o past (Off k)) (sym e) s) (has_boot o past) refl)

@@ -1,0 +1,166 @@
+-- What comes of what happens to a server, by its list of frames.
+use Rattle.std.proofs.Common.{◌≡◌, refl, sym, ◌∙◌, ap, subst, inl, inr, ◌⊎◌, ℕ, Bool, true, false, List, Option, Some, None, Result, Ok, Err}
+use Rattle.std.specs.Prelude.{if◌then◌else◌}
+use Rattle.std.specs.Option.{option_map}
+use Rattle.fc_base.specs.declared.fault.Fault.{Fault}
+use Rattle.fc_base.specs.declared.fault.Fault.TheVariants.{Misdirected, Down, FrameBadField}
+use Rattle.disk_model.specs.declared.left.Left.{Left}
+use Rattle.disk_model.specs.declared.left.Left.TheVariants.{NoSave}
+use Rattle.disk_model.specs.Left.{is_lost}
+use Rattle.messages.specs.declared.piece.PieceParts.{PieceParts}
+use Rattle.messages.specs.declared.packet.PacketParts.{PacketParts}
+use Rattle.messages.specs.declared.frame.Frame.{Frame}
+use Rattle.messages.specs.declared.frame.Frame.TheVariants.{Whole, Piece}
+use Rattle.messages.specs.declared.refusal.Act.TheVariants as acts
+use Rattle.messages.specs.Hearing.{Heard, Meaning, Says, Waits, Spoils, Strays, Comes, Happens, meaning, heard_by}
+use Rattle.server_core.specs.declared.event.Event.{Event}
+use Rattle.server_core.specs.declared.event.Event.TheVariants as events
+use Rattle.server_core.specs.declared.input.Input.{Input}
+use Rattle.server_core.specs.declared.input.Input.TheVariants as inputs
+use Rattle.server_core.specs.History as server
+use Rattle.server_core.specs.History.{Opening}
+use Rattle.server_core.specs.Words as words
+use Rattle.server_core.specs.Words.{Staged}
+use Rattle.server_core.specs.Answers as answers
+use Rattle.server_core.specs.Serves.{saved_for}
+use Rattle.server_core.specs.Hearing.{rules, heard_at, packets_heard}
+use Rattle.server_core.specs.FrameAnswers as framed
+use Rattle.server_core.specs.FrameAnswers.{sense_of, sense, refusal_in, due_in, act_in}
+use Rattle.server_core.specs.FrameEnds.{is_drop}
+use Rattle.net_world.specs.Trace.{Step, AtServer, of_server, opening_of}
+use Rattle.net_world.specs.Frames.{OfServer, at_server}
+use Rattle.net_world.specs.Changes.{Change, Met as Changed, steps, trace}
+use Rattle.net_world.specs.Outcomes.{Outcome, Does, Refuses, Drops, stepped, unless_fault, left_for, met_by_server, comes_to_server, said_to_server}
+use Rattle.net_world.specs.World.{act, act_of}
+use Rattle.net_world.specs.Serving.{entries, step_by}
+use Rattle.net_world.proofs.StandLemmas.{servers_stand}
+use Rattle.net_world.proofs.ServeLemmas.{heard_is}
+
+left_same : (x : Option Staged) → left_for x ≡ saved_for x
+left_same None = refl
+left_same (Some s) = refl
+
+passes : {X : Type 0} (x : Option Fault) (r : Result X Fault) → x ≡ None → unless_fault x r ≡ r
+passes x r h = rw h refl
+
+fails : {X : Type 0} (x : Option Fault) (r : Result X Fault) (fault : Fault) → x ≡ Some fault → unless_fault x r ≡ Err fault
+fails x r fault h = rw h refl
+
+-- ---- an event that is no frame
+
+met_here : (t : List Step) (s : ℕ) (e : Event) → answers.refusal (opening_of s) (of_server s t) e ≡ None
+    → met_by_server t s e ≡ Ok (OfServer s (Happens (server.Met e (saved_for (words.due (opening_of s) (of_server s t) e)))))
+met_here t s e h =
+    passes (answers.refusal (opening_of s) (of_server s t) e) _ h
+    ∙ ap (λ left. Ok (OfServer s (Happens (server.Met e left)))) (left_same (words.due (opening_of s) (of_server s t) e))
+
+pub met_ok : (t : List Step) (s : ℕ) (e : Event) (list : List server.Entry) → list ≡ of_server s t → answers.refusal (opening_of s) list e ≡ None
+    → met_by_server t s e ≡ Ok (OfServer s (Happens (server.Met e (saved_for (words.due (opening_of s) list e)))))
+met_ok t s e list is =
+    subst (λ l. answers.refusal (opening_of s) l e ≡ None → met_by_server t s e ≡ Ok (OfServer s (Happens (server.Met e (saved_for (words.due (opening_of s) l e)))))) (sym is) (met_here t s e)
+
+pub met_err : (t : List Step) (s : ℕ) (e : Event) (list : List server.Entry) (fault : Fault) → list ≡ of_server s t → answers.refusal (opening_of s) list e ≡ Some fault → met_by_server t s e ≡ Err fault
+met_err t s e list fault is h = fails (answers.refusal (opening_of s) (of_server s t) e) _ fault (ap (λ l. answers.refusal (opening_of s) l e) (sym is) ∙ h)
+
+-- ---- a frame
+
+come : ℕ → Frame → Left → Outcome
+come s f left = Does (Changed (OfServer s (Comes f left)))
+
+says_here : (t : List Step) (s : ℕ) (f : Frame) (p : PacketParts) → answers.refusal (opening_of s) (of_server s t) (events.Deliver p) ≡ None
+    → comes_to_server t s f (Says p) ≡ come s f (saved_for (words.due (opening_of s) (of_server s t) (events.Deliver p)))
+unfolding come
+says_here t s f p h =
+    ap stepped (passes (answers.refusal (opening_of s) (of_server s t) (events.Deliver p)) (Ok (OfServer s (Comes f (left_for (words.due (opening_of s) (of_server s t) (events.Deliver p)))))) h)
+    ∙ ap (λ left. Does (Changed (OfServer s (Comes f left)))) (left_same (words.due (opening_of s) (of_server s t) (events.Deliver p)))
+
+says_ok : (t : List Step) (s : ℕ) (f : Frame) (p : PacketParts) (list : List server.Entry) → list ≡ of_server s t → answers.refusal (opening_of s) list (events.Deliver p) ≡ None
+    → comes_to_server t s f (Says p) ≡ come s f (saved_for (words.due (opening_of s) list (events.Deliver p)))
+says_ok t s f p list is =
+    subst (λ l. answers.refusal (opening_of s) l (events.Deliver p) ≡ None → comes_to_server t s f (Says p) ≡ come s f (saved_for (words.due (opening_of s) l (events.Deliver p)))) (sym is) (says_here t s f p)
+
+says_err : (t : List Step) (s : ℕ) (f : Frame) (p : PacketParts) (list : List server.Entry) (fault : Fault) → list ≡ of_server s t → answers.refusal (opening_of s) list (events.Deliver p) ≡ Some fault
+    → comes_to_server t s f (Says p) ≡ Refuses fault
+says_err t s f p list fault is h =
+    ap stepped (fails (answers.refusal (opening_of s) (of_server s t) (events.Deliver p)) (Ok (OfServer s (Comes f (left_for (words.due (opening_of s) (of_server s t) (events.Deliver p)))))) fault (ap (λ l. answers.refusal (opening_of s) l (events.Deliver p)) (sym is) ∙ h))
+
+misses : (on : Bool) → (if on then Some Misdirected else Some Down) ≡ None → ⊥
+misses true h = cc
+misses false h = cc
+
+misdirected : (on : Bool) (fault : Fault) → on ≡ true → (if on then Some Misdirected else Some Down) ≡ Some fault → Misdirected ≡ fault
+misdirected true fault h k = cc
+misdirected false fault h k = cc
+
+piece_ok : (t : List Step) (s : ℕ) (q : PieceParts) (list : List server.Entry) → list ≡ of_server s t → (m : Meaning) → refusal_in (opening_of s) list (sense_of q m) ≡ None
+    → comes_to_server t s (Piece q) m ≡ come s (Piece q) (saved_for (due_in (opening_of s) list (sense_of q m)))
+unfolding come
+piece_ok t s q list is (Says p) h = says_ok t s (Piece q) p list is h
+piece_ok t s q list is Waits h = refl
+piece_ok t s q list is Spoils h = absurd cc
+piece_ok t s q list is Strays h = absurd (misses (words.is_on list) h)
+
+-- What comes of a frame that is refused: a tag may be dropped.
+unfoldable pub DroppedOr : ℕ → Frame → Fault → Bool → Outcome → Type 0
+DroppedOr s f fault drops out = ((drops ≡ false) × (out ≡ Refuses fault)) ⊎ ((drops ≡ true) × (fault ≡ FrameBadField) × (out ≡ Drops (OfServer s (Comes f NoSave))))
+
+bad_field : (fault : Fault) → Some FrameBadField ≡ Some fault → fault ≡ FrameBadField
+bad_field fault h = cc
+
+piece_err : (t : List Step) (s : ℕ) (q : PieceParts) (list : List server.Entry) (fault : Fault) → list ≡ of_server s t → words.is_on list ≡ true → (m : Meaning) → refusal_in (opening_of s) list (sense_of q m) ≡ Some fault
+    → DroppedOr s (Piece q) fault (is_drop (sense_of q m)) (comes_to_server t s (Piece q) m)
+unfolding DroppedOr
+piece_err t s q list fault is on (Says p) h = inl (refl, says_err t s (Piece q) p list fault is h)
+piece_err t s q list fault is on Waits h = absurd cc
+piece_err t s q list fault is on Spoils h = inr (refl, bad_field fault h, refl)
+piece_err t s q list fault is on Strays h = inl (refl, ap Refuses (misdirected (words.is_on list) fault on h))
+
+-- What a frame says is the same by the server's own list.
+pub said_is : (n s : ℕ) (past : List Change) (f : Frame) → meaning (rules (opening_of s)) (heard_at (opening_of s) (entries past s)) f ≡ said_to_server (steps past) s f
+said_is n s past f = ap (λ (h : Heard server.Entry). meaning (at_server s) h f) (servers_stand n s (steps past)).hears
+
+pub frame_ok : (n : ℕ) (past : List Change) (s : ℕ) (f : Frame) → framed.refusal (opening_of s) (entries past s) (inputs.Deliver f) ≡ None
+    → comes_to_server (trace n past) s f (said_to_server (steps past) s f) ≡ Does (Changed (step_by past s (inputs.Deliver f)))
+unfolding come
+frame_ok n past s (Whole p) h = says_ok (trace n past) s (Whole p) p (packets_heard (opening_of s) (entries past s)) (heard_is n past s) h
+frame_ok n past s (Piece q) h =
+    ap (comes_to_server (trace n past) s (Piece q)) (sym (said_is n s past (Piece q)))
+    ∙ piece_ok (trace n past) s q (packets_heard (opening_of s) (entries past s)) (heard_is n past s) (meaning (rules (opening_of s)) (heard_at (opening_of s) (entries past s)) (Piece q)) h
+
+pub frame_err : (n : ℕ) (past : List Change) (s : ℕ) (f : Frame) (fault : Fault) → words.is_on (packets_heard (opening_of s) (entries past s)) ≡ true
+    → framed.refusal (opening_of s) (entries past s) (inputs.Deliver f) ≡ Some fault
+    → DroppedOr s f fault (is_drop (sense (opening_of s) (entries past s) (inputs.Deliver f))) (comes_to_server (trace n past) s f (said_to_server (steps past) s f))
+frame_err n past s (Whole p) fault on h = unfold DroppedOr in inl (refl, says_err (trace n past) s (Whole p) p (packets_heard (opening_of s) (entries past s)) fault (heard_is n past s) h)
+frame_err n past s (Piece q) fault on h =
+    let m = meaning (rules (opening_of s)) (heard_at (opening_of s) (entries past s)) (Piece q) in
+    subst (λ x. DroppedOr s (Piece q) fault (is_drop (sense_of q m)) (comes_to_server (trace n past) s (Piece q) x)) (said_is n s past (Piece q))
+    (piece_err (trace n past) s q (packets_heard (opening_of s) (entries past s)) fault (heard_is n past s) on m h)
+
+-- ---- what the server asks of its caller
+
+not_lost : (x : Option Staged) → is_lost (saved_for x) ≡ false
+not_lost None = refl
+not_lost (Some s) = refl
+
+act_here : (t : List Step) (s : ℕ) (e : Event) (x : Option Staged) (list : List server.Entry) → list ≡ of_server s t → act_of t (Some (AtServer s (server.Met e (saved_for x)))) ≡ answers.act (opening_of s) list e
+act_here t s e x list is =
+    ap (λ lost. if lost then acts.None else answers.act (opening_of s) (of_server s t) e) (not_lost x) ∙ ap (λ l. answers.act (opening_of s) l e) (sym is)
+
+act_said : (t : List Step) (s : ℕ) (q : PieceParts) (list : List server.Entry) → list ≡ of_server s t → (m : Meaning)
+    → act_of t (option_map (AtServer s) (heard_by (rules (opening_of s)) (saved_for (due_in (opening_of s) list (sense_of q m))) m)) ≡ act_in (opening_of s) list (sense_of q m)
+act_said t s q list is (Says p) = act_here t s (events.Deliver p) (words.due (opening_of s) list (events.Deliver p)) list is
+act_said t s q list is Waits = refl
+act_said t s q list is Spoils = refl
+act_said t s q list is Strays = refl
+
+pub act_is : (n : ℕ) (past : List Change) (s : ℕ) (e : Input) → act n past (Changed (step_by past s e)) ≡ framed.act (opening_of s) (entries past s) e
+act_is n past s (inputs.Deliver (Whole p)) = act_here (trace n past) s (events.Deliver p) (framed.due (opening_of s) (entries past s) (inputs.Deliver (Whole p))) (packets_heard (opening_of s) (entries past s)) (heard_is n past s)
+act_is n past s (inputs.Deliver (Piece q)) =
+    let o = opening_of s in
+    let list = packets_heard o (entries past s) in
+    let m = meaning (rules o) (heard_at o (entries past s)) (Piece q) in
+    ap (λ x. act_of (trace n past) (option_map (AtServer s) (heard_by (rules o) (saved_for (due_in o list (sense_of q m))) x))) (sym (said_is n s past (Piece q)))
+    ∙ act_said (trace n past) s q list (heard_is n past s) m
+act_is n past s (inputs.Issue j) = act_here (trace n past) s (events.Issue j) (framed.due (opening_of s) (entries past s) (inputs.Issue j)) (packets_heard (opening_of s) (entries past s)) (heard_is n past s)
+act_is n past s (inputs.WriteDone ticket end) = act_here (trace n past) s (events.WriteDone ticket end) (framed.due (opening_of s) (entries past s) (inputs.WriteDone ticket end)) (packets_heard (opening_of s) (entries past s)) (heard_is n past s)
+act_is n past s (inputs.CheckDone boot a j report) = act_here (trace n past) s (events.CheckDone boot a j report) (framed.due (opening_of s) (entries past s) (inputs.CheckDone boot a j report)) (packets_heard (opening_of s) (entries past s)) (heard_is n past s)

@@ -1,0 +1,11 @@
+use Rattle.std.proofs.Common.{sym, subst}
+use Rattle.net_world.specs.declared.event.PlainEvent.{PlainEvent}
+use Rattle.net_world.specs.Events.{plainly}
+use Rattle.net_world.specs.Happenings.{CutIn}
+use Rattle.net_world.specs.World.{world}
+use Rattle.net_world.specs.Ends.{Ends}
+use Rattle.net_world.proofs.world.World.cut_in.Goals as goal
+
+pub returns-in-Cut : goal.returns-in-Cut
+returns-in-Cut c n events stands =
+    subst (λ (e : PlainEvent). Ends n (world n events) (CutIn c.args.landed (plainly e)) c.args.self.now c.cut_in_cut.result) (sym c.in-Cut.is) (c.cut_in_cut.ensures c.args.landed n (world n events) stands)

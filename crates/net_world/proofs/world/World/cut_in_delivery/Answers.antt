@@ -1,0 +1,15 @@
+use Rattle.std.proofs.Common.{sym, ◌∙◌}
+use Rattle.net_world.specs.World.{world}
+use Rattle.net_world.proofs.NoSaveLemmas.{lost_cut}
+use Rattle.net_world.proofs.world.World.cut_in_delivery.Goals as goal
+
+pub returns-in-Err : goal.returns-in-Err
+returns-in-Err c n events stands = lost_cut n (world n events) c.args.landed c.args.self.now c.args.number c.in-Err.fault stands (c.in-Err.ensures n events stands)
+
+pub returns-in-Server : goal.returns-in-Server
+returns-in-Server c n events stands =
+    c.cut_in_at_server.ensures n (world n events) c.args.number stands (c.in-Ok.ensures n events stands) (sym c.to_of.ensures ∙ c.in-Server.is)
+
+pub returns-in-Client : goal.returns-in-Client
+returns-in-Client c n events stands =
+    c.cut_in_client_delivery.ensures n (world n events) c.args.number stands (c.in-Ok.ensures n events stands) (sym c.to_of.ensures ∙ c.in-Client.is)

@@ -1,0 +1,15 @@
+use Rattle.std.proofs.Common.{sym, ◌∙◌}
+use Rattle.net_world.specs.World.{world}
+use Rattle.net_world.proofs.DeliverLemmas.{lost_frame}
+use Rattle.net_world.proofs.world.World.deliver.Goals as goal
+
+pub returns-in-Err : goal.returns-in-Err
+returns-in-Err c n events stands = lost_frame n (world n events) c.args.self.now c.args.number c.in-Err.fault stands (c.in-Err.ensures n events stands)
+
+pub returns-in-Server : goal.returns-in-Server
+returns-in-Server c n events stands =
+    c.deliver_to_server.ensures n (world n events) c.args.number stands (c.in-Ok.ensures n events stands) (sym c.to_of.ensures ∙ c.in-Server.is)
+
+pub returns-in-Client : goal.returns-in-Client
+returns-in-Client c n events stands =
+    c.deliver_to_client.ensures n (world n events) c.args.number stands (c.in-Ok.ensures n events stands) (sym c.to_of.ensures ∙ c.in-Client.is)

@@ -1,0 +1,21 @@
+use Rattle.std.proofs.Common.{sym, ◌∙◌, ap, subst}
+use Rattle.client_core.specs.Hearing.{packets_heard}
+use Rattle.client_core.specs.Words.{kept}
+use Rattle.net_world.specs.Trace.{client_opening}
+use Rattle.net_world.specs.Asking.{entries}
+use Rattle.net_world.specs.ClientNodes.{Stands}
+use Rattle.net_world.proofs.ClientHeardLemmas.{heard_is}
+use Rattle.net_world.proofs.LookLemmas.{off_saved, on_saved}
+use Rattle.net_world.proofs.world.World.saved.Goals as goal
+
+pub returns-in-On : goal.returns-in-On
+returns-in-On c n past stands =
+    let o = client_opening n in
+    let es = entries past in
+    let h = subst (Stands o es) c.in-On.is stands.client_is in
+    c.saved.ensures o es h.0 ∙ ap (λ list. kept o list c.args.key) (c.looks_at_all.ensures (packets_heard o es) h.1 ∙ heard_is n past) ∙ sym (on_saved n past c.args.key h.1)
+
+pub returns-in-Off : goal.returns-in-Off
+returns-in-Off c n past stands =
+    let h = subst (Stands (client_opening n) (entries past)) c.in-Off.is stands.client_is in
+    sym (off_saved n past c.args.key h.1)

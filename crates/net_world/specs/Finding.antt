@@ -1,0 +1,72 @@
+-- What a world finds in its servers: an open write, and a job that is ready to be checked.
+use Rattle.std.specs.Prelude.{◌≡◌, ◌⊎◌, ℕ, ◌<◌, List, Option, Some, None, slice_get, Result, Ok, Err}
+use Rattle.fc_base.specs.declared.fault.Fault.{Fault}
+use Rattle.fc_base.specs.declared.fault.Fault.TheVariants.{NotInFlight}
+use Rattle.fc_base.specs.declared.fault.FaultSort.TheVariants.{Refusal}
+use Rattle.fc_base.specs.declared.record.JobParts.{JobParts}
+use Rattle.fc_base.specs.Fault.{sort_of}
+use Rattle.job_file.specs.declared.job.Job.{Job}
+use Rattle.verify_state.specs.State.{State}
+use Rattle.engine.specs.declared.issue.Ticket.{Ticket}
+use Rattle.engine.specs.Answers.{ticket_of}
+use Rattle.engine.specs.Running.{Origin}
+use Rattle.messages.specs.declared.node.Node.TheVariants.{Server}
+use Rattle.server_core.specs.Check.{Check, Progress, Full, With, check, progress_after}
+use Rattle.net_world.specs.declared.ready.Ready.{Ready}
+use Rattle.net_world.specs.Trace.{of_server, opening_of}
+use Rattle.net_world.specs.Changes.{Change, trace}
+use Rattle.net_world.specs.Writes.{open_at}
+use Rattle.net_world.specs.Checks.{key_of, checked}
+use Rattle.net_world.specs.Barred.{off, unopen}
+
+-- Write k of job j at server s is open: its ticket, and what its job does.
+pub record IsOpen (n : ℕ) (past : List Change) (s j k : ℕ) (ticket : Ticket) (rec : JobParts) : Type 0 where
+  pub there : unopen n (trace n past) s j k ≡ None
+  pub on : off n (trace n past) (Server s) ≡ None
+  pub below : j < 16
+  pub origin : Origin
+  pub is_open : open_at (trace n past) s j k ≡ Some origin
+  pub ticket_is : ticket ≡ ticket_of origin k
+  pub rec_is : rec ≡ origin.job
+
+-- The open write is found, or the world refuses what asks for it.
+abbrev pub FindsWrite : ℕ → List Change → ℕ → ℕ → ℕ → Result (Ticket × JobParts) Fault → Type 0
+FindsWrite n past s j k (Ok found) = IsOpen n past s j k found.0 found.1
+FindsWrite n past s j k (Err fault) =
+    (unopen n (trace n past) s j k ≡ Some fault) × (sort_of fault ≡ Refusal)
+
+-- The state with which a check is made.
+abbrev pub state_of : Progress → Option State
+state_of (With state) = Some state
+state_of _ = None
+
+-- A job is ready in this check: in a full pass, or with its state.
+abbrev pub IsMadeBy : Check → ℕ → Job → Option State → Type 0
+IsMadeBy c j job None = progress_after c j job c.since ≡ Full
+IsMadeBy c j job (Some state) = progress_after c j job c.since ≡ With state
+
+-- Job j of the open check at server s is ready to be checked.
+pub record IsReady (n : ℕ) (past : List Change) (s j : ℕ) (ready : Ready) : Type 0 where
+  pub on : off n (trace n past) (Server s) ≡ None
+  pub below : j < 16
+  pub now : Check
+  pub is_open : check (opening_of s) (of_server s (trace n past)) ≡ Some now
+  pub job : Job
+  pub has_job : slice_get now.jobs j ≡ Some job
+  pub made : IsMadeBy now j job ready.state
+  pub boot : ready.boot ≡ now.boot
+  pub attempt : ready.attempt ≡ now.attempt
+  pub key : ready.key ≡ key_of now j
+  pub rec_is : ready.rec ≡ job.rec
+  pub fatal : ready.fatal ≡ job.fatal
+
+-- The server is off or isn't there; or it has no such job that is ready.
+abbrev pub IsUnready : ℕ → List Change → ℕ → ℕ → Fault → Type 0
+IsUnready n past s j fault =
+    ((off n (trace n past) (Server s) ≡ Some fault) × (sort_of fault ≡ Refusal))
+    ⊎ ((off n (trace n past) (Server s) ≡ None) × (fault ≡ NotInFlight) × (checked n past s j ≡ None))
+
+-- The job is found, or why it isn't.
+abbrev pub FindsReady : ℕ → List Change → ℕ → ℕ → Result Ready Fault → Type 0
+FindsReady n past s j (Ok ready) = IsReady n past s j ready
+FindsReady n past s j (Err fault) = IsUnready n past s j fault

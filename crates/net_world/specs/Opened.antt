@@ -1,0 +1,26 @@
+-- What a world is made of.
+use Rattle.std.specs.Prelude.{◌≡◌, ℕ, List, [], ◌∷◌, length, Some, slice_get}
+use Rattle.disk_model.specs.File.{File, zeros}
+use Rattle.disk_model.specs.MemDisk.{file_of}
+use Rattle.disk_model.specs.declared.mem_disk.MemDisk.{MemDisk}
+use Rattle.disk_model.specs.declared.left.Left.TheVariants.{Saved}
+use Rattle.server_core.specs.Hearing.{Restart}
+use Rattle.net_world.specs.declared.server_node.ServerNode.{ServerNode}
+use Rattle.net_world.specs.Trace.{opening_of}
+use Rattle.net_world.specs.ServerNodes.{Stands}
+
+-- So many servers, each on since its first restart.
+pub record AreOpened (count : ℕ) (nodes : List ServerNode) : Type 0 where
+  pub number : length nodes ≡ count
+  pub each :
+      (s : ℕ) (node : ServerNode) → slice_get nodes s ≡ Some node
+      → Stands (opening_of s) (Restart Saved ∷ []) node
+
+-- A file that was never written, in a disk that is on.
+abbrev pub blank : File
+blank = record { content = λ _. zeros; power = Some 0; failures = 0 }
+
+-- So many of them.
+pub record AreBlank (count : ℕ) (files : List MemDisk) : Type 0 where
+  pub number : length files ≡ count
+  pub each : (i : ℕ) (disk : MemDisk) → slice_get files i ≡ Some disk → file_of disk ≡ blank

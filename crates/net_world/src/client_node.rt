@@ -1,0 +1,100 @@
+//! The client of a world, which may be off.
+
+ghost use Rattle.std.specs.Prelude.{◌≡◌, ◌≤◌, ◌∷◌, [], List, IfOk, IfErr};
+ghost use Rattle.std.specs.Option.{option_copied};
+ghost use Rattle.fc_base.specs.declared.fault.Fault.TheVariants.{NoMemory};
+ghost use Rattle.client_core.specs.Note.{blank};
+ghost use Rattle.client_core.specs.History.{Opening};
+ghost use Rattle.client_core.specs.Hearing.{FrameEntry, Restart, Cut};
+
+mod asks;
+mod cut_in;
+
+use client_core::Client;
+use disk_model::MemNotes;
+use fc_base::Fault;
+use std::alloc::Global;
+use std::mem;
+
+/// A client that runs, or the notes of one that is off.
+#[derive(Drop)]
+pub enum ClientNode {
+    On(Client<MemNotes>),
+    Off(MemNotes),
+}
+
+impl ClientNode {
+    ghost use Rattle.net_world.specs.ClientNodes.{is_up, Stands, Shows, Restarts};
+
+    /// A client of so many servers on a blank note.
+    pub(crate) fn open(alloc: Global, servers: u32) -> Result<ClientNode, Fault>
+        requires some { 1 ≤ servers }
+        requires few { servers ≤ 8 }
+        ensures stands { IfOk result (Stands (record { servers = servers; noted = blank }) (Restart ∷ [])) }
+        ensures fault { IfErr result (λ fault. fault ≡ NoMemory) }
+    {
+        match Client::restart(alloc, servers, MemNotes::new(Vec::new(alloc))) {
+            Ok(client) => Ok(ClientNode::On(client)),
+            Err(_) => Err(Fault::NoMemory),
+        }
+    }
+
+    /// Whether it runs.
+    pub(crate) fn on(&self) -> bool
+        ensures { (o : Opening) (past : List FrameEntry) → Stands o past self.now →
+            result ≡ is_up o past }
+    {
+        matches!(self, ClientNode::On(_))
+    }
+
+    /// The client, while it runs.
+    pub(crate) fn client(&self) -> Option<&Client<MemNotes>>
+        ensures { (o : Opening) (past : List FrameEntry) → Stands o past self.now →
+            Shows o past (option_copied result) }
+    {
+        match self {
+            ClientNode::On(client) => Some(client),
+            ClientNode::Off(_) => None,
+        }
+    }
+
+    /// Loses its power.
+    pub(crate) fn cut(&mut self, alloc: Global)
+        ensures { (o : Opening) (past : List FrameEntry) → Stands o past self.old →
+            Stands o (Cut ∷ past) self.new }
+    {
+        let off = ClientNode::Off(MemNotes::new(Vec::new(alloc)));
+        match mem::replace(self, off) {
+            ClientNode::On(client) => *self = ClientNode::Off(client.off()),
+            ClientNode::Off(notes) => *self = ClientNode::Off(notes),
+        }
+    }
+
+    /// Starts again.
+    ///
+    /// `NodeOn`: it runs. `NoMemory`. Nothing changes.
+    pub(crate) fn restart(&mut self, alloc: Global, servers: u32) -> Result<(), Fault>
+        requires some { 1 ≤ servers }
+        requires few { servers ≤ 8 }
+        ensures { (o : Opening) (past : List FrameEntry) → o.servers ≡ servers → Stands o past self.old →
+            Restarts o past self.new result }
+    {
+        let off = ClientNode::Off(MemNotes::new(Vec::new(alloc)));
+        match mem::replace(self, off) {
+            ClientNode::On(client) => {
+                *self = ClientNode::On(client);
+                Err(Fault::NodeOn)
+            }
+            ClientNode::Off(notes) => match Client::restart(alloc, servers, notes) {
+                Ok(client) => {
+                    *self = ClientNode::On(client);
+                    Ok(())
+                }
+                Err((notes, fault)) => {
+                    *self = ClientNode::Off(notes);
+                    Err(fault)
+                }
+            },
+        }
+    }
+}

@@ -1,0 +1,127 @@
+//! The client of a world loses its power within a save.
+
+ghost use Rattle.std.specs.Prelude.{◌≡◌, Bool, List, true, is_some};
+ghost use Rattle.client_core.specs.declared.input.Input.TheVariants as inputs;
+ghost use Rattle.client_core.specs.History.{Opening};
+ghost use Rattle.client_core.specs.Hearing.{FrameEntry};
+ghost use Rattle.client_core.specs.FrameAnswers.{due};
+ghost use Rattle.net_world.specs.ClientNodes.{Stands, CutsIn};
+
+use super::ClientNode;
+use fc_base::{Fault, RunNo};
+use messages::Frame;
+use std::alloc::Global;
+
+/// `NodeOff`; `NoSave`: what comes would make none; `NoMemory`. Nothing changes.
+impl ClientNode {
+    /// It loses its power within the save of a run's number.
+    pub(crate) fn cut_in_begin(
+        &mut self,
+        alloc: Global,
+        landed: bool,
+        text: &[u8],
+    ) -> Result<(), Fault>
+        ensures { (o : Opening) (past : List FrameEntry) → Stands o past self.old →
+            CutsIn o past landed (inputs.Begin text.now) self.new result }
+    {
+        let Some(client) = self.client() else {
+            return Err(Fault::NodeOff);
+        };
+        if !client.begin_would_save(text) {
+            return Err(Fault::NoSave);
+        }
+        if landed {
+            return self.cut_behind_begin(alloc, text);
+        }
+        self.cut(alloc);
+        Ok(())
+    }
+
+    /// It loses its power within the save of an attempt's number.
+    pub(crate) fn cut_in_verify(
+        &mut self,
+        alloc: Global,
+        landed: bool,
+        run: RunNo,
+        text: &[u8],
+    ) -> Result<(), Fault>
+        ensures { (o : Opening) (past : List FrameEntry) → Stands o past self.old →
+            CutsIn o past landed (inputs.Verify run text.now) self.new result }
+    {
+        let Some(client) = self.client() else {
+            return Err(Fault::NodeOff);
+        };
+        if !client.verify_would_save(run, text) {
+            return Err(Fault::NoSave);
+        }
+        if landed {
+            return self.cut_behind_verify(alloc, run, text);
+        }
+        self.cut(alloc);
+        Ok(())
+    }
+
+    /// It loses its power within the save that a frame would make.
+    pub(crate) fn cut_in_delivery(
+        &mut self,
+        alloc: Global,
+        landed: bool,
+        frame: Frame,
+    ) -> Result<(), Fault>
+        ensures { (o : Opening) (past : List FrameEntry) → Stands o past self.old →
+            CutsIn o past landed (inputs.Deliver frame) self.new result }
+    {
+        let Some(client) = self.client() else {
+            return Err(Fault::NodeOff);
+        };
+        match client.would_save(&frame) {
+            Ok(true) => {}
+            Ok(false) => return Err(Fault::NoSave),
+            Err(_) => return Err(Fault::NoMemory),
+        }
+        if landed {
+            return self.cut_behind_delivery(alloc, frame);
+        }
+        self.cut(alloc);
+        Ok(())
+    }
+
+    /// It loses its power once a run's number is saved.
+    fn cut_behind_begin(&mut self, alloc: Global, text: &[u8]) -> Result<(), Fault>
+        ensures { (o : Opening) (past : List FrameEntry) → Stands o past self.old →
+            is_some (due o past (inputs.Begin text.now)) ≡ true →
+            CutsIn o past true (inputs.Begin text.now) self.new result }
+    {
+        if let Err(fault) = self.begin(text) {
+            return Err(fault);
+        }
+        self.cut(alloc);
+        Ok(())
+    }
+
+    /// It loses its power once an attempt's number is saved.
+    fn cut_behind_verify(&mut self, alloc: Global, run: RunNo, text: &[u8]) -> Result<(), Fault>
+        ensures { (o : Opening) (past : List FrameEntry) → Stands o past self.old →
+            is_some (due o past (inputs.Verify run text.now)) ≡ true →
+            CutsIn o past true (inputs.Verify run text.now) self.new result }
+    {
+        if let Err(fault) = self.verify(run, text) {
+            return Err(fault);
+        }
+        self.cut(alloc);
+        Ok(())
+    }
+
+    /// It loses its power once a frame's state is saved.
+    fn cut_behind_delivery(&mut self, alloc: Global, frame: Frame) -> Result<(), Fault>
+        ensures { (o : Opening) (past : List FrameEntry) → Stands o past self.old →
+            is_some (due o past (inputs.Deliver frame)) ≡ true →
+            CutsIn o past true (inputs.Deliver frame) self.new result }
+    {
+        if let Err(fault) = self.deliver(frame) {
+            return Err(fault);
+        }
+        self.cut(alloc);
+        Ok(())
+    }
+}

@@ -1,0 +1,61 @@
+//! What comes of a step of a node.
+
+ghost use Rattle.std.specs.Prelude.{◌≡◌};
+ghost use Rattle.net_world.specs.World.{issued};
+ghost use Rattle.net_world.specs.Telling.{told_of, issue_told};
+
+use crate::told::{Answer, Told};
+use engine::Issue;
+use messages::Act;
+
+/// What a step of a node hands out, its frames apart: those are among the frames that were sent, from
+/// `first` on.
+#[derive(Debug, Drop)]
+pub(crate) struct Served {
+    pub first: u64,
+    pub sent: u64,
+    pub issue: Option<Issue>,
+    pub act: Act,
+}
+
+impl Served {
+    /// It is told with this answer.
+    pub(crate) fn told(self, answer: Answer) -> Told
+        ensures { result ≡ told_of self answer }
+    {
+        Told {
+            answer,
+            first: self.first,
+            sent: self.sent,
+            act: self.act,
+        }
+    }
+
+    /// It is told with what a worker is answered that asks for a write.
+    pub(crate) fn issued(self) -> Told
+        ensures { result ≡ issue_told self }
+    {
+        let Served {
+            first,
+            sent,
+            issue,
+            act,
+        } = self;
+        Told {
+            answer: issued(issue),
+            first,
+            sent,
+            act,
+        }
+    }
+}
+
+/// What a worker is told that asks for a write.
+fn issued(issue: Option<Issue>) -> Answer
+    ensures { result ≡ issued issue }
+{
+    match issue {
+        Some(issue) => Answer::Issued(issue),
+        None => Answer::Plain,
+    }
+}

@@ -1,0 +1,234 @@
+//! A world in memory: its nodes, their notes and files, and every frame that was ever sent.
+
+ghost use Rattle.std.specs.Prelude.{◌≡◌, ◌≤◌, ◌+◌, ◌*◌, ◌&&◌, [], ℕ, List, length, nat_lt, IfOk, OnOk, ◌∷◌};
+ghost use Rattle.std.specs.Option.{option_copied};
+ghost use Rattle.net_world.specs.Opened.{AreOpened, AreBlank, blank};
+ghost use Rattle.disk_model.specs.MemDisk.{file_of};
+
+mod ask;
+mod bar;
+mod check;
+mod client_cut;
+mod client_frame;
+mod client_power;
+mod cut_in;
+mod deliver;
+mod find;
+mod power;
+mod serve;
+mod write;
+
+use crate::client_node::ClientNode;
+use crate::config::Config;
+use crate::event::{Event, PlainEvent};
+use crate::sent::Sent;
+use crate::server_node::ServerNode;
+use crate::told::Told;
+use disk_model::MemDisk;
+use fc_base::{Fault, FaultSort, JobNo, Key, MAX_JOBS, ServerNo};
+use server_core::{Status, WriteEnd, looks_at_all};
+use std::alloc::{AllocError, Global};
+use verify_state::VerifyState;
+
+/// A world: a client, its servers, 16 files of each, one server's after the other's, and every frame that
+/// was ever sent.
+#[derive(Drop)]
+pub struct World {
+    alloc: Global,
+    servers: Vec<ServerNode>,
+    client: ClientNode,
+    files: Vec<MemDisk>,
+    sent: Sent,
+}
+
+impl World {
+    ghost use Rattle.net_world.specs.Happenings.{Happening};
+    ghost use Rattle.net_world.specs.Events.{plainly, happening};
+    ghost use Rattle.net_world.specs.Changes.{Change};
+    ghost use Rattle.net_world.specs.Sending.{sent_in};
+    ghost use Rattle.net_world.specs.World.{world, frames, saved, status};
+    ghost use Rattle.net_world.specs.Stands.{StandsFor};
+    ghost use Rattle.net_world.specs.Ends.{Ends};
+
+    /// A world of so many servers. All nodes are on, the servers at their first boot.
+    pub fn new(alloc: Global, config: Config) -> Result<World, AllocError>
+        requires some { 1 ≤ config.servers }
+        requires few { config.servers ≤ 8 }
+        ensures { IfOk result (StandsFor config.servers []) }
+    {
+        let servers = open_servers(alloc, config.servers)?;
+        let Ok(client) = ClientNode::open(alloc, config.servers) else {
+            return Err(AllocError);
+        };
+        let files = open_files(alloc, 16 * config.servers)?;
+        Ok(World {
+            alloc,
+            servers,
+            client,
+            files,
+            sent: Sent::new(alloc),
+        })
+    }
+
+    /// Something happens.
+    ///
+    /// The refusals, in this order: `NoServer`; `NodeOff`; `NodeOn`; `NoFrame`; `NoWrite`; those of the
+    /// node, in whose place a cut within a save answers `NoSave`. A refused event changes nothing, but for
+    /// `FrameBadField`: the node has dropped what came together of the frame's body. `NoMemory`: nothing
+    /// has happened.
+    pub fn apply(&mut self, event: &Event) -> Result<Told, Fault>
+        ensures { (n : ℕ) (events : List Happening) → StandsFor n (world n events) self.old →
+            Ends n (world n events) (happening event.now) self.new result }
+    {
+        match event {
+            Event::Plain(event) => self.happen(event),
+            Event::CutIn { landed, event } => self.cut_in(*landed, event),
+            Event::CutInCut => Err(Fault::NoSave),
+        }
+    }
+
+    /// Something happens, which is passed over where it is refused.
+    pub(crate) fn pass(&mut self, event: &Event) -> Result<(), AllocError>
+        ensures { OnOk result ((n : ℕ) (events : List Happening) → StandsFor n (world n events) self.old →
+            StandsFor n (world n (happening event.now ∷ events)) self.new) }
+    {
+        match self.apply(event) {
+            Ok(_) => Ok(()),
+            Err(fault) => match fault.sort() {
+                FaultSort::Memory => Err(AllocError),
+                _ => Ok(()),
+            },
+        }
+    }
+
+    /// Something happens, but for a cut within a save.
+    fn happen(&mut self, event: &PlainEvent) -> Result<Told, Fault>
+        ensures { (n : ℕ) (events : List Happening) → StandsFor n (world n events) self.old →
+            Ends n (world n events) (plainly event.now) self.new result }
+    {
+        match event {
+            PlainEvent::Begin { text } => self.begin(text),
+            PlainEvent::Trigger { run, act } => self.trigger(*run, *act),
+            PlainEvent::StopRun { run } => self.stop_run(*run),
+            PlainEvent::Verify { run, text } => self.verify(*run, text),
+            PlainEvent::Tick => self.tick(),
+            PlainEvent::Deliver { frame } => self.deliver(*frame),
+            PlainEvent::Issue { server, job } => self.issue(*server, *job),
+            PlainEvent::Land {
+                server,
+                job,
+                write,
+                mask,
+            } => self.land(*server, *job, *write, *mask),
+            PlainEvent::Done { server, job, write } => {
+                self.end(*server, *job, *write, WriteEnd::Done)
+            }
+            PlainEvent::Fail { server, job, write } => {
+                self.end(*server, *job, *write, WriteEnd::Failed)
+            }
+            PlainEvent::Rot {
+                server,
+                job,
+                sector,
+                bytes,
+            } => self.rot(*server, *job, *sector, bytes),
+            PlainEvent::Check { server, job } => self.check(*server, *job),
+            PlainEvent::Cut { node } => self.cut(*node),
+            PlainEvent::Restart { node } => self.restart(*node),
+        }
+    }
+
+    /// The frames that were ever sent, numbered from 0.
+    pub fn frames(&self) -> &Sent
+        ensures { (n : ℕ) (past : List Change) → StandsFor n past self.now →
+            sent_in result.now ≡ frames n past }
+    {
+        &self.sent
+    }
+
+    /// The state that the client keeps of a key, while it is on.
+    pub fn saved(&self, key: Key) -> Option<&VerifyState>
+        ensures { (n : ℕ) (past : List Change) → StandsFor n past self.now →
+            option_copied result ≡ saved n past key }
+    {
+        client_core::looks_at_all();
+        match &self.client {
+            ClientNode::On(client) => client.saved(key),
+            ClientNode::Off(_) => None,
+        }
+    }
+
+    /// What a server shows of itself, while it is there and on.
+    pub fn status(&self, server: ServerNo) -> Option<Status>
+        ensures { (n : ℕ) (past : List Change) → StandsFor n past self.now →
+            result ≡ status n past server }
+    {
+        looks_at_all();
+        if !self.has_server(server) {
+            return None;
+        }
+        match self.servers[server.0 as usize].server() {
+            Some(core) => Some(core.status()),
+            None => None,
+        }
+    }
+
+    /// Whether it has this server.
+    pub(crate) fn has_server(&self, server: ServerNo) -> bool
+        ensures { result ≡ nat_lt server (length self.now.servers.items) }
+    {
+        (server.0 as usize) < self.servers.as_slice().len()
+    }
+
+    /// Whether it has a file of this job at this server.
+    pub(crate) fn has_file(&self, server: ServerNo, job: JobNo) -> bool
+        ensures { result
+            ≡ (nat_lt job 16 && nat_lt (16 * server + job) (length self.now.files.items)) }
+    {
+        job.0 < MAX_JOBS && place_of(server, job) < self.files.as_slice().len()
+    }
+}
+
+/// Where the file of a job lies among those of a world.
+pub(crate) fn place_of(server: ServerNo, job: JobNo) -> usize
+    ensures { result ≡ 16 * server + job }
+{
+    16 * server.0 as usize + job.0 as usize
+}
+
+/// The servers, each on a blank note.
+fn open_servers(alloc: Global, servers: u32) -> Result<Vec<ServerNode>, AllocError>
+    requires { servers ≤ 8 }
+    ensures { IfOk result (λ v. AreOpened servers v.items) }
+{
+    let mut nodes = Vec::with_capacity(alloc, servers as usize)?;
+    for me in 0..servers {
+        let node = ServerNode::open(alloc, ServerNo(me))?;
+        let Ok(()) = nodes.push(node) else {
+            return Err(AllocError);
+        };
+    }
+    Ok(nodes)
+}
+
+/// So many files that were never written, in disks that are on.
+fn open_files(alloc: Global, files: u32) -> Result<Vec<MemDisk>, AllocError>
+    ensures { IfOk result (λ v. AreBlank files v.items) }
+{
+    let mut disks = Vec::with_capacity(alloc, files as usize)?;
+    for _ in 0..files {
+        let Ok(()) = disks.push(blank_disk(alloc)) else {
+            return Err(AllocError);
+        };
+    }
+    Ok(disks)
+}
+
+/// A disk that is on, with a file that was never written.
+fn blank_disk(alloc: Global) -> MemDisk
+    ensures { file_of result ≡ blank }
+{
+    let mut disk = MemDisk::new(alloc);
+    disk.power_on(0);
+    disk
+}

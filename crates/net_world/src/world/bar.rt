@@ -1,0 +1,81 @@
+//! What a world refuses before a node is asked.
+
+ghost use Rattle.std.specs.Prelude.{◌≡◌, ℕ, List, Err, unwrap_or, IfSome};
+ghost use Rattle.fc_base.specs.declared.fault.Fault.TheVariants.{NoSave};
+ghost use Rattle.fc_base.specs.declared.fault.FaultSort.TheVariants.{Refusal};
+ghost use Rattle.fc_base.specs.Fault.{sort_of};
+ghost use Rattle.messages.specs.declared.node.Node.TheVariants.{Server as OfServer, Client as OfClient};
+ghost use Rattle.net_world.specs.Barred.{off, unopen, no_file};
+ghost use Rattle.net_world.specs.Changes.{Change, trace};
+ghost use Rattle.net_world.specs.Stands.{StandsFor};
+
+use super::World;
+use crate::told::Told;
+use fc_base::{Fault, JobNo, MAX_JOBS, Seq, ServerNo};
+
+impl World {
+    /// The client has to be on.
+    pub(super) fn client_off(&self) -> Option<Fault>
+        ensures why { (n : ℕ) (past : List Change) → StandsFor n past self.now →
+            result ≡ off n (trace n past) OfClient }
+        ensures sort { IfSome result (λ fault. sort_of fault ≡ Refusal) }
+    {
+        if self.client.on() {
+            None
+        } else {
+            Some(Fault::NodeOff)
+        }
+    }
+
+    /// The server has to be there and on.
+    pub(super) fn server_off(&self, server: ServerNo) -> Option<Fault>
+        ensures why { (n : ℕ) (past : List Change) → StandsFor n past self.now →
+            result ≡ off n (trace n past) (OfServer server) }
+        ensures sort { IfSome result (λ fault. sort_of fault ≡ Refusal) }
+    {
+        if !self.has_server(server) {
+            return Some(Fault::NoServer);
+        }
+        if self.servers[server.0 as usize].on() {
+            None
+        } else {
+            Some(Fault::NodeOff)
+        }
+    }
+
+    /// The write has to be open.
+    pub(super) fn write_unopen(&self, server: ServerNo, job: JobNo, write: Seq) -> Option<Fault>
+        ensures why { (n : ℕ) (past : List Change) → StandsFor n past self.now →
+            result ≡ unopen n (trace n past) server job write }
+        ensures sort { (n : ℕ) (past : List Change) → StandsFor n past self.now →
+            IfSome result (λ fault. sort_of fault ≡ Refusal) }
+    {
+        match self.open_write(server, job, write) {
+            Ok(_) => None,
+            Err(fault) => Some(fault),
+        }
+    }
+
+    /// The file has to be there.
+    pub(super) fn file_missing(&self, server: ServerNo, job: JobNo) -> Option<Fault>
+        ensures why { (n : ℕ) (past : List Change) → StandsFor n past self.now →
+            result ≡ no_file n server job }
+        ensures sort { IfSome result (λ fault. sort_of fault ≡ Refusal) }
+    {
+        if !self.has_server(server) {
+            return Some(Fault::NoServer);
+        }
+        if job.0 >= MAX_JOBS {
+            Some(Fault::NoWrite)
+        } else {
+            None
+        }
+    }
+}
+
+/// A cut within a save of what makes none is refused as that is, else as no save.
+pub(super) fn no_save(why: Option<Fault>) -> Result<Told, Fault>
+    ensures { result ≡ Err (unwrap_or why NoSave) }
+{
+    Err(why.unwrap_or(Fault::NoSave))
+}

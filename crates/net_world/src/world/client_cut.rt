@@ -1,0 +1,68 @@
+//! The client of a world loses its power within a save.
+
+ghost use Rattle.std.specs.Prelude.{◌≡◌, ℕ, Bool, List, Some, slice_get};
+ghost use Rattle.messages.specs.declared.node.Node.TheVariants.{Client as OfClient};
+ghost use Rattle.net_world.specs.Changes.{Change, steps};
+ghost use Rattle.net_world.specs.Ends.{Ends};
+ghost use Rattle.net_world.specs.Happenings.{Begin, Verify, Deliver, CutIn};
+ghost use Rattle.net_world.specs.Frames.{to_of, frames_sent};
+ghost use Rattle.net_world.specs.Stands.{StandsFor};
+
+use super::World;
+use crate::told::Told;
+use fc_base::{Fault, RunNo};
+use messages::Frame;
+
+impl World {
+    /// It loses its power within the save of a run's number.
+    pub(super) fn cut_in_begin(&mut self, landed: bool, text: &[u8]) -> Result<Told, Fault>
+        ensures { (n : ℕ) (past : List Change) → StandsFor n past self.old →
+            Ends n past (CutIn landed (Begin text.now)) self.new result }
+    {
+        let Ok(first) = self.sent.settle() else {
+            return Err(Fault::NoMemory);
+        };
+        match self.client.cut_in_begin(self.alloc, landed, text) {
+            Ok(()) => Ok(Told::plain(first)),
+            Err(fault) => Err(fault),
+        }
+    }
+
+    /// It loses its power within the save of an attempt's number.
+    pub(super) fn cut_in_verify(
+        &mut self,
+        landed: bool,
+        run: RunNo,
+        text: &[u8],
+    ) -> Result<Told, Fault>
+        ensures { (n : ℕ) (past : List Change) → StandsFor n past self.old →
+            Ends n past (CutIn landed (Verify run text.now)) self.new result }
+    {
+        let Ok(first) = self.sent.settle() else {
+            return Err(Fault::NoMemory);
+        };
+        match self.client.cut_in_verify(self.alloc, landed, run, text) {
+            Ok(()) => Ok(Told::plain(first)),
+            Err(fault) => Err(fault),
+        }
+    }
+
+    /// It loses its power within the save that a frame would make.
+    pub(super) fn cut_in_client_delivery(
+        &mut self,
+        landed: bool,
+        frame: Frame,
+    ) -> Result<Told, Fault>
+        ensures { (n : ℕ) (past : List Change) (number : ℕ) → StandsFor n past self.old →
+            slice_get (frames_sent n (steps past)) number ≡ Some frame → to_of frame ≡ OfClient →
+            Ends n past (CutIn landed (Deliver number)) self.new result }
+    {
+        let Ok(first) = self.sent.settle() else {
+            return Err(Fault::NoMemory);
+        };
+        match self.client.cut_in_delivery(self.alloc, landed, frame) {
+            Ok(()) => Ok(Told::plain(first)),
+            Err(fault) => Err(fault),
+        }
+    }
+}

@@ -1,0 +1,50 @@
+//! The client of a world loses its power, and is started again.
+
+ghost use Rattle.std.specs.Prelude.{ℕ, List};
+ghost use Rattle.messages.specs.declared.node.Node.TheVariants.{Client as OfClient};
+ghost use Rattle.net_world.specs.Changes.{Change};
+ghost use Rattle.net_world.specs.Ends.{Ends};
+ghost use Rattle.net_world.specs.Happenings.{Cut, Restart};
+ghost use Rattle.net_world.specs.Stands.{StandsFor};
+
+use super::World;
+use crate::told::Told;
+use fc_base::{Fault, MAX_SERVERS};
+
+impl World {
+    /// The client loses its power.
+    pub(super) fn cut_client(&mut self) -> Result<Told, Fault>
+        ensures { (n : ℕ) (past : List Change) → StandsFor n past self.old →
+            Ends n past (Cut OfClient) self.new result }
+    {
+        if !self.client.on() {
+            return Err(Fault::NodeOff);
+        }
+        let Ok(first) = self.sent.settle() else {
+            return Err(Fault::NoMemory);
+        };
+        self.client.cut(self.alloc);
+        Ok(Told::plain(first))
+    }
+
+    /// The client is started again.
+    pub(super) fn restart_client(&mut self) -> Result<Told, Fault>
+        ensures { (n : ℕ) (past : List Change) → StandsFor n past self.old →
+            Ends n past (Restart OfClient) self.new result }
+    {
+        let servers = self.servers.as_slice().len();
+        if servers < 1 {
+            return Err(Fault::NoServer);
+        }
+        if servers > MAX_SERVERS as usize {
+            return Err(Fault::NoServer);
+        }
+        let Ok(first) = self.sent.settle() else {
+            return Err(Fault::NoMemory);
+        };
+        match self.client.restart(self.alloc, servers as u32) {
+            Ok(()) => Ok(Told::plain(first)),
+            Err(fault) => Err(fault),
+        }
+    }
+}

@@ -1,0 +1,147 @@
+//! The nodes of a world lose their power within a save.
+
+ghost use Rattle.std.specs.Prelude.{◌≡◌, ℕ, Bool, List, Some, slice_get};
+ghost use Rattle.messages.specs.declared.node.Node.TheVariants.{Server as OfServer, Client as OfClient};
+ghost use Rattle.net_world.specs.Changes.{Change, steps};
+ghost use Rattle.net_world.specs.Ends.{Ends};
+ghost use Rattle.net_world.specs.Frames.{to_of, frames_sent};
+ghost use Rattle.net_world.specs.Events.{plainly};
+ghost use Rattle.net_world.specs.Happenings.{Happening, Deliver, Cut, Restart, CutIn};
+ghost use Rattle.net_world.specs.Stands.{StandsFor};
+ghost use Rattle.net_world.specs.World.{world};
+
+use super::World;
+use super::bar::no_save;
+use super::deliver::to_of;
+use crate::event::PlainEvent;
+use crate::told::Told;
+use fc_base::{Fault, MAX_SERVERS, ServerNo};
+use messages::{Frame, Node};
+
+impl World {
+    /// A node loses its power within the save that this would make.
+    ///
+    /// `NoSave`: it would make none.
+    pub(super) fn cut_in(&mut self, landed: bool, event: &PlainEvent) -> Result<Told, Fault>
+        ensures { (n : ℕ) (events : List Happening) → StandsFor n (world n events) self.old →
+            Ends n (world n events) (CutIn landed (plainly event.now)) self.new result }
+    {
+        match event {
+            PlainEvent::Begin { text } => self.cut_in_begin(landed, text),
+            PlainEvent::Verify { run, text } => self.cut_in_verify(landed, *run, text),
+            PlainEvent::Deliver { frame } => self.cut_in_delivery(landed, *frame),
+            PlainEvent::Restart { node } => self.cut_in_restart(landed, *node),
+            PlainEvent::Trigger { .. } => no_save(self.client_off()),
+            PlainEvent::StopRun { .. } => no_save(self.client_off()),
+            PlainEvent::Tick => no_save(self.client_off()),
+            PlainEvent::Issue { server, .. } => no_save(self.server_off(*server)),
+            PlainEvent::Check { server, .. } => no_save(self.server_off(*server)),
+            PlainEvent::Land {
+                server,
+                job,
+                write,
+                ..
+            } => no_save(self.write_unopen(*server, *job, *write)),
+            PlainEvent::Done { server, job, write } => {
+                no_save(self.write_unopen(*server, *job, *write))
+            }
+            PlainEvent::Fail { server, job, write } => {
+                no_save(self.write_unopen(*server, *job, *write))
+            }
+            PlainEvent::Rot { server, job, .. } => no_save(self.file_missing(*server, *job)),
+            PlainEvent::Cut { node } => self.cut_in_cut(*node),
+        }
+    }
+
+    /// A cut makes no save.
+    fn cut_in_cut(&self, node: Node) -> Result<Told, Fault>
+        ensures { (landed : Bool) (n : ℕ) (past : List Change) → StandsFor n past self.now →
+            Ends n past (CutIn landed (Cut node)) self.now result }
+    {
+        match node {
+            Node::Server(server) => no_save(self.server_off(server)),
+            Node::Client => no_save(self.client_off()),
+        }
+    }
+
+    /// A node loses its power within the save of a frame that comes to it.
+    fn cut_in_delivery(&mut self, landed: bool, number: u64) -> Result<Told, Fault>
+        ensures { (n : ℕ) (events : List Happening) → StandsFor n (world n events) self.old →
+            Ends n (world n events) (CutIn landed (Deliver number)) self.new result }
+    {
+        let frame = match self.frame(number) {
+            Ok(frame) => frame,
+            Err(fault) => return Err(fault),
+        };
+        match to_of(&frame) {
+            Node::Server(server) => self.cut_in_at_server(landed, server, frame),
+            Node::Client => self.cut_in_client_delivery(landed, frame),
+        }
+    }
+
+    /// A node loses its power within the save of its restart.
+    fn cut_in_restart(&mut self, landed: bool, node: Node) -> Result<Told, Fault>
+        ensures { (n : ℕ) (past : List Change) → StandsFor n past self.old →
+            Ends n past (CutIn landed (Restart node)) self.new result }
+    {
+        match node {
+            Node::Server(server) => self.cut_in_server_restart(landed, server),
+            Node::Client => self.cut_in_client_restart(),
+        }
+    }
+
+    /// The client's restart makes no save.
+    fn cut_in_client_restart(&self) -> Result<Told, Fault>
+        ensures { (landed : Bool) (n : ℕ) (past : List Change) → StandsFor n past self.now →
+            Ends n past (CutIn landed (Restart OfClient)) self.now result }
+    {
+        if self.client.on() {
+            Err(Fault::NodeOn)
+        } else {
+            Err(Fault::NoSave)
+        }
+    }
+
+    /// A server loses its power within the save of a frame.
+    fn cut_in_at_server(
+        &mut self,
+        landed: bool,
+        server: ServerNo,
+        frame: Frame,
+    ) -> Result<Told, Fault>
+        ensures { (n : ℕ) (past : List Change) (number : ℕ) → StandsFor n past self.old →
+            slice_get (frames_sent n (steps past)) number ≡ Some frame → to_of frame ≡ OfServer server →
+            Ends n past (CutIn landed (Deliver number)) self.new result }
+    {
+        if !self.has_server(server) {
+            return Err(Fault::NoServer);
+        }
+        let Ok(first) = self.sent.settle() else {
+            return Err(Fault::NoMemory);
+        };
+        match self.servers[server.0 as usize].cut_in_delivery(self.alloc, landed, frame) {
+            Ok(()) => Ok(Told::plain(first)),
+            Err(fault) => Err(fault),
+        }
+    }
+
+    /// A server loses its power within the save of its boot.
+    fn cut_in_server_restart(&mut self, landed: bool, server: ServerNo) -> Result<Told, Fault>
+        ensures { (n : ℕ) (past : List Change) → StandsFor n past self.old →
+            Ends n past (CutIn landed (Restart (OfServer server))) self.new result }
+    {
+        if server.0 >= MAX_SERVERS {
+            return Err(Fault::NoServer);
+        }
+        if !self.has_server(server) {
+            return Err(Fault::NoServer);
+        }
+        let Ok(first) = self.sent.settle() else {
+            return Err(Fault::NoMemory);
+        };
+        match self.servers[server.0 as usize].cut_in_restart(self.alloc, landed, server) {
+            Ok(()) => Ok(Told::plain(first)),
+            Err(fault) => Err(fault),
+        }
+    }
+}

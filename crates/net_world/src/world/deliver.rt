@@ -1,0 +1,72 @@
+//! The frames of a world come to their nodes.
+
+ghost use Rattle.std.specs.Prelude.{◌≡◌, ℕ, List, Some, slice_get};
+ghost use Rattle.messages.specs.declared.node.Node.TheVariants.{Server as OfServer};
+ghost use Rattle.net_world.specs.Changes.{Change, steps};
+ghost use Rattle.net_world.specs.Ends.{Ends};
+ghost use Rattle.net_world.specs.Happenings.{Happening, Deliver};
+ghost use Rattle.net_world.specs.Frames.{to_of, frames_sent};
+ghost use Rattle.net_world.specs.Delivering.{FindsFrame};
+ghost use Rattle.net_world.specs.Stands.{StandsFor};
+ghost use Rattle.net_world.specs.World.{world};
+
+use super::World;
+use crate::told::{Answer, Told};
+use crate::world_law::sent_frames_are_read;
+use fc_base::{Fault, ServerNo};
+use messages::{Frame, Node, decode_frame};
+use server_core::Input;
+
+impl World {
+    /// A frame that was sent comes to its node.
+    pub(super) fn deliver(&mut self, number: u64) -> Result<Told, Fault>
+        ensures { (n : ℕ) (events : List Happening) → StandsFor n (world n events) self.old →
+            Ends n (world n events) (Deliver number) self.new result }
+    {
+        let frame = match self.frame(number) {
+            Ok(frame) => frame,
+            Err(fault) => return Err(fault),
+        };
+        match to_of(&frame) {
+            Node::Server(server) => self.deliver_to_server(server, frame),
+            Node::Client => self.deliver_to_client(frame),
+        }
+    }
+
+    /// A frame comes to a server.
+    fn deliver_to_server(&mut self, server: ServerNo, frame: Frame) -> Result<Told, Fault>
+        ensures { (n : ℕ) (past : List Change) (number : ℕ) → StandsFor n past self.old →
+            slice_get (frames_sent n (steps past)) number ≡ Some frame → to_of frame ≡ OfServer server →
+            Ends n past (Deliver number) self.new result }
+    {
+        match self.serve(server, Input::Deliver(frame)) {
+            Ok(served) => Ok(served.told(Answer::Plain)),
+            Err(fault) => Err(fault),
+        }
+    }
+
+    /// The frame with this number. `NoFrame`; `NoMemory`.
+    pub(super) fn frame(&self, number: u64) -> Result<Frame, Fault>
+        ensures { (n : ℕ) (events : List Happening) → StandsFor n (world n events) self.now →
+            FindsFrame n (world n events) number result }
+    {
+        sent_frames_are_read();
+        let Some(bytes) = self.sent.get(number as usize) else {
+            return Err(Fault::NoFrame);
+        };
+        match decode_frame(self.alloc, bytes) {
+            Ok(frame) => Ok(frame),
+            Err(_) => Err(Fault::NoMemory),
+        }
+    }
+}
+
+/// The node that a frame is for.
+pub(super) fn to_of(frame: &Frame) -> Node
+    ensures { result ≡ to_of frame.now }
+{
+    match frame {
+        Frame::Whole(packet) => packet.to(),
+        Frame::Piece(piece) => piece.to(),
+    }
+}

@@ -1,0 +1,106 @@
+//! What a world finds in its servers.
+
+ghost use Rattle.std.specs.Prelude.{◌≡◌, ℕ, List, Some};
+ghost use Rattle.server_core.specs.Answers.{is_ready};
+ghost use Rattle.server_core.specs.KeptCheck.{progress_of};
+ghost use Rattle.net_world.specs.Changes.{Change};
+ghost use Rattle.net_world.specs.Finding.{FindsWrite, FindsReady, state_of};
+ghost use Rattle.net_world.specs.Stands.{StandsFor};
+
+use super::World;
+use crate::ready::Ready;
+use engine::Ticket;
+use fc_base::{Fault, JobNo, JobRecord, Key, Seq, ServerNo};
+use server_core::{
+    Progress, legal_histories, looks_at_all, open_check_is_last, tickets_tell_origins,
+};
+use verify_state::VerifyState;
+
+impl World {
+    /// The ticket of a write that is open, and what its job does.
+    ///
+    /// `NoServer`, `NodeOff`, `NoWrite`.
+    pub(super) fn open_write(
+        &self,
+        server: ServerNo,
+        job: JobNo,
+        write: Seq,
+    ) -> Result<(Ticket, JobRecord), Fault>
+        ensures { (n : ℕ) (past : List Change) → StandsFor n past self.now →
+            FindsWrite n past server job write result }
+    {
+        looks_at_all();
+        tickets_tell_origins();
+        legal_histories();
+        if !self.has_server(server) {
+            return Err(Fault::NoServer);
+        }
+        let Some(core) = self.servers[server.0 as usize].server() else {
+            return Err(Fault::NodeOff);
+        };
+        let Some(ticket) = core.open_write(job, write) else {
+            return Err(Fault::NoWrite);
+        };
+        match core.run_job(job) {
+            Some(job) => Ok((ticket, job.rec)),
+            None => Err(Fault::NoWrite),
+        }
+    }
+
+    /// A job that is ready to be checked.
+    ///
+    /// `NoServer`, `NodeOff`; `NotInFlight`: it isn't ready.
+    pub(super) fn ready(&self, server: ServerNo, job: JobNo) -> Result<Ready, Fault>
+        ensures { (n : ℕ) (past : List Change) → StandsFor n past self.now →
+            FindsReady n past server job result }
+    {
+        looks_at_all();
+        open_check_is_last();
+        legal_histories();
+        if !self.has_server(server) {
+            return Err(Fault::NoServer);
+        }
+        let Some(core) = self.servers[server.0 as usize].server() else {
+            return Err(Fault::NodeOff);
+        };
+        let Some(checked) = core.check_job(job) else {
+            return Err(Fault::NotInFlight);
+        };
+        let Some(progress) = core.check_progress(job) else {
+            return Err(Fault::NotInFlight);
+        };
+        if !is_ready(progress) {
+            return Err(Fault::NotInFlight);
+        }
+        let status = core.status();
+        Ok(Ready {
+            boot: status.boot,
+            attempt: status.attempt,
+            key: Key {
+                run: status.last_run,
+                server,
+                job,
+            },
+            rec: checked.rec,
+            fatal: checked.fatal,
+            state: state_of(progress),
+        })
+    }
+}
+
+/// Whether the check of a job may be made.
+fn is_ready(progress: &Progress) -> bool
+    ensures { result ≡ is_ready (Some (progress_of progress.now)) }
+{
+    matches!(progress, Progress::Full | Progress::With(_))
+}
+
+/// The state with which it is made.
+fn state_of(progress: &Progress) -> Option<VerifyState>
+    ensures { result ≡ state_of (progress_of progress.now) }
+{
+    match progress {
+        Progress::With(state) => Some(*state),
+        _ => None,
+    }
+}

@@ -1,0 +1,75 @@
+//! The nodes of a world lose their power, and are started again.
+
+ghost use Rattle.std.specs.Prelude.{ℕ, List};
+ghost use Rattle.messages.specs.declared.node.Node.TheVariants.{Server as OfServer};
+ghost use Rattle.net_world.specs.Changes.{Change};
+ghost use Rattle.net_world.specs.Ends.{Ends};
+ghost use Rattle.net_world.specs.Happenings.{Cut, Restart};
+ghost use Rattle.net_world.specs.Stands.{StandsFor};
+
+use super::World;
+use crate::told::Told;
+use fc_base::{Fault, MAX_SERVERS, ServerNo};
+use messages::Node;
+
+impl World {
+    /// A node loses its power.
+    pub(super) fn cut(&mut self, node: Node) -> Result<Told, Fault>
+        ensures { (n : ℕ) (past : List Change) → StandsFor n past self.old →
+            Ends n past (Cut node) self.new result }
+    {
+        match node {
+            Node::Server(server) => self.cut_server(server),
+            Node::Client => self.cut_client(),
+        }
+    }
+
+    /// A node is started again.
+    pub(super) fn restart(&mut self, node: Node) -> Result<Told, Fault>
+        ensures { (n : ℕ) (past : List Change) → StandsFor n past self.old →
+            Ends n past (Restart node) self.new result }
+    {
+        match node {
+            Node::Server(server) => self.restart_server(server),
+            Node::Client => self.restart_client(),
+        }
+    }
+
+    /// A server loses its power.
+    pub(super) fn cut_server(&mut self, server: ServerNo) -> Result<Told, Fault>
+        ensures { (n : ℕ) (past : List Change) → StandsFor n past self.old →
+            Ends n past (Cut (OfServer server)) self.new result }
+    {
+        if !self.has_server(server) {
+            return Err(Fault::NoServer);
+        }
+        if !self.servers[server.0 as usize].on() {
+            return Err(Fault::NodeOff);
+        }
+        let Ok(first) = self.sent.settle() else {
+            return Err(Fault::NoMemory);
+        };
+        self.servers[server.0 as usize].cut(self.alloc);
+        Ok(Told::plain(first))
+    }
+
+    /// A server is started again.
+    pub(super) fn restart_server(&mut self, server: ServerNo) -> Result<Told, Fault>
+        ensures { (n : ℕ) (past : List Change) → StandsFor n past self.old →
+            Ends n past (Restart (OfServer server)) self.new result }
+    {
+        if server.0 >= MAX_SERVERS {
+            return Err(Fault::NoServer);
+        }
+        if !self.has_server(server) {
+            return Err(Fault::NoServer);
+        }
+        let Ok(first) = self.sent.settle() else {
+            return Err(Fault::NoMemory);
+        };
+        match self.servers[server.0 as usize].restart(self.alloc, server) {
+            Ok(()) => Ok(Told::plain(first)),
+            Err(fault) => Err(fault),
+        }
+    }
+}

@@ -1,0 +1,128 @@
+//! The writes of a world: they are issued, land, and are done or fail.
+
+ghost use Rattle.std.specs.Prelude.{◌≡◌, ℕ, List, IfOk};
+ghost use Rattle.write_order.specs.Stamps.{written_bytes};
+ghost use Rattle.net_world.specs.Changes.{Change};
+ghost use Rattle.net_world.specs.Ends.{Ends};
+ghost use Rattle.net_world.specs.Happenings.{Issue as Issues, Land, Rot};
+ghost use Rattle.net_world.specs.Events.{ending};
+ghost use Rattle.net_world.specs.Stands.{StandsFor};
+
+use super::{World, place_of};
+use crate::told::{Answer, Told};
+use fc_base::{Fault, JobNo, JobRecord, Key, MAX_BLOCKS, Seq, ServerNo};
+use server_core::{Input, WriteEnd};
+use std::alloc::{AllocError, Global};
+use write_order::{fill_block, writes_fill_their_blocks, writes_stay_in_the_region};
+
+impl World {
+    /// A worker asks for the next write of a job.
+    pub(super) fn issue(&mut self, server: ServerNo, job: JobNo) -> Result<Told, Fault>
+        ensures { (n : ℕ) (past : List Change) → StandsFor n past self.old →
+            Ends n past (Issues server job) self.new result }
+    {
+        match self.serve(server, Input::Issue(job)) {
+            Ok(served) => Ok(served.issued()),
+            Err(fault) => Err(fault),
+        }
+    }
+
+    /// An open write has ended.
+    pub(super) fn end(
+        &mut self,
+        server: ServerNo,
+        job: JobNo,
+        write: Seq,
+        end: WriteEnd,
+    ) -> Result<Told, Fault>
+        ensures { (n : ℕ) (past : List Change) → StandsFor n past self.old →
+            Ends n past (ending end server job write) self.new result }
+    {
+        let ticket = match self.open_write(server, job, write) {
+            Ok((ticket, _)) => ticket,
+            Err(fault) => return Err(fault),
+        };
+        match self.serve(server, Input::WriteDone(ticket, end)) {
+            Ok(served) => Ok(served.told(Answer::Plain)),
+            Err(fault) => Err(fault),
+        }
+    }
+
+    /// Sectors of an open write land in its file.
+    pub(super) fn land(
+        &mut self,
+        server: ServerNo,
+        job: JobNo,
+        write: Seq,
+        mask: u128,
+    ) -> Result<Told, Fault>
+        ensures { (n : ℕ) (past : List Change) → StandsFor n past self.old →
+            Ends n past (Land server job write mask) self.new result }
+    {
+        writes_stay_in_the_region();
+        writes_fill_their_blocks();
+        let (ticket, rec) = match self.open_write(server, job, write) {
+            Ok(found) => found,
+            Err(fault) => return Err(fault),
+        };
+        let _within_limits = rec.parts();
+        // No open write lies past these ends.
+        if !self.has_file(server, job) {
+            return Err(Fault::NoWrite);
+        }
+        if ticket.block >= MAX_BLOCKS {
+            return Err(Fault::NoWrite);
+        }
+        let Ok(first) = self.sent.settle() else {
+            return Err(Fault::NoMemory);
+        };
+        let Ok(bytes) = bytes_of(self.alloc, ticket.key, &rec, write, ticket.block) else {
+            return Err(Fault::NoMemory);
+        };
+        match self.files[place_of(server, job)].land(ticket.block, &bytes, mask) {
+            Ok(()) => Ok(Told::plain(first)),
+            Err(_) => Err(Fault::NoMemory),
+        }
+    }
+
+    /// A sector of a file changes by itself.
+    pub(super) fn rot(
+        &mut self,
+        server: ServerNo,
+        job: JobNo,
+        sector: u64,
+        bytes: &[u8; 512],
+    ) -> Result<Told, Fault>
+        ensures { (n : ℕ) (past : List Change) → StandsFor n past self.old →
+            Ends n past (Rot server job sector bytes.now) self.new result }
+    {
+        if !self.has_server(server) {
+            return Err(Fault::NoServer);
+        }
+        if !self.has_file(server, job) {
+            return Err(Fault::NoWrite);
+        }
+        let Ok(first) = self.sent.settle() else {
+            return Err(Fault::NoMemory);
+        };
+        match self.files[place_of(server, job)].rot(sector, *bytes) {
+            Ok(()) => Ok(Told::plain(first)),
+            Err(_) => Err(Fault::NoMemory),
+        }
+    }
+}
+
+/// The bytes of a write.
+fn bytes_of(
+    alloc: Global,
+    key: Key,
+    rec: &JobRecord,
+    write: Seq,
+    block: u32,
+) -> Result<Vec<u8>, AllocError>
+    ensures { IfOk result (λ v. v.items ≡ written_bytes key rec.now write block) }
+{
+    let mut bytes = vec![in alloc; 0u8; rec.bs() as usize]?;
+    fill_block(key, rec, write, block, &mut bytes);
+    Ok(bytes)
+}
