@@ -30,3 +30,4 @@ pub mod Asking
 pub mod Finding
 pub mod Telling
 pub mod Events
+pub mod Headline
