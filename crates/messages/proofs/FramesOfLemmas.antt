@@ -1,8 +1,8 @@
 -- The frames of a packet: their bytes one behind the other, and how many they are.
 use Rattle.std.proofs.Common.{◌≡◌, refl, sym, ◌∙◌, ap, subst, ℕ, zero, suc, ◌+◌, ◌-◌, ◌*◌, ◌<◌, ◌≤◌, arith, Bool, true, false, List, [], ◌∷◌, ◌++◌, length, take, drop, Some, append_assoc}
-use Rattle.std.specs.Prelude.{if◌then◌else◌, nat_lt, sum, sum_by, map, All, slice_get, slice_index, Result, Ok, Err, IfOk, OnOk, is_ok}
+use Rattle.std.specs.Prelude.{if◌then◌else◌, nat_lt, sum_by, map, All, slice_get, slice_index, slice_range, Result, Ok, Err, IfOk}
 use Rattle.std.proofs.lemmas.Bool.Decides.{nat_tests}
-use Rattle.std.proofs.lemmas.List.{drop_at, length-append, length-take, length-drop, length-map, drop-drop, take-append-le, drop-append-le, append-nil}
+use Rattle.std.proofs.lemmas.List.{drop_at, length-append, length-take, length-drop, length-map, take_all, drop-drop, take-append-le, drop-append-le, append-nil}
 use Rattle.std.proofs.lemmas.List.Elements.{All-nil, All-cons}
 use Rattle.std.proofs.lemmas.List.Sums.{sum_by-cons, sum_by-append}
 use Rattle.messages.specs.declared.node.Node.{Node}
@@ -16,7 +16,7 @@ use Rattle.messages.specs.Nodes.{node_number}
 use Rattle.fc_base.specs.Layouts.{spelled}
 use Rattle.messages.specs.Pieces.{is_cut, tag_in, tag_of, places_from, places, bytes_at, cut_at, piece_at, pieces_of}
 use Rattle.messages.specs.FrameBytes.{piece_layout, piece_numbers, piece_header, piece_spelling, frame_spelling}
-use Rattle.messages.specs.FramesOf.{parted, spelled_piece, spelled_frames, AreFew}
+use Rattle.messages.specs.FramesOf.{parted, RiseTo, spelled_piece, spelled_frames, AreFew}
 use Rattle.messages.proofs.LayoutLemmas.{length-spelled}
 use Rattle.messages.proofs.BodyLemmas.{length-spelled_body}
 use Rattle.messages.proofs.FrameLemmas.{length-header_of}
@@ -31,29 +31,74 @@ length-piece_spelling q =
       length-spelled piece_layout (piece_numbers q) refl,
     )
 
-pub length-parted : (ns bytes : List ℕ) → length (parted ns bytes) ≡ length ns
-length-parted [] bytes = refl
-length-parted (n ∷ ns) bytes = ap suc (length-parted ns (drop n bytes))
+pub length-parted : (start : ℕ) (ends bytes : List ℕ) → length (parted start ends bytes) ≡ length ends
+length-parted start [] bytes = refl
+length-parted start (end ∷ ends) bytes = ap suc (length-parted end ends bytes)
 
--- Bytes one behind the other, and some more behind them.
-pub parted_more : (ns b c : List ℕ) → sum ns ≡ length b → parted (ns ++ length c ∷ []) (b ++ c) ≡ parted ns b ++ c ∷ []
-parted_more [] [] c h = ap (λ (x : List ℕ). x ∷ []) (take_all c)
-  where
-    take_all : (xs : List ℕ) → take (length xs) xs ≡ xs
-    take_all [] = refl
-    take_all (x ∷ xs) = ap (λ (ys : List ℕ). x ∷ ys) (take_all xs)
-parted_more [] (x ∷ b) c h = absurd (omega (arith, h))
-parted_more (n ∷ ns) b c h =
-    let fits : n ≤ length b = omega (arith, h, sum_by-cons (λ (k : ℕ). k) n ns) in
-    let rest : sum ns ≡ length (drop n b) = omega (arith, h, sum_by-cons (λ (k : ℕ). k) n ns, length-drop n b) in
-    rw (take-append-le n b c fits, drop-append-le n b c fits) (ap (λ (xs : List (List ℕ)). take n b ∷ xs) (parted_more ns (drop n b) c rest))
+pub parted_get : (start : ℕ) (ends b : List ℕ) (i : ℕ) → i < length ends → slice_get (parted start ends b) i ≡ Some (slice_range b (slice_index (start ∷ ends) i) (slice_index ends i))
+parted_get start [] b i h = absurd (omega (arith, h))
+parted_get start (end ∷ ends) b zero h = refl
+parted_get start (end ∷ ends) b (suc i) h = parted_get end ends b i (omega (arith, h))
 
-pub parted_get : (ns b : List ℕ) (i : ℕ) → i < length ns → slice_get (parted ns b) i ≡ Some (take (slice_index ns i) (drop (sum (take i ns)) b))
-parted_get [] b i h = absurd (omega (arith, h))
-parted_get (n ∷ ns) b zero h = refl
-parted_get (n ∷ ns) b (suc i) h =
-    parted_get ns (drop n b) i (omega (arith, h))
-    ∙ ap (λ (bs : List ℕ). Some (take (slice_index ns i) bs)) (drop-drop (sum (take i ns)) n b ∙ ap (λ (k : ℕ). drop k b) (sym (sum_by-cons (λ (k : ℕ). k) n (take i ns))))
+-- Places that rise lie between the first and the last.
+pub rise_le : (start : ℕ) (ends : List ℕ) (last : ℕ) → RiseTo start ends last → start ≤ last
+rise_le start [] last h = omega (arith, h)
+rise_le start (end ∷ ends) last h = omega (arith, h.0, rise_le end ends last h.1)
+
+pub rise_at : (start : ℕ) (ends : List ℕ) (last i : ℕ) → RiseTo start ends last → i < length ends → (slice_index (start ∷ ends) i ≤ slice_index ends i) × (slice_index ends i ≤ last)
+rise_at start [] last i h below = absurd (omega (arith, below))
+rise_at start (end ∷ ends) last zero h below = (h.0, rise_le end ends last h.1)
+rise_at start (end ∷ ends) last (suc i) h below = rise_at end ends last i h.1 (omega (arith, below))
+
+rise_append : (start : ℕ) (ends : List ℕ) (mid : ℕ) (more : List ℕ) (last : ℕ) → RiseTo start ends mid → RiseTo mid more last → RiseTo start (ends ++ more) last
+rise_append start [] mid more last h m = subst (λ (n : ℕ). RiseTo n more last) (sym h) m
+rise_append start (end ∷ ends) mid more last h m = (h.0, rise_append end ends mid more last h.1 m)
+
+rise_behind : (n start : ℕ) (ends : List ℕ) (last at to : ℕ) → RiseTo start ends last → at ≡ n + start → to ≡ n + last → RiseTo at (map (λ end. n + end) ends) to
+rise_behind n start [] last at to h at_is to_is = omega (arith, h, at_is, to_is)
+rise_behind n start (end ∷ ends) last at to h at_is to_is = (omega (arith, h.0, at_is), rise_behind n end ends last (n + end) to h.1 refl to_is)
+
+pub rise_fits : (start : ℕ) (ends : List ℕ) (last n limit : ℕ) → RiseTo start ends last → n + last < limit → All (λ end. n + end < limit) ends
+rise_fits start [] last n limit h fits = All-nil (λ (end : ℕ). n + end < limit)
+rise_fits start (end ∷ ends) last n limit h fits = All-cons (λ (end : ℕ). n + end < limit) end ends (omega (arith, fits, rise_le end ends last h.1)) (rise_fits end ends last n limit h.1 fits)
+
+-- Parts of bytes with more behind them, of bytes with more before them, and parts one behind the other.
+parted_before : (start : ℕ) (ends b c : List ℕ) → RiseTo start ends (length b) → parted start ends (b ++ c) ≡ parted start ends b
+parted_before start [] b c h = refl
+parted_before start (end ∷ ends) b c h =
+    let to : end ≤ length b = rise_le end ends (length b) h.1 in
+    let from : start ≤ length b = omega (arith, h.0, to) in
+    let part : end - start ≤ length (drop start b) = omega (arith, to, length-drop start b) in
+    rw (drop-append-le start b c from, take-append-le (end - start) (drop start b) c part) (ap (λ (xs : List (List ℕ)). slice_range b start end ∷ xs) (parted_before end ends b c h.1))
+
+parted_behind : (b c : List ℕ) (at start : ℕ) (ends : List ℕ) → at ≡ length b + start → parted at (map (λ end. length b + end) ends) (b ++ c) ≡ parted start ends c
+parted_behind b c at start [] at_is = refl
+parted_behind b c at start (end ∷ ends) at_is =
+    let len : length b + end - at ≡ end - start = omega (arith, at_is) in
+    let from : drop at (b ++ c) ≡ drop start c =
+        ap (λ (n : ℕ). drop n (b ++ c)) at_is ∙ sym (drop-drop start (length b) (b ++ c)) ∙ ap (λ (bs : List ℕ). drop start bs) (drop_at b c (length b) refl) in
+    rw (len, from) (ap (λ (xs : List (List ℕ)). slice_range c start end ∷ xs) (parted_behind b c (length b + end) end ends refl))
+
+parted_two : (start : ℕ) (ends : List ℕ) (mid : ℕ) (more bytes : List ℕ) → RiseTo start ends mid → parted start (ends ++ more) bytes ≡ parted start ends bytes ++ parted mid more bytes
+parted_two start [] mid more bytes h = ap (λ (n : ℕ). parted n more bytes) h
+parted_two start (end ∷ ends) mid more bytes h = ap (λ (xs : List (List ℕ)). slice_range bytes start end ∷ xs) (parted_two end ends mid more bytes h.1)
+
+-- The part that is all of the bytes.
+whole : (b : List ℕ) → slice_range b 0 (length b) ≡ b
+whole b = take_all (length b - 0) b (omega arith)
+
+-- Frames behind frames.
+pub parted_append : (ends others b c : List ℕ) → RiseTo 0 ends (length b) → parted 0 (ends ++ map (λ end. length b + end) others) (b ++ c) ≡ parted 0 ends b ++ parted 0 others c
+parted_append ends others b c h =
+    let at : length b ≡ length b + 0 = omega arith in
+    parted_two 0 ends (length b) (map (λ end. length b + end) others) (b ++ c) h
+    ∙ ap (λ (fs : List (List ℕ)). fs ++ parted (length b) (map (λ end. length b + end) others) (b ++ c)) (parted_before 0 ends b c h)
+    ∙ ap (λ (fs : List (List ℕ)). parted 0 ends b ++ fs) (parted_behind b c (length b) 0 others at)
+
+pub rise_both : (ends others b c : List ℕ) → RiseTo 0 ends (length b) → RiseTo 0 others (length c) → RiseTo 0 (ends ++ map (λ end. length b + end) others) (length (b ++ c))
+rise_both ends others b c h m =
+    let at : length b ≡ length b + 0 = omega arith in
+    rise_append 0 ends (length b) (map (λ end. length b + end) others) (length (b ++ c)) h (rise_behind (length b) 0 others (length c) (length b) (length (b ++ c)) m at (length-append b c))
 
 -- The places from one on.
 pub one_place : (n at len : ℕ) → at < len → places_from (suc n) at len ≡ at ∷ places_from n (at + 1024) len
@@ -145,55 +190,58 @@ frames_few p h = by_length p (is_cut p.body) refl h
 
 -- What the code shows.
 
-pub get_is : (ns b lens bytes : List ℕ) (i start : ℕ) → lens ≡ ns → bytes ≡ b → start ≡ sum (take i lens) → i < length lens
-    → slice_get (parted ns b) i ≡ Some (take (start + slice_index lens i - start) (drop start bytes))
-get_is ns b lens bytes i start lens_are bytes_are start_is h =
-    let n : start + slice_index lens i - start ≡ slice_index lens i = omega arith in
-    rw (← lens_are, ← bytes_are, n, start_is) (parted_get lens bytes i h)
+pub get_in : (ends known : List ℕ) (last i start : ℕ) → RiseTo 0 ends last → known ≡ ends → i < length known → start ≡ slice_index (0 ∷ known) i → (start ≤ slice_index known i) × (slice_index known i ≤ last)
+get_in ends known last i start rise known_is below start_is = rw start_is (rise_at 0 known last i (rw known_is rise) below)
 
-pub chunk_length : (from to : Node) (tag : Tag) (b : List ℕ) (at : ℕ) (chunk : List ℕ) → chunk ≡ bytes_at b at → 49 + length chunk ≡ length (spelled_piece from to tag b at)
-chunk_length from to tag b at chunk e = omega (arith, length-piece_spelling (cut_at from to tag b at), ap length e)
+pub get_is : (ends b known bytes : List ℕ) (i start : ℕ) → known ≡ ends → bytes ≡ b → i < length known → start ≡ slice_index (0 ∷ known) i
+    → slice_get (parted 0 ends b) i ≡ Some (slice_range bytes start (slice_index known i))
+get_is ends b known bytes i start known_is bytes_is below start_is = rw (← known_is, ← bytes_is, start_is) (parted_get 0 known bytes i below)
+
+pub more_ends : (ends others old known new b bytes : List ℕ) → new ≡ old ++ map (λ end. length bytes + end) known → old ≡ ends → known ≡ others → bytes ≡ b
+    → new ≡ ends ++ map (λ end. length b + end) others
+more_ends ends others old known new b bytes new_is old_is known_is bytes_is = rw (← old_is, ← known_is, ← bytes_is) new_is
+
+pub appended : (ends others b c new_ends new_bytes : List ℕ) (old other : List (List ℕ)) → new_ends ≡ ends ++ map (λ end. length b + end) others → new_bytes ≡ b ++ c → RiseTo 0 ends (length b)
+    → parted 0 ends b ≡ old → parted 0 others c ≡ other → parted 0 new_ends new_bytes ≡ old ++ other
+appended ends others b c new_ends new_bytes old other ends_are bytes_are rise old_is other_is = rw (ends_are, bytes_are, ← old_is, ← other_is) (parted_append ends others b c rise)
 
 pub piece_short : (out before : List ℕ) (q : PieceParts) → before ≡ [] → out ≡ before ++ piece_spelling q → length q.bytes ≤ 1024 → length out ≤ 1073
 piece_short out before q none e h = omega (arith, ap length e, length-append before (piece_spelling q), ap length none, length-piece_spelling q)
 
 -- The pieces so far, and those that are still to come.
-pub record IsCutting (piece : ℕ → List ℕ) (len at : ℕ) (lens bytes : List ℕ) : Type 0 where
-  pub sums : sum lens ≡ length bytes
+pub record IsCutting (piece : ℕ → List ℕ) (len at : ℕ) (ends bytes : List ℕ) : Type 0 where
+  pub rise : RiseTo 0 ends (length bytes)
   pub left : ℕ
   pub enough : len ≤ at + left
-  pub rest : parted lens bytes ++ map piece (places_from left at len) ≡ map piece (places len)
+  pub rest : parted 0 ends bytes ++ map piece (places_from left at len) ≡ map piece (places len)
 
-pub cut_none : (piece : ℕ → List ℕ) (len : ℕ) (lens bytes : List ℕ) → lens ≡ [] → bytes ≡ [] → IsCutting piece len 0 lens bytes
-cut_none piece len lens bytes no_lens no_bytes = record {
-  sums = ap (λ (xs : List ℕ). sum xs) no_lens ∙ ap (λ (xs : List ℕ). length xs) (sym no_bytes);
-  left = len;
-  enough = omega arith;
-  rest = ap (λ (xs : List ℕ). parted xs bytes ++ map piece (places len)) no_lens;
-}
+pub cut_none : (piece : ℕ → List ℕ) (len : ℕ) (ends bytes : List ℕ) → ends ≡ [] → bytes ≡ [] → IsCutting piece len 0 ends bytes
+cut_none piece len ends bytes no_ends no_bytes = rw (no_ends, no_bytes) (record { rise = refl; left = len; enough = omega arith; rest = refl })
 
-cut_step : (piece : ℕ → List ℕ) (len at left : ℕ) (lens bytes : List ℕ) → sum lens ≡ length bytes → at < len → len ≤ at + left
-    → parted lens bytes ++ map piece (places_from left at len) ≡ map piece (places len) → IsCutting piece len (at + 1024) (lens ++ length (piece at) ∷ []) (bytes ++ piece at)
-cut_step piece len at zero lens bytes sums lt enough rest = absurd (omega (arith, lt, enough))
-cut_step piece len at (suc left) lens bytes sums lt enough rest = record {
-  sums = omega (arith, sums, sum_by-append (λ (k : ℕ). k) lens (length (piece at) ∷ []), sum_by-cons (λ (k : ℕ). k) (length (piece at)) [], length-append bytes (piece at));
+cut_step : (piece : ℕ → List ℕ) (len at left : ℕ) (ends bytes : List ℕ) → RiseTo 0 ends (length bytes) → at < len → len ≤ at + left
+    → parted 0 ends bytes ++ map piece (places_from left at len) ≡ map piece (places len) → IsCutting piece len (at + 1024) (ends ++ (length bytes + length (piece at)) ∷ []) (bytes ++ piece at)
+cut_step piece len at zero ends bytes rise lt enough rest = absurd (omega (arith, lt, enough))
+cut_step piece len at (suc left) ends bytes rise lt enough rest = record {
+  rise = rise_both ends (length (piece at) ∷ []) bytes (piece at) rise (omega arith, refl);
   left = left;
   enough = omega (arith, enough);
   rest =
-      ap (λ (xs : List (List ℕ)). xs ++ map piece (places_from left (at + 1024) len)) (parted_more lens bytes (piece at) sums)
-      ∙ append_assoc (parted lens bytes) (piece at ∷ []) (map piece (places_from left (at + 1024) len))
-      ∙ ap (λ (ats : List ℕ). parted lens bytes ++ map piece ats) (sym (one_place left at len lt))
+      ap (λ (xs : List (List ℕ)). xs ++ map piece (places_from left (at + 1024) len)) (parted_append ends (length (piece at) ∷ []) bytes (piece at) rise)
+      ∙ ap (λ (x : List ℕ). parted 0 ends bytes ++ x ∷ [] ++ map piece (places_from left (at + 1024) len)) (whole (piece at))
+      ∙ append_assoc (parted 0 ends bytes) (piece at ∷ []) (map piece (places_from left (at + 1024) len))
+      ∙ ap (λ (ats : List ℕ). parted 0 ends bytes ++ map piece ats) (sym (one_place left at len lt))
       ∙ rest;
 }
 
-pub cut_one : (piece : ℕ → List ℕ) (len at n : ℕ) (lens bytes new_lens new_bytes : List ℕ) → IsCutting piece len at lens bytes → at < len
-    → n ≡ length (piece at) → new_lens ≡ lens ++ n ∷ [] → new_bytes ≡ bytes ++ piece at → IsCutting piece len (at + 1024) new_lens new_bytes
-cut_one piece len at n lens bytes new_lens new_bytes so_far lt n_is lens_are bytes_are =
-    rw (lens_are, bytes_are, n_is) (cut_step piece len at so_far.left lens bytes so_far.sums lt so_far.enough so_far.rest)
+pub cut_one : (piece : ℕ → List ℕ) (len at end : ℕ) (ends bytes new_ends new_bytes : List ℕ) → IsCutting piece len at ends bytes → at < len
+    → end ≡ length new_bytes → new_ends ≡ ends ++ end ∷ [] → new_bytes ≡ bytes ++ piece at → IsCutting piece len (at + 1024) new_ends new_bytes
+cut_one piece len at end ends bytes new_ends new_bytes so_far lt end_is ends_are bytes_are =
+    let to : end ≡ length bytes + length (piece at) = end_is ∙ ap length bytes_are ∙ length-append bytes (piece at) in
+    rw (ends_are, bytes_are, to) (cut_step piece len at so_far.left ends bytes so_far.rise lt so_far.enough so_far.rest)
 
-pub cut_all : (piece : ℕ → List ℕ) (len at : ℕ) (lens bytes : List ℕ) → IsCutting piece len at lens bytes → len ≤ at → parted lens bytes ≡ map piece (places len)
-cut_all piece len at lens bytes so_far h =
-    sym (append-nil (parted lens bytes)) ∙ ap (λ (ats : List ℕ). parted lens bytes ++ map piece ats) (sym (no_place so_far.left at len h)) ∙ so_far.rest
+pub cut_all : (piece : ℕ → List ℕ) (len at : ℕ) (ends bytes : List ℕ) → IsCutting piece len at ends bytes → len ≤ at → parted 0 ends bytes ≡ map piece (places len)
+cut_all piece len at ends bytes so_far h =
+    sym (append-nil (parted 0 ends bytes)) ∙ ap (λ (ats : List ℕ). parted 0 ends bytes ++ map piece ats) (sym (no_place so_far.left at len h)) ∙ so_far.rest
 
 pub body_in : (p : PacketParts) (bytes body : List ℕ) → bytes ≡ spelling p → body ≡ drop 16 bytes → body ≡ spelled_body p.body
 body_in p bytes body spelled is =
@@ -210,17 +258,3 @@ cut_frames p body is h =
 pub ok_few : {E : Type 0} (p : PacketParts) (r : Result (List (List ℕ)) E) → IfOk r (λ frames. frames ≡ spelled_frames p) → length_of p.body ≤ 16400 → IfOk r (AreFew p)
 ok_few p (Ok frames) e h = rw e (frames_few p h)
 ok_few p (Err x) e h = tt
-
--- Frames behind frames.
-pub parted_append : (ns ms b c : List ℕ) → sum ns ≡ length b → parted (ns ++ ms) (b ++ c) ≡ parted ns b ++ parted ms c
-parted_append [] ms [] c h = refl
-parted_append [] ms (x ∷ b) c h = absurd (omega (arith, h))
-parted_append (n ∷ ns) ms b c h =
-    let fits : n ≤ length b = omega (arith, h, sum_by-cons (λ (k : ℕ). k) n ns) in
-    let rest : sum ns ≡ length (drop n b) = omega (arith, h, sum_by-cons (λ (k : ℕ). k) n ns, length-drop n b) in
-    rw (take-append-le n b c fits, drop-append-le n b c fits) (ap (λ (xs : List (List ℕ)). take n b ∷ xs) (parted_append ns ms (drop n b) c rest))
-
-pub appended : {E : Type 0} (r : Result (Unit {0}) E) (ns ms ks b c bytes : List ℕ) (old other : List (List ℕ)) → ks ≡ (if is_ok r then ns ++ ms else ns) → bytes ≡ b ++ c → sum ns ≡ length b
-    → parted ns b ≡ old → parted ms c ≡ other → OnOk r (parted ks bytes ≡ old ++ other)
-appended (Ok u) ns ms ks b c bytes old other lens is sums o p = ap (λ (xs : List ℕ). parted xs bytes) lens ∙ ap (parted (ns ++ ms)) is ∙ parted_append ns ms b c sums ∙ ap (λ (x : List (List ℕ)). x ++ parted ms c) o ∙ ap (λ (x : List (List ℕ)). old ++ x) p
-appended (Err e) ns ms ks b c bytes old other lens is sums o p = tt

@@ -1,5 +1,5 @@
 -- The bytes of the frames of a packet, and how many they are.
-use Rattle.std.specs.Prelude.{ℕ, ◌+◌, ◌*◌, ◌≤◌, List, [], ◌∷◌, length, take, drop, map, All, sum_by}
+use Rattle.std.specs.Prelude.{◌≡◌, ℕ, ◌+◌, ◌*◌, ◌≤◌, List, [], ◌∷◌, length, map, slice_range, All, sum_by}
 use Rattle.messages.specs.declared.packet.PacketParts.{PacketParts}
 use Rattle.messages.specs.declared.node.Node.{Node}
 use Rattle.messages.specs.declared.piece.Tag.{Tag}
@@ -7,10 +7,15 @@ use Rattle.messages.specs.Bodies.{length_of}
 use Rattle.messages.specs.Pieces.{cut_at, frames_of}
 use Rattle.messages.specs.FrameBytes.{piece_spelling, frame_spelling}
 
--- Bytes parted into lists of these lengths.
-abbrev pub parted : List ℕ → List ℕ → List (List ℕ)
-parted [] bytes = []
-parted (n ∷ ns) bytes = take n bytes ∷ parted ns (drop n bytes)
+-- The parts of bytes that lie one behind the other from a place on, and end at these places.
+abbrev pub parted : ℕ → List ℕ → List ℕ → List (List ℕ)
+parted start [] bytes = []
+parted start (end ∷ ends) bytes = slice_range bytes start end ∷ parted end ends bytes
+
+-- Places that never fall from a first one on, and end at a last one.
+abbrev pub RiseTo : ℕ → List ℕ → ℕ → Type 0
+RiseTo start [] last = start ≡ last
+RiseTo start (end ∷ ends) last = (start ≤ end) × RiseTo end ends last
 
 -- The bytes of the piece at a place.
 abbrev pub spelled_piece : Node → Node → Tag → List ℕ → ℕ → List ℕ

@@ -1,6 +1,6 @@
 //! The frames of a packet.
 
-ghost use Rattle.std.specs.Prelude.{◌≡◌, ℕ, ◌+◌, ◌≤◌, ◌∷◌, [], length, map, take, sum, ◌<◌, ◌^◌, slice_get, Some, MatchOption, OnOk, OnErr, IfOk, ◌++◌};
+ghost use Rattle.std.specs.Prelude.{◌≡◌, ℕ, ◌+◌, ◌≤◌, ◌∷◌, [], length, map, All, ◌<◌, ◌^◌, slice_get, slice_index, Some, MatchOption, OnOk, OnErr, IfOk, ◌++◌, vec_len, vec_capacity};
 ghost use Rattle.messages.specs.Pieces.{bytes_at, tag_in, places};
 ghost use Rattle.messages.specs.FramesOf.{spelled_piece, spelled_frames, AreFew};
 
@@ -14,18 +14,18 @@ use std::marker::Model;
 #[derive(Debug, Drop)]
 pub struct Frames {
     bytes: Vec<u8>,
-    lens: Vec<usize>,
+    ends: Vec<usize>,
 }
 
 impl Model for Frames {
-    ghost use Rattle.std.specs.Prelude.{List, ℕ, ◌≡◌, length, sum};
-    ghost use Rattle.messages.specs.FramesOf.{parted};
+    ghost use Rattle.std.specs.Prelude.{List, ℕ, length};
+    ghost use Rattle.messages.specs.FramesOf.{parted, RiseTo};
 
     ghost Value = { List (List ℕ) };
 
-    ghost view = { λ f. parted f.lens.items f.bytes.items };
+    ghost view = { λ f. parted 0 f.ends.items f.bytes.items };
 
-    ghost invariant = { λ f. sum f.lens.items ≡ length f.bytes.items };
+    ghost invariant = { λ f. RiseTo 0 f.ends.items (length f.bytes.items) };
 }
 
 impl Frames {
@@ -35,7 +35,7 @@ impl Frames {
     {
         Frames {
             bytes: Vec::new(alloc),
-            lens: Vec::new(alloc),
+            ends: Vec::new(alloc),
         }
     }
 
@@ -44,28 +44,48 @@ impl Frames {
         ensures appended { OnOk result (self.new ≡ self.old ++ other.now) }
         ensures same { OnErr result (self.new ≡ self.old) }
     {
-        self.lens.reserve(other.lens.as_slice().len())?;
+        let start = self.bytes.as_slice().len();
+        self.ends.reserve(other.ends.as_slice().len())?;
         self.bytes.extend_from_slice(&other.bytes)?;
-        self.lens.extend_from_slice(&other.lens)
+        push_ends(&mut self.ends, &other.ends, start);
+        Ok(())
     }
 
     /// How many there are.
     pub fn len(&self) -> usize
         ensures { result ≡ length self.now }
     {
-        self.lens.as_slice().len()
+        self.ends.as_slice().len()
     }
 
-    /// The bytes of one, `None` where there are no more than `index`.
+    /// The bytes of one, in constant time; `None` where there are no more than `index`.
     pub fn get(&self, index: usize) -> Option<&[u8]>
         ensures { MatchOption result (length self.now ≤ index) (λ bytes. slice_get self.now index ≡ Some bytes.now) }
     {
-        let lens = self.lens.as_slice();
-        if index >= lens.len() {
+        let ends = self.ends.as_slice();
+        if index >= ends.len() {
             return None;
         }
-        let start = start_of(lens, index);
-        Some(&self.bytes[start..start + lens[index]])
+        Some(&self.bytes[start_of(ends, index)..ends[index]])
+    }
+}
+
+/// Where a frame begins: where the one before it ends.
+fn start_of(ends: &[usize], index: usize) -> usize
+    requires { index < length ends.now }
+    ensures { result ≡ slice_index (0 ∷ ends.now) index }
+{
+    if index == 0 { 0 } else { ends[index - 1] }
+}
+
+/// Pushes where other frames end once they lie from `start` on. There is room for them.
+fn push_ends(ends: &mut Vec<usize>, others: &[usize], start: usize)
+    requires room { vec_len ends.old + length others.now ≤ vec_capacity ends.old }
+    requires fits { All (λ end. start + end < 2 ^ 64) others.now }
+    ensures { ends.new.items ≡ ends.old.items ++ map (λ end. start + end) others.now }
+{
+    for end in others {
+        ends.push_reserved(start + *end);
     }
 }
 
@@ -90,8 +110,8 @@ pub fn frames_of(alloc: Global, packet: &Packet) -> Result<Frames, AllocError>
 fn one(alloc: Global, bytes: Vec<u8>) -> Result<Frames, AllocError>
     ensures { IfOk result (λ frames. frames ≡ bytes.items ∷ []) }
 {
-    let lens = vec![in alloc; bytes.len()]?;
-    Ok(Frames { bytes, lens })
+    let ends = vec![in alloc; bytes.len()]?;
+    Ok(Frames { bytes, ends })
 }
 
 /// The pieces of a packet whose body has these bytes.
@@ -101,32 +121,30 @@ fn cut(alloc: Global, packet: &Packet, body: &[u8]) -> Result<Frames, AllocError
 {
     let count = body.len().div_ceil(CHUNK_LIMIT);
     let mut bytes = Vec::with_capacity(alloc, body.len() + PIECE_HEAD * count)?;
-    let mut lens = Vec::with_capacity(alloc, count)?;
+    let mut ends = Vec::with_capacity(alloc, count)?;
     let mut at = 0;
     while at < body.len() {
-        let len = put_chunk(&mut bytes, packet, body, at)?;
-        lens.push(len)?;
+        put_chunk(&mut bytes, packet, body, at)?;
+        ends.push(bytes.len())?;
         at += CHUNK_LIMIT;
     }
-    Ok(Frames { bytes, lens })
+    Ok(Frames { bytes, ends })
 }
 
-/// Appends the piece at a place, and tells how many bytes it has.
+/// Appends the piece at a place.
 fn put_chunk(
     out: &mut Vec<u8>,
     packet: &Packet,
     body: &[u8],
     at: usize,
-) -> Result<usize, AllocError>
+) -> Result<(), AllocError>
     requires place { at ≤ length body.now }
     requires long { length body.now ≤ 16400 }
-    ensures bytes { OnOk result (out.new.items ≡ out.old.items ++ spelled_piece packet.now.from packet.now.to (tag_in packet.now.body (length body.now)) body.now at) }
-    ensures len { IfOk result (λ len. len ≡ length (spelled_piece packet.now.from packet.now.to (tag_in packet.now.body (length body.now)) body.now at)) }
+    ensures { OnOk result (out.new.items ≡ out.old.items ++ spelled_piece packet.now.from packet.now.to (tag_in packet.now.body (length body.now)) body.now at) }
 {
     let tag = packet.body().tag(body.len() as u32);
     let chunk = chunk_at(body, at);
-    put_piece(out, packet.from(), packet.to(), tag, at as u32, chunk)?;
-    Ok(PIECE_HEAD + chunk.len())
+    put_piece(out, packet.from(), packet.to(), tag, at as u32, chunk)
 }
 
 /// The bytes of a body at a place.
@@ -137,13 +155,4 @@ fn chunk_at(body: &[u8], at: usize) -> &[u8]
 {
     let (_, rest) = body.split_at(at);
     &rest[..CHUNK_LIMIT.min(rest.len())]
-}
-
-/// Where a frame begins: the sum of the lengths before it.
-fn start_of(lens: &[usize], index: usize) -> usize
-    requires below { index ≤ length lens.now }
-    requires room { sum (take index lens.now) < 2 ^ 64 }
-    ensures { result ≡ sum (take index lens.now) }
-{
-    lens[..index].iter().sum()
 }
