@@ -1,10 +1,10 @@
 -- The frames of a packet: their bytes one behind the other, and how many they are.
-use Rattle.std.proofs.Common.{◌≡◌, refl, sym, ◌∙◌, ap, subst, ℕ, zero, suc, ◌+◌, ◌-◌, ◌*◌, ◌<◌, ◌≤◌, arith, Bool, true, false, List, [], ◌∷◌, ◌++◌, length, take, drop, Some, append_assoc}
+use Rattle.std.proofs.Common.{◌≡◌, refl, sym, ◌∙◌, ap, subst, ℕ, zero, suc, ◌+◌, ◌-◌, ◌*◌, ◌<◌, ◌≤◌, arith, Bool, true, false, List, [], ◌∷◌, ◌++◌, length, drop, Some, append_assoc}
 use Rattle.std.specs.Prelude.{if◌then◌else◌, nat_lt, sum_by, map, All, slice_get, slice_index, slice_range, Result, Ok, Err, IfOk}
 use Rattle.std.proofs.lemmas.Bool.Decides.{nat_tests}
 use Rattle.std.proofs.lemmas.List.{drop_at, length-append, length-take, length-drop, length-map, take_all, drop-drop, take-append-le, drop-append-le, append-nil}
 use Rattle.std.proofs.lemmas.List.Elements.{All-nil, All-cons}
-use Rattle.std.proofs.lemmas.List.Sums.{sum_by-cons, sum_by-append}
+use Rattle.std.proofs.lemmas.List.Sums.{sum_by-cons}
 use Rattle.messages.specs.declared.node.Node.{Node}
 use Rattle.messages.specs.declared.piece.Tag.{Tag}
 use Rattle.messages.specs.declared.piece.PieceParts.{PieceParts}
@@ -14,7 +14,7 @@ use Rattle.messages.specs.Bodies.{length_of, spelled_body}
 use Rattle.messages.specs.Packets.{header, header_of, spelling}
 use Rattle.messages.specs.Nodes.{node_number}
 use Rattle.fc_base.specs.Layouts.{spelled}
-use Rattle.messages.specs.Pieces.{is_cut, tag_in, tag_of, places_from, places, bytes_at, cut_at, piece_at, pieces_of}
+use Rattle.messages.specs.Pieces.{is_cut, tag_in, tag_of, places_from, places, cut_at, piece_at, pieces_of}
 use Rattle.messages.specs.FrameBytes.{piece_layout, piece_numbers, piece_header, piece_spelling, frame_spelling}
 use Rattle.messages.specs.FramesOf.{parted, RiseTo, spelled_piece, spelled_frames, AreFew}
 use Rattle.messages.proofs.LayoutLemmas.{length-spelled}
@@ -76,7 +76,7 @@ parted_behind b c at start [] at_is = refl
 parted_behind b c at start (end ∷ ends) at_is =
     let len : length b + end - at ≡ end - start = omega (arith, at_is) in
     let from : drop at (b ++ c) ≡ drop start c =
-        ap (λ (n : ℕ). drop n (b ++ c)) at_is ∙ sym (drop-drop start (length b) (b ++ c)) ∙ ap (λ (bs : List ℕ). drop start bs) (drop_at b c (length b) refl) in
+    ap (λ (n : ℕ). drop n (b ++ c)) at_is ∙ sym (drop-drop start (length b) (b ++ c)) ∙ ap (λ (bs : List ℕ). drop start bs) (drop_at b c (length b) refl) in
     rw (len, from) (ap (λ (xs : List (List ℕ)). slice_range c start end ∷ xs) (parted_behind b c (length b + end) end ends refl))
 
 parted_two : (start : ℕ) (ends : List ℕ) (mid : ℕ) (more bytes : List ℕ) → RiseTo start ends mid → parted start (ends ++ more) bytes ≡ parted start ends bytes ++ parted mid more bytes

@@ -132,12 +132,7 @@ fn cut(alloc: Global, packet: &Packet, body: &[u8]) -> Result<Frames, AllocError
 }
 
 /// Appends the piece at a place.
-fn put_chunk(
-    out: &mut Vec<u8>,
-    packet: &Packet,
-    body: &[u8],
-    at: usize,
-) -> Result<(), AllocError>
+fn put_chunk(out: &mut Vec<u8>, packet: &Packet, body: &[u8], at: usize) -> Result<(), AllocError>
     requires place { at ≤ length body.now }
     requires long { length body.now ≤ 16400 }
     ensures { OnOk result (out.new.items ≡ out.old.items ++ spelled_piece packet.now.from packet.now.to (tag_in packet.now.body (length body.now)) body.now at) }
