@@ -51,7 +51,7 @@ headed_read bytes kind from to len sort f told most sort_is hf ht said =
     (none_left (header_faults is_frame_kind frame_limit bytes) (when (is_none (frame_at bytes)) FrameBadField) (clean is_frame_kind frame_limit bytes passes_all) (passes (is_none (frame_at bytes)) FrameBadField (ap is_none read)), read)
 
 -- A kind of packets isn't that of pieces.
-sort_of_kind : (k : PacketKind) → sort_numbered (number_of k) ≡ Some (sorts.Packet k)
+pub sort_of_kind : (k : PacketKind) → sort_numbered (number_of k) ≡ Some (sorts.Packet k)
 sort_of_kind kinds.Jobs = ap (λ (o : Option PacketKind). option_map sorts.Packet o) (kind_again kinds.Jobs)
 sort_of_kind kinds.JobsOk = ap (λ (o : Option PacketKind). option_map sorts.Packet o) (kind_again kinds.JobsOk)
 sort_of_kind kinds.Start = ap (λ (o : Option PacketKind). option_map sorts.Packet o) (kind_again kinds.Start)
@@ -137,13 +137,13 @@ owner_fits kinds.NoSaved s j l h = absurd cc
 owner_fits kinds.Report s j l h = absurd cc
 owner_fits kinds.Refused s j l h = absurd cc
 
-record Ranged (q : PieceParts) : Type 0 where
+pub record Ranged (q : PieceParts) : Type 0 where
   pub from : is_node q.from ≡ true
   pub to : is_node q.to ≡ true
   pub numbers : Fit piece_layout (piece_numbers q)
   pub short : length q.bytes ≤ 1024
 
-ranged : (q : PieceParts) → is_piece q ≡ true → Ranged q
+pub ranged : (q : PieceParts) → is_piece q ≡ true → Ranged q
 ranged q h =
     let t = q.tag in
     let place = both (is_node q.from && is_node q.to && is_tag_in_range t) (is_place t.length q.at (length q.bytes)) h in
@@ -177,21 +177,26 @@ piece_again q h r =
     ∙ ap (λ (bs : List ℕ). in_ranges (piece_with q.from q.to (piece_numbers q) bs q.tag.whole)) (drop-spelled piece_layout (piece_numbers q) q.bytes refl)
     ∙ rw h refl
 
+-- The header of a piece's bytes.
+pub piece_headed : (q : PieceParts) → Ranged q → Headed (piece_spelling q) 17 q.from q.to (33 + length q.bytes)
+piece_headed q r =
+    let short = r.short in
+    let ns = head_numbers 17 q.from q.to (33 + length q.bytes) in
+    let fits : Fit header ns = (omega arith, (omega arith, (omega arith, (omega arith, (node_fits q.from r.from, (node_fits q.to r.to, (omega (arith, short), tt))))))) in
+    record {
+      numbers = numbers-spelled header ns (spelled piece_layout (piece_numbers q) ++ q.bytes) header_wide fits;
+      long = omega (arith, length-piece_spelling q);
+    }
+
 piece_read : (q : PieceParts) → is_piece q ≡ true → (frame_faults (piece_spelling q) ≡ []) × (frame_at (piece_spelling q) ≡ Some (Piece q))
 piece_read q h =
     let r = ranged q h in
     let short = r.short in
-    let ns = head_numbers 17 q.from q.to (33 + length q.bytes) in
     let body = spelled piece_layout (piece_numbers q) ++ q.bytes in
-    let fits : Fit header ns = (omega arith, (omega arith, (omega arith, (omega arith, (node_fits q.from r.from, (node_fits q.to r.to, (omega (arith, short), tt))))))) in
-    let told : Headed (piece_spelling q) 17 q.from q.to (33 + length q.bytes) = record {
-      numbers = numbers-spelled header ns body header_wide fits;
-      long = omega (arith, length-piece_spelling q);
-    } in
-    let behind : drop 16 (piece_spelling q) ≡ body = drop-spelled header ns body refl in
+    let behind : drop 16 (piece_spelling q) ≡ body = drop-spelled header (head_numbers 17 q.from q.to (33 + length q.bytes)) body refl in
     let said : frame_said q.from q.to (drop 16 (piece_spelling q)) sorts.Piece ≡ Some (Piece q) =
     ap (λ (bs : List ℕ). frame_said q.from q.to bs sorts.Piece) behind ∙ ap (λ (o : Option PieceParts). option_map Piece o) (piece_again q h r) in
-    headed_read (piece_spelling q) 17 q.from q.to (33 + length q.bytes) sorts.Piece (Piece q) told (omega (arith, short)) refl r.from r.to said
+    headed_read (piece_spelling q) 17 q.from q.to (33 + length q.bytes) sorts.Piece (Piece q) (piece_headed q r) (omega (arith, short)) refl r.from r.to said
 
 pub frames_are_read : ReadsBack → FramesAreRead
 frames_are_read law (Whole p) h short = whole_read law p h short

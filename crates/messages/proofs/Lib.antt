@@ -23,3 +23,4 @@ pub mod AnyOrder
 pub mod OnlySent
 pub mod FrameLawLemmas
 pub mod FrameSaid
+pub mod FrameLooks

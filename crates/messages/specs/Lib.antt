@@ -8,6 +8,7 @@ pub mod PieceRanges
 pub mod Pieces
 pub mod FrameBytes
 pub mod FramesOf
+pub mod Looks
 pub mod Headers
 pub mod PieceNumbers
 pub mod Laws

@@ -2,6 +2,7 @@
 
 ghost use Rattle.std.specs.Prelude.{◌≡◌};
 ghost use Rattle.messages.specs.FrameBytes.{sort_numbered};
+ghost use Rattle.messages.specs.Looks.{sort_name};
 
 use crate::kind::PacketKind;
 use crate::packet::Packet;
@@ -17,8 +18,8 @@ pub enum Frame {
 }
 
 /// The kind of a frame.
-#[derive(Clone, Copy, Debug)]
-pub(crate) enum FrameKind {
+#[derive(Clone, Copy, Debug, PartialEq, Eq)]
+pub enum FrameKind {
     /// That of its packet.
     Packet(PacketKind),
     /// A piece.
@@ -38,5 +39,15 @@ impl FrameKind {
         }
         let kind = PacketKind::numbered(number)?;
         Some(FrameKind::Packet(kind))
+    }
+
+    /// The kind's name, as it is printed.
+    pub fn name(self) -> &'static str
+        ensures { result.now ≡ sort_name self }
+    {
+        match self {
+            FrameKind::Packet(kind) => kind.name(),
+            FrameKind::Piece => "Piece",
+        }
     }
 }

@@ -22,7 +22,7 @@ mod writing;
 pub use assembly::Assembly;
 pub use body::Body;
 pub use chunk::{CHUNK_LIMIT, Chunk};
-pub use frame::Frame;
+pub use frame::{Frame, FrameKind};
 pub use frames::{Frames, frames_of};
 pub use kind::PacketKind;
 pub use law::{lengths_are_bounded, no_spelling_begins_another, one_spelling};
@@ -33,7 +33,7 @@ pub use piece_law::{
     frames_are_few, frames_are_read_back, only_frames_are_read, only_sent_comes_together,
     only_whole_bodies_are_given, pieces_come_together,
 };
-pub use reading::{decode, decode_frame};
+pub use reading::{FrameLook, decode, decode_frame, look_at};
 pub use refusal::{Act, Asked, Reason, Refusal};
 pub use text::Text;
 pub use writing::{encode, encode_frame};

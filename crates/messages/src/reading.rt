@@ -10,6 +10,7 @@ ghost use Rattle.messages.specs.Laws.{Says};
 ghost use Rattle.messages.specs.Headers.{HeaderIs, FieldsAre, EndsAre, end_faults};
 
 mod frames;
+mod look;
 mod plain;
 mod report;
 mod states;
@@ -23,6 +24,7 @@ use crate::packet::{Packet, PacketParts};
 use crate::writing::{HEADER, VERSION};
 use fc_base::{Fault, split_u8, split_u32};
 pub use frames::decode_frame;
+pub use look::{FrameLook, look_at};
 use std::alloc::Global;
 
 /// How many bytes a body may have.

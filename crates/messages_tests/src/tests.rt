@@ -5,6 +5,7 @@ mod allocations;
 mod changed_pieces;
 mod frames;
 mod limits;
+mod looks;
 mod pieces;
 mod refusals;
 mod refused;
