@@ -1,7 +1,7 @@
 use Rattle.std.proofs.Common.{arith, length-take-le}
 use borrow.Rule.Slice.PartMut.{take_put}
-use Rattle.fiocut.proofs.Filling.{part_behind}
-use Rattle.fiocut.proofs.input.read_behind.Goals as goal
+use Rattle.bounded_input.proofs.Filling.{part_behind}
+use Rattle.bounded_input.proofs.input.read_behind.Goals as goal
 
 pub returns-clause-front : goal.returns-clause-front
 returns-clause-front g c = take_put _ _ c.args.buffer.now _ (omega (arith, c.requires))

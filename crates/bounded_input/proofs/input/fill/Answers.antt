@@ -1,7 +1,7 @@
 use Rattle.std.proofs.Common.{rules}
-use Rattle.fiocut.proofs.Filling.{filled_more, taken_before}
-use Rattle.fiocut.proofs.input.fill.Goals as goal
-use Rattle.fiocut.proofs.input.fill.Goals.{in-Ok, in-Err+else-ne}
+use Rattle.bounded_input.proofs.Filling.{filled_more, taken_before}
+use Rattle.bounded_input.proofs.input.fill.Goals as goal
+use Rattle.bounded_input.proofs.input.fill.Goals.{in-Ok, in-Err+else-ne}
 
 pub loop-preserved : goal.loop-preserved
 loop-preserved g c =

@@ -1,6 +1,6 @@
 use Rattle.std.proofs.Common.{◌≤◌, length, take}
 use Rattle.std.specs.Io.KnownBytes.{Consumes}
-use Rattle.fiocut.proofs.input.fill.Given as goal
+use Rattle.bounded_input.proofs.input.fill.Given as goal
 
 -- What is filled was taken from the input.
 abbrev pub invariant-loop : goal.invariant-loop

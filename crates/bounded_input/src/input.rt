@@ -2,7 +2,7 @@
 
 ghost use Rattle.std.specs.Prelude.{◌≡◌, ◌+◌, ◌<◌, ◌≤◌, length, take, drop, OnErr, IfOk, IfErr, Err};
 ghost use Rattle.std.specs.Io.KnownBytes.{Consumes, IsAtEnd, Keeps};
-ghost use Rattle.fiocut.specs.Input.{IsRead, HasRead};
+ghost use Rattle.bounded_input.specs.Input.{IsRead, HasRead};
 
 use std::alloc::Global;
 use std::io;
