@@ -14,7 +14,8 @@ use Rattle.net_world.specs.Trace.{opening_of, of_server, IsTrace}
 use Rattle.net_world.specs.Verdict.{IsBased}
 use Rattle.net_world.specs.Changes.{Change, steps, trace}
 use Rattle.messages.specs.declared.frame.Frame.{Frame}
-use Rattle.messages.specs.FrameBytes.{frame_at, frame_faults, frame_spelling}
+use Rattle.messages.specs.FrameBytes.{frame_at, frame_faults, frame_spelling, IsShort}
+use Rattle.messages.specs.FrameLaws.{IsFrame}
 use Rattle.net_world.specs.Frames.{IsFrameTrace, frames_sent}
 use Rattle.net_world.specs.Contents.{content}
 use Rattle.net_world.specs.Checks.{key_of, report_of}
@@ -58,6 +59,12 @@ abbrev pub NoneIsAConflict : Type 0
 NoneIsAConflict =
     (n : ℕ) (events : List Happening) (e : Happening) →
     n ≤ 8 → told n (world n events) e ≡ Err Conflict → ⊥
+
+-- Each frame that was sent in a world is in its ranges, and short enough to be read.
+abbrev pub SentAreFrames : Type 0
+SentAreFrames =
+    (n : ℕ) (events : List Happening) (f : Frame) →
+    n ≤ 8 → Contains (frames_sent n (steps (world n events))) f → IsFrame f × IsShort f
 
 -- A frame's bytes have no fault, and say that frame.
 abbrev pub IsReadBack : Frame → Type 0

@@ -40,5 +40,6 @@ pub use told::{Answer, Told};
 pub use verdict::one_state_of_each_job;
 pub use world::World;
 pub use world_law::{
-    checks_are_exact, each_world_is_a_trace, none_is_a_conflict, sent_frames_are_read,
+    checks_are_exact, each_world_is_a_trace, none_is_a_conflict, sent_are_frames,
+    sent_frames_are_read,
 };

@@ -1,6 +1,6 @@
 //! What holds of every world. The functions have nothing to run.
 
-ghost use Rattle.net_world.specs.WorldLaws.{EachWorldIsAFrameTrace, EachWorldIsATrace, ChecksAreExact, NoneIsAConflict, SentFramesAreRead};
+ghost use Rattle.net_world.specs.WorldLaws.{EachWorldIsAFrameTrace, EachWorldIsATrace, ChecksAreExact, NoneIsAConflict, SentAreFrames, SentFramesAreRead};
 
 use crate::frame_law::{
     frames_are_of_packets, only_sent_is_heard, sent_are_in_range, tags_name_one_body,
@@ -44,15 +44,22 @@ pub fn none_is_a_conflict()
     legal_histories();
 }
 
-/// Each frame that was sent is read back from its bytes.
-pub fn sent_frames_are_read()
-    ensures { SentFramesAreRead }
+/// Each frame that was sent is in its ranges.
+pub fn sent_are_frames()
+    ensures { SentAreFrames }
 {
     each_world_is_a_trace();
     frames_are_of_packets();
     sent_are_in_range();
-    frames_are_read_back();
     lengths_are_bounded();
     reports_fit();
     legal_histories();
+}
+
+/// Each frame that was sent is read back from its bytes.
+pub fn sent_frames_are_read()
+    ensures { SentFramesAreRead }
+{
+    sent_are_frames();
+    frames_are_read_back();
 }

@@ -1,14 +1,6 @@
-use Rattle.net_world.specs.Changes.{steps, trace}
-use Rattle.net_world.specs.World.{world}
-use Rattle.net_world.proofs.OnlySentLemmas.{heard_fits}
-use Rattle.net_world.proofs.WorldFitLemmas.{world_fits}
-use Rattle.net_world.proofs.FrameRangeLemmas.{sent_fit}
 use Rattle.net_world.proofs.world_law.sent_frames_are_read.Goals as goal
 
 pub returns : goal.returns
 returns c n events f few h =
-    let past = world n events in
-    let fits = world_fits (record { fit = c.reports_fit.ensures; sets = c.legal_histories.ensures.checks }) n events few in
-    let ranges = c.sent_are_in_range.ensures n (trace n past) (c.each_world_is_a_trace.ensures.packets n events few) (heard_fits n (steps past) fits) in
-    let well = sent_fit c.lengths_are_bounded.ensures c.frames_are_of_packets.ensures.frames n (steps past) ranges f h in
-    c.frames_are_read_back.ensures f well.frame well.short
+    let well = c.sent_are_frames.ensures n events f few h in
+    c.frames_are_read_back.ensures f well.0 well.1
