@@ -1,4 +1,12 @@
 pub mod ArgumentLemmas
+pub mod LineLemmas
 pub mod NumberLemmas
+pub mod ServerLemmas
 pub mod TableLemmas
+pub mod TextLemmas
 pub mod WordLemmas
+pub mod RunLemmas
+pub mod ToldLemmas
+pub mod LinesLemmas
+pub mod ReceiverLemmas
+pub mod ScriptLemmas

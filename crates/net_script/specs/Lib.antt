@@ -7,3 +7,6 @@ pub mod Commands
 pub mod Printed
 pub mod Script
 pub mod Runs
+pub mod Left
+pub mod Told
+pub mod Running

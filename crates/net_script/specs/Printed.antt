@@ -1,6 +1,7 @@
 -- The lines that are printed.
-use Rattle.std.specs.Prelude.{ℕ, ◌+◌, List, [], ◌∷◌, ◌++◌, length, map, Option, Some, None, codes, decimal, slice_get}
+use Rattle.std.specs.Prelude.{ℕ, ◌+◌, Bool, false, nat_lt, List, [], ◌∷◌, ◌++◌, length, map, Option, Some, None, codes, decimal, slice_get}
 use Rattle.std.specs.List.{join_with_byte}
+use Rattle.std.specs.Option.{option_map}
 use Rattle.fc_base.specs.declared.fault.Fault.{Fault}
 use Rattle.fc_base.specs.Fault.{number_of, name_of}
 use Rattle.fc_base.specs.declared.report.ReportEnd.{ReportEnd}
@@ -11,12 +12,11 @@ use Rattle.engine.specs.declared.issue.Issue.TheVariants.{Write, Full, Held, Ove
 use Rattle.messages.specs.declared.node.Node.{Node}
 use Rattle.messages.specs.declared.node.Node.TheVariants.{Server, Client}
 use Rattle.messages.specs.declared.frame.Frame.{Frame}
-use Rattle.messages.specs.declared.frame.Frame.TheVariants as frames
 use Rattle.messages.specs.declared.refusal.Act.{Act}
 use Rattle.messages.specs.declared.refusal.Act.TheVariants as acts
-use Rattle.messages.specs.Bodies.{kind_of}
-use Rattle.messages.specs.Kinds as kinds
+use Rattle.messages.specs.declared.reading.look.FrameLook.{FrameLook}
 use Rattle.messages.specs.FrameBytes.{frame_spelling}
+use Rattle.messages.specs.Looks.{look_of, sort_name}
 use Rattle.net_world.specs.declared.told.Answer.{Answer}
 use Rattle.net_world.specs.declared.told.Answer.TheVariants.{Plain, Run, Attempt, Issued, Checked}
 use Rattle.net_world.specs.Happenings.{Happening, Deliver}
@@ -68,6 +68,14 @@ answer_words (Checked report) = codes "report" ∷ report_words report
 abbrev pub answer_line : Answer → List ℕ
 answer_line answer = spaced (codes "ok" ∷ answer_words answer)
 
+-- A report has faults.
+abbrev pub has_faults : Answer → Bool
+has_faults (Checked report) = nat_lt 0 report.faults
+has_faults Plain = false
+has_faults (Run run) = false
+has_faults (Attempt attempt) = false
+has_faults (Issued issue) = false
+
 -- The line of a refusal.
 abbrev pub refusal_line : Fault → List ℕ
 refusal_line fault = spaced (codes "refused" ∷ decimal (number_of fault) ∷ name_of fault ∷ [])
@@ -81,21 +89,14 @@ abbrev pub node_word : Node → List ℕ
 node_word (Server s) = decimal s
 node_word Client = codes "client"
 
--- The node that a frame is from.
-abbrev pub from_of : Frame → Node
-from_of (frames.Whole p) = p.from
-from_of (frames.Piece q) = q.from
-
--- The name of a frame's kind.
-abbrev pub kind_word : Frame → List ℕ
-kind_word (frames.Whole p) = kinds.name_of (kind_of p.body)
-kind_word (frames.Piece q) = codes "Piece"
-
 -- The line of a frame that was sent: its number, the nodes, its kind and its length.
+abbrev pub frame_line : ℕ → FrameLook → ℕ → List ℕ
+frame_line i look len =
+    spaced (codes "sent" ∷ decimal i ∷ node_word look.from ∷ node_word look.to ∷ sort_name look.kind
+    ∷ decimal len ∷ [])
+
 abbrev pub sent_line : ℕ → Frame → List ℕ
-sent_line i f =
-    spaced (codes "sent" ∷ decimal i ∷ node_word (from_of f) ∷ node_word (to_of f) ∷ kind_word f
-    ∷ decimal (length (frame_spelling f)) ∷ [])
+sent_line i f = frame_line i (look_of f) (length (frame_spelling f))
 
 -- The lines of frames, numbered on from a number.
 abbrev pub sent_lines : ℕ → List Frame → List (List ℕ)
@@ -108,15 +109,20 @@ frames_with n past (Met step) = frames_of_step n (steps past) step
 frames_with n past (Landed s j k mask) = []
 frames_with n past (Rotted s j sector bytes) = []
 
--- The line of a cut that a server asks for, to which a frame came.
-abbrev pub cut_lines : Option Frame → List (List ℕ)
-cut_lines None = []
-cut_lines (Some f) = spaced (codes "act" ∷ codes "cut" ∷ node_word (to_of f) ∷ []) ∷ []
+-- The node to which a frame comes.
+abbrev pub addressee : ℕ → List Change → Happening → Option Node
+addressee n past (Deliver i) = option_map to_of (slice_get (frames_sent n (steps past)) i)
+addressee n past e = None
 
--- The line of what a server asks.
-abbrev pub act_lines : ℕ → List Change → Happening → Act → List (List ℕ)
-act_lines n past (Deliver i) acts.Cut = cut_lines (slice_get (frames_sent n (steps past)) i)
-act_lines n past e asked = []
+-- The line of a cut that a server asks for.
+abbrev pub cut_line : Node → List ℕ
+cut_line node = spaced (codes "act" ∷ codes "cut" ∷ node_word node ∷ [])
+
+-- A server asks for the cut where a frame came to it.
+abbrev pub act_lines : Option Node → Act → List (List ℕ)
+act_lines (Some node) acts.Cut = cut_line node ∷ []
+act_lines (Some node) acts.None = []
+act_lines None asked = []
 
 -- The lines of what happens, by what comes of it.
 abbrev pub lines_by : ℕ → List Change → Happening → Outcome → List (List ℕ)
@@ -124,7 +130,7 @@ lines_by n past e (Refuses fault) = refusal_line fault ∷ []
 lines_by n past e (Drops step) = refusal_line FrameBadField ∷ []
 lines_by n past e (Does change) =
     (answer_line (answer n past e) ∷ sent_lines (length (frames_sent n (steps past))) (frames_with n past change))
-    ++ act_lines n past e (act n past change)
+    ++ act_lines (addressee n past e) (act n past change)
 
 -- The lines of what happens.
 abbrev pub lines_at : ℕ → List Change → Happening → List (List ℕ)

@@ -1,36 +1,55 @@
 -- How a run of a script ends.
-use Rattle.std.specs.Prelude.{◌≡◌, ◌⊎◌, ℕ, ◌++◌, IsTrue, Bool, true, false, List, ⊤, take, Option, Some, None, Result, Ok, Err, slice_get}
+use Rattle.std.specs.Prelude.{◌≡◌, ◌⊎◌, ℕ, Bool, true, false, IsTrue, List, ◌∷◌, ◌++◌, ⊤, Option, Result, Ok, Err}
 use Rattle.std.specs.List.{flat_map}
 use Rattle.std.specs.Io.KnownBytes.{Appends, Keeps}
 use Rattle.fc_base.specs.declared.fault.Fault.TheVariants.{NoMemory}
+use Rattle.bounded_input.specs.declared.input.InputFault.{InputFault as Unread}
+use Rattle.bounded_input.specs.declared.input.InputFault.TheVariants as unread
 use Rattle.net_script.specs.declared.script_fault.ScriptFault.{ScriptFault}
 use Rattle.net_script.specs.declared.script_fault.ScriptFault.TheVariants as faults
-use Rattle.net_script.specs.Orders.{Order, Fails, ended, orders_of}
+use Rattle.net_script.specs.Orders.{Order, Opens, Asks, Fails, ended, orders_of}
 use Rattle.net_script.specs.Printed.{refusal_line}
 use Rattle.net_script.specs.Script.{lines_of_orders, text_of, status_of, is_too_long}
 
--- The whole script has run: its lines are written, and nothing else.
-pub record HasRun (script : List ℕ) (old new : Option (List ℕ)) (status : ℕ) : Type 0 where
-  pub written : Appends old new (text_of script)
-  pub ended_so : status ≡ status_of script
+-- This text is written and nothing else, and this is the status.
+abbrev pub Finishes : List ℕ → ℕ → Option (List ℕ) → Option (List ℕ) → ℕ → Type 0
+Finishes text wanted old new status = Appends old new text × (status ≡ wanted)
 
 -- An order that may need memory.
-abbrev pub may_lack : Option Order → Bool
-may_lack (Some (Fails line at)) = false
-may_lack (Some order) = true
-may_lack None = false
+abbrev pub may_lack : Order → Bool
+may_lack (Fails line at) = false
+may_lack (Opens line n) = true
+may_lack (Asks line command text) = true
 
--- Memory ran out at a command: its line says so, and it is the last.
-pub record EndedSoon (script : List ℕ) (old new : Option (List ℕ)) (status : ℕ) : Type 0 where
-  pub count : ℕ
-  pub short : is_too_long script ≡ false
-  pub lacking : IsTrue (may_lack (slice_get (orders_of script) count))
-  pub written : Appends old new (flat_map ended (lines_of_orders (take count (orders_of script))) ++ ended (refusal_line NoMemory))
-  pub ended_so : status ≡ 2
+-- Memory ran out at an order: behind the lines of those before it one says so, and it is the last.
+pub record EndedSoon (lines : List Order → List (List ℕ)) (orders : List Order) (old new : Option (List ℕ)) (status : ℕ) : Type 0 where
+  pub before : List Order
+  pub lacking : Order
+  pub rest : List Order
+  pub split : orders ≡ before ++ (lacking ∷ rest)
+  pub lacks : IsTrue (may_lack lacking)
+  pub finishes : Finishes (flat_map ended (lines before) ++ ended (refusal_line NoMemory)) 2 old new status
+
+-- Orders have run: all of their lines are written, and the status is theirs; or memory ran out.
+abbrev pub RunOrders : (List Order → List (List ℕ)) → (List Order → ℕ) → List Order → Option (List ℕ) → Option (List ℕ) → ℕ → Type 0
+RunOrders lines wanted orders old new status =
+    Finishes (flat_map ended (lines orders)) (wanted orders) old new status
+    ⊎ EndedSoon lines orders old new status
+
+-- A script has run: what it prints is written, and its status is answered; or memory ran out.
+abbrev pub HasRun : List ℕ → Option (List ℕ) → Option (List ℕ) → ℕ → Type 0
+HasRun script old new status =
+    Finishes (text_of script) (status_of script) old new status
+    ⊎ ((is_too_long script ≡ false) × EndedSoon lines_of_orders (orders_of script) old new status)
 
 -- A run of a script by a reader and a writer: nothing is written before all is read.
 abbrev pub Runs : List ℕ → Option (List ℕ) → Option (List ℕ) → Result ℕ ScriptFault → Type 0
-Runs script old new (Ok status) = HasRun script old new status ⊎ EndedSoon script old new status
+Runs script old new (Ok status) = HasRun script old new status
 Runs script old new (Err faults.ReadError) = Keeps old new
 Runs script old new (Err faults.NoMemory) = Keeps old new
 Runs script old new (Err faults.WriteError) = ⊤
+
+-- A script that was not read has no status.
+abbrev pub of_input : Unread → ScriptFault
+of_input unread.ReadError = faults.ReadError
+of_input unread.NoMemory = faults.NoMemory

@@ -2,13 +2,12 @@
 use Rattle.std.specs.Prelude.{ℕ, Bool, true, false, ◌||◌, nat_lt, List, [], ◌∷◌, ◌++◌, length, codes, if◌then◌else◌}
 use Rattle.std.specs.List.{flat_map}
 use Rattle.net_world.specs.declared.told.Answer.{Answer}
-use Rattle.net_world.specs.declared.told.Answer.TheVariants.{Checked}
 use Rattle.net_world.specs.Happenings.{Happening}
 use Rattle.net_world.specs.Outcomes.{Outcome, Does, Refuses, Drops, outcome}
 use Rattle.net_world.specs.World.{world, answer}
 use Rattle.net_script.specs.Commands.{happens}
 use Rattle.net_script.specs.Orders.{Order, Opens, Asks, Fails, ended, orders_of}
-use Rattle.net_script.specs.Printed.{lines_at, bad_line}
+use Rattle.net_script.specs.Printed.{lines_at, bad_line, has_faults}
 
 -- The lines of orders behind these happenings, the newest first: each command answered in the world
 -- that those before it have made; a bad line ends them. `servers` stands first, and only there.
@@ -39,11 +38,6 @@ reads_well [] = true
 reads_well (Opens line n ∷ orders) = are_commands orders
 reads_well (order ∷ orders) = false
 
--- A report has faults.
-abbrev pub has_faults : Answer → Bool
-has_faults (Checked report) = nat_lt 0 report.faults
-has_faults _ = false
-
 -- What comes of it isn't refused, and tells of faults.
 abbrev pub tells_faults : Answer → Outcome → Bool
 tells_faults answer (Does change) = has_faults answer
@@ -66,9 +60,17 @@ abbrev pub finds_faults : List Order → Bool
 finds_faults (Opens line n ∷ orders) = some_faults n [] orders
 finds_faults _ = false
 
--- The status of orders: 2 where a line is bad, 1 where a report has faults, else 0.
+-- The status: 2 where a line is bad, 1 where a report has faults, else 0.
+abbrev pub status_by : Bool → Bool → ℕ
+status_by well faulty = if well then (if faulty then 1 else 0) else 2
+
+-- The status of orders in a world of n servers behind these happenings.
+abbrev pub status_in : ℕ → List Happening → List Order → ℕ
+status_in n before orders = status_by (are_commands orders) (some_faults n before orders)
+
+-- The status of orders.
 abbrev pub status_of_orders : List Order → ℕ
-status_of_orders orders = if reads_well orders then (if finds_faults orders then 1 else 0) else 2
+status_of_orders orders = status_by (reads_well orders) (finds_faults orders)
 
 -- A script has at most 1,048,576 bytes.
 abbrev pub is_too_long : List ℕ → Bool

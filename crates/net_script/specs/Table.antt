@@ -1,5 +1,5 @@
 -- The table of commands.
-use Rattle.std.specs.Prelude.{ℕ, true, false, ◌&&◌, nat_eq, nat_le, List, [], ◌∷◌, ◌++◌, Option, Some, None, take, drop, bytes_eq, codes, if◌then◌else◌}
+use Rattle.std.specs.Prelude.{◌≤◌, ℕ, true, false, ◌&&◌, nat_eq, nat_le, List, [], ◌∷◌, ◌++◌, Option, Some, None, take, drop, bytes_eq, codes, if◌then◌else◌}
 use Rattle.std.specs.List.{starts_with}
 use Rattle.messages.specs.declared.refusal.Act.{Act}
 use Rattle.messages.specs.declared.refusal.Act.TheVariants as acts
@@ -117,3 +117,10 @@ asked_by (word ∷ behind) =
 -- What a line asks for.
 abbrev pub line_of : List ℕ → Line
 line_of line = asked_by (words_of line)
+
+-- Where a line asks for a world, that has 1 to 8 servers.
+abbrev pub AsksFew : Line → Type 0
+AsksFew (Servers n) = (1 ≤ n) × (n ≤ 8)
+AsksFew Skipped = Unit {0}
+AsksFew (Asks command) = Unit {0}
+AsksFew Unread = Unit {0}

@@ -1,5 +1,9 @@
 //! Why a script has no status.
 
+ghost use Rattle.std.specs.Prelude.{◌≡◌};
+
+use bounded_input::InputFault;
+use std::io;
 use thiserror::Error;
 
 /// Why a script has no status.
@@ -14,4 +18,27 @@ pub enum ScriptFault {
     /// No memory while the script was read.
     #[error("no memory for the script")]
     NoMemory,
+}
+
+impl From<InputFault> for ScriptFault {
+    ghost use Rattle.net_script.specs.Runs.{of_input};
+
+    ghost from_gives = { λ fault script. script ≡ of_input fault };
+
+    fn from(fault: InputFault) -> ScriptFault {
+        match fault {
+            InputFault::ReadError => ScriptFault::ReadError,
+            InputFault::NoMemory => ScriptFault::NoMemory,
+        }
+    }
+}
+
+impl From<io::Error> for ScriptFault {
+    ghost use Rattle.net_script.specs.declared.script_fault.ScriptFault.TheVariants.{WriteError};
+
+    ghost from_gives = { λ _ fault. fault ≡ WriteError };
+
+    fn from(_error: io::Error) -> ScriptFault {
+        ScriptFault::WriteError
+    }
 }

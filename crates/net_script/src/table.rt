@@ -2,7 +2,7 @@
 
 ghost use Rattle.std.specs.Prelude.{◌≡◌, ◌∷◌};
 ghost use Rattle.net_script.specs.Words.{words_of};
-ghost use Rattle.net_script.specs.Table.{by_table, table, line_of};
+ghost use Rattle.net_script.specs.Table.{by_table, table, line_of, AsksFew};
 
 mod cuts;
 mod jobs;
@@ -14,7 +14,8 @@ use crate::words::split_word;
 /// What a line of a script asks for, whatever its bytes are. Blanks around words mean nothing, and words are
 /// matched as they are written.
 pub fn line_of(line: &[u8]) -> Line
-    ensures { result ≡ line_of line.now }
+    ensures value { result ≡ line_of line.now }
+    ensures few { AsksFew result }
 {
     match split_word(line) {
         Some((word, words)) => {

@@ -1,5 +1,7 @@
 //! What no clause shows: that lines ask for what the manual says.
 
+mod running;
+
 use crate::line_of;
 use std::alloc::{AllocGlobal, Global};
 use std::fmt;

@@ -1,0 +1,95 @@
+-- Lines as they are written, part by part.
+use Rattle.std.proofs.Common.{◌≡◌, inl, inr, ℕ, ◌+◌, ◌<◌, List, [], ◌∷◌, ◌++◌, length, map, take, drop, Option, Some, Result, Ok, Err, OnOk, slice_get, get_or, codes, decimal, append_assoc, append-nil, refl, sym, ◌∙◌, ap, subst, Contains, arith}
+use Rattle.std.specs.List.{flat_map}
+use Rattle.std.proofs.lemmas.Grind.{flat_map-append}
+use Rattle.std.proofs.lemmas.List.{get_or-drop, get_or-take, get_or-map, take_more, length-take-le}
+use Rattle.std.proofs.lemmas.List.Elements.{Contains-get_or}
+use Rattle.std.proofs.lemmas.Option.{slice_get_cases, get_or_from_slice_get}
+use Rattle.fc_base.specs.declared.report.ReportEnd.{ReportEnd}
+use Rattle.fc_base.specs.declared.report.ReportEnd.TheVariants.{Whole, AtFault, ReadFault}
+use Rattle.messages.specs.declared.frame.Frame.{Frame}
+use Rattle.messages.specs.declared.reading.look.FrameLook.{FrameLook}
+use Rattle.messages.specs.FrameBytes.{frame_spelling}
+use Rattle.messages.specs.Looks.{look_of, LooksAtFrames}
+use Rattle.net_script.specs.Orders.{ended}
+use Rattle.net_script.specs.Printed.{spaced, end_words, frame_line, sent_line, sent_lines}
+use Rattle.net_script.specs.Told.{blank_before, AreBytesOf}
+
+-- What holds where there is an answer.
+pub on_ok : {T E P Q : Type 0} (r : Result T E) → (P → Q) → OnOk r P → OnOk r Q
+on_ok (Ok x) f p = f p
+on_ok (Err e) f p = tt
+
+-- Words are the first, and each of the others with a blank before it.
+words_text : (word : List ℕ) (words : List (List ℕ)) → spaced (word ∷ words) ≡ word ++ flat_map blank_before words
+words_text word [] = sym (append-nil word)
+words_text word (next ∷ words) = ap (λ text. word ++ 32 ∷ text) (words_text next words)
+
+-- Two words of any length among others.
+two_behind : (d f b c rest : List ℕ) → (d ++ (b ++ (f ++ c))) ++ rest ≡ d ++ (b ++ (f ++ (c ++ rest)))
+two_behind d f b c rest =
+    append_assoc d (b ++ (f ++ c)) rest
+    ∙ ap (λ l. d ++ l) (append_assoc b (f ++ c) rest ∙ ap (λ l. b ++ l) (append_assoc f c rest))
+
+-- The blocks stand behind the rest of the line.
+blocks_behind : (d f b c : List ℕ) (blocks : List (List ℕ))
+    → (d ++ (b ++ (f ++ (c ++ codes "first")))) ++ (flat_map blank_before blocks ++ codes "\n")
+    ≡ (d ++ (b ++ (f ++ (c ++ spaced (codes "first" ∷ blocks))))) ++ codes "\n"
+blocks_behind d f b c blocks =
+    two_behind d f b (c ++ codes "first") (flat_map blank_before blocks ++ codes "\n")
+    ∙ ap (λ l. d ++ (b ++ (f ++ l))) behind
+    ∙ sym (two_behind d f b (c ++ spaced (codes "first" ∷ blocks)) (codes "\n"))
+  where
+    behind : (c ++ codes "first") ++ (flat_map blank_before blocks ++ codes "\n") ≡ (c ++ spaced (codes "first" ∷ blocks)) ++ codes "\n"
+    behind =
+        sym (append_assoc (c ++ codes "first") (flat_map blank_before blocks) (codes "\n"))
+        ∙ ap (λ l. l ++ codes "\n") (append_assoc c (codes "first") (flat_map blank_before blocks) ∙ ap (λ l. c ++ l) (sym (words_text (codes "first") blocks)))
+
+-- The line of a report.
+pub report_text : (checked faults : ℕ) (end : ReportEnd) (blocks : List (List ℕ))
+    → (codes "ok report checked " ++ (decimal checked ++ (codes " faults " ++ (decimal faults ++ (codes " end " ++ (spaced (end_words end) ++ codes " first"))))))
+    ++ (flat_map blank_before blocks ++ codes "\n")
+    ≡ ended (spaced (codes "ok" ∷ codes "report" ∷ codes "checked" ∷ decimal checked ∷ codes "faults" ∷ decimal faults ∷ codes "end" ∷ (end_words end ++ (codes "first" ∷ blocks))))
+report_text checked faults Whole blocks =
+    ap (λ l. codes "ok report checked " ++ l) (blocks_behind (decimal checked) (decimal faults) (codes " faults ") (codes " end whole ") blocks)
+report_text checked faults AtFault blocks =
+    ap (λ l. codes "ok report checked " ++ l) (blocks_behind (decimal checked) (decimal faults) (codes " faults ") (codes " end fault ") blocks)
+report_text checked faults (ReadFault block) blocks =
+    ap (λ l. codes "ok report checked " ++ ((decimal checked ++ (codes " faults " ++ (decimal faults ++ (codes " end read " ++ l)))) ++ (flat_map blank_before blocks ++ codes "\n")))
+    (sym (append_assoc (decimal block) (codes " ") (codes "first")))
+    ∙ ap (λ l. codes "ok report checked " ++ l) (blocks_behind (decimal checked) (decimal faults) (codes " faults ") (codes " end read " ++ (decimal block ++ codes " ")) blocks)
+    ∙ ap (λ l. codes "ok report checked " ++ ((decimal checked ++ (codes " faults " ++ (decimal faults ++ (codes " end read " ++ l)))) ++ codes "\n"))
+    (append_assoc (decimal block) (codes " ") (spaced (codes "first" ∷ blocks)))
+
+-- One more line.
+line_more : (first : ℕ) (sent : List Frame) (f : Frame) → sent_lines first (sent ++ f ∷ []) ≡ sent_lines first sent ++ sent_line (first + length sent) f ∷ []
+line_more first [] f = ap (λ n. sent_line n f ∷ []) (omega arith)
+line_more first (g ∷ sent) f =
+    ap (λ l. sent_line first g ∷ l) (line_more (first + 1) sent f ∙ ap (λ n. sent_lines (first + 1) sent ++ sent_line n f ∷ []) (omega arith))
+
+-- The line of one more frame.
+pub sent_more : (sent : List Frame) (first count k : ℕ) (kept : List (List ℕ)) → AreBytesOf sent first count kept → k < count
+    → (bytes : List ℕ) → slice_get kept (first + k) ≡ Some bytes → (number len : ℕ) (look : FrameLook) → number ≡ first + k → len ≡ length bytes → LooksAtFrames bytes (Some look)
+    → flat_map ended (sent_lines first (take k sent)) ++ ended (frame_line number look len) ≡ flat_map ended (sent_lines first (take (k + 1) sent))
+sent_more sent first count k kept are within bytes is number len look number_is len_is looks =
+    elim ((slice_get_cases sent k).1) [
+      | inl found ↦ with_frame found.0 found.1 found.3
+      | inr past ↦ absurd (omega (arith, within, are.number, past.0))
+    ]
+  where
+    with_frame : (f : Frame) → k < length sent → get_or sent k f ≡ f
+        → flat_map ended (sent_lines first (take k sent)) ++ ended (frame_line number look len) ≡ flat_map ended (sent_lines first (take (k + 1) sent))
+    with_frame f inside at =
+        let spelled : frame_spelling f ≡ bytes =
+        ap frame_spelling (sym at) ∙ sym (get_or-map frame_spelling sent k f bytes inside) ∙ ap (λ l. get_or l k bytes) (sym are.bytes)
+        ∙ get_or-take count (drop first kept) k bytes within ∙ get_or-drop first kept k bytes ∙ get_or_from_slice_get kept (first + k) bytes bytes is in
+        let framed = are.each f (subst (Contains sent) at (Contains-get_or sent k f inside)) in
+        let same : look ≡ look_of f = let s : ◌≡◌ {A = Option FrameLook} (Some look) (Some (look_of f)) = looks f framed spelled in cc in
+        let line : frame_line number look len ≡ sent_line (first + k) f =
+        ap (λ n. frame_line n look len) number_is ∙ ap (λ l. frame_line (first + k) l len) same ∙ ap (frame_line (first + k) (look_of f)) (len_is ∙ ap length (sym spelled)) in
+        let more : take (k + 1) sent ≡ take k sent ++ f ∷ [] = take_more sent k f inside ∙ ap (λ g. take k sent ++ g ∷ []) at in
+        let counted : length (take k sent) ≡ k = length-take-le k sent (omega (arith, inside)) in
+        ap (λ l. flat_map ended (sent_lines first (take k sent)) ++ ended l) line
+        ∙ ap (λ l. flat_map ended (sent_lines first (take k sent)) ++ l) (sym (append-nil (ended (sent_line (first + k) f))))
+        ∙ sym (flat_map-append ended (sent_lines first (take k sent)) (sent_line (first + k) f ∷ []))
+        ∙ ap (flat_map ended) (ap (λ n. sent_lines first (take k sent) ++ sent_line n f ∷ []) (ap (λ n. first + n) (sym counted)) ∙ sym (line_more first (take k sent) f) ∙ ap (sent_lines first) (sym more))

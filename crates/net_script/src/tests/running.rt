@@ -1,0 +1,243 @@
+//! What no clause shows: that scripts print what the manual says, and how a run ends that fails.
+
+use crate::{MAX_SCRIPT, ScriptFault, run_script};
+use fake_io::{Source, failing_at, held_output, in_steps, interrupted, page_with, source_of};
+use std::alloc::{AllocError, AllocGlobal, Global};
+use std::process::Abort;
+use std::test::Fail;
+
+/// Scripts, what they print, and their status.
+const SCRIPTS: &[(&str, &str, u8)] = &[
+    ("", "", 0),
+    ("# nothing\n\n \t\n", "", 0),
+    ("servers 8", "ok\n", 0),
+    // A first command that isn't `servers`, by its own number, and `servers` again.
+    ("\ntick\n", "bad line 2\n", 2),
+    ("begin\n[a]\n", "bad line 1\n", 2),
+    ("# c\nservers 0\n", "bad line 2\n", 2),
+    ("servers 1\nservers 1\ntick\n", "ok\nbad line 2\n", 2),
+    // A text that isn't closed, by the number of the last line.
+    ("servers 1\nbegin\n", "ok\nbad line 2\n", 2),
+    ("servers 1\ntick\nbegin\n[a]\n", "ok\nok\nbad line 4\n", 2),
+    ("servers 1\nbegin\n[a]\nsize=4k", "ok\nbad line 4\n", 2),
+    ("servers 1\nverify 1\n .\n. \n.\r\n", "ok\nbad line 5\n", 2),
+    // A closed text, with lines in it that would be commands, or nothing, elsewhere.
+    (
+        "servers 1\nbegin\n# c\n\nservers 9\n.\n",
+        "ok\nok run 1\nsent 0 client 0 Jobs 39\n",
+        0,
+    ),
+    ("servers 1\nverify 1\n.", "ok\nrefused 70 NoSuchRun\n", 0),
+    // Numbers are compared as numbers, however great they are.
+    ("servers 1\nissue 0 4294967296\n", "ok\nok stopped\n", 0),
+    (
+        "servers 1\nissue 4294967296 0\n",
+        "ok\nrefused 85 NoServer\n",
+        0,
+    ),
+    (
+        "servers 1\nrot 0 4294967296 0 0\n",
+        "ok\nrefused 83 NoWrite\n",
+        0,
+    ),
+    (
+        "servers 1\nland 0 4294967296 0 all\n",
+        "ok\nrefused 83 NoWrite\n",
+        0,
+    ),
+    ("servers 8\ncut 8\n", "ok\nrefused 85 NoServer\n", 0),
+    (
+        "servers 1\nrot 0 15 18446744073709551615 255\n",
+        "ok\nok\n",
+        0,
+    ),
+    (
+        "servers 1\ndeliver 18446744073709551615\n",
+        "ok\nrefused 80 NoFrame\n",
+        0,
+    ),
+    // A cut within a save prints no number, though one is used up.
+    (
+        "servers 1\ncutnew begin\n.\nrestart client\nbegin\n.\n",
+        "ok\nok\nok\nok run 2\nsent 0 client 0 Jobs 24\n",
+        0,
+    ),
+];
+
+/// The stored run: a trigger with the cut, and a check that finds nothing.
+const STORED: &str = "\
+servers 1\n\
+begin\n\
+[a]\n\
+rw=write\n\
+bs=512\n\
+size=1k\n\
+iodepth=2\n\
+.\n\
+deliver 0\n\
+deliver 1\n\
+deliver 2\n\
+deliver 3\n\
+issue 0 0\n\
+issue 0 0\n\
+land 0 0 0 all\n\
+done 0 0 0\n\
+trigger 1 cut\n\
+deliver 4\n\
+deliver 5\n\
+deliver 6\n\
+cut 0\n\
+restart 0\n\
+verify 1\n\
+[a]\n\
+rw=read\n\
+bs=512\n\
+size=1k\n\
+verify_state_load=1\n\
+.\n\
+deliver 7\n\
+deliver 8\n\
+deliver 9\n\
+check 0 0\n\
+deliver 10\n";
+
+const STORED_LINES: &str = "\
+ok\n\
+ok run 1\n\
+sent 0 client 0 Jobs 62\n\
+ok\n\
+sent 1 0 client JobsOk 28\n\
+ok\n\
+sent 2 client 0 Start 24\n\
+ok\n\
+sent 3 0 client Started 24\n\
+ok\n\
+ok write 0 block 0\n\
+ok write 1 block 1\n\
+ok\n\
+ok\n\
+ok\n\
+sent 4 client 0 Trigger 25\n\
+ok\n\
+sent 5 0 client State 156\n\
+ok\n\
+sent 6 client 0 StateAck 28\n\
+ok\n\
+act cut 0\n\
+ok\n\
+ok\n\
+ok attempt 1\n\
+sent 7 client 0 Verify 79\n\
+ok\n\
+sent 8 0 client WantState 36\n\
+ok\n\
+sent 9 client 0 Saved 160\n\
+ok\n\
+ok report checked 1 faults 0 end whole first -\n\
+sent 10 0 client Report 57\n\
+ok\n";
+
+/// Checks what a script prints, and its status.
+fn expect<R: Abort + AllocGlobal>(rt: &R, source: &mut Source<'_>, printed: &[u8], status: u8) {
+    let mut page = page_with(rt.alloc(), usize::MAX);
+    let ended = run_script(rt.alloc(), source, &mut page);
+    assert!(rt; ended == Ok(status), "{ended:?}, where {status} is wanted");
+    assert!(rt;
+        page.text.as_slice() == printed,
+        "other lines than are wanted"
+    );
+}
+
+#[test]
+fn scripts_print_their_lines(rt: HostRuntime) {
+    for (script, printed, status) in SCRIPTS {
+        expect(
+            &rt,
+            &mut source_of(script.as_bytes()),
+            printed.as_bytes(),
+            *status,
+        );
+    }
+    expect(
+        &rt,
+        &mut in_steps(STORED.as_bytes(), 1),
+        STORED_LINES.as_bytes(),
+        0,
+    );
+}
+
+/// A script whose fourth line is this one.
+fn with_line(alloc: Global, line: &str) -> Result<String, AllocError> {
+    let mut script = String::new(alloc);
+    script.push_str("servers 1\n\n# c\n")?;
+    script.push_str(line)?;
+    script.push_str("\ntick\n")?;
+    Ok(script)
+}
+
+#[test]
+fn bad_lines_end_a_script(rt: HostRuntime) -> Result<(), Fail> {
+    for line in super::UNREAD {
+        let script = with_line(rt.alloc(), line)?;
+        expect(
+            &rt,
+            &mut source_of(script.as_bytes()),
+            b"ok\nbad line 4\n",
+            2,
+        );
+    }
+    Ok(())
+}
+
+/// A script of so many bytes, most of them a comment.
+fn script_of_length(alloc: Global, length: usize) -> Result<Vec<u8>, AllocError> {
+    let mut script = Vec::from_slice(alloc, b"servers 1\n#")?;
+    script.resize(length, b'x')?;
+    Ok(script)
+}
+
+#[test]
+fn longest_script(rt: HostRuntime) -> Result<(), Fail> {
+    let script = script_of_length(rt.alloc(), MAX_SCRIPT)?;
+    expect(&rt, &mut source_of(&script), b"ok\n", 0);
+    let script = script_of_length(rt.alloc(), MAX_SCRIPT + 1)?;
+    expect(&rt, &mut source_of(&script), b"too long\n", 2);
+    Ok(())
+}
+
+/// Checks that a script is not read, and that nothing is printed.
+fn expect_unread<R: Abort + AllocGlobal>(rt: &R, source: &mut Source<'_>) {
+    let mut page = page_with(rt.alloc(), usize::MAX);
+    let ended = run_script(rt.alloc(), source, &mut page);
+    assert!(rt; ended == Err(ScriptFault::ReadError), "{ended:?}");
+    assert!(rt; page.text.as_slice().is_empty());
+}
+
+#[test]
+fn failed_reads(rt: HostRuntime) {
+    for read in 0..20 {
+        expect_unread(&rt, &mut failing_at(STORED.as_bytes(), 16, read));
+    }
+    expect_unread(&rt, &mut interrupted(b"", 2_000_000));
+    expect(&rt, &mut interrupted(b"", 1_999_999), b"", 0);
+}
+
+#[test]
+fn failed_writes(rt: HostRuntime) {
+    for line in 0..38 {
+        let room = 12 * line;
+        let mut page = page_with(rt.alloc(), room);
+        let ended = run_script(rt.alloc(), &mut source_of(STORED.as_bytes()), &mut page);
+        assert!(rt; ended == Err(ScriptFault::WriteError), "{room}: {ended:?}");
+        assert!(rt; page.late_writes == 0);
+        assert!(rt; STORED_LINES.as_bytes().starts_with(page.text.as_slice()));
+    }
+}
+
+#[test]
+fn lines_are_flushed(rt: HostRuntime) {
+    let mut output = held_output(rt.alloc());
+    let ended = run_script(rt.alloc(), &mut source_of(STORED.as_bytes()), &mut output);
+    assert!(rt; ended == Ok(0));
+    assert!(rt; output.shown.as_slice() == STORED_LINES.as_bytes() && output.flushes == 1);
+}

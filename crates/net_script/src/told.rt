@@ -1,0 +1,146 @@
+//! What is told of what happens, as it is printed.
+
+ghost use Rattle.std.specs.Prelude.{◌≡◌, ◌+◌, ◌++◌, [], ◌∷◌, ℕ, List, Some, None, length, map, take, drop, decimal, IfSome, IfOk, OnOk, slice_get};
+ghost use Rattle.std.specs.List.{flat_map};
+ghost use Rattle.std.specs.Option.{option_copied};
+ghost use Rattle.std.specs.Io.KnownBytes.{Appends};
+ghost use Rattle.messages.specs.declared.frame.Frame.{Frame};
+ghost use Rattle.messages.specs.Looks.{LooksAtFrames};
+ghost use Rattle.net_world.specs.Sending.{sent_in};
+ghost use Rattle.net_script.specs.Orders.{ended};
+ghost use Rattle.net_script.specs.Printed.{answer_line, answer_words, issue_words, end_words, has_faults, act_lines, block_words, sent_lines};
+ghost use Rattle.net_script.specs.Told.{blank_before, AreBytesOf};
+
+use crate::printed::{CutLine, EndWords, FrameLine};
+use engine::Issue;
+use fc_base::CheckReport;
+use messages::{Act, Node, look_at};
+use net_world::{Answer, Sent, Told};
+use std::io;
+use std::io::{ErrorKind, Write};
+
+/// Writes the lines of what is told, where these are the frames that were ever sent, and a frame came to
+/// this node.
+pub(crate) fn write_told<W: Write>(
+    writer: &mut W,
+    told: &Told,
+    frames: &Sent,
+    addressee: Option<Node>,
+) -> io::Result<()>
+    ensures { (sent : List Frame) → AreBytesOf sent told.now.first told.now.sent (sent_in frames.now) →
+        OnOk result (Appends (W.contents writer.old) (W.contents writer.new)
+        (flat_map ended ((answer_line told.now.answer ∷ sent_lines told.now.first sent) ++ act_lines addressee told.now.act))) }
+{
+    write_answer(writer, &told.answer)?;
+    write_sent(writer, frames, told.first, told.sent)?;
+    write_act(writer, addressee, told.act)
+}
+
+/// Writes the line of an answer.
+fn write_answer<W: Write>(writer: &mut W, answer: &Answer) -> io::Result<()>
+    ensures { OnOk result (Appends (W.contents writer.old) (W.contents writer.new) (ended (answer_line answer.now))) }
+{
+    match answer {
+        Answer::Plain => writeln!(writer, "ok"),
+        Answer::Run(run) => writeln!(writer, "ok run {}", run.0),
+        Answer::Attempt(attempt) => writeln!(writer, "ok attempt {}", attempt.0),
+        Answer::Issued(issue) => write_issue(writer, issue),
+        Answer::Checked(report) => write_report(writer, report),
+    }
+}
+
+/// Writes the line of what a worker is told that asks for a write.
+fn write_issue<W: Write>(writer: &mut W, issue: &Issue) -> io::Result<()>
+    ensures { OnOk result (Appends (W.contents writer.old) (W.contents writer.new) (ended (answer_line (Answer.Issued issue.now)))) }
+{
+    match issue {
+        Issue::Write(ticket) => writeln!(
+            writer,
+            "ok write {} block {}",
+            ticket.seq.0, ticket.block
+        ),
+        Issue::Full => writeln!(writer, "ok full"),
+        Issue::Held => writeln!(writer, "ok held"),
+        Issue::Overlap => writeln!(writer, "ok overlap"),
+        Issue::Finished => writeln!(writer, "ok finished"),
+        Issue::Stopped => writeln!(writer, "ok stopped"),
+    }
+}
+
+/// Writes the line of a report.
+fn write_report<W: Write>(writer: &mut W, report: &CheckReport) -> io::Result<()>
+    ensures { OnOk result (Appends (W.contents writer.old) (W.contents writer.new) (ended (answer_line (Answer.Checked report.now)))) }
+{
+    write!(
+        writer,
+        "ok report checked {} faults {} end {} first",
+        report.checked(),
+        report.faults(),
+        EndWords(report.end()),
+    )?;
+    write_blocks(writer, report.first())?;
+    writeln!(writer)
+}
+
+/// Writes blocks with a blank before each, or `-` for none.
+fn write_blocks<W: Write>(writer: &mut W, blocks: &[u32]) -> io::Result<()>
+    ensures { OnOk result (Appends (W.contents writer.old) (W.contents writer.new) (flat_map blank_before (block_words blocks.now))) }
+{
+    if blocks.is_empty() {
+        return write!(writer, " -");
+    }
+    for block in blocks {
+        write!(writer, " {block}")?;
+    }
+    Ok(())
+}
+
+/// Writes the lines of so many frames, from one on. An error where there are fewer.
+fn write_sent<W: Write>(writer: &mut W, frames: &Sent, first: u64, count: u64) -> io::Result<()>
+    ensures { (sent : List Frame) → AreBytesOf sent first count (sent_in frames.now) →
+        OnOk result (Appends (W.contents writer.old) (W.contents writer.new) (flat_map ended (sent_lines first sent))) }
+{
+    for offset in 0..count {
+        let Some(line) = frame_line(frames, first, offset) else {
+            return Err(ErrorKind::InvalidInput.into());
+        };
+        writeln!(writer, "{line}")?;
+    }
+    Ok(())
+}
+
+/// The line of the frame that lies so many behind the first.
+fn frame_line(frames: &Sent, first: u64, offset: u64) -> Option<FrameLine>
+    ensures { IfSome result (λ line. (bytes : List ℕ) × (slice_get (sent_in frames.now) (first + offset) ≡ Some bytes)
+        × (line.number ≡ first + offset) × (line.len ≡ length bytes) × LooksAtFrames bytes (Some line.look)) }
+{
+    let number = first.checked_add(offset)?;
+    let index = usize::try_from(number).ok()?;
+    let bytes = frames.get(index)?;
+    let look = look_at(bytes)?;
+    Some(FrameLine {
+        number,
+        look,
+        len: bytes.len(),
+    })
+}
+
+/// Writes the line of a cut that a server asks for, to which a frame came.
+fn write_act<W: Write>(writer: &mut W, addressee: Option<Node>, act: Act) -> io::Result<()>
+    ensures { OnOk result (Appends (W.contents writer.old) (W.contents writer.new) (flat_map ended (act_lines addressee act))) }
+{
+    match (addressee, act) {
+        (Some(node), Act::Cut) => writeln!(writer, "{}", CutLine(node)),
+        _ => Ok(()),
+    }
+}
+
+/// Whether a report has faults.
+pub(crate) fn has_faults(answer: &Answer) -> bool
+    ensures { result ≡ has_faults answer.now }
+{
+    match answer {
+        Answer::Checked(report) => report.faults() > 0,
+        _ => false,
+    }
+}
