@@ -15,6 +15,8 @@ use std::io::Write;
 pub enum Request {
     /// `fiocut jobs`: print the jobs of the job file on standard input.
     Jobs,
+    /// `fiocut world`: run the script on standard input.
+    World,
 }
 
 /// Reads the words of a command line, of which the first is the program's own name. `None` is a bad
@@ -28,6 +30,7 @@ pub fn read_words<S: AsStr>(alloc: Global, words: &[S]) -> Option<Request> {
     let matches = matches_of(alloc, words).ok()?;
     match matches.subcommand_name()? {
         "jobs" => Some(Request::Jobs),
+        "world" => Some(Request::World),
         _ => None,
     }
 }
@@ -38,11 +41,13 @@ fn has_end_of_options<S: AsStr>(words: &[S]) -> bool {
 
 fn matches_of<'a, S: AsStr>(alloc: Global, words: &'a [S]) -> Result<ArgMatches<'a>, Error> {
     let jobs = Command::new(alloc, "jobs").disable_help_flag(true);
+    let world = Command::new(alloc, "world").disable_help_flag(true);
     Command::new(alloc, "fiocut")
         .disable_help_flag(true)
         .disable_help_subcommand(true)
         .subcommand_required(true)
         .subcommand(jobs)?
+        .subcommand(world)?
         .try_get_matches_from(words)
 }
 

@@ -8,7 +8,7 @@ ghost use Rattle.bounded_input.specs.Input.{HasRead};
 ghost use Rattle.fiocut.specs.Answer.{AnswersText, WritesLinesOf, WritesRefusalOf};
 
 use crate::lines::lines_of_set;
-use crate::refusal::Refusal;
+use crate::refusal::{Refusal, write_refusal};
 use bounded_input::read_input;
 use fc_base::MAX_TEXT;
 use job_file::parse;
@@ -77,13 +77,5 @@ fn write_text<W: Write>(writer: &mut W, text: &str) -> io::Result<()>
     ensures { OnOk result (Appends (W.contents writer.old) (W.contents writer.new) text.now) }
 {
     writer.write_all(text.as_bytes())?;
-    writer.flush()
-}
-
-fn write_refusal<W: Write>(writer: &mut W, refusal: Refusal) -> io::Result<()>
-    ensures { OnOk result (Appends (W.contents writer.old) (W.contents writer.new)
-        (ended (refusal_line refusal))) }
-{
-    writeln!(writer, "{refusal}")?;
     writer.flush()
 }

@@ -1,4 +1,4 @@
-//! The program: it reads a job file of fio from standard input and prints what it makes of it.
+//! The program: it prints the jobs of a job file of fio, or runs a script of events.
 #![tactic(auto)]
 
 mod command;
@@ -7,13 +7,16 @@ mod lines;
 mod refusal;
 #[cfg(test)]
 mod tests;
+mod world;
 
 use command::{Request, read_words, refuse_words};
 use jobs::{REFUSED, run_jobs};
 use std::alloc::Global;
 use std::io;
+use std::io::{BufWriter, Read, Write};
 use std::process::ExitCode;
 use std::rt::Env;
+use world::run_world;
 
 fn main(rt: HostRuntime) -> ExitCode {
     ExitCode::from(run(&rt))
@@ -25,9 +28,20 @@ fn run<R: Env + AllocGlobal + Input + Print>(rt: &R) -> u8 {
     let mut writer = io::writer(rt);
     let answer = match request_of(rt) {
         Some(Request::Jobs) => run_jobs(rt.alloc(), &mut rt.reader(), &mut writer),
+        Some(Request::World) => run_in_blocks(rt.alloc(), &mut rt.reader(), &mut writer),
         None => refuse_words(&mut writer),
     };
     answer.unwrap_or(REFUSED)
+}
+
+/// Runs the script of a reader. Its output goes out in blocks, as they are full.
+fn run_in_blocks<R: Read, W: Write>(
+    alloc: Global,
+    reader: &mut R,
+    writer: &mut W,
+) -> io::Result<u8> {
+    let mut writer = BufWriter::new(alloc, writer)?;
+    run_world(alloc, reader, &mut writer)
 }
 
 /// What this process's command line asks for. `None` is a bad command: also words that are not

@@ -1,13 +1,17 @@
 //! A refusal as it is printed.
 
-ghost use Rattle.std.specs.Prelude.{◌≡◌, Some};
+ghost use Rattle.std.specs.Prelude.{◌≡◌, OnOk, Some};
+ghost use Rattle.std.specs.Io.KnownBytes.{Appends};
 ghost use Rattle.fc_base.specs.declared.fault.Fault.TheVariants.{JobNoMemory};
+ghost use Rattle.fiocut.specs.Lines.{ended};
+ghost use Rattle.fiocut.specs.Refusal.{refusal_line};
 
 use bounded_input::InputFault;
 use fc_base::Fault;
 use job_file::JobFault;
 use std::alloc::AllocError;
-use std::fmt;
+use std::io::Write;
+use std::{fmt, io};
 
 /// A fault, and the line or the job where it is found, if it has one. It prints as
 /// `refused CODE NAME` or `refused CODE NAME NUMBER`, and takes no memory for that.
@@ -81,4 +85,13 @@ impl From<AllocError> for Refusal {
     fn from(_error: AllocError) -> Refusal {
         Refusal::from(Fault::JobNoMemory)
     }
+}
+
+/// Writes the one line of a refusal.
+pub(crate) fn write_refusal<W: Write>(writer: &mut W, refusal: Refusal) -> io::Result<()>
+    ensures { OnOk result (Appends (W.contents writer.old) (W.contents writer.new)
+        (ended (refusal_line refusal))) }
+{
+    writeln!(writer, "{refusal}")?;
+    writer.flush()
 }

@@ -3,6 +3,7 @@
 
 use crate::command::{Request, read_words, refuse_words};
 use crate::jobs::run_jobs;
+use crate::world::run_world;
 use fake_io::{Held, Source, failing, held_output, in_steps, interrupted, page_with, source_of};
 use std::alloc::{AllocError, Global};
 use std::io;
@@ -216,14 +217,49 @@ fn expect_bad<R: Abort + AllocGlobal>(rt: &R, words: &[&str]) {
 }
 
 #[test]
-fn good_command(rt: HostRuntime) {
+fn good_commands(rt: HostRuntime) {
     let words = ["fiocut", "jobs"];
     assert!(rt; read_words(rt.alloc(), &words) == Some(Request::Jobs));
+    let words = ["fiocut", "world"];
+    assert!(rt; read_words(rt.alloc(), &words) == Some(Request::World));
+}
+
+const SCRIPT: &[u8] = b"servers 1\ncut 0\nissue 0 0\nfrob\n";
+
+const SCRIPT_LINES: &str = "\
+ok
+ok
+refused 81 NodeOff
+bad line 4
+";
+
+/// Checks the status of a script and what is printed.
+fn expect_script<R: Abort + AllocGlobal>(rt: &R, source: &mut Source<'_>, status: u8, lines: &str) {
+    let mut page = page_with(rt.alloc(), usize::MAX);
+    let answer = run_world(rt.alloc(), source, &mut page);
+    assert!(rt; answer.ok() == Some(status) && page.text.as_slice() == lines.as_bytes());
+}
+
+#[test]
+fn scripts(rt: HostRuntime) {
+    expect_script(&rt, &mut source_of(SCRIPT), 2, SCRIPT_LINES);
+    expect_script(&rt, &mut source_of(b"servers 1\n"), 0, "ok\n");
+    expect_script(&rt, &mut failing(SCRIPT, 7), 2, "refused 91 ReadError\n");
+}
+
+#[test]
+fn scripts_that_cannot_be_answered(rt: HostRuntime) {
+    for room in 0..SCRIPT_LINES.len() {
+        let mut page = page_with(rt.alloc(), room);
+        let answer = run_world(rt.alloc(), &mut source_of(SCRIPT), &mut page);
+        assert!(rt; answer.is_err() && page.late_writes == 0);
+        assert!(rt; SCRIPT_LINES.as_bytes().starts_with(page.text.as_slice()));
+    }
 }
 
 #[test]
 fn bad_commands(rt: HostRuntime) {
-    let bad: [&[&str]; 21] = [
+    let bad: [&[&str]; 23] = [
         &[],
         &["fiocut"],
         &["fiocut", ""],
@@ -243,7 +279,9 @@ fn bad_commands(rt: HostRuntime) {
         &["fiocut", "--help"],
         &["fiocut", "jobs", "--help"],
         &["fiocut", "--version"],
-        &["fiocut", "world"],
+        &["fiocut", "world", "x"],
+        &["fiocut", "worlds"],
+        &["fiocut", "jobs", "world"],
         &["fiocut", "live", "1", "1", "path"],
     ];
     for words in bad {
