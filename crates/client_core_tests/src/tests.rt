@@ -2,6 +2,7 @@
 //! computed, and that each call answers where memory is there.
 
 mod calls;
+mod changes;
 mod life;
 mod looks;
 mod named;
@@ -152,33 +153,18 @@ fn notes_that_a_client_is_restarted_over(rt: HostRuntime) -> Result<(), Fail> {
     Ok(())
 }
 
-/// The first length of which the bytes of a note are one, too, or the first bit of which another
-/// makes a note that isn't written as it was read.
-fn first_accepted(alloc: Global, words: &str) -> Result<Option<usize>, Trouble> {
-    let mut note = notes::bytes_in(alloc, words)?;
-    for len in 1..note.len() {
-        let (front, _) = note.split_at(len);
-        if !notes::is_refused(alloc, front)? {
-            return Ok(Some(len));
-        }
-    }
-    for at in 0..note.len() {
-        for bit in 0..8u32 {
-            let before = note[at];
-            note[at] = before ^ 1u8.wrapping_shl(bit);
-            let holds = notes::is_refused_or_same(alloc, &note)?;
-            note[at] = before;
-            if !holds {
-                return Ok(Some(at));
-            }
-        }
-    }
-    Ok(None)
+#[test]
+fn notes_that_are_cut_short(rt: HostRuntime) -> Result<(), Fail> {
+    let note = notes::bytes_in(rt.alloc(), notes::TWO)?;
+    let len = changes::first_note(rt.alloc(), &note)?;
+    assert!(rt; len == Some(note.len()), "{len:?}");
+    Ok(())
 }
 
 #[test]
 fn notes_that_are_changed(rt: HostRuntime) -> Result<(), Fail> {
-    let accepted = first_accepted(rt.alloc(), notes::TWO)?;
-    assert!(rt; accepted.is_none(), "{accepted:?}");
+    let mut note = notes::bytes_in(rt.alloc(), notes::TWO)?;
+    let unlike = changes::first_unlike(rt.alloc(), &mut note)?;
+    assert!(rt; unlike.is_none(), "{unlike:?}");
     Ok(())
 }

@@ -94,27 +94,23 @@ fn put_state(bytes: &mut Vec<u8>, index: u32) -> Result<(), Trouble> {
     Ok(())
 }
 
-/// Whether bytes are refused, or are a note that is written as just these bytes. Where memory runs out,
-/// they are read again.
-pub fn is_refused_or_same(alloc: Global, bytes: &[u8]) -> Result<bool, Trouble> {
-    match same_once(alloc, bytes) {
-        Err(Trouble::NoMemory) => same_once(alloc, bytes),
+/// Whether bytes are a note, which has to be written as just these bytes. Where memory runs out, they are
+/// read again.
+pub fn is_note(alloc: Global, bytes: &[u8]) -> Result<bool, Trouble> {
+    match is_note_once(alloc, bytes) {
+        Err(Trouble::NoMemory) => is_note_once(alloc, bytes),
         answer => answer,
     }
 }
 
-fn same_once(alloc: Global, bytes: &[u8]) -> Result<bool, Trouble> {
-    match Noted::decode(alloc, bytes)? {
-        Some(noted) => Ok(noted.encode(alloc)?.as_slice() == bytes),
-        None => Ok(true),
-    }
-}
-
-/// Whether bytes are no note. Where memory runs out, they are read again.
-pub fn is_refused(alloc: Global, bytes: &[u8]) -> Result<bool, Trouble> {
-    match Noted::decode(alloc, bytes) {
-        Ok(noted) => Ok(noted.is_none()),
-        Err(_) => Ok(Noted::decode(alloc, bytes)?.is_none()),
+fn is_note_once(alloc: Global, bytes: &[u8]) -> Result<bool, Trouble> {
+    let Some(noted) = Noted::decode(alloc, bytes)? else {
+        return Ok(false);
+    };
+    if noted.encode(alloc)?.as_slice() == bytes {
+        Ok(true)
+    } else {
+        Err(Trouble::Changed)
     }
 }
 
