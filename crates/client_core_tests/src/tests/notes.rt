@@ -55,11 +55,28 @@ pub fn holds(alloc: Global, row: &str) -> Result<bool, Trouble> {
         return Ok(row.trim().is_empty());
     };
     let words = words.trim();
-    let mut life = Life::new(alloc, 1, MemNotes::new(bytes_in(alloc, words)?));
+    let bytes = bytes_in(alloc, words)?;
+    let mut life = Life::new(alloc, 1, MemNotes::new(bytes));
+    is_restarted(&mut life, words, answer.trim().parse::<u8>().ok())
+}
+
+/// Whether a client that is off is restarted, or is refused by this number, and its notes say this then.
+fn is_restarted(
+    life: &mut Life<MemNotes>,
+    words: &str,
+    answer: Option<u8>,
+) -> Result<bool, Trouble> {
     let notes = life.off()?;
-    let fault = life.restart(notes);
+    if Some(life.restart(notes)) != answer {
+        return Ok(false);
+    }
+    still_says(life, words)
+}
+
+/// Whether the notes of a client say this.
+fn still_says(life: &mut Life<MemNotes>, words: &str) -> Result<bool, Trouble> {
     let mut notes = life.off()?;
-    Ok(answer.trim().parse::<u8>().ok() == Some(fault) && life.is_noted(&mut notes, words)?)
+    life.is_noted(&mut notes, words)
 }
 
 /// The note that keeps so many states: of server 0, those of 16 jobs for each run.
