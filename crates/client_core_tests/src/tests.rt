@@ -2,6 +2,7 @@
 //! computed, and that each call answers where memory is there.
 
 mod calls;
+mod changes;
 mod life;
 mod looks;
 mod named;
@@ -29,12 +30,23 @@ fn blank(alloc: Global) -> MemNotes {
     MemNotes::new(Vec::new(alloc))
 }
 
+/// The first row of a story that isn't answered so by a client of so many servers over blank notes, in which
+/// memory may run out once.
+fn unlike_in(alloc: Global, servers: u32, rows: &str) -> Option<(usize, Option<Trouble>)> {
+    let mut life = Life::new(alloc, servers, blank(alloc));
+    let unlike = life.first_unlike(rows);
+    if life.wants > 1 {
+        Some((0, Some(Trouble::NoMemory)))
+    } else {
+        unlike
+    }
+}
+
 /// A client of so many servers over blank notes answers the rows of each story.
 fn are_answered(rt: &(impl Abort + AllocGlobal), servers: u32, stories: &[Story]) {
     for (name, rows) in stories {
-        let mut life = Life::new(rt.alloc(), servers, blank(rt.alloc()));
-        let unlike = life.first_unlike(rows);
-        assert!(rt; unlike.is_none() && life.wants <= 1, "{name}: {unlike:?}");
+        let unlike = unlike_in(rt.alloc(), servers, rows);
+        assert!(rt; unlike.is_none(), "{name}: {unlike:?}");
     }
 }
 
@@ -50,17 +62,23 @@ fn first_unlike(
     }
 }
 
-/// The first row of a story that isn't answered so, where a save fails.
-fn unlike_after(alloc: Global, story: &LostSave) -> Option<(usize, Option<Trouble>)> {
+/// Tells a story in which a save fails: how often memory ran out, and the first row that isn't answered so.
+fn tell(alloc: Global, story: &LostSave) -> (u32, Option<(usize, Option<Trouble>)>) {
     let notes = FaultNotes::new(blank(alloc), story.at, story.landed);
     let mut life = Life::new(alloc, 1, notes);
     let unlike = life.first_unlike(story.rows);
-    // A save that finds no memory counts as one, so that another fails. The story is told anew.
-    if life.wants == 1 {
-        let notes = FaultNotes::new(blank(alloc), story.at, story.landed);
-        return Life::new(alloc, 1, notes).first_unlike(story.rows);
+    (life.wants, unlike)
+}
+
+/// The first row of a story that isn't answered so, where a save fails. A save that finds no memory counts as
+/// one, so that another fails: then the story is told anew.
+fn unlike_after(alloc: Global, story: &LostSave) -> Option<(usize, Option<Trouble>)> {
+    let (wants, unlike) = tell(alloc, story);
+    if wants == 1 {
+        tell(alloc, story).1
+    } else {
+        unlike
     }
-    unlike
 }
 
 /// A client over blank notes answers the rows of each story, in which a save fails.
@@ -111,7 +129,13 @@ fn states_are_kept(rt: HostRuntime) {
 
 /// Whether a client is restarted over so many states, and then answers the rows.
 fn holds_of_full(alloc: Global, count: u32, rows: &str) -> Result<bool, Trouble> {
-    let mut life = Life::new(alloc, 1, MemNotes::new(notes::note_of(alloc, count)?));
+    let note = notes::note_of(alloc, count)?;
+    let mut life = Life::new(alloc, 1, MemNotes::new(note));
+    answers_once_on(&mut life, rows)
+}
+
+/// Whether a client that is off is restarted, and then answers the rows.
+fn answers_once_on(life: &mut Life<MemNotes>, rows: &str) -> Result<bool, Trouble> {
     let notes = life.off()?;
     Ok(life.restart(notes) == 0 && life.first_unlike(rows).is_none())
 }
@@ -130,12 +154,8 @@ fn states_in_pieces(rt: HostRuntime) {
 
 #[test]
 fn packets_in_each_stage(rt: HostRuntime) {
-    for stage in STAGES {
-        let unlike = stages::first_unlike(rt.alloc(), stage);
-        assert!(rt; unlike.is_none(), "{}: {unlike:?}", stage.name);
-        let unlike = stages::first_unlike_change(rt.alloc(), stage);
-        assert!(rt; unlike.is_none(), "{}: {unlike:?}", stage.name);
-    }
+    let unlike = stages::unlike_in(rt.alloc(), &STAGES);
+    assert!(rt; unlike.is_none(), "{unlike:?}");
 }
 
 #[test]
@@ -152,33 +172,18 @@ fn notes_that_a_client_is_restarted_over(rt: HostRuntime) -> Result<(), Fail> {
     Ok(())
 }
 
-/// The first length of which the bytes of a note are one, too, or the first bit of which another
-/// makes a note that isn't written as it was read.
-fn first_accepted(alloc: Global, words: &str) -> Result<Option<usize>, Trouble> {
-    let mut note = notes::bytes_in(alloc, words)?;
-    for len in 1..note.len() {
-        let (front, _) = note.split_at(len);
-        if !notes::is_refused(alloc, front)? {
-            return Ok(Some(len));
-        }
-    }
-    for at in 0..note.len() {
-        for bit in 0..8u32 {
-            let before = note[at];
-            note[at] = before ^ 1u8.wrapping_shl(bit);
-            let holds = notes::is_refused_or_same(alloc, &note)?;
-            note[at] = before;
-            if !holds {
-                return Ok(Some(at));
-            }
-        }
-    }
-    Ok(None)
+#[test]
+fn notes_that_are_cut_short(rt: HostRuntime) -> Result<(), Fail> {
+    let note = notes::bytes_in(rt.alloc(), notes::TWO)?;
+    let len = changes::first_note(rt.alloc(), &note)?;
+    assert!(rt; len == Some(note.len()), "{len:?}");
+    Ok(())
 }
 
 #[test]
 fn notes_that_are_changed(rt: HostRuntime) -> Result<(), Fail> {
-    let accepted = first_accepted(rt.alloc(), notes::TWO)?;
-    assert!(rt; accepted.is_none(), "{accepted:?}");
+    let mut note = notes::bytes_in(rt.alloc(), notes::TWO)?;
+    let unlike = changes::first_unlike(rt.alloc(), &mut note)?;
+    assert!(rt; unlike.is_none(), "{unlike:?}");
     Ok(())
 }

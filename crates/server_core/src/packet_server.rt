@@ -182,6 +182,7 @@ impl<N: Notes> PacketServer<N> {
     }
 
     /// Takes a request for a write of a job, as `step` does.
+    #[inline(always)]
     pub(crate) fn issue(&mut self, job: JobNo) -> Result<Outs, Fault>
         ensures ends { (o : Opening) (past : List Entry) → StandsFor N.note self.old o past →
             Ends N.note o past (Issue job) self.old self.new result }
@@ -196,6 +197,7 @@ impl<N: Notes> PacketServer<N> {
     }
 
     /// Takes the end of a write, as `step` does.
+    #[inline(always)]
     pub(crate) fn end_write(&mut self, ticket: Ticket, end: WriteEnd) -> Result<Outs, Fault>
         ensures ends { (o : Opening) (past : List Entry) → StandsFor N.note self.old o past →
             Ends N.note o past (WriteDone ticket end) self.old self.new result }

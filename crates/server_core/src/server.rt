@@ -165,6 +165,8 @@ impl<N: Notes> Server<N> {
     /// piece completes a body that isn't the packet of its tag, which is dropped. `NoMemory`: nothing
     /// changes. `SaveFault`: the device failed, and the server is down. Any other fault is a refusal,
     /// which changes nothing.
+    // Inlined with the way of writes, so that their caller makes no room for packets and frames.
+    #[inline(always)]
     pub fn step(&mut self, input: Input) -> Result<Outs, Fault>
         ensures ends { (o : Opening) (past : List FrameEntry) → StandsFor N.note self.old o past →
             Ends N.note o past input self.old self.new result }
@@ -179,6 +181,7 @@ impl<N: Notes> Server<N> {
     }
 
     /// Takes what comes.
+    #[inline(never)]
     fn take(&mut self, input: Input) -> Result<Outs, Fault>
         ensures { (o : Opening) (past : List FrameEntry) → StandsFor N.note self.old o past →
             Ends N.note o past input self.old self.new result }

@@ -8,6 +8,7 @@ use super::trouble::Trouble;
 use client_core::Client;
 use disk_model::Notes;
 use fc_base::Fault;
+use messages::Frame;
 use std::alloc::Global;
 
 /// A client, or the notes of one that is off.
@@ -75,10 +76,14 @@ impl<N: Notes + Drop> Life<N> {
     /// Whether the client says just this of the delivery of a frame.
     fn would_save(&mut self, event: &str, answer: &str) -> Result<bool, Trouble> {
         let frame = frame_in(self.alloc, &mut self.spelling, event)?;
+        self.is_told_of(&frame, answer)
+    }
+
+    fn is_told_of(&self, frame: &Frame, answer: &str) -> Result<bool, Trouble> {
         let Some(client) = &self.client else {
             return Err(Trouble::NoClient);
         };
-        let saves = would_save(client, &frame)?;
+        let saves = would_save(client, frame)?;
         Ok(answer == if saves { "1" } else { "0" })
     }
 

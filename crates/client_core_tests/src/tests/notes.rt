@@ -55,11 +55,28 @@ pub fn holds(alloc: Global, row: &str) -> Result<bool, Trouble> {
         return Ok(row.trim().is_empty());
     };
     let words = words.trim();
-    let mut life = Life::new(alloc, 1, MemNotes::new(bytes_in(alloc, words)?));
+    let bytes = bytes_in(alloc, words)?;
+    let mut life = Life::new(alloc, 1, MemNotes::new(bytes));
+    is_restarted(&mut life, words, answer.trim().parse::<u8>().ok())
+}
+
+/// Whether a client that is off is restarted, or is refused by this number, and its notes say this then.
+fn is_restarted(
+    life: &mut Life<MemNotes>,
+    words: &str,
+    answer: Option<u8>,
+) -> Result<bool, Trouble> {
     let notes = life.off()?;
-    let fault = life.restart(notes);
+    if Some(life.restart(notes)) != answer {
+        return Ok(false);
+    }
+    still_says(life, words)
+}
+
+/// Whether the notes of a client say this.
+fn still_says(life: &mut Life<MemNotes>, words: &str) -> Result<bool, Trouble> {
     let mut notes = life.off()?;
-    Ok(answer.trim().parse::<u8>().ok() == Some(fault) && life.is_noted(&mut notes, words)?)
+    life.is_noted(&mut notes, words)
 }
 
 /// The note that keeps so many states: of server 0, those of 16 jobs for each run.
@@ -94,27 +111,23 @@ fn put_state(bytes: &mut Vec<u8>, index: u32) -> Result<(), Trouble> {
     Ok(())
 }
 
-/// Whether bytes are refused, or are a note that is written as just these bytes. Where memory runs out,
-/// they are read again.
-pub fn is_refused_or_same(alloc: Global, bytes: &[u8]) -> Result<bool, Trouble> {
-    match same_once(alloc, bytes) {
-        Err(Trouble::NoMemory) => same_once(alloc, bytes),
+/// Whether bytes are a note, which has to be written as just these bytes. Where memory runs out, they are
+/// read again.
+pub fn is_note(alloc: Global, bytes: &[u8]) -> Result<bool, Trouble> {
+    match is_note_once(alloc, bytes) {
+        Err(Trouble::NoMemory) => is_note_once(alloc, bytes),
         answer => answer,
     }
 }
 
-fn same_once(alloc: Global, bytes: &[u8]) -> Result<bool, Trouble> {
-    match Noted::decode(alloc, bytes)? {
-        Some(noted) => Ok(noted.encode(alloc)?.as_slice() == bytes),
-        None => Ok(true),
-    }
-}
-
-/// Whether bytes are no note. Where memory runs out, they are read again.
-pub fn is_refused(alloc: Global, bytes: &[u8]) -> Result<bool, Trouble> {
-    match Noted::decode(alloc, bytes) {
-        Ok(noted) => Ok(noted.is_none()),
-        Err(_) => Ok(Noted::decode(alloc, bytes)?.is_none()),
+fn is_note_once(alloc: Global, bytes: &[u8]) -> Result<bool, Trouble> {
+    let Some(noted) = Noted::decode(alloc, bytes)? else {
+        return Ok(false);
+    };
+    if noted.encode(alloc)?.as_slice() == bytes {
+        Ok(true)
+    } else {
+        Err(Trouble::Changed)
     }
 }
 

@@ -10,12 +10,17 @@ use std::alloc::Global;
 /// Where a stage isn't as it says, or a packet isn't answered as its row says.
 #[derive(Clone, Copy, Debug)]
 pub struct Unlike {
+    pub stage: &'static str,
     pub row: &'static str,
     pub trouble: Option<Trouble>,
 }
 
-fn at_row(row: &'static str, trouble: Option<Trouble>) -> Unlike {
-    Unlike { row, trouble }
+fn at_row(stage: Stage, row: &'static str, trouble: Option<Trouble>) -> Unlike {
+    Unlike {
+        stage: stage.name,
+        row,
+        trouble,
+    }
 }
 
 /// A client in a stage.
@@ -23,7 +28,7 @@ fn life_in(alloc: Global, stage: Stage) -> Result<Life<MemNotes>, Unlike> {
     let mut life = Life::new(alloc, 1, MemNotes::new(Vec::new(alloc)));
     match life.first_unlike(stage.before) {
         None => Ok(life),
-        Some((_, trouble)) => Err(at_row(stage.name, trouble)),
+        Some((_, trouble)) => Err(at_row(stage, stage.before, trouble)),
     }
 }
 
@@ -49,18 +54,36 @@ fn check(
 ) -> Option<Unlike> {
     match life.holds(row) {
         Ok(true) => {}
-        Ok(false) => return Some(at_row(row, None)),
-        Err(trouble) => return Some(at_row(row, Some(trouble))),
+        Ok(false) => return Some(at_row(stage, row, None)),
+        Err(trouble) => return Some(at_row(stage, row, Some(trouble))),
     }
     match &life.client {
         Some(client) if outcome_of(client, stage.request) == Ok(outcome) => None,
-        _ => Some(at_row(row, None)),
+        _ => Some(at_row(stage, row, None)),
+    }
+}
+
+/// The first packet that isn't answered as the rows say, in any stage.
+pub fn unlike_in(alloc: Global, stages: &[Stage]) -> Option<Unlike> {
+    for stage in stages {
+        let unlike = unlike_at(alloc, *stage);
+        if unlike.is_some() {
+            return unlike;
+        }
+    }
+    None
+}
+
+fn unlike_at(alloc: Global, stage: Stage) -> Option<Unlike> {
+    match first_unlike(alloc, stage) {
+        None => first_unlike_change(alloc, stage),
+        unlike => unlike,
     }
 }
 
 /// The first packet that isn't answered as the rows say, of those that change nothing in a stage. They come
 /// one after the other.
-pub fn first_unlike(alloc: Global, stage: Stage) -> Option<Unlike> {
+fn first_unlike(alloc: Global, stage: Stage) -> Option<Unlike> {
     match life_in(alloc, stage) {
         Ok(mut life) => first_quiet(&mut life, stage),
         Err(found) => Some(found),
@@ -68,7 +91,7 @@ pub fn first_unlike(alloc: Global, stage: Stage) -> Option<Unlike> {
 }
 
 /// The first that isn't, of those that change something: each comes to a client of its own.
-pub fn first_unlike_change(alloc: Global, stage: Stage) -> Option<Unlike> {
+fn first_unlike_change(alloc: Global, stage: Stage) -> Option<Unlike> {
     for line in stage.changes.lines() {
         if let Some((row, outcome)) = line.split_once(" / ") {
             let found = unlike_change(alloc, stage, row, outcome.trim());

@@ -12,7 +12,7 @@ pub enum Trouble {
     BadRow,
     /// The client is off, or is on.
     NoClient,
-    /// A refused call has changed the client.
+    /// A refused call has changed the client, or a note isn't written as it was read.
     Changed,
 }
 

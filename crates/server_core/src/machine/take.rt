@@ -108,6 +108,7 @@ impl Machine {
     }
 
     /// A worker asks for a write.
+    #[inline(always)]
     pub(crate) fn handle_issue(&mut self, job: JobNo) -> Result<Outs, Fault>
         ensures handled { EachUndue self.old (ToIssue job)
             (λ now. Handled now (ToIssue job) self.old self.new result) }
@@ -122,6 +123,7 @@ impl Machine {
     }
 
     /// A worker tells how a write ended.
+    #[inline(always)]
     pub(crate) fn handle_end(&mut self, ticket: Ticket, end: WriteEnd) -> Result<Outs, Fault>
         ensures handled { EachUndue self.old (ToEnd ticket end)
             (λ now. Handled now (ToEnd ticket end) self.old self.new result) }
