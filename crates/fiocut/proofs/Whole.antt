@@ -8,7 +8,7 @@ use Rattle.job_file.specs.declared.fault.JobFault.TheVariants.{TooLong}
 use Rattle.job_file.specs.Fault.{when}
 use Rattle.job_file.specs.JobSet.{refusal_of}
 use Rattle.fiocut.specs.declared.refusal.Refusal.{Refusal}
-use Rattle.fiocut.specs.Input.{IsRead}
+use Rattle.bounded_input.specs.Input.{IsRead}
 use Rattle.fiocut.specs.Refusal.{RefusesText}
 use Rattle.fiocut.specs.Answer.{AreLinesOf, AnswersText}
 

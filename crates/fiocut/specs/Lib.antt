@@ -1,4 +1,3 @@
-pub mod Input
 pub mod Lines
 pub mod Refusal
 pub mod Answer

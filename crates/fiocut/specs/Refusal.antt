@@ -6,8 +6,8 @@ use Rattle.fc_base.specs.Fault.{number_of, name_of}
 use Rattle.job_file.specs.declared.fault.JobFault.{JobFault}
 use Rattle.job_file.specs.Fault.{fault_of, line_or_job_of}
 use Rattle.job_file.specs.JobSet.{refusal_of}
-use Rattle.fiocut.specs.declared.input.InputFault.{InputFault as Unread}
-use Rattle.fiocut.specs.declared.input.InputFault.TheVariants as unread
+use Rattle.bounded_input.specs.declared.input.InputFault.{InputFault as Unread}
+use Rattle.bounded_input.specs.declared.input.InputFault.TheVariants as unread
 use Rattle.fiocut.specs.declared.refusal.Refusal.{Refusal}
 use Rattle.fiocut.specs.Lines.{spaced}
 

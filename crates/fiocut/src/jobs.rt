@@ -4,12 +4,12 @@ ghost use Rattle.std.specs.Prelude.{◌≡◌, ◌⊎◌, ◌+◌, IfOk, OnOk, I
 ghost use Rattle.std.specs.Io.KnownBytes.{Appends};
 ghost use Rattle.fiocut.specs.Lines.{ended};
 ghost use Rattle.fiocut.specs.Refusal.{refusal_line};
-ghost use Rattle.fiocut.specs.Input.{HasRead};
+ghost use Rattle.bounded_input.specs.Input.{HasRead};
 ghost use Rattle.fiocut.specs.Answer.{AnswersText, WritesLinesOf, WritesRefusalOf};
 
-use crate::input::read_input;
 use crate::lines::lines_of_set;
 use crate::refusal::Refusal;
+use bounded_input::read_input;
 use fc_base::MAX_TEXT;
 use job_file::parse;
 use std::alloc::Global;

@@ -2,7 +2,6 @@
 #![tactic(auto)]
 
 mod command;
-mod input;
 mod jobs;
 mod lines;
 mod refusal;

@@ -3,7 +3,7 @@
 ghost use Rattle.std.specs.Prelude.{◌≡◌, Some};
 ghost use Rattle.fc_base.specs.declared.fault.Fault.TheVariants.{JobNoMemory};
 
-use crate::input::InputFault;
+use bounded_input::InputFault;
 use fc_base::Fault;
 use job_file::JobFault;
 use std::alloc::AllocError;

@@ -1,11 +1,9 @@
 //! What no clause shows: the printed texts, the exit statuses, the bounds of reading, and which
 //! command lines are read.
 
-mod fakes;
-
 use crate::command::{Request, read_words, refuse_words};
 use crate::jobs::run_jobs;
-use fakes::{Held, Source, failing, held_output, in_steps, interrupted, page_with, source_of};
+use fake_io::{Held, Source, failing, held_output, in_steps, interrupted, page_with, source_of};
 use std::alloc::{AllocError, Global};
 use std::io;
 use std::process::Abort;
