@@ -1,0 +1,99 @@
+//! What no clause shows: that a world answers as others computed it, frame by frame, and that each call
+//! answers where memory is there.
+
+mod commands;
+mod lines;
+mod looks;
+mod played;
+mod same;
+mod stories;
+mod teller;
+mod texts;
+mod trouble;
+mod words;
+
+use played::{Leaves, Stop, left, plays_the_same};
+use std::alloc::{AllocGlobal, Global};
+use std::process::Abort;
+use std::test::Fail;
+use stories::saves::STOPS;
+use stories::{Story, disks, numbers, pieces, refusals, runs, stops};
+use teller::Teller;
+use trouble::Trouble;
+
+/// The first row of a story that isn't answered so.
+fn first_unlike(alloc: Global, story: &str) -> Option<(usize, Option<Trouble>)> {
+    match Teller::new(alloc, story) {
+        Ok(mut teller) => teller.first_unlike(story),
+        Err(trouble) => Some((0, Some(trouble))),
+    }
+}
+
+/// A world answers the rows of each story.
+fn are_answered(rt: &(impl Abort + AllocGlobal), stories: &[Story]) {
+    for (name, rows) in stories {
+        let unlike = first_unlike(rt.alloc(), rows);
+        assert!(rt; unlike.is_none(), "{name}: {unlike:?}");
+    }
+}
+
+/// What is played at once gives the world that the events give one by one.
+fn are_played(rt: &(impl Abort + AllocGlobal), stories: &[Story]) {
+    for (name, rows) in stories {
+        let same = plays_the_same(rt.alloc(), rows);
+        assert!(rt; same == Ok(true), "{name}: {same:?}");
+    }
+}
+
+#[test]
+fn runs_from_the_first_text_to_the_last_report(rt: HostRuntime) {
+    are_answered(&rt, runs::STORIES);
+}
+
+#[test]
+fn nodes_that_stop_within_a_save(rt: HostRuntime) {
+    are_answered(&rt, stops::STORIES);
+}
+
+#[test]
+fn what_is_refused(rt: HostRuntime) {
+    are_answered(&rt, refusals::STORIES);
+}
+
+#[test]
+fn texts_in_pieces(rt: HostRuntime) {
+    are_answered(&rt, pieces::STORIES);
+}
+
+#[test]
+fn numbers_that_a_cut_uses_up(rt: HostRuntime) {
+    are_answered(&rt, numbers::STORIES);
+}
+
+#[test]
+fn disks_that_rot_and_tear(rt: HostRuntime) {
+    are_answered(&rt, disks::STORIES);
+}
+
+#[test]
+fn stories_that_are_played(rt: HostRuntime) {
+    are_played(&rt, runs::STORIES);
+    are_played(&rt, stops::STORIES);
+    are_played(&rt, refusals::STORIES);
+    are_played(&rt, pieces::STORIES);
+    are_played(&rt, numbers::STORIES);
+    are_played(&rt, disks::STORIES);
+}
+
+/// Wherever a node stops within a save of the stored run, the client keeps of its job the state that was
+/// taken, or none; and what makes no save isn't stopped in one.
+#[test]
+fn a_stop_in_each_save(rt: HostRuntime) {
+    let (_, rows) = runs::STORIES[0];
+    for (at, (before, behind)) in STOPS.iter().enumerate() {
+        for (landed, wanted) in [(false, before), (true, behind)] {
+            let leaves = left(rt.alloc(), rows, Stop { at, landed });
+            assert!(rt; leaves == Ok(Some(*wanted)), "{at}, {landed}: {leaves:?}");
+        }
+    }
+}

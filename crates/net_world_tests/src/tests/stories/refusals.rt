@@ -1,0 +1,42 @@
+//! What a world and its nodes refuse.
+
+use super::Story;
+
+pub const STORIES: &[Story] = &[
+    (
+        "refusals of the world",
+        "
+servers 1
+begin writing => ok run 1 + sent 0 client 0 Jobs 62
+land 0 0 5 all => refused 83 NoWrite
+cutold deliver 0 => refused 84 NoSave
+frame 0 => 4643010100000008000000000000002e00000000000000015b615d0a72773d77726974650a62733d3531320a73697a653d316b0a696f64657074683d320a
+status 0 => boot=1 last_run=0 staged=0 run=0 stage=Idle attempt=0
+",
+    ),
+    (
+        "refused commands",
+        "
+servers 1
+deliver 0 => refused 80 NoFrame
+issue 0 0 => ok stopped
+cut 0 => ok
+issue 0 0 => refused 81 NodeOff
+restart client => refused 82 NodeOn
+check 1 0 => refused 85 NoServer
+cutnew restart 0 => ok
+status 0 => off
+",
+    ),
+    (
+        "empty text",
+        "
+servers 1
+begin empty => ok run 1 + sent 0 client 0 Jobs 24
+deliver 0 => ok + sent 1 0 client Refused 50
+frame 0 => 464301010000000800000000000000080000000000000001
+frame 1 => 4643011000000000000000080000002201420000000000000000000000000000000100000000000000000000000000000006
+status 0 => boot=1 last_run=0 staged=0 run=0 stage=Idle attempt=0
+",
+    ),
+];
