@@ -20,5 +20,3 @@ pub use running::{MAX_SCRIPT, run_script};
 pub use script_fault::ScriptFault;
 pub use table::line_of;
 
-#[cfg(test)]
-mod tests;

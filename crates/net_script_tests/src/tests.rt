@@ -2,7 +2,7 @@
 
 mod running;
 
-use crate::line_of;
+use net_script::line_of;
 use std::alloc::{AllocGlobal, Global};
 use std::fmt;
 use std::process::Abort;

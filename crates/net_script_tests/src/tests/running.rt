@@ -1,7 +1,7 @@
 //! What no clause shows: that scripts print what the manual says, and how a run ends that fails.
 
-use crate::{MAX_SCRIPT, ScriptFault, run_script};
 use fake_io::{Source, failing_at, held_output, in_steps, interrupted, page_with, source_of};
+use net_script::{MAX_SCRIPT, ScriptFault, run_script};
 use std::alloc::{AllocError, AllocGlobal, Global};
 use std::process::Abort;
 use std::test::Fail;
