@@ -19,4 +19,3 @@ pub use line::Line;
 pub use running::{MAX_SCRIPT, run_script};
 pub use script_fault::ScriptFault;
 pub use table::line_of;
-
