@@ -122,11 +122,11 @@ pub record Restarts {T : Type 0} (note : T → Note) (me : ℕ) (notes : T) (ser
       → Says (note notes).bytes (record { boot = boot o past; last_run = last_run o past })
       → StandsFor note server o (Restart Saved ∷ past)
 
--- The bytes are the old ones, or those of the next boot.
+-- The bytes said something that left a boot, and they are still there, or those of the next boot are.
 abbrev pub IsHalfSaved : List ℕ → List ℕ → Type 0
 IsHalfSaved old new =
-    (new ≡ old)
-    ⊎ ((n : Noted) × Says old n × (new ≡ spelling (record { boot = n.boot + 1; last_run = n.last_run })))
+    (n : Noted) × Says old n × (n.boot < 2 ^ 64 - 1)
+    × ((new ≡ old) ⊎ (new ≡ spelling (record { boot = n.boot + 1; last_run = n.last_run })))
 
 -- Why a server isn't opened: the device failed, the bytes are no note, the boots are used up, memory ran
 -- out, or the save failed; and what the notes then hold.
