@@ -1,0 +1,106 @@
+-- The rules of a server under its lock.
+use Rattle.std.specs.Prelude.{◌+◌, ◌^◌, Bool, true, false, not, nat_lt, if◌then◌else◌, List, [], ◌∷◌, Option, Some, None}
+use Rattle.std.specs.Option.{option_map}
+use Rattle.fc_base.specs.declared.fault.Fault.{Fault}
+use Rattle.fc_base.specs.declared.fault.Fault.TheVariants.{NumbersSpent, NodeOff, NodeOn}
+use Rattle.engine.specs.declared.issue.Issue.{Issue}
+use Rattle.disk_model.specs.declared.left.Left.{Left}
+use Rattle.disk_model.specs.declared.left.Left.TheVariants.{NoSave, Saved, LostNew, LostOld}
+use Rattle.messages.specs.declared.frame.Frame.{Frame}
+use Rattle.messages.specs.declared.refusal.Act.TheVariants as acts
+use Rattle.messages.specs.FrameBytes.{frame_at}
+use Rattle.server_core.specs.declared.input.Input.{Input}
+use Rattle.server_core.specs.declared.input.Input.TheVariants as inputs
+use Rattle.server_core.specs.History.{Opening}
+use Rattle.server_core.specs.Words.{is_on, boot}
+use Rattle.server_core.specs.Hearing.{FrameEntry, Met, Cut, Restart, packets_heard}
+use Rattle.server_core.specs.FrameAnswers as answers
+use Rattle.node_history.specs.declared.came.Came.{Came}
+use Rattle.node_history.specs.declared.came.Came.TheVariants as came
+use Rattle.node_history.specs.declared.answer.Answer.{Answer}
+use Rattle.node_history.specs.declared.answer.Answer.TheVariants.{Plain, Issued}
+use Rattle.node_history.specs.declared.answer.Said.{Said}
+use Rattle.node_history.specs.Rules.{Ask, Meets, Cuts, Restarts, Nothing, Rules}
+
+-- The frame that the bytes say is delivered.
+abbrev pub delivered : Option Frame → Ask Input
+delivered None = Nothing
+delivered (Some f) = Meets (inputs.Deliver f)
+
+-- What is asked of a server.
+abbrev pub asked : Came → Ask Input
+asked (came.Frame bytes) = delivered (frame_at bytes)
+asked (came.Issue j) = Meets (inputs.Issue j)
+asked (came.WriteDone ticket end) = Meets (inputs.WriteDone ticket end)
+asked (came.CheckDone now attempt job report) = Meets (inputs.CheckDone now attempt job report.value)
+asked came.Cut = Cuts
+asked came.Restart = Restarts
+asked _ = Nothing
+
+-- It is on, by the list.
+abbrev pub is_up : Opening → List FrameEntry → Bool
+is_up o past = is_on (packets_heard o past)
+
+-- A boot of eight bytes is left above those that were used.
+abbrev pub has_boot : Opening → List FrameEntry → Bool
+has_boot o past = nat_lt (boot o (packets_heard o past) + 1) (2 ^ 64)
+
+-- A server that is off or down refuses all but a restart; one that is on refuses a restart, and what its
+-- core refuses.
+abbrev pub refusal : Opening → List FrameEntry → Ask Input → Option Fault
+refusal o past (Meets e) = if is_up o past then answers.refusal o past e else Some NodeOff
+refusal o past Cuts = if is_up o past then None else Some NodeOff
+refusal o past Restarts = if is_up o past then Some NodeOn else (if has_boot o past then None else Some NumbersSpent)
+refusal o past Nothing = None
+
+-- A restart of a server that is off loads its note.
+abbrev pub loads : Opening → List FrameEntry → Ask Input → Bool
+loads o past Restarts = not (is_up o past)
+loads o past _ = false
+
+-- What is answered of writes, if anything is.
+abbrev pub answer_of : Option Issue → Answer
+answer_of None = Plain
+answer_of (Some issue) = Issued issue
+
+-- What is answered, and whether the server asks for a cut.
+abbrev pub said : Opening → List FrameEntry → Ask Input → Said
+said o past (Meets e) = record { answer = answer_of (answers.issue o past e); act = answers.act o past e }
+said o past _ = record { answer = Plain; act = acts.None }
+
+-- The entry that is added where all goes well.
+abbrev pub added : Opening → List FrameEntry → Ask Input → Option FrameEntry
+added o past (Meets e) = Some (answers.answered o past e)
+added o past Cuts = Some Cut
+added o past Restarts = Some (Restart Saved)
+added o past Nothing = None
+
+-- What a server that is on refuses stands in its list without a save.
+abbrev pub passed : Opening → List FrameEntry → Ask Input → List FrameEntry
+passed o past (Meets e) = if is_up o past then Met e NoSave ∷ past else past
+passed o past _ = past
+
+-- What a save left that failed.
+abbrev pub left_by : Bool → Left
+left_by true = LostNew
+left_by false = LostOld
+
+-- The entry of a Start that was due, or of a restart, whose save failed.
+abbrev pub lost : Opening → List FrameEntry → Ask Input → Bool → Option FrameEntry
+lost o past (Meets e) landed = option_map (λ began. Met e (left_by landed)) (answers.due o past e)
+lost o past Restarts landed = Some (Restart (left_by landed))
+lost o past _ landed = None
+
+-- The rules of a server that opens by a restart.
+abbrev pub rules : Opening → Rules Input FrameEntry
+rules o = record {
+  opened = Restart Saved ∷ [];
+  asked = asked;
+  refusal = refusal o;
+  loads = loads o;
+  said = said o;
+  added = added o;
+  passed = passed o;
+  lost = lost o;
+  frames = answers.frames o;
+}

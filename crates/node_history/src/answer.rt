@@ -1,0 +1,52 @@
+//! What a node answers.
+
+ghost use Rattle.std.specs.Prelude.{◌≡◌};
+
+use engine::Issue;
+use fc_base::{Attempt, RunNo};
+use messages::Act;
+
+/// What a node answers to what comes.
+#[derive(Clone, Copy, Debug, PartialEq, Eq)]
+pub enum Answer {
+    /// Nothing more.
+    Plain,
+    /// The number of the run that has begun.
+    Run(RunNo),
+    /// The number of the attempt to verify.
+    Attempt(Attempt),
+    /// What a worker is told that asks for a write.
+    Issued(Issue),
+}
+
+/// An answer, and what a server asks of its caller.
+#[derive(Clone, Copy, Debug, PartialEq, Eq)]
+pub struct Said {
+    pub answer: Answer,
+    pub act: Act,
+}
+
+/// What a caller is told: the answer, how many frames were sent, which the hub numbers from `first` on,
+/// and what a server asks of it. Both numbers are 0 for what sends nothing over a hub.
+#[derive(Clone, Copy, Debug, PartialEq, Eq)]
+pub struct Told {
+    pub answer: Answer,
+    pub first: u64,
+    pub sent: u64,
+    pub act: Act,
+}
+
+impl Said {
+    ghost use Rattle.node_history.specs.ServerRules.{answer_of};
+
+    /// What a server says: what it answers of writes, if anything, and what it asks of its caller.
+    pub fn of(issue: Option<Issue>, act: Act) -> Said
+        ensures { result ≡ record { answer = answer_of issue; act = act } }
+    {
+        let answer = match issue {
+            Some(issue) => Answer::Issued(issue),
+            None => Answer::Plain,
+        };
+        Said { answer, act }
+    }
+}

@@ -1,0 +1,72 @@
+//! What comes to a node.
+
+ghost use Rattle.std.specs.Prelude.{◌≡◌};
+
+use engine::Ticket;
+use fc_base::{Attempt, CheckReport, JobNo, RunNo};
+use messages::{Act, Text};
+use server_core::WriteEnd;
+use std::marker::Model;
+
+/// The bytes of a frame.
+#[derive(Debug, Drop)]
+pub struct FrameBytes {
+    bytes: Vec<u8>,
+}
+
+impl Model for FrameBytes {
+    ghost use Rattle.std.specs.Prelude.{List, ℕ};
+
+    ghost Value = { List ℕ };
+
+    ghost view = { λ f. f.bytes.items };
+}
+
+impl FrameBytes {
+    /// These bytes.
+    pub fn new(bytes: Vec<u8>) -> FrameBytes
+        ensures { result ≡ bytes.items }
+    {
+        FrameBytes { bytes }
+    }
+
+    /// The bytes.
+    pub fn as_slice(&self) -> &[u8]
+        ensures { result.now ≡ self.now }
+    {
+        self.bytes.as_slice()
+    }
+}
+
+/// What comes to a node: to a server what its workers ask and tell, to the client what its caller asks,
+/// and to both frames, cuts and restarts.
+#[derive(Debug, Drop)]
+pub enum Came {
+    /// A frame is delivered.
+    Frame(FrameBytes),
+    /// A worker asks for the next write of a job.
+    Issue(JobNo),
+    /// A worker has carried out a write, or has failed to.
+    WriteDone(Ticket, WriteEnd),
+    /// A job's file was checked, in this boot and for this attempt.
+    CheckDone {
+        boot: u64,
+        attempt: Attempt,
+        job: JobNo,
+        report: Box<CheckReport>,
+    },
+    /// The client begins a run with this job file.
+    Begin(Text),
+    /// The client triggers the write states of a run, and then this act.
+    Trigger(RunNo, Act),
+    /// The client stops a run.
+    Stop(RunNo),
+    /// The client verifies a run by this job file.
+    Verify(RunNo, Text),
+    /// The client asks again for all that isn't answered.
+    Tick,
+    /// The node loses its power.
+    Cut,
+    /// The node is started again.
+    Restart,
+}

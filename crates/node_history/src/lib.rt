@@ -1,0 +1,13 @@
+//! The history of a node under its lock: what came to it, what it answered and sent, and the rules by
+//! which that history is replayed.
+#![tactic(auto)]
+
+mod answer;
+mod came;
+mod logged;
+mod seat;
+
+pub use answer::{Answer, Said, Told};
+pub use came::{Came, FrameBytes};
+pub use logged::{Logged, Turn};
+pub use seat::Seat;

@@ -1,0 +1,23 @@
+//! What a node's history is made of.
+
+use crate::answer::Said;
+use crate::came::Came;
+use fc_base::Fault;
+use messages::Frames;
+
+/// A seat's event: which seat of the server, and the how manieth event of that seat, from 0 on.
+#[derive(Clone, Copy, Debug, PartialEq, Eq)]
+pub struct Turn {
+    pub seat: u32,
+    pub number: u64,
+}
+
+/// An entry of a node's history: whose turn it was, where it came from a seat; what came; what was
+/// answered; and the frames that were sent.
+#[derive(Debug, Drop)]
+pub struct Logged {
+    pub by: Option<Turn>,
+    pub came: Came,
+    pub answer: Result<Said, Fault>,
+    pub sent: Frames,
+}

@@ -1,0 +1,85 @@
+//! A worker's seat at a server.
+
+ghost use Rattle.std.specs.Prelude.{◌≡◌, ◌<◌, ◌+◌, ◌^◌, Some};
+ghost use Rattle.node_history.specs.Seats.{new_seat};
+
+use crate::answer::Said;
+use fc_base::{Fault, ServerNo};
+use std::marker::Model;
+
+/// How many seats a server has at most.
+pub const MAX_SEATS: u32 = 17;
+
+/// A seat, which can't be copied: its server, its number there, how many events it has applied, and the
+/// answer of the last.
+#[derive(Debug, Drop)]
+pub struct Seat {
+    server: ServerNo,
+    number: u32,
+    applied: u64,
+    last: Option<Result<Said, Fault>>,
+}
+
+impl Model for Seat {
+    ghost use Rattle.std.specs.Prelude.{◌<◌};
+    ghost use Rattle.node_history.specs.Seated.{Seated};
+
+    ghost Value = { Seated };
+
+    ghost view = { λ s. record { server = s.server; number = s.number; applied = s.applied; last = s.last } };
+
+    ghost invariant = { λ s. s.number < 17 };
+}
+
+impl Seat {
+    /// A seat that has applied nothing.
+    pub fn new(server: ServerNo, number: u32) -> Seat
+        requires { number < 17 }
+        ensures { result ≡ new_seat server number }
+    {
+        Seat {
+            server,
+            number,
+            applied: 0,
+            last: None,
+        }
+    }
+
+    /// The number of its server.
+    pub fn server(&self) -> ServerNo
+        ensures { result ≡ self.now.server }
+    {
+        self.server
+    }
+
+    /// Its number, from 0 on.
+    pub fn number(&self) -> u32
+        ensures value { result ≡ self.now.number }
+        ensures few { result < 17 }
+    {
+        self.number
+    }
+
+    /// How many events it has applied.
+    pub fn applied(&self) -> u64
+        ensures { result ≡ self.now.applied }
+    {
+        self.applied
+    }
+
+    /// The answer of its last event; `None` before the first.
+    pub fn last(&self) -> Option<Result<Said, Fault>>
+        ensures { result ≡ self.now.last }
+    {
+        self.last
+    }
+
+    /// It has applied one event more, with this answer.
+    pub fn advance(&mut self, answer: Result<Said, Fault>)
+        requires { self.old.applied + 1 < 2 ^ 64 }
+        ensures { self.new ≡ record self.old { applied = self.old.applied + 1; last = Some answer } }
+    {
+        self.applied += 1;
+        self.last = Some(answer);
+    }
+}

@@ -1,0 +1,6 @@
+use Rattle.std.proofs.Common.{◌≡◌}
+use Rattle.node_history.specs.Seats.{new_seats}
+use Rattle.server_cell.proofs.seats.new_seats.Given as goal
+
+abbrev pub invariant-loop-number : goal.invariant-loop-number
+invariant-loop-number l = l.seats.items ≡ new_seats l.me l.number

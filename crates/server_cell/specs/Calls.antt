@@ -1,0 +1,71 @@
+-- How what is asked from a seat ends.
+use Rattle.std.specs.Prelude.{◌≡◌, ◌+◌, ◌&&◌, ◌==◌, Bool, true, false, [], ◌∷◌, Some, Result, Ok, Err}
+use Rattle.fc_base.specs.declared.fault.Fault.{Fault}
+use Rattle.fc_base.specs.declared.fault.Fault.TheVariants.{NoMemory, WrongSeat}
+use Rattle.fc_base.specs.declared.fault.FaultSort.{FaultSort}
+use Rattle.fc_base.specs.declared.fault.FaultSort.TheVariants as sorts
+use Rattle.fc_base.specs.Fault.{sort_of}
+use Rattle.node_history.specs.declared.answer.Said.{Said}
+use Rattle.node_history.specs.declared.answer.Told.{Told}
+use Rattle.node_history.specs.declared.logged.Logged.{Logged}
+use Rattle.node_history.specs.Seated.{Seated}
+use Rattle.node_history.specs.Seats.{times}
+use Rattle.server_cell.specs.declared.task.Task.{Task}
+use Rattle.server_cell.specs.Cells.{ServerLog}
+use Rattle.server_cell.specs.Tasks.{came_by}
+
+-- The seat is of this server, and the history has just as many events of it as it has applied.
+abbrev pub is_right : ServerLog → Seated → Bool
+is_right cell seat =
+    (seat.server == cell.opening.me) && (seat.applied == times seat.number cell.history)
+
+-- What is told of an answer that sends nothing.
+abbrev pub told_by : Result Said Fault → Result Told Fault
+told_by (Ok said) = Ok (record { answer = said.answer; first = 0; sent = 0; act = said.act })
+told_by (Err fault) = Err fault
+
+-- The entry of a task: it has the seat's next number, and sends nothing.
+abbrev pub entry_of : Seated → Task → Result Said Fault → Logged
+entry_of seat task answer = record {
+  by = Some (record { seat = seat.number; number = seat.applied });
+  came = came_by task;
+  answer = answer;
+  sent = [];
+}
+
+-- The history has one entry more, and the seat has applied one event more and keeps its answer.
+pub record IsAdded (old : ServerLog) (seat : Seated) (task : Task) (answer : Result Said Fault) (new : ServerLog) (after : Seated) : Type 0 where
+  pub cell : new ≡ record { opening = old.opening; history = entry_of seat task answer ∷ old.history }
+  pub seat_is : after ≡ record { server = seat.server; number = seat.number; applied = seat.applied + 1; last = Some answer }
+
+-- Neither changes.
+pub record IsSame (old : ServerLog) (seat : Seated) (new : ServerLog) (after : Seated) : Type 0 where
+  pub cell : new ≡ old
+  pub seat_is : after ≡ seat
+
+-- Memory ran out.
+abbrev pub is_memory : FaultSort → Bool
+is_memory sorts.Memory = true
+is_memory sorts.Save = false
+is_memory sorts.Refusal = false
+
+abbrev pub lacks_memory : Result Said Fault → Bool
+lacks_memory (Ok said) = false
+lacks_memory (Err fault) = is_memory (sort_of fault)
+
+-- How what is asked from a right seat ends, with this answer: for want of memory nothing changes, and any
+-- other answer is entered.
+abbrev pub Enters : Bool → ServerLog → Seated → Task → ServerLog → Seated → Result Said Fault → Type 0
+Enters true old seat task new after answer = IsSame old seat new after × (answer ≡ Err NoMemory)
+Enters false old seat task new after answer = IsAdded old seat task answer new after
+
+-- How what is asked ends: a wrong seat is refused, and nothing changes; else the answer is told, and
+-- sends nothing.
+abbrev pub AppliesBy : Bool → ServerLog → Seated → Task → ServerLog → Seated → Result Told Fault → Type 0
+AppliesBy false old seat task new after result = IsSame old seat new after × (result ≡ Err WrongSeat)
+AppliesBy true old seat task new after result =
+    (answer : Result Said Fault) × (result ≡ told_by answer)
+    × Enters (lacks_memory answer) old seat task new after answer
+
+abbrev pub Applies : ServerLog → Seated → Task → ServerLog → Seated → Result Told Fault → Type 0
+Applies old seat task new after result = AppliesBy (is_right old seat) old seat task new after result

@@ -1,0 +1,36 @@
+-- What a server's cell shows, and what is true of every one.
+use Rattle.std.specs.Prelude.{◌≡◌, ℕ, ◌<◌, List, ◌∷◌, slice_index}
+use Rattle.disk_model.specs.Notes.{Note}
+use Rattle.server_core.specs.History.{Opening}
+use Rattle.server_core.specs.Ranges.{OpensInRange, CameInRange}
+use Rattle.server_core.specs.Hearing.{FrameEntry, packets_heard}
+use Rattle.node_history.specs.declared.logged.Logged.{Logged}
+use Rattle.node_history.specs.Replay.{Makes}
+use Rattle.node_history.specs.Seats.{times, IsNumbered}
+use Rattle.node_history.specs.ServerRules.{rules}
+use Rattle.server_cell.specs.declared.power.Power.{Power}
+use Rattle.server_cell.specs.Stands.{Stands}
+
+-- A server under its lock: what it was opened with, and its history, newest first.
+pub record ServerLog : Type 0 where
+  pub opening : Opening
+  pub history : List Logged
+
+-- The history is numbered, and makes this list by the rules.
+pub record IsReplay (cell : ServerLog) (past : List FrameEntry) : Type 0 where
+  pub numbered : IsNumbered cell.history
+  pub made : Makes (rules cell.opening) cell.history past
+
+-- Each seat has applied as many events as are counted for it.
+abbrev pub AreCounted : List ℕ → List Logged → Type 0
+AreCounted applied history = (seat : ℕ) → seat < 17 → slice_index applied seat ≡ times seat history
+
+-- What is true of every cell: the server stands for a list that its history makes, in which all is in
+-- its ranges, and the events of each seat are counted.
+pub record IsCell {T : Type 0} (note : T → Note) (o : Opening) (power : Power T) (history : List Logged) (applied : List ℕ) : Type 0 where
+  pub past : List FrameEntry
+  pub replay : IsReplay (record { opening = o; history = history }) past
+  pub stands : Stands note o past power
+  pub opens : OpensInRange o
+  pub ranges : CameInRange (packets_heard o past)
+  pub counted : AreCounted applied history

@@ -1,0 +1,12 @@
+-- What a seat asks of a server, as what comes to it.
+use Rattle.node_history.specs.declared.came.Came.{Came}
+use Rattle.node_history.specs.declared.came.Came.TheVariants as came
+use Rattle.server_cell.specs.declared.task.Task.{Task}
+use Rattle.server_cell.specs.declared.task.Task.TheVariants.{Issue, WriteDone, Cut, Restart}
+
+-- What comes to the server.
+abbrev pub came_by : Task → Came
+came_by (Issue j) = came.Issue j
+came_by (WriteDone ticket end) = came.WriteDone ticket end
+came_by Cut = came.Cut
+came_by Restart = came.Restart

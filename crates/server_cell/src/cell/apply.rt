@@ -1,0 +1,81 @@
+//! What is asked of a server from its seats.
+
+ghost use Rattle.std.specs.Prelude.{◌≡◌, List};
+ghost use Rattle.server_core.specs.Hearing.{FrameEntry};
+ghost use Rattle.server_cell.specs.Cells.{IsReplay};
+ghost use Rattle.server_cell.specs.Calls.{is_right, lacks_memory, told_by, Applies};
+
+use super::ServerCell;
+use crate::task::Task;
+use disk_model::Notes;
+use fc_base::{Fault, FaultSort};
+use messages::Frames;
+use node_history::{Logged, Said, Seat, Told, Turn};
+
+impl<N: Notes + Drop> ServerCell<N> {
+    /// Does what is asked from a seat. Each answer but two is entered in the history, as this seat's next.
+    ///
+    /// `WrongSeat`, the first: the seat is of another server, or the history hasn't just as many events of
+    /// it as it has applied; and `NoMemory`: nothing changes. The others are entered: `NodeOff` of a server
+    /// that isn't on, and `NodeOn` of a restart of one that is; the server's own of a write that ended; and
+    /// of a restart `NumbersSpent`, `LoadFault` and `SaveFault`.
+    pub fn apply(&mut self, seat: &mut Seat, task: Task) -> Result<Told, Fault>
+        ensures ends { Applies self.old seat.old task self.new seat.new result }
+        ensures replay { (past : List FrameEntry) × IsReplay self.new past }
+    {
+        if !self.is_right(seat) {
+            return Err(Fault::WrongSeat);
+        }
+        if self.history.reserve(1).is_err() {
+            return Err(Fault::NoMemory);
+        }
+        let answer = self.power.perform(self.alloc, self.me, task);
+        if lacks_memory(answer) {
+            return Err(Fault::NoMemory);
+        }
+        self.history.push_reserved(Logged {
+            by: Some(Turn {
+                seat: seat.number(),
+                number: seat.applied(),
+            }),
+            came: task.came(),
+            answer,
+            sent: Frames::new(self.alloc),
+        });
+        self.applied[seat.number() as usize] += 1;
+        seat.advance(answer);
+        told(answer)
+    }
+
+    /// Whether the seat is of this server, which has just as many events of it as it has applied.
+    fn is_right(&self, seat: &Seat) -> bool
+        ensures { result ≡ is_right self.now seat.now }
+    {
+        seat.server() == self.me && seat.applied() == self.applied[seat.number() as usize]
+    }
+}
+
+/// What is told of an answer that sends nothing.
+fn told(answer: Result<Said, Fault>) -> Result<Told, Fault>
+    ensures { result ≡ told_by answer }
+{
+    match answer {
+        Ok(said) => Ok(Told {
+            answer: said.answer,
+            first: 0,
+            sent: 0,
+            act: said.act,
+        }),
+        Err(fault) => Err(fault),
+    }
+}
+
+/// Whether memory ran out.
+fn lacks_memory(answer: Result<Said, Fault>) -> bool
+    ensures { result ≡ lacks_memory answer }
+{
+    match answer {
+        Ok(_) => false,
+        Err(fault) => matches!(fault.sort(), FaultSort::Memory),
+    }
+}

@@ -1,0 +1,162 @@
+//! A server that has power, or none.
+
+ghost use Rattle.std.specs.Prelude.{◌≡◌, ◌<◌, false, List, IfSome, IfNone};
+ghost use Rattle.std.specs.Option.{option_copied};
+ghost use Rattle.server_core.specs.History.{Opening};
+ghost use Rattle.server_core.specs.Hearing.{FrameEntry, packets_heard};
+ghost use Rattle.node_history.specs.ServerRules.{is_up};
+ghost use Rattle.server_cell.specs.Stands.{plain, said_by};
+ghost use Rattle.server_cell.specs.declared.task.Task.TheVariants as tasks;
+
+use crate::task::Task;
+use disk_model::Notes;
+use fc_base::{Fault, ServerNo};
+use messages::Act;
+use node_history::{Answer, Said};
+use server_core::{Input, Outs, Server, one_note};
+use std::alloc::Global;
+use std::mem;
+
+/// A server that has power, and may be down; or the notes of one that has none.
+#[derive(Drop)]
+pub enum Power<N> {
+    On(Server<N>),
+    Off(N),
+    /// Its notes are in other hands, which put them back.
+    Lent,
+}
+
+impl<N: Notes + Drop> Power<N> {
+    ghost use Rattle.server_core.specs.Note.{Says};
+    ghost use Rattle.server_cell.specs.Stands.{noted, Stands, Shows, StepEnds, TaskEnds};
+
+    /// The server, where it is on: it has power, and isn't down.
+    pub(crate) fn server(&self) -> Option<&Server<N>>
+        ensures { (o : Opening) (past : List FrameEntry) → Stands N.note o past self.now →
+            Shows N.note o past (option_copied result) }
+    {
+        match self {
+            Power::On(server) => { if server.on() { Some(server) } else { None } }
+            _ => None,
+        }
+    }
+
+    /// Takes what comes. `NodeOff`: it isn't on, and nothing changes. Any other fault is the server's.
+    pub(crate) fn step(&mut self, input: Input) -> Result<Outs, Fault>
+        ensures { (o : Opening) (past : List FrameEntry) → Stands N.note o past self.old →
+            StepEnds N.note o past input self.new result }
+    {
+        match self {
+            Power::On(server) => {
+                if server.on() {
+                    server.step(input)
+                } else {
+                    Err(Fault::NodeOff)
+                }
+            }
+            _ => Err(Fault::NodeOff),
+        }
+    }
+
+    /// Does what is asked from a seat, which sends nothing.
+    pub(crate) fn perform(&mut self, alloc: Global, me: ServerNo, task: Task) -> Result<Said, Fault>
+        requires { me < 8 }
+        ensures { (o : Opening) (past : List FrameEntry) → o.me ≡ me → Stands N.note o past self.old →
+            TaskEnds N.note o past task self.new result }
+    {
+        match task {
+            Task::Issue(job) => said(self.step(Input::Issue(job))),
+            Task::WriteDone(ticket, end) => said(self.step(Input::WriteDone(ticket, end))),
+            Task::Cut => self.cut(),
+            Task::Restart => self.restart(alloc, me),
+        }
+    }
+
+    /// Loses its power. `NodeOff`: it isn't on, and nothing changes.
+    fn cut(&mut self) -> Result<Said, Fault>
+        ensures { (o : Opening) (past : List FrameEntry) → Stands N.note o past self.old →
+            TaskEnds N.note o past tasks.Cut self.new result }
+    {
+        if self.server().is_none() {
+            return Err(Fault::NodeOff);
+        }
+        match self.lend() {
+            Some(notes) => {
+                *self = Power::Off(notes);
+                Ok(plain())
+            }
+            None => Err(Fault::NodeOff),
+        }
+    }
+
+    /// Starts again, with the next boot.
+    ///
+    /// `NodeOn`: it is on. `NumbersSpent`: its boots are used up. `LoadFault`. `NoMemory`. Nothing changes.
+    /// `SaveFault`: it stays off, and its note says the old boot or the next.
+    fn restart(&mut self, alloc: Global, me: ServerNo) -> Result<Said, Fault>
+        requires { me < 8 }
+        ensures { (o : Opening) (past : List FrameEntry) → o.me ≡ me → Stands N.note o past self.old →
+            TaskEnds N.note o past tasks.Restart self.new result }
+    {
+        if !self.server().is_none() {
+            return Err(Fault::NodeOn);
+        }
+        match self.lend() {
+            Some(notes) => self.start(alloc, me, notes),
+            None => Err(Fault::NodeOn),
+        }
+    }
+
+    /// Starts a server over these notes.
+    fn start(&mut self, alloc: Global, me: ServerNo, notes: N) -> Result<Said, Fault>
+        requires { me < 8 }
+        ensures { (o : Opening) (past : List FrameEntry) → o.me ≡ me → is_up o past ≡ false →
+            Says (N.note notes).bytes (noted o (packets_heard o past)) →
+            TaskEnds N.note o past tasks.Restart self.new result }
+    {
+        one_note();
+        match Server::restart(alloc, me, notes) {
+            Ok(server) => {
+                *self = Power::On(server);
+                Ok(plain())
+            }
+            Err((notes, fault)) => {
+                *self = Power::Off(notes);
+                Err(fault)
+            }
+        }
+    }
+
+    /// Its notes, which are lent until they are put back; `None` where they are lent already.
+    fn lend(&mut self) -> Option<N>
+        ensures some { (o : Opening) (past : List FrameEntry) → Stands N.note o past self.old →
+            IfSome result (λ notes. Says (N.note notes).bytes (noted o (packets_heard o past))) }
+        ensures none { (o : Opening) (past : List FrameEntry) → Stands N.note o past self.old → IfNone result ⊥ }
+    {
+        match mem::replace(self, Power::Lent) {
+            Power::On(server) => Some(server.off()),
+            Power::Off(notes) => Some(notes),
+            Power::Lent => None,
+        }
+    }
+}
+
+/// Nothing but that it was done.
+fn plain() -> Said
+    ensures { result ≡ plain }
+{
+    Said {
+        answer: Answer::Plain,
+        act: Act::None,
+    }
+}
+
+/// What is answered of a request for a write, or of the end of one.
+fn said(outs: Result<Outs, Fault>) -> Result<Said, Fault>
+    ensures { result ≡ said_by outs }
+{
+    match outs {
+        Ok(outs) => Ok(Said::of(outs.issue, outs.act)),
+        Err(fault) => Err(fault),
+    }
+}
