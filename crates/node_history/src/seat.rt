@@ -75,11 +75,11 @@ impl Seat {
     }
 
     /// It has applied one event more, with this answer.
-    pub fn advance(&mut self, answer: Result<Said, Fault>)
+    pub fn advance(&mut self, answer: &Result<Said, Fault>)
         requires { self.old.applied + 1 < 2 ^ 64 }
-        ensures { self.new ≡ record self.old { applied = self.old.applied + 1; last = Some answer } }
+        ensures { self.new ≡ record self.old { applied = self.old.applied + 1; last = Some answer.now } }
     {
         self.applied += 1;
-        self.last = Some(answer);
+        self.last = Some(*answer);
     }
 }

@@ -7,6 +7,7 @@ use Rattle.fc_base.specs.declared.fault.FaultSort.TheVariants as sorts
 use Rattle.fc_base.specs.Fault.{sort_of}
 use Rattle.node_history.specs.declared.answer.Said.{Said}
 use Rattle.node_history.specs.declared.answer.Told.{Told}
+use Rattle.node_history.specs.declared.came.Came.{Came}
 use Rattle.node_history.specs.declared.logged.Logged.{Logged}
 use Rattle.node_history.specs.Seated.{Seated}
 use Rattle.node_history.specs.Seats.{times}
@@ -24,14 +25,18 @@ abbrev pub told_by : Result Said Fault → Result Told Fault
 told_by (Ok said) = Ok (record { answer = said.answer; first = 0; sent = 0; act = said.act })
 told_by (Err fault) = Err fault
 
--- The entry of a task: it has the seat's next number, and sends nothing.
-abbrev pub entry_of : Seated → Task → Result Said Fault → Logged
-entry_of seat task answer = record {
+-- The entry of what came from a seat: it has the seat's next number, and sends nothing.
+abbrev pub logged_by : Seated → Came → Result Said Fault → Logged
+logged_by seat came answer = record {
   by = Some (record { seat = seat.number; number = seat.applied });
-  came = came_by task;
+  came = came;
   answer = answer;
   sent = [];
 }
+
+-- The entry of a task.
+abbrev pub entry_of : Seated → Task → Result Said Fault → Logged
+entry_of seat task answer = logged_by seat (came_by task) answer
 
 -- The history has one entry more, and the seat has applied one event more and keeps its answer.
 pub record IsAdded (old : ServerLog) (seat : Seated) (task : Task) (answer : Result Said Fault) (new : ServerLog) (after : Seated) : Type 0 where

@@ -59,14 +59,14 @@ impl<N: Notes + Drop> Power<N> {
     }
 
     /// Does what is asked from a seat, which sends nothing.
-    pub(crate) fn perform(&mut self, alloc: Global, me: ServerNo, task: Task) -> Result<Said, Fault>
+    pub(crate) fn perform(&mut self, alloc: Global, me: ServerNo, task: &Task) -> Result<Said, Fault>
         requires { me < 8 }
         ensures { (o : Opening) (past : List FrameEntry) → o.me ≡ me → Stands N.note o past self.old →
-            TaskEnds N.note o past task self.new result }
+            TaskEnds N.note o past task.now self.new result }
     {
         match task {
-            Task::Issue(job) => said(self.step(Input::Issue(job))),
-            Task::WriteDone(ticket, end) => said(self.step(Input::WriteDone(ticket, end))),
+            Task::Issue(job) => said(self.step(Input::Issue(*job))),
+            Task::WriteDone(ticket, end) => said(self.step(Input::WriteDone(*ticket, *end))),
             Task::Cut => self.cut(),
             Task::Restart => self.restart(alloc, me),
         }

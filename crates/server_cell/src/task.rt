@@ -23,12 +23,12 @@ pub enum Task {
 
 impl Task {
     /// What comes to the server.
-    pub(crate) fn came(self) -> Came
-        ensures { result ≡ came_by self }
+    pub(crate) fn came(&self) -> Came
+        ensures { result ≡ came_by self.now }
     {
         match self {
-            Task::Issue(job) => Came::Issue(job),
-            Task::WriteDone(ticket, end) => Came::WriteDone(ticket, end),
+            Task::Issue(job) => Came::Issue(*job),
+            Task::WriteDone(ticket, end) => Came::WriteDone(*ticket, *end),
             Task::Cut => Came::Cut,
             Task::Restart => Came::Restart,
         }

@@ -3,14 +3,15 @@
 ghost use Rattle.std.specs.Prelude.{◌≡◌, List};
 ghost use Rattle.server_core.specs.Hearing.{FrameEntry};
 ghost use Rattle.server_cell.specs.Cells.{IsReplay};
-ghost use Rattle.server_cell.specs.Calls.{is_right, lacks_memory, told_by, Applies};
+ghost use Rattle.server_cell.specs.Calls.{is_right, lacks_memory, logged_by, told_by, Applies};
 
 use super::ServerCell;
 use crate::task::Task;
 use disk_model::Notes;
 use fc_base::{Fault, FaultSort};
 use messages::Frames;
-use node_history::{Logged, Said, Seat, Told, Turn};
+use node_history::{Came, Logged, Said, Seat, Told, Turn};
+use std::alloc::Global;
 
 impl<N: Notes + Drop> ServerCell<N> {
     /// Does what is asked from a seat. Each answer but two is entered in the history, as this seat's next.
@@ -29,22 +30,17 @@ impl<N: Notes + Drop> ServerCell<N> {
         if self.history.reserve(1).is_err() {
             return Err(Fault::NoMemory);
         }
-        let answer = self.power.perform(self.alloc, self.me, task);
-        if lacks_memory(answer) {
+        let (alloc, me) = (self.alloc, self.me);
+        let came = task.came();
+        let answer = self.power.perform(alloc, me, &task);
+        if lacks_memory(&answer) {
             return Err(Fault::NoMemory);
         }
-        self.history.push_reserved(Logged {
-            by: Some(Turn {
-                seat: seat.number(),
-                number: seat.applied(),
-            }),
-            came: task.came(),
-            answer,
-            sent: Frames::new(self.alloc),
-        });
+        self.history
+            .push_reserved(entry(alloc, seat, came, &answer));
         self.applied[seat.number() as usize] += 1;
-        seat.advance(answer);
-        told(answer)
+        seat.advance(&answer);
+        told(&answer)
     }
 
     /// Whether the seat is of this server, which has just as many events of it as it has applied.
@@ -55,9 +51,24 @@ impl<N: Notes + Drop> ServerCell<N> {
     }
 }
 
+/// The entry of what came from a seat and was answered so, as the seat's next.
+fn entry(alloc: Global, seat: &Seat, came: Came, answer: &Result<Said, Fault>) -> Logged
+    ensures { result ≡ logged_by seat.now came answer.now }
+{
+    Logged {
+        by: Some(Turn {
+            seat: seat.number(),
+            number: seat.applied(),
+        }),
+        came,
+        answer: *answer,
+        sent: Frames::new(alloc),
+    }
+}
+
 /// What is told of an answer that sends nothing.
-fn told(answer: Result<Said, Fault>) -> Result<Told, Fault>
-    ensures { result ≡ told_by answer }
+fn told(answer: &Result<Said, Fault>) -> Result<Told, Fault>
+    ensures { result ≡ told_by answer.now }
 {
     match answer {
         Ok(said) => Ok(Told {
@@ -66,13 +77,13 @@ fn told(answer: Result<Said, Fault>) -> Result<Told, Fault>
             sent: 0,
             act: said.act,
         }),
-        Err(fault) => Err(fault),
+        Err(fault) => Err(*fault),
     }
 }
 
 /// Whether memory ran out.
-fn lacks_memory(answer: Result<Said, Fault>) -> bool
-    ensures { result ≡ lacks_memory answer }
+fn lacks_memory(answer: &Result<Said, Fault>) -> bool
+    ensures { result ≡ lacks_memory answer.now }
 {
     match answer {
         Ok(_) => false,

@@ -20,9 +20,8 @@ pub returns-clause-opened : goal.returns-clause-opened
 returns-clause-opened g c =
     let h = c.in_ok-server.ensures in
     let o = opening_by c.args.me h.said in
-    let shown = c.status-boot.ensures o first (opened_once g.N.Notes.note c.args.me c.args.notes c.in_ok-server.server h) in
-    (
+    let shown = c.status-boot.ensures o first (opened_once g.N.Notes.note c.args.me c.args.notes c.in_ok-server.server h) in (
       refl,
       rw (← before c.status-boot.result.boot o.boot (boot_is o c.status-boot.result shown), last_is o c.status-boot.result shown) h.says,
-      rw c.new.ensures.items refl
+      rw c.new.ensures.items refl,
     )
