@@ -1,0 +1,34 @@
+-- How a hub keeps its network.
+use Rattle.std.specs.Prelude.{◌≡◌, ◌<◌, ℕ, min, List, [], ◌∷◌, length, All, Some, IsTrue, slice_get}
+use Rattle.std.specs.Option.{ForSome}
+use Rattle.messages.specs.declared.node.Node.{Node}
+use Rattle.messages.specs.Nodes.{node_number, is_node}
+use Rattle.hub.specs.declared.line.Line.{Line}
+use Rattle.hub.specs.Network.{Network, IsSpelled}
+use Rattle.hub.specs.Waiting.{waiting}
+
+-- Frames one behind the other, and for how many more of them, and of their bytes, there is room.
+pub record Stored : Type 0 where
+  pub frames : List (List ℕ)
+  pub more : ℕ
+  pub bytes : ℕ
+
+-- A list of numbers for each node, in the order of the nodes' numbers, and how many more fit into each of them.
+pub record Queued : Type 0 where
+  pub lists : List (List ℕ)
+  pub more : ℕ
+
+-- The least of some numbers, none of which is above the first.
+abbrev pub least : ℕ → List ℕ → ℕ
+least most [] = most
+least most (n ∷ ns) = min n (least most ns)
+
+-- The frame that an entry took is one of the first n.
+abbrev pub IsTakenBelow : ℕ → Line → Type 0
+IsTakenBelow n l = ForSome l.taken (λ i. i < n)
+
+-- All frames are spelled, those that were taken are there, and each node's list has the frames that wait for it.
+pub record IsKept (net : Network) (lists : List (List ℕ)) : Type 0 where
+  pub spelled : All IsSpelled net.frames
+  pub taken : All (IsTakenBelow (length net.frames)) net.journal
+  pub waiting : (node : Node) → IsTrue (is_node node) → slice_get lists (node_number node) ≡ Some (waiting net node)
