@@ -1,6 +1,6 @@
 -- Which frames are for a node, and which of them it hasn't taken.
-use Rattle.std.specs.Prelude.{◌≡◌, ℕ, ◌%◌, ◌&&◌, ◌==◌, Bool, true, false, not, List, length, filter, Option, slice_get}
-use Rattle.std.specs.Option.{option_map_or}
+use Rattle.std.specs.Prelude.{ℕ, ◌%◌, ◌&&◌, ◌==◌, Bool, true, false, not, List, length, filter, Option, slice_get}
+use Rattle.std.specs.Option.{option_map, option_map_or}
 use Rattle.std.specs.List.{list_any}
 use Rattle.fc_base.specs.Counted.{numbers_below}
 use Rattle.messages.specs.declared.node.Node.{Node}
@@ -16,9 +16,13 @@ is_same_node (Server s) (Server r) = s == r
 is_same_node Client Client = true
 is_same_node _ _ = false
 
--- The frame that the bytes say is for this node.
+-- The node that a frame is for.
+abbrev pub node_of : List ℕ → Option Node
+node_of bytes = option_map (λ frame. (look_of frame).to) (frame_at bytes)
+
+-- The frame is for this node.
 abbrev pub is_for : Node → List ℕ → Bool
-is_for node bytes = option_map_or (λ frame. is_same_node (look_of frame).to node) (frame_at bytes) false
+is_for node bytes = option_map_or (λ to. is_same_node to node) (node_of bytes) false
 
 -- By this entry the node took frame i.
 abbrev pub is_taken_by : Node → ℕ → Line → Bool

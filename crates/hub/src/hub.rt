@@ -1,9 +1,10 @@
 //! The frames that were ever sent, and who took and sent which.
 
-ghost use Rattle.std.specs.Prelude.{◌≡◌, ◌+◌, ◌<◌, ◌≤◌, [], ◌∷◌, ◌++◌, length, reverse, slice_get, sum_by, All, MatchOption, IfSome, OnOk, Some};
+ghost use Rattle.std.specs.Prelude.{◌≡◌, ◌+◌, ◌<◌, ◌≤◌, [], ◌∷◌, ◌++◌, length, reverse, slice_get, sum_by, All, MatchOption, IfSome, OnOk, Some, IsTrue};
 ghost use Rattle.std.specs.Option.{ForSome};
 ghost use Rattle.hub.specs.Network.{empty, line_of, HasRoom, IsSpelled};
-ghost use Rattle.hub.specs.Waiting.{waiting, picked};
+ghost use Rattle.hub.specs.Waiting.{node_of, waiting, picked};
+ghost use Rattle.messages.specs.Nodes.{is_node};
 
 use crate::line::Line;
 use crate::queues::Queues;
@@ -80,15 +81,12 @@ impl Hub {
     pub fn pick(&self, node: Node, word: u64) -> Option<u64>
         ensures { result ≡ picked word (waiting self.now.net node) }
     {
-        frames_are_read_back();
-        if !node.is_node() {
-            return None;
-        }
         let numbers = self.queues.of(node);
         if numbers.is_empty() {
             return None;
         }
-        Some(numbers[word as usize % numbers.len()])
+        let place = word % numbers.len() as u64;
+        Some(numbers[place as usize])
     }
 
     /// Makes room for one more event, which sends at most so many frames of at most so many bytes
@@ -132,17 +130,14 @@ impl Hub {
         if taken.is_none() && sent == 0 {
             return;
         }
-        if let Some(i) = taken {
-            if node.is_node() {
-                self.queues.take(node, i);
-            }
-        }
-        self.journal.push_reserved(Line {
+        let line = Line {
             node,
             at,
             taken,
             sent: sent as u64,
-        });
+        };
+        self.queues.take(&line);
+        self.journal.push_reserved(line);
     }
 
     /// Adds a frame that was sent, which then waits for its node.
@@ -153,12 +148,20 @@ impl Hub {
         ensures frames { self.new.net.frames ≡ self.old.net.frames ++ frame.now ∷ [] }
         ensures journal { self.new.net.journal ≡ self.old.net.journal }
         ensures more { self.old.room.frames ≤ self.new.room.frames + 1 }
-        ensures bytes { self.new.room.bytes + length frame.now ≡ self.old.room.bytes }
+        ensures bytes { self.old.room.bytes ≤ self.new.room.bytes + length frame.now }
     {
-        frames_are_read_back();
-        if let Some(look) = look_at(frame) {
-            self.queues.push(look.to, self.store.len() as u64);
-        }
+        let node = node_of(frame);
+        self.queues.push(node, self.store.len() as u64);
         self.store.push(frame);
     }
+}
+
+/// The node that a frame is for.
+fn node_of(frame: &[u8]) -> Node
+    requires { IsSpelled frame.now }
+    ensures value { node_of frame.now ≡ Some result }
+    ensures range { IsTrue (is_node result) }
+{
+    frames_are_read_back();
+    look_at(frame).unwrap().to
 }

@@ -1,9 +1,12 @@
 //! The frames that wait for each node.
 
-ghost use Rattle.std.specs.Prelude.{◌≡◌, ◌+◌, ◌≤◌, ◌==◌, [], ◌∷◌, ◌++◌, length, filter, not, replicate, slice_get, slice_set, unwrap_or, OnOk, Some, IsTrue};
+ghost use Rattle.std.specs.Prelude.{◌≡◌, ◌+◌, ◌≤◌, ◌==◌, [], ◌∷◌, ◌++◌, length, filter, not, replicate, vec_len, vec_capacity, if◌then◌else◌, OnOk, Some, None, IsTrue};
 ghost use Rattle.std.specs.List.Sorted.{IsStrictlyIncreasing};
 ghost use Rattle.messages.specs.Nodes.{node_number, is_node};
+ghost use Rattle.hub.specs.Kept.{list_of, with_list, without};
 
+use crate::line::Line;
+use fc_base::MAX_SERVERS;
 use messages::Node;
 use std::alloc::{AllocError, Global};
 use std::array;
@@ -19,7 +22,7 @@ pub(crate) struct Queues {
 }
 
 impl Model for Queues {
-    ghost use Rattle.std.specs.Prelude.{ℕ, ◌-◌, ◌^◌, map, vec_len, vec_capacity};
+    ghost use Rattle.std.specs.Prelude.{◌≡◌, ◌-◌, ◌^◌, length, map, vec_len, vec_capacity};
     ghost use Rattle.hub.specs.Kept.{Queued, least};
 
     ghost Value = { Queued };
@@ -28,6 +31,8 @@ impl Model for Queues {
       lists = map (λ v. v.items) q.lists;
       more = least (2 ^ 64) (map (λ v. vec_capacity v - vec_len v) q.lists);
     } };
+
+    ghost invariant = { λ q. length q.lists ≡ 9 };
 }
 
 impl Queues {
@@ -40,12 +45,14 @@ impl Queues {
         }
     }
 
-    /// The list of a node.
+    /// The list of a node, which is empty where the node is none of the nine.
     pub fn of(&self, node: Node) -> &[u64]
-        requires { IsTrue (is_node node) }
-        ensures { slice_get self.now.lists (node_number node) ≡ Some result.now }
+        ensures { result.now ≡ list_of self.now.lists node }
     {
-        &self.lists[node.number() as usize]
+        match place_of(node) {
+            Some(place) => &self.lists[place],
+            None => &[],
+        }
     }
 
     /// Makes room for so many more numbers in each list.
@@ -63,24 +70,50 @@ impl Queues {
     pub fn push(&mut self, node: Node, number: u64)
         requires node { IsTrue (is_node node) }
         requires room { 1 ≤ self.old.more }
-        ensures lists { self.new.lists ≡ slice_set self.old.lists (node_number node)
-            (unwrap_or (slice_get self.old.lists (node_number node)) [] ++ number ∷ []) }
+        ensures lists { self.new.lists ≡ with_list self.old.lists node (list_of self.old.lists node ++ number ∷ []) }
         ensures room { self.old.more ≤ self.new.more + 1 }
     {
-        self.lists[node.number() as usize].push_reserved(number);
+        let list = &mut self.lists[node.number() as usize];
+        list.push_reserved(number);
     }
 
-    /// Takes a number out of the list of a node, where it is.
-    pub fn take(&mut self, node: Node, number: u64)
-        requires node { IsTrue (is_node node) }
-        requires ascending { IsStrictlyIncreasing (unwrap_or (slice_get self.old.lists (node_number node)) []) }
-        ensures lists { self.new.lists ≡ slice_set self.old.lists (node_number node)
-            (filter (λ k. not (k == number)) (unwrap_or (slice_get self.old.lists (node_number node)) [])) }
+    /// Takes the frame that an entry took, if it took one, out of the list of its node, where it is there.
+    pub fn take(&mut self, line: &Line)
+        requires { IsStrictlyIncreasing (list_of self.old.lists line.now.node) }
+        ensures lists { self.new.lists ≡ without self.old.lists line.now.node line.now.taken }
         ensures room { self.old.more ≤ self.new.more }
     {
-        let list = &mut self.lists[node.number() as usize];
-        if let Ok(place) = list.as_slice().binary_search(&number) {
+        let Some(number) = line.taken else {
+            return;
+        };
+        if let Some(place) = place_of(line.node) {
+            take_out(&mut self.lists[place], number);
+        }
+    }
+}
+
+/// Which of the lists is a node's.
+fn place_of(node: Node) -> Option<usize>
+    ensures { result ≡ (if is_node node then Some (node_number node) else None) }
+{
+    match node {
+        Node::Server(server) if server.0 < MAX_SERVERS => Some(server.0 as usize),
+        Node::Server(_) => None,
+        Node::Client => Some(MAX_SERVERS as usize),
+    }
+}
+
+/// Takes a number out of an ascending list, where it is there.
+fn take_out(list: &mut Vec<u64>, number: u64)
+    requires { IsStrictlyIncreasing list.old.items }
+    ensures items { list.new.items ≡ filter (λ k. not (number == k)) list.old.items }
+    ensures len { vec_len list.new ≤ vec_len list.old }
+    ensures capacity { vec_capacity list.new ≡ vec_capacity list.old }
+{
+    match list.as_slice().binary_search(&number) {
+        Ok(place) => {
             let _ = list.remove(place);
         }
+        Err(_) => {}
     }
 }

@@ -1,6 +1,6 @@
 //! The bytes of frames, in one piece of memory.
 
-ghost use Rattle.std.specs.Prelude.{◌≡◌, ◌+◌, ◌≤◌, [], ◌∷◌, ◌++◌, length, slice_get, MatchOption, OnOk, Some};
+ghost use Rattle.std.specs.Prelude.{◌≡◌, ◌+◌, ◌<◌, ◌≤◌, [], ◌∷◌, ◌++◌, length, slice_get, slice_index, MatchOption, OnOk, Some};
 
 use std::alloc::{AllocError, Global};
 use std::marker::Model;
@@ -54,8 +54,7 @@ impl Store {
         if index >= ends.len() {
             return None;
         }
-        let start = if index == 0 { 0 } else { ends[index - 1] };
-        Some(&self.bytes[start..ends[index]])
+        Some(&self.bytes[start_of(ends, index)..ends[index]])
     }
 
     /// Makes room for so many more frames, of so many bytes together.
@@ -74,9 +73,17 @@ impl Store {
         requires bytes { length frame.now ≤ self.old.bytes }
         ensures frames { self.new.frames ≡ self.old.frames ++ frame.now ∷ [] }
         ensures more { self.new.more + 1 ≡ self.old.more }
-        ensures bytes { self.new.bytes + length frame.now ≡ self.old.bytes }
+        ensures bytes { self.old.bytes ≤ self.new.bytes + length frame.now }
     {
         self.bytes.extend_from_slice(frame).unwrap();
         self.ends.push_reserved(self.bytes.as_slice().len());
     }
+}
+
+/// Where a frame begins: where the one before it ends.
+fn start_of(ends: &[usize], index: usize) -> usize
+    requires { index < length ends.now }
+    ensures { result ≡ slice_index (0 ∷ ends.now) index }
+{
+    if index == 0 { 0 } else { ends[index - 1] }
 }

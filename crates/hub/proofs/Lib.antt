@@ -1,0 +1,6 @@
+mod NodeLemmas
+mod StoreLemmas
+mod QueueLemmas
+mod WaitingLemmas
+mod KeptLemmas
+mod NoteLemmas
