@@ -4,3 +4,4 @@ mod QueueLemmas
 mod WaitingLemmas
 mod KeptLemmas
 mod NoteLemmas
+mod SpelledLemmas

@@ -1,3 +1,4 @@
 pub mod Network
 pub mod Waiting
 pub mod Kept
+pub mod Laws

@@ -13,9 +13,14 @@
 #![tactic(auto)]
 
 mod hub;
+mod law;
 mod line;
 mod queues;
 mod store;
 
 pub use hub::Hub;
+pub use law::frames_are_spelled;
 pub use line::Line;
+
+#[cfg(test)]
+mod tests;
