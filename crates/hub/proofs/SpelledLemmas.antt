@@ -1,5 +1,5 @@
 -- The frames of a packet are in their ranges, and short enough to be read.
-use Rattle.std.proofs.Common.{◌≡◌, refl, sym, ◌∙◌, ap, subst, ℕ, zero, suc, ◌+◌, ◌-◌, ◌%◌, ◌<◌, ◌≤◌, arith, Bool, true, false, ◌&&◌, ◌==◌, List, [], ◌∷◌, ◌++◌, length, drop}
+use Rattle.std.proofs.Common.{◌≡◌, refl, ◌∙◌, ap, ℕ, zero, suc, ◌+◌, ◌-◌, ◌%◌, ◌<◌, ◌≤◌, arith, Bool, true, false, ◌&&◌, ◌==◌, List, [], ◌∷◌, ◌++◌, length, drop}
 use Rattle.std.specs.Prelude.{if◌then◌else◌, All, IsTrue, map, min, nat_lt, nat_le}
 use Rattle.std.specs.Int.{Width, w64, byte_len, bytes_high_first}
 use Rattle.std.proofs.lemmas.List.Elements.{All-nil, All-cons, All-map, All-weaker}
@@ -8,7 +8,6 @@ use Rattle.std.proofs.lemmas.Bool.Decides.{nat_tests}
 use Rattle.std.proofs.lemmas.List.{length-append, length-take, length-drop}
 use Rattle.fc_base.specs.Layouts.{bytes_of}
 use Rattle.messages.specs.declared.packet.PacketParts.{PacketParts}
-use Rattle.messages.specs.declared.frame.Frame.{Frame}
 use Rattle.messages.specs.declared.frame.Frame.TheVariants.{Whole, Piece}
 use Rattle.messages.specs.declared.body.Body.{Body}
 use Rattle.messages.specs.declared.body.Body.TheVariants as bodies
@@ -17,8 +16,7 @@ use Rattle.messages.specs.Ranges.{is_body, is_run, is_attempt, is_text, KeepsSta
 use Rattle.messages.specs.Bodies.{length_of, spelled_body}
 use Rattle.messages.specs.Laws.{IsPacket, LengthsAreBounded}
 use Rattle.messages.specs.FrameBytes.{frame_spelling}
-use Rattle.messages.specs.FramesOf.{spelled_frames}
-use Rattle.messages.specs.Pieces.{is_cut, tag_of, places_from, places, bytes_at, piece_at, pieces_of, frames_of}
+use Rattle.messages.specs.Pieces.{is_cut, tag_of, places_from, places, bytes_at, piece_at, pieces_of}
 use Rattle.messages.specs.PieceRanges.{is_tag_in_range, is_place, is_piece}
 use Rattle.hub.specs.Network.{IsSpelled}
 use Rattle.hub.specs.Laws.{FramesAreSpelled}
