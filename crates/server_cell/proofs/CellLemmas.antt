@@ -167,11 +167,13 @@ entered note o power new history applied seat task answer cell right few m = rec
 
 pub replayed : {T : Type 0} (note : T → Note) (o : Opening) {power new : Power T} {history : List Logged} {applied : List ℕ} (cell : IsCell note o power history applied) (seat : Seated) (task : Task) (answer : Result Said Fault) → is_right (record { opening = o; history = history }) seat ≡ true
     → Moves note o cell.past (asked (came_by task)) answer [] new → (past : List FrameEntry) × IsReplay (record { opening = o; history = entry_of seat task answer ∷ history }) past
-replayed note o {history = history} cell seat task answer right m =
-    (m.after, record {
-      numbered = (cell.replay.numbered, eqb-true seat.applied (times seat.number history) (and_parts (seat.server == o.me) (seat.applied == times seat.number history) right).1);
-      made = (cell.past, cell.replay.made, m.ends);
-    })
+replayed note o {history = history} cell seat task answer right m = (
+  m.after,
+  record {
+    numbered = (cell.replay.numbered, eqb-true seat.applied (times seat.number history) (and_parts (seat.server == o.me) (seat.applied == times seat.number history) right).1);
+    made = (cell.past, cell.replay.made, m.ends);
+  },
+)
 
 pub seat_fits : (items : List Logged) (cell : ServerLog) (seat : Seated) → is_right cell seat ≡ true → cell.history ≡ reverse items → length items + 1 < 2 ^ 64 → seat.applied + 1 < 2 ^ 64
 seat_fits items cell seat right is small =
