@@ -12,6 +12,7 @@ mod FrameEndLemmas
 mod FrameLemmas
 mod FreshLemmas
 mod HeardLemmas
+mod HeardRangeLemmas
 mod HearingLemmas
 mod KeptLemmas
 mod LifeLemmas

@@ -26,3 +26,4 @@ pub mod Stands
 pub mod Table
 pub mod Told
 pub mod Words
+pub mod HeardRange

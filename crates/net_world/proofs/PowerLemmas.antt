@@ -28,7 +28,7 @@ spent b h = rw h refl
 
 pub restart_ok : (o : Opening) (past : List FrameEntry) (notes : Kept) (server : Server Kept) (me : ℕ) → o.me ≡ me → Stands o past (Off notes) → Opened note_of me notes server → Restarts o past (On server) (Ok tt)
 restart_ok o past notes server me is s h =
-    let stands = h o past is s.0 in
+    let stands = h.stands o past is s.0 in
     (s.1, lt_true (boot o (packets_heard o past) + 1) (2 ^ 64) stands.core.durable.boot_range, (stands, refl))
 
 pub restart_err : (o : Opening) (past : List FrameEntry) (notes back : Kept) (fault : Fault) → Stands o past (Off notes) → NotOpened (note_of notes) (note_of back) fault → Restarts o past (Off back) (Err fault)

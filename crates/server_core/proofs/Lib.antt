@@ -9,6 +9,7 @@ pub mod ExampleLemmas
 pub mod FewLemmas
 pub mod FrameLemmas
 pub mod HeardLemmas
+pub mod HeardRangeLemmas
 pub mod HeldLemmas
 pub mod KeyLemmas
 pub mod LegalLemmas

@@ -13,6 +13,7 @@ use Rattle.messages.specs.FrameBytes.{frame_spelling}
 use Rattle.server_core.specs.declared.input.Input.{Input}
 use Rattle.server_core.specs.declared.outs.Outs.{Outs}
 use Rattle.server_core.specs.declared.server.Server.{Server}
+use Rattle.server_core.specs.declared.note.Noted.{Noted}
 use Rattle.server_core.specs.History.{Opening}
 use Rattle.server_core.specs.Note.{Says}
 use Rattle.server_core.specs.Words as words
@@ -81,12 +82,15 @@ abbrev pub Ends : {T : Type 0} → (T → Note) → Opening → List FrameEntry 
 Ends note o past e old new (Ok outs) = Answers note o past e new outs
 Ends note o past e old new (Err fault) = Faults note o past e (sort_of fault) fault old new
 
--- For each list whose words the note said, the server stands for it with the restart.
-abbrev pub Restarts : {T : Type 0} → (T → Note) → ℕ → T → Server T → Type 0
-Restarts note me notes server =
-    (o : Opening) (past : List FrameEntry) → o.me ≡ me
-    → Says (note notes).bytes (record { boot = words.boot o (packets_heard o past); last_run = words.last_run o (packets_heard o past) })
-    → StandsFor note server o (Restart Saved ∷ past)
+-- For each list whose words the note said, the server stands for it with the restart. The note said
+-- something, so there is such a list: the empty one.
+pub record Restarts {T : Type 0} (note : T → Note) (me : ℕ) (notes : T) (server : Server T) : Type 0 where
+  pub said : Noted
+  pub says : Says (note notes).bytes said
+  pub stands :
+      (o : Opening) (past : List FrameEntry) → o.me ≡ me
+      → Says (note notes).bytes (record { boot = words.boot o (packets_heard o past); last_run = words.last_run o (packets_heard o past) })
+      → StandsFor note server o (Restart Saved ∷ past)
 
 -- How a restart ends.
 abbrev pub Opens : {T : Type 0} → (T → Note) → ℕ → T → Result (Server T) (T × Fault) → Type 0

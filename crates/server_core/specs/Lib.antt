@@ -31,3 +31,4 @@ pub mod Sent
 pub mod OpenCheck
 pub mod Memory
 pub mod OpenWrites
+pub mod HeardRange

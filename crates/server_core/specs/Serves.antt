@@ -112,18 +112,21 @@ abbrev pub Ends : {T : Type 0} → (T → Note) → Opening → List Entry → E
 Ends note o past e old new (Ok outs) = Answers note o past e new outs
 Ends note o past e old new (Err fault) = Faults note o past e (sort_of fault) fault old new
 
--- For each list whose words the note said, the server stands for it with the restart.
-abbrev pub Restarts : {T : Type 0} → (T → Note) → ℕ → T → PacketServer T → Type 0
-Restarts note me notes server =
-    (o : Opening) (past : List Entry) → o.me ≡ me
-    → Says (note notes).bytes (record { boot = boot o past; last_run = last_run o past })
-    → StandsFor note server o (Restart Saved ∷ past)
+-- For each list whose words the note said, the server stands for it with the restart. The note said
+-- something, so there is such a list: the empty one.
+pub record Restarts {T : Type 0} (note : T → Note) (me : ℕ) (notes : T) (server : PacketServer T) : Type 0 where
+  pub said : Noted
+  pub says : Says (note notes).bytes said
+  pub stands :
+      (o : Opening) (past : List Entry) → o.me ≡ me
+      → Says (note notes).bytes (record { boot = boot o past; last_run = last_run o past })
+      → StandsFor note server o (Restart Saved ∷ past)
 
--- The bytes are the old ones, or those of the next boot.
+-- The bytes said something that left a boot, and they are still there, or those of the next boot are.
 abbrev pub IsHalfSaved : List ℕ → List ℕ → Type 0
 IsHalfSaved old new =
-    (new ≡ old)
-    ⊎ ((n : Noted) × Says old n × (new ≡ spelling (record { boot = n.boot + 1; last_run = n.last_run })))
+    (n : Noted) × Says old n × (n.boot < 2 ^ 64 - 1)
+    × ((new ≡ old) ⊎ (new ≡ spelling (record { boot = n.boot + 1; last_run = n.last_run })))
 
 -- Why a server isn't opened: the device failed, the bytes are no note, the boots are used up, memory ran
 -- out, or the save failed; and what the notes then hold.

@@ -41,6 +41,7 @@ impl<N: Notes> Server<N> {
     ghost use Rattle.server_core.specs.FrameAnswers.{would_save};
     ghost use Rattle.server_core.specs.FrameEnds.{StandsFor, Ends, Opens};
     ghost use Rattle.server_core.specs.Memory.{WritesTakeNone};
+    ghost use Rattle.server_core.specs.HeardRange.{HearsInRange};
 
     /// Opens the server with this number over its note, where it saves the next boot before it answers;
     /// a blank note has none yet. Where it isn't opened, the notes come back.
@@ -170,6 +171,8 @@ impl<N: Notes> Server<N> {
     pub fn step(&mut self, input: Input) -> Result<Outs, Fault>
         ensures ends { (o : Opening) (past : List FrameEntry) → StandsFor N.note self.old o past →
             Ends N.note o past input self.old self.new result }
+        ensures ranges { (o : Opening) (past : List FrameEntry) → StandsFor N.note self.old o past →
+            HearsInRange o past input result }
         ensures memory { WritesTakeNone input result }
     {
         // A function pays for the room of all its values, so the two that come most take a way of their own.
@@ -183,8 +186,10 @@ impl<N: Notes> Server<N> {
     /// Takes what comes.
     #[inline(never)]
     fn take(&mut self, input: Input) -> Result<Outs, Fault>
-        ensures { (o : Opening) (past : List FrameEntry) → StandsFor N.note self.old o past →
+        ensures ends { (o : Opening) (past : List FrameEntry) → StandsFor N.note self.old o past →
             Ends N.note o past input self.old self.new result }
+        ensures ranges { (o : Opening) (past : List FrameEntry) → StandsFor N.note self.old o past →
+            HearsInRange o past input result }
     {
         match input {
             Input::Deliver(frame) => self.deliver(frame),
@@ -195,30 +200,40 @@ impl<N: Notes> Server<N> {
                 attempt,
                 job,
                 report,
-            } => self.core.step(Event::CheckDone {
-                boot,
-                attempt,
-                job,
-                report,
-            }),
+            } => {
+                let _in_range = report.parts();
+                self.core.step(Event::CheckDone {
+                    boot,
+                    attempt,
+                    job,
+                    report,
+                })
+            }
         }
     }
 
     /// Takes a frame.
     fn deliver(&mut self, frame: Frame) -> Result<Outs, Fault>
-        ensures { (o : Opening) (past : List FrameEntry) → StandsFor N.note self.old o past →
+        ensures ends { (o : Opening) (past : List FrameEntry) → StandsFor N.note self.old o past →
             Ends N.note o past (Deliver frame) self.old self.new result }
+        ensures ranges { (o : Opening) (past : List FrameEntry) → StandsFor N.note self.old o past →
+            HearsInRange o past (Deliver frame) result }
     {
         match frame {
-            Frame::Whole(packet) => self.core.step(Event::Deliver(packet)),
+            Frame::Whole(packet) => {
+                packet.keeps_its_ranges();
+                self.core.step(Event::Deliver(packet))
+            }
             Frame::Piece(piece) => self.join(&piece),
         }
     }
 
     /// Takes a piece: the packet that it completes, or else the piece alone.
     fn join(&mut self, piece: &Piece) -> Result<Outs, Fault>
-        ensures { (o : Opening) (past : List FrameEntry) → StandsFor N.note self.old o past →
+        ensures ends { (o : Opening) (past : List FrameEntry) → StandsFor N.note self.old o past →
             Ends N.note o past (Deliver (OfPiece piece.now)) self.old self.new result }
+        ensures ranges { (o : Opening) (past : List FrameEntry) → StandsFor N.note self.old o past →
+            HearsInRange o past (Deliver (OfPiece piece.now)) result }
     {
         if !self.core.on() {
             return Err(Fault::Down);
@@ -228,6 +243,7 @@ impl<N: Notes> Server<N> {
         }
         match self.pieces.look(piece) {
             Ok(Some(packet)) => {
+                packet.keeps_its_ranges();
                 let outs = self.core.step(Event::Deliver(packet));
                 if outs.is_ok() {
                     self.pieces.drop(piece.tag());

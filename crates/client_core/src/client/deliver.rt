@@ -7,6 +7,7 @@ ghost use Rattle.client_core.specs.History.{Opening};
 ghost use Rattle.client_core.specs.Hearing.{FrameEntry, is_piece_for};
 ghost use Rattle.client_core.specs.FrameAnswers.{would_save, IsPiece};
 ghost use Rattle.client_core.specs.FrameEnds.{StandsFor, Ends};
+ghost use Rattle.client_core.specs.HeardRange.{HearsInRange};
 ghost use Rattle.client_core.specs.Sensing.{IsSensed};
 
 use super::Client;
@@ -50,8 +51,10 @@ impl<N: Notes> Client<N> {
     /// of its tag, which is dropped; `Conflict`, another state of the key is kept; `TableFull`; `NoMemory`,
     /// and nothing changes; `SaveFault`, and the client is down.
     pub fn deliver(&mut self, frame: Frame) -> Result<Frames, Fault>
-        ensures { (o : Opening) (past : List FrameEntry) → StandsFor N.note self.old o past →
+        ensures ends { (o : Opening) (past : List FrameEntry) → StandsFor N.note self.old o past →
             Ends N.note o past (Deliver frame) self.old self.new result }
+        ensures ranges { (o : Opening) (past : List FrameEntry) → StandsFor N.note self.old o past →
+            HearsInRange o past (Deliver frame) result }
     {
         match frame {
             Frame::Whole(packet) => self.take(packet),
@@ -61,8 +64,10 @@ impl<N: Notes> Client<N> {
 
     /// Takes a packet.
     fn take(&mut self, packet: Packet) -> Result<Frames, Fault>
-        ensures { (o : Opening) (past : List FrameEntry) → StandsFor N.note self.old o past →
+        ensures ends { (o : Opening) (past : List FrameEntry) → StandsFor N.note self.old o past →
             Ends N.note o past (Deliver (Whole packet)) self.old self.new result }
+        ensures ranges { (o : Opening) (past : List FrameEntry) → StandsFor N.note self.old o past →
+            HearsInRange o past (Deliver (Whole packet)) result }
     {
         frames_are_short();
         packet.keeps_its_ranges();
@@ -71,8 +76,10 @@ impl<N: Notes> Client<N> {
 
     /// Takes a piece: the packet that it completes, or else the piece alone.
     fn join(&mut self, piece: &Piece) -> Result<Frames, Fault>
-        ensures { (o : Opening) (past : List FrameEntry) → StandsFor N.note self.old o past →
+        ensures ends { (o : Opening) (past : List FrameEntry) → StandsFor N.note self.old o past →
             Ends N.note o past (Deliver (OfPiece piece.now)) self.old self.new result }
+        ensures ranges { (o : Opening) (past : List FrameEntry) → StandsFor N.note self.old o past →
+            HearsInRange o past (Deliver (OfPiece piece.now)) result }
     {
         frames_are_short();
         match self.look(piece) {

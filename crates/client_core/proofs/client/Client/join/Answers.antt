@@ -7,11 +7,14 @@ use Rattle.client_core.specs.declared.input.Input.TheVariants.{Deliver}
 use Rattle.client_core.specs.Hearing.{packets_heard}
 use Rattle.client_core.specs.FrameEnds.{Ends}
 use Rattle.client_core.specs.Sensing.{IsSensed}
+use Rattle.client_core.specs.declared.call.Call.TheVariants as calls
+use Rattle.client_core.specs.FrameAnswers.{Hears, Keeps, Drops, Misses}
+use Rattle.client_core.proofs.HeardRangeLemmas.{hears_in_range}
 use Rattle.client_core.proofs.FrameEndLemmas.{given_answers, given_refused, kept_ends, dropped_ends, down_ends, missed_ends}
 use Rattle.client_core.proofs.client.Client.join.Goals as goal
 
-pub returns-then-is_ok : goal.returns-then-is_ok
-returns-then-is_ok g c o past s =
+pub returns-then-is_ok-clause-ends : goal.returns-then-is_ok-clause-ends
+returns-then-is_ok-clause-ends g c o past s =
     let note = g.N.Notes.note in
     let old = c.args.self.now in
     let q = c.args.piece.now in
@@ -20,15 +23,15 @@ returns-then-is_ok g c o past s =
     subst (λ rows. Ends note o past (Deliver (Piece q)) old (record { alloc = old.alloc; core = c.deliver-sent.new.self; pieces = rows }) c.deliver-sent.result) (sym (c.drop.ensures ∙ ap (λ t. without t old.pieces) c.tag.ensures))
     (given_answers note old c.deliver-sent.new.self o past q p c.deliver-sent.result c.frames_are_short.ensures c.keeps_its_ranges.ensures s is (c.deliver-sent.ensures o (packets_heard o past) s.core) (sym c.is_ok.ensures.value ∙ c.if-is_ok.true))
 
-pub returns-else-is_ok : goal.returns-else-is_ok
-returns-else-is_ok g c o past s =
+pub returns-else-is_ok-clause-ends : goal.returns-else-is_ok-clause-ends
+returns-else-is_ok-clause-ends g c o past s =
     let q = c.args.piece.now in
     let p = c.in-Ok-Some.packet in
     let is = subst (IsSensed o past q) (c.in-Ok-Some.is ∙ ap Ok c.in-Ok-Some.field-0-is) (c.look.ensures o past s) in
     given_refused g.N.Notes.note c.args.self.now c.deliver-sent.new.self o past q p c.deliver-sent.result s is (c.deliver-sent.ensures o (packets_heard o past) s.core) (sym c.is_ok.ensures.value ∙ c.if-is_ok.false)
 
-pub returns-in-Ok : goal.returns-in-Ok
-returns-in-Ok g c o past s =
+pub returns-in-Ok-clause-ends : goal.returns-in-Ok-clause-ends
+returns-in-Ok-clause-ends g c o past s =
     let note = g.N.Notes.note in
     let old = c.args.self.now in
     let q = c.args.piece.now in
@@ -36,8 +39,8 @@ returns-in-Ok g c o past s =
     subst (λ rows. Ends note o past (Deliver (Piece q)) old (record old { pieces = rows }) (Ok c.new.result)) (sym c.in-Ok.ensures.taken)
     (subst (λ sent. Ends note o past (Deliver (Piece q)) old (record old { pieces = taken old.pieces q }) (Ok sent)) (sym c.new.ensures) (kept_ends note o past q old is s))
 
-pub returns-in-Err-FrameBadField : goal.returns-in-Err-FrameBadField
-returns-in-Err-FrameBadField g c o past s =
+pub returns-in-Err-FrameBadField-clause-ends : goal.returns-in-Err-FrameBadField-clause-ends
+returns-in-Err-FrameBadField-clause-ends g c o past s =
     let note = g.N.Notes.note in
     let old = c.args.self.now in
     let q = c.args.piece.now in
@@ -45,12 +48,48 @@ returns-in-Err-FrameBadField g c o past s =
     subst (λ rows. Ends note o past (Deliver (Piece q)) old (record old { pieces = rows }) (Err FrameBadField))
     (sym (c.drop-in-Err-FrameBadField.ensures ∙ ap (λ t. without t old.pieces) c.tag-in-Err-FrameBadField.ensures)) (dropped_ends note o past q old is s)
 
-pub returns-in-Err-Down : goal.returns-in-Err-Down
-returns-in-Err-Down g c o past s =
+pub returns-in-Err-Down-clause-ends : goal.returns-in-Err-Down-clause-ends
+returns-in-Err-Down-clause-ends g c o past s =
     let misses = subst (IsSensed o past c.args.piece.now) (c.in-Err-Down.is ∙ ap Err c.in-Err-Down.field-0-is) (c.look.ensures o past s) in
     down_ends g.N.Notes.note o past c.args.piece.now c.args.self.now misses.0 misses.1 s
 
-pub returns-in-Err-Misdirected : goal.returns-in-Err-Misdirected
-returns-in-Err-Misdirected g c o past s =
+pub returns-in-Err-Misdirected-clause-ends : goal.returns-in-Err-Misdirected-clause-ends
+returns-in-Err-Misdirected-clause-ends g c o past s =
     let misses = subst (IsSensed o past c.args.piece.now) (c.in-Err-Misdirected.is ∙ ap Err c.in-Err-Misdirected.field-0-is) (c.look.ensures o past s) in
     missed_ends g.N.Notes.note o past c.args.piece.now c.args.self.now misses.0 misses.1 s
+
+pub returns-then-is_ok-clause-ranges : goal.returns-then-is_ok-clause-ranges
+returns-then-is_ok-clause-ranges g c o past s =
+    let q = c.args.piece.now in
+    let is = subst (IsSensed o past q) (c.in-Ok-Some.is ∙ ap Ok c.in-Ok-Some.field-0-is) (c.look.ensures o past s) in
+    hears_in_range o past (Deliver (Piece q)) (Hears (calls.Deliver c.in-Ok-Some.packet)) c.deliver-sent.result is c.keeps_its_ranges.ensures
+
+pub returns-else-is_ok-clause-ranges : goal.returns-else-is_ok-clause-ranges
+returns-else-is_ok-clause-ranges g c o past s =
+    let q = c.args.piece.now in
+    let is = subst (IsSensed o past q) (c.in-Ok-Some.is ∙ ap Ok c.in-Ok-Some.field-0-is) (c.look.ensures o past s) in
+    hears_in_range o past (Deliver (Piece q)) (Hears (calls.Deliver c.in-Ok-Some.packet)) c.deliver-sent.result is c.keeps_its_ranges.ensures
+
+pub returns-in-Ok-clause-ranges : goal.returns-in-Ok-clause-ranges
+returns-in-Ok-clause-ranges g c o past s =
+    let q = c.args.piece.now in
+    let is = subst (IsSensed o past q) (c.in-Ok-None.is ∙ ap Ok c.in-Ok-None.field-0-is) (c.look.ensures o past s) in
+    hears_in_range o past (Deliver (Piece q)) (Keeps q) (Ok c.new.result) is tt
+
+pub returns-in-Err-FrameBadField-clause-ranges : goal.returns-in-Err-FrameBadField-clause-ranges
+returns-in-Err-FrameBadField-clause-ranges g c o past s =
+    let q = c.args.piece.now in
+    let is = subst (IsSensed o past q) (c.in-Err-FrameBadField.is ∙ ap Err c.in-Err-FrameBadField.field-0-is) (c.look.ensures o past s) in
+    hears_in_range {X = Unit {0}} o past (Deliver (Piece q)) (Drops q) (Err FrameBadField) is tt
+
+pub returns-in-Err-Down-clause-ranges : goal.returns-in-Err-Down-clause-ranges
+returns-in-Err-Down-clause-ranges g c o past s =
+    let q = c.args.piece.now in
+    let misses = subst (IsSensed o past q) (c.in-Err-Down.is ∙ ap Err c.in-Err-Down.field-0-is) (c.look.ensures o past s) in
+    hears_in_range {X = Unit {0}} o past (Deliver (Piece q)) Misses (Err FrameBadField) misses.0 tt
+
+pub returns-in-Err-Misdirected-clause-ranges : goal.returns-in-Err-Misdirected-clause-ranges
+returns-in-Err-Misdirected-clause-ranges g c o past s =
+    let q = c.args.piece.now in
+    let misses = subst (IsSensed o past q) (c.in-Err-Misdirected.is ∙ ap Err c.in-Err-Misdirected.field-0-is) (c.look.ensures o past s) in
+    hears_in_range {X = Unit {0}} o past (Deliver (Piece q)) Misses (Err FrameBadField) misses.0 tt

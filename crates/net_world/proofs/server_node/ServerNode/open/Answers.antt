@@ -10,4 +10,4 @@ nothing_said = record { boot_range = omega arith; last_range = omega arith; spel
 pub returns-in-Ok : goal.returns-in-Ok
 returns-in-Ok c =
     let says : Says (note_of c.new-2.result).bytes blank = rw (c.new-2.ensures, c.new.ensures.items) nothing_said in
-    (c.in-Ok.ensures (opening_of c.args.me) [] refl says, refl)
+    (c.in-Ok.ensures.stands (opening_of c.args.me) [] refl says, refl)

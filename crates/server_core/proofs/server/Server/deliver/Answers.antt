@@ -8,8 +8,8 @@ use Rattle.server_core.specs.FrameEnds.{Ends}
 use Rattle.server_core.proofs.FrameEndLemmas.{whole_ends}
 use Rattle.server_core.proofs.server.Server.deliver.Goals as goal
 
-pub returns-in-Whole : goal.returns-in-Whole
-returns-in-Whole g c o past s =
+pub returns-in-Whole-clause-ends : goal.returns-in-Whole-clause-ends
+returns-in-Whole-clause-ends g c o past s =
     let note = g.N.Notes.note in
     let old = c.args.self.now in
     let new = record old { core = c.step.new.self } in

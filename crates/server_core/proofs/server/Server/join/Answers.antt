@@ -9,11 +9,15 @@ use Rattle.server_core.specs.Hearing.{packets_heard}
 use Rattle.server_core.specs.Handles.{sent_alone}
 use Rattle.server_core.specs.FrameEnds.{Ends}
 use Rattle.server_core.proofs.HearingLemmas.{gave, waited, spoiled, spoiled_gone}
+use Rattle.server_core.specs.FrameAnswers.{Hears, Keeps, Drops}
+use Rattle.server_core.specs.declared.event.Event.TheVariants as events
+use Rattle.server_core.specs.HeardRange.{SenseInRange}
+use Rattle.server_core.proofs.HeardRangeLemmas.{hears_in_range}
 use Rattle.server_core.proofs.FrameEndLemmas.{arrives, given_ends, refused_ends, kept_ends, dropped_ends}
 use Rattle.server_core.proofs.server.Server.join.Goals as goal
 
-pub returns-then-is_ok : goal.returns-then-is_ok
-returns-then-is_ok g c o past s =
+pub returns-then-is_ok-clause-ends : goal.returns-then-is_ok-clause-ends
+returns-then-is_ok-clause-ends g c o past s =
     let note = g.N.Notes.note in
     let old = c.args.self.now in
     let q = c.args.piece.now in
@@ -24,8 +28,8 @@ returns-then-is_ok g c o past s =
     subst (λ rows. Ends note o past (Deliver (Piece q)) old (record { alloc = old.alloc; core = c.step-outs.new.self; pieces = rows }) c.step-outs.result) (sym (c.drop.ensures ∙ ap (λ t. without t old.pieces) c.tag.ensures))
     (given_ends note old c.step-outs.new.self o past q p c.step-outs.result s on is gives (c.step-outs.ensures o (packets_heard o past) s.core) (sym c.is_ok.ensures.value ∙ c.if-is_ok.true))
 
-pub returns-else-is_ok : goal.returns-else-is_ok
-returns-else-is_ok g c o past s =
+pub returns-else-is_ok-clause-ends : goal.returns-else-is_ok-clause-ends
+returns-else-is_ok-clause-ends g c o past s =
     let note = g.N.Notes.note in
     let old = c.args.self.now in
     let q = c.args.piece.now in
@@ -35,8 +39,8 @@ returns-else-is_ok g c o past s =
     let is = arrives note old o past q c.me.result s on (c.me.ensures o (packets_heard o past) s.core) (sym c.is_piece_for.ensures ∙ c.if-not-is_piece_for.false) (Gives p) gives in
     refused_ends note old c.step-outs.new.self o past q p c.step-outs.result s is (c.step-outs.ensures o (packets_heard o past) s.core) (sym c.is_ok.ensures.value ∙ c.if-is_ok.false)
 
-pub returns-in-Ok : goal.returns-in-Ok
-returns-in-Ok g c o past s =
+pub returns-in-Ok-clause-ends : goal.returns-in-Ok-clause-ends
+returns-in-Ok-clause-ends g c o past s =
     let note = g.N.Notes.note in
     let old = c.args.self.now in
     let q = c.args.piece.now in
@@ -46,8 +50,8 @@ returns-in-Ok g c o past s =
     subst (λ rows. Ends note o past (Deliver (Piece q)) old (record old { pieces = rows }) (Ok c.sent.result)) (sym c.in-Ok.ensures.taken)
     (subst (λ outs. Ends note o past (Deliver (Piece q)) old (record old { pieces = taken old.pieces q }) (Ok outs)) (sym (c.sent.ensures ∙ ap sent_alone c.new.ensures)) (kept_ends note o past (Deliver (Piece q)) q old is s))
 
-pub returns-in-Err-FrameBadField : goal.returns-in-Err-FrameBadField
-returns-in-Err-FrameBadField g c o past s =
+pub returns-in-Err-FrameBadField-clause-ends : goal.returns-in-Err-FrameBadField-clause-ends
+returns-in-Err-FrameBadField-clause-ends g c o past s =
     let note = g.N.Notes.note in
     let old = c.args.self.now in
     let q = c.args.piece.now in
@@ -57,3 +61,45 @@ returns-in-Err-FrameBadField g c o past s =
     subst (λ rows. Ends note o past (Deliver (Piece q)) old (record old { pieces = rows }) (Err FrameBadField))
     (sym (c.drop-in-Err-FrameBadField.ensures ∙ ap (λ t. without t old.pieces) c.tag-in-Err-FrameBadField.ensures ∙ sym (spoiled_gone old.pieces q spoils)))
     (dropped_ends note o past (Deliver (Piece q)) q old is s)
+
+pub returns-then-is_ok-clause-ranges : goal.returns-then-is_ok-clause-ranges
+returns-then-is_ok-clause-ranges g c o past s =
+    let note = g.N.Notes.note in
+    let old = c.args.self.now in
+    let q = c.args.piece.now in
+    let p = c.in-Ok-Some.packet in
+    let gives = gave c.look.result (look old.pieces q) p c.look.ensures (c.in-Ok-Some.is ∙ ap Ok c.in-Ok-Some.field-0-is) in
+    let on = sym (c.on.ensures o (packets_heard o past) s.core) ∙ c.if-not-on.false in
+    let is = arrives note old o past q c.me.result s on (c.me.ensures o (packets_heard o past) s.core) (sym c.is_piece_for.ensures ∙ c.if-not-is_piece_for.false) (Gives p) gives in
+    hears_in_range o past (Deliver (Piece q)) (Hears (events.Deliver p)) c.step-outs.result is c.keeps_its_ranges.ensures
+
+pub returns-else-is_ok-clause-ranges : goal.returns-else-is_ok-clause-ranges
+returns-else-is_ok-clause-ranges g c o past s =
+    let note = g.N.Notes.note in
+    let old = c.args.self.now in
+    let q = c.args.piece.now in
+    let p = c.in-Ok-Some.packet in
+    let gives = gave c.look.result (look old.pieces q) p c.look.ensures (c.in-Ok-Some.is ∙ ap Ok c.in-Ok-Some.field-0-is) in
+    let on = sym (c.on.ensures o (packets_heard o past) s.core) ∙ c.if-not-on.false in
+    let is = arrives note old o past q c.me.result s on (c.me.ensures o (packets_heard o past) s.core) (sym c.is_piece_for.ensures ∙ c.if-not-is_piece_for.false) (Gives p) gives in
+    hears_in_range o past (Deliver (Piece q)) (Hears (events.Deliver p)) c.step-outs.result is c.keeps_its_ranges.ensures
+
+pub returns-in-Ok-clause-ranges : goal.returns-in-Ok-clause-ranges
+returns-in-Ok-clause-ranges g c o past s =
+    let note = g.N.Notes.note in
+    let old = c.args.self.now in
+    let q = c.args.piece.now in
+    let waits = waited c.look.result (look old.pieces q) c.look.ensures (c.in-Ok-None.is ∙ ap Ok c.in-Ok-None.field-0-is) in
+    let on = sym (c.on.ensures o (packets_heard o past) s.core) ∙ c.if-not-on.false in
+    let is = arrives note old o past q c.me.result s on (c.me.ensures o (packets_heard o past) s.core) (sym c.is_piece_for.ensures ∙ c.if-not-is_piece_for.false) looks.Waits waits in
+    hears_in_range o past (Deliver (Piece q)) (Keeps q) (Ok c.sent.result) is tt
+
+pub returns-in-Err-FrameBadField-clause-ranges : goal.returns-in-Err-FrameBadField-clause-ranges
+returns-in-Err-FrameBadField-clause-ranges g c o past s =
+    let note = g.N.Notes.note in
+    let old = c.args.self.now in
+    let q = c.args.piece.now in
+    let spoils = spoiled c.look.result (look old.pieces q) c.look.ensures (c.in-Err-FrameBadField.is ∙ ap Err c.in-Err-FrameBadField.field-0-is) in
+    let on = sym (c.on.ensures o (packets_heard o past) s.core) ∙ c.if-not-on.false in
+    let is = arrives note old o past q c.me.result s on (c.me.ensures o (packets_heard o past) s.core) (sym c.is_piece_for.ensures ∙ c.if-not-is_piece_for.false) looks.NoPacket spoils in
+    subst SenseInRange (sym is) tt

@@ -7,16 +7,16 @@ use Rattle.server_core.specs.FrameEnds.{Ends}
 use Rattle.server_core.proofs.FrameEndLemmas.{whole_ends}
 use Rattle.server_core.proofs.server.Server.take.Goals as goal
 
-pub returns-in-Issue : goal.returns-in-Issue
-returns-in-Issue g c o past s =
+pub returns-in-Issue-clause-ends : goal.returns-in-Issue-clause-ends
+returns-in-Issue-clause-ends g c o past s =
     let note = g.N.Notes.note in
     let old = c.args.self.now in
     let new = record old { core = c.step.new.self } in
     subst (λ e. Ends note o past e old new c.step.result) (sym c.in-Issue.is)
     (whole_ends note o past (Issue c.in-Issue.job) (events.Issue c.in-Issue.job) old c.step.new.self c.step.result refl refl s (c.step.ensures o (packets_heard o past) s.core))
 
-pub returns-in-WriteDone : goal.returns-in-WriteDone
-returns-in-WriteDone g c o past s =
+pub returns-in-WriteDone-clause-ends : goal.returns-in-WriteDone-clause-ends
+returns-in-WriteDone-clause-ends g c o past s =
     let note = g.N.Notes.note in
     let old = c.args.self.now in
     let new = record old { core = c.step-in-WriteDone.new.self } in
@@ -26,8 +26,8 @@ returns-in-WriteDone g c o past s =
     subst (λ e. Ends note o past e old new result) (sym c.in-WriteDone.is)
     (whole_ends note o past (WriteDone ticket end) (events.WriteDone ticket end) old c.step-in-WriteDone.new.self result refl refl s (c.step-in-WriteDone.ensures o (packets_heard o past) s.core))
 
-pub returns-in-CheckDone : goal.returns-in-CheckDone
-returns-in-CheckDone g c o past s =
+pub returns-in-CheckDone-clause-ends : goal.returns-in-CheckDone-clause-ends
+returns-in-CheckDone-clause-ends g c o past s =
     let note = g.N.Notes.note in
     let old = c.args.self.now in
     let new = record old { core = c.step-in-CheckDone.new.self } in

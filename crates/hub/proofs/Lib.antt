@@ -1,0 +1,7 @@
+mod NodeLemmas
+mod StoreLemmas
+mod QueueLemmas
+mod WaitingLemmas
+mod KeptLemmas
+mod NoteLemmas
+mod SpelledLemmas

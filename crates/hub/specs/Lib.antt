@@ -1,0 +1,4 @@
+pub mod Network
+pub mod Waiting
+pub mod Kept
+pub mod Laws

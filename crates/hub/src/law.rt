@@ -1,0 +1,12 @@
+//! A law of frames. The function has nothing to run.
+
+ghost use Rattle.hub.specs.Laws.{FramesAreSpelled};
+
+use messages::lengths_are_bounded;
+
+/// The frames of a packet in its ranges are spelled, so that a hub can note them.
+pub fn frames_are_spelled()
+    ensures { FramesAreSpelled }
+{
+    lengths_are_bounded();
+}
