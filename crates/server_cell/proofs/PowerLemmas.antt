@@ -15,7 +15,6 @@ use Rattle.disk_model.specs.declared.left.Left.TheVariants as lefts
 use Rattle.disk_model.specs.Left.{is_lost}
 use Rattle.disk_model.specs.Notes.{Note}
 use Rattle.engine.specs.declared.issue.Ticket.{Ticket}
-use Rattle.messages.specs.declared.packet.PacketParts.{PacketParts}
 use Rattle.messages.specs.declared.frame.Frame.TheVariants.{Whole, Piece}
 use Rattle.messages.specs.FrameBytes.{frame_spelling}
 use Rattle.messages.specs.Pieces.{frames_of}
@@ -32,7 +31,7 @@ use Rattle.server_core.specs.declared.event.Event.TheVariants as events
 use Rattle.server_core.specs.History.{Opening}
 use Rattle.server_core.specs.Note.{Says, SaysOneThing, spelling}
 use Rattle.server_core.specs.Ranges.{CameInRange}
-use Rattle.server_core.specs.Words.{boot, last_run}
+use Rattle.server_core.specs.Words.{boot}
 use Rattle.server_core.specs.Serves.{NotOpened, saved_for}
 use Rattle.server_core.specs.Hearing.{FrameEntry, Met, Cut, Restart, packets_heard, heard_at, rules as hearing}
 use Rattle.server_core.specs.FrameAnswers as answers
@@ -41,7 +40,7 @@ use Rattle.server_core.specs.HeardRange.{SenseInRange, UnlessMemory, HearsInRang
 use Rattle.server_core.specs.FrameEnds as ends
 use Rattle.server_core.specs.FrameEnds.{StandsFor, is_drop}
 use Rattle.node_history.specs.declared.answer.Said.{Said}
-use Rattle.node_history.specs.Rules.{Meets, Cuts, Restarts}
+use Rattle.node_history.specs.Rules.{Meets}
 use Rattle.node_history.specs.Replay.{Stops}
 use Rattle.node_history.specs.ServerRules.{rules, is_up, has_boot, left_by}
 use Rattle.server_cell.specs.declared.power.Power.{Power}

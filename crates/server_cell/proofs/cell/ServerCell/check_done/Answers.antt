@@ -1,4 +1,4 @@
-use Rattle.std.proofs.Common.{ap, inl, inr}
+use Rattle.std.proofs.Common.{ap, inr}
 use Rattle.server_core.specs.declared.input.Input.TheVariants.{CheckDone}
 use Rattle.node_history.specs.Rules.{Meets}
 use Rattle.server_cell.proofs.cell.ServerCell.check_done.Goals as goal

@@ -1,7 +1,6 @@
 use Rattle.std.proofs.Common.{sym, subst}
 use Rattle.server_cell.specs.declared.task.Task.TheVariants.{Issue, WriteDone}
-use Rattle.server_core.specs.declared.input.Input.TheVariants as inputs
-use Rattle.server_cell.specs.Stands.{TaskEnds, said_by}
+use Rattle.server_cell.specs.Stands.{TaskEnds}
 use Rattle.server_cell.proofs.PowerLemmas.{issue_task, end_task}
 use Rattle.server_cell.proofs.power.Power.perform.Goals as goal
 
