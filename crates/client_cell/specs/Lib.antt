@@ -1,0 +1,4 @@
+pub mod Calls
+pub mod Cells
+pub mod Stands
+pub mod Tasks
