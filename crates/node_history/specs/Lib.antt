@@ -1,3 +1,4 @@
+pub mod AtHub
 pub mod ClientRules
 pub mod Replay
 pub mod Rules

@@ -3,11 +3,13 @@
 #![tactic(auto)]
 
 mod answer;
+mod at_hub;
 mod came;
 mod logged;
 mod seat;
 
 pub use answer::{Answer, Said, Told};
+pub use at_hub::{frame_came, is_left_out, told_at};
 pub use came::{Came, FrameBytes};
 pub use logged::{Logged, Turn};
 pub use seat::Seat;

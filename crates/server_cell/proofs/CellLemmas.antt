@@ -1,6 +1,8 @@
 -- What a server's cell keeps.
-use Rattle.std.proofs.Common.{◌≡◌, refl, sym, ◌∙◌, ap, subst, ℕ, zero, suc, ◌+◌, ◌-◌, ◌^◌, ◌<◌, ◌≤◌, arith, Bool, true, false, List, [], ◌∷◌, Option, Some, None}
-use Rattle.std.specs.Prelude.{reverse, slice_index}
+use Rattle.std.proofs.Common.{◌≡◌, refl, sym, ◌∙◌, ap, subst, ℕ, zero, suc, ◌+◌, ◌-◌, ◌^◌, ◌<◌, ◌≤◌, arith, Bool, true, false, List, [], ◌∷◌, ◌++◌, Option, Some, None}
+use Rattle.std.specs.Prelude.{reverse, length, slice_index_or, slice_set, if◌then◌else◌, ◌==◌, ◌≢◌, Result, Ok, Err}
+use Rattle.std.proofs.lemmas.List.{get_or-set_same, get_or-set_other, length-set, reverse-append, length-reverse}
+use Rattle.std.proofs.lemmas.Bool.{eqb-true, eq-eqb, and_parts}
 use Rattle.std.specs.Option.{option_copied}
 use Rattle.std.specs.Borrow.{Bor}
 use Rattle.disk_model.specs.declared.left.Left.TheVariants.{Saved}
@@ -13,9 +15,28 @@ use Rattle.server_core.specs.Answers.{looked, status}
 use Rattle.server_core.specs.Hearing.{FrameEntry, Restart, packets_heard}
 use Rattle.server_core.specs.FrameEnds.{StandsFor, Restarts}
 use Rattle.node_history.specs.declared.logged.Logged.{Logged}
-use Rattle.node_history.specs.Seats.{times}
+use Rattle.node_history.specs.declared.came.Came.{Came}
+use Rattle.node_history.specs.declared.answer.Said.{Said}
+use Rattle.node_history.specs.declared.logged.Turn.{Turn}
+use Rattle.node_history.specs.Seated.{Seated}
+use Rattle.node_history.specs.ServerRules.{asked}
+use Rattle.node_history.specs.Seats.{times, with_turn}
+use Rattle.fc_base.specs.declared.fault.Fault.{Fault}
+use Rattle.fc_base.specs.declared.fault.Fault.TheVariants.{NoMemory}
+use Rattle.fc_base.specs.declared.fault.FaultSort.{FaultSort}
+use Rattle.fc_base.specs.declared.fault.FaultSort.TheVariants as sorts
+use Rattle.fc_base.specs.Fault.{sort_of}
+use Rattle.server_cell.specs.declared.power.Power.{Power}
 use Rattle.server_cell.specs.declared.power.Power.TheVariants.{On}
-use Rattle.server_cell.specs.Cells.{IsCell, AreCounted}
+use Rattle.server_cell.specs.declared.task.Task.{Task}
+use Rattle.server_cell.specs.Tasks.{came_by}
+use Rattle.server_cell.specs.Stands.{Stands, Moves, Fails, TaskEnds}
+use Rattle.server_cell.specs.Calls.{is_right, is_memory, lacks_memory, logged_by, entry_of, Applies, AppliesBy}
+use Rattle.server_cell.specs.Cells.{ServerLog, IsReplay, IsCell, AreCounted}
+
+-- The opening with these numbers.
+abbrev pub opening_with : ℕ → ℕ → ℕ → Opening
+opening_with me boot last = record { me = me; boot = boot; last = last }
 
 -- ---- a new cell
 
@@ -45,7 +66,7 @@ abbrev zeros : ℕ → List ℕ
 zeros zero = []
 zeros (suc n) = 0 ∷ zeros n
 
-none_counted : (n seat : ℕ) → seat < n → slice_index (zeros n) seat ≡ 0
+none_counted : (n seat : ℕ) → seat < n → slice_index_or (zeros n) seat 0 ≡ 0
 none_counted zero seat h = absurd (omega (arith, h))
 none_counted (suc n) zero h = refl
 none_counted (suc n) (suc seat) h = none_counted n seat (omega (arith, h))
@@ -59,5 +80,105 @@ new_cell note me notes server h boot last history few b l none =
       stands = opened_once note me notes server h;
       opens = record { me = few; last = h.says.last_range };
       ranges = tt;
-      counted = none_counted 17;
+      counted = record { long = refl; each = none_counted 17 };
     })
+
+-- ---- what is asked from a seat
+
+times_few : (seat : ℕ) (history : List Logged) → times seat history ≤ length history
+times_few seat [] = omega arith
+times_few seat (l ∷ ls) = by_turn seat l.by (times seat ls) (length ls) (times_few seat ls)
+  where
+    by_turn : (seat : ℕ) (by : Option Turn) (n m : ℕ) → n ≤ m → with_turn seat by n ≤ suc m
+    by_turn seat None n m h = omega (arith, h)
+    by_turn seat (Some t) n m h = by_test (t.seat == seat) n m h
+      where
+        by_test : (b : Bool) (n m : ℕ) → n ≤ m → (if b then n + 1 else n) ≤ suc m
+        by_test true n m h = omega (arith, h)
+        by_test false n m h = omega (arith, h)
+
+-- The count of a seat's events is a number of eight bytes, and so is the next.
+pub count_fits : (applied : List ℕ) (items : List Logged) (seat : ℕ) → AreCounted applied (reverse items) → seat < 17 → length items + 1 < 2 ^ 64 → slice_index_or applied seat 0 + 1 < 2 ^ 64
+count_fits applied items seat counted few small =
+    omega (arith, counted.each seat few, times_few seat (reverse items), length-reverse items, small)
+
+-- For want of memory nothing changes.
+pub lacks : (old new : ServerLog) (seat : Seated) (task : Task) → is_right old seat ≡ true → new ≡ old → Applies old seat task new seat (Err NoMemory)
+lacks old new seat task right same =
+    subst (λ b. AppliesBy b old seat task new seat (Err NoMemory)) (sym right) (Err NoMemory, refl, (record { cell = same; seat_is = refl }, refl))
+
+pub stays : {T : Type 0} (note : T → Note) (o : Opening) (past : List FrameEntry) (task : Task) (new : Power T) (answer : Result Said Fault) → lacks_memory answer ≡ true → TaskEnds note o past task new answer → Stands note o past new
+stays note o past task new (Ok said) h e = cc
+stays note o past task new (Err fault) h e = by_sort (sort_of fault) h e
+  where
+    by_sort : (sort : FaultSort) → is_memory sort ≡ true → Fails note o past (asked (came_by task)) sort fault new → Stands note o past new
+    by_sort sorts.Memory h e = e.1
+    by_sort sorts.Save h e = cc
+    by_sort sorts.Refusal h e = cc
+
+pub moved : {T : Type 0} (note : T → Note) (o : Opening) (past : List FrameEntry) (task : Task) (new : Power T) (answer : Result Said Fault) → lacks_memory answer ≡ false → TaskEnds note o past task new answer → Moves note o past (asked (came_by task)) answer [] new
+moved note o past task new (Ok said) h e = e
+moved note o past task new (Err fault) h e = by_sort (sort_of fault) h e
+  where
+    by_sort : (sort : FaultSort) → is_memory sort ≡ false → Fails note o past (asked (came_by task)) sort fault new → Moves note o past (asked (came_by task)) (Err fault) [] new
+    by_sort sorts.Memory h e = cc
+    by_sort sorts.Save h e = e
+    by_sort sorts.Refusal h e = e
+
+-- Where nothing is entered, a cell is what it was.
+pub same_cell : {T : Type 0} (note : T → Note) (o : Opening) (power new : Power T) (history : List Logged) (applied : List ℕ) → (cell : IsCell note o power history applied) → Stands note o cell.past new → IsCell note o new history applied
+same_cell note o power new history applied cell s =
+    record { past = cell.past; replay = cell.replay; stands = s; opens = cell.opens; ranges = cell.ranges; counted = cell.counted }
+
+clash : false ≡ true → ⊥
+clash h = cc
+
+differ : (a b : ℕ) → (a == b) ≡ false → b ≢ a
+differ a b h e = clash (sym h ∙ eq-eqb a b (sym e))
+
+same_or_not : (a b : ℕ) → (t : Bool) → (a == b) ≡ t → (applied : List ℕ) (n : ℕ) → a < length applied → slice_index_or applied b 0 ≡ n → slice_index_or (slice_set applied a (slice_index_or applied a 0 + 1)) b 0 ≡ (if t then n + 1 else n)
+same_or_not a b true h applied n few is =
+    let same = eqb-true a b h in
+    subst (λ k. slice_index_or (slice_set applied a (slice_index_or applied a 0 + 1)) k 0 ≡ n + 1) same
+    (get_or-set_same applied a (slice_index_or applied a 0 + 1) 0 few ∙ ap (λ k. k + 1) (ap (λ k. slice_index_or applied k 0) same ∙ is))
+same_or_not a b false h applied n few is = get_or-set_other applied a b (slice_index_or applied a 0 + 1) 0 (differ a b h) ∙ is
+
+counted_once_more : (applied : List ℕ) (history : List Logged) (seat : Seated) (came : Came) (answer : Result Said Fault) → seat.number < 17 → AreCounted applied history
+    → AreCounted (slice_set applied seat.number (slice_index_or applied seat.number 0 + 1)) (logged_by seat came answer ∷ history)
+counted_once_more applied history seat came answer few counted = record {
+  long = length-set applied seat.number (slice_index_or applied seat.number 0 + 1) ∙ counted.long;
+  each = λ k h. same_or_not seat.number k (seat.number == k) refl applied (times k history) (subst (λ n. seat.number < n) (sym counted.long) few) (counted.each k h);
+}
+
+-- What was asked is entered.
+pub entered : {T : Type 0} (note : T → Note) (o : Opening) (power new : Power T) (history : List Logged) (applied : List ℕ) (seat : Seated) (task : Task) (answer : Result Said Fault) → (cell : IsCell note o power history applied) → is_right (record { opening = o; history = history }) seat ≡ true → seat.number < 17
+    → Moves note o cell.past (asked (came_by task)) answer [] new → IsCell note o new (entry_of seat task answer ∷ history) (slice_set applied seat.number (slice_index_or applied seat.number 0 + 1))
+entered note o power new history applied seat task answer cell right few m = record {
+  past = m.after;
+  replay = record {
+    numbered = (cell.replay.numbered, eqb-true seat.applied (times seat.number history) (and_parts (seat.server == o.me) (seat.applied == times seat.number history) right).1);
+    made = (cell.past, cell.replay.made, m.ends);
+  };
+  stands = m.stands;
+  opens = cell.opens;
+  ranges = m.ranges cell.ranges;
+  counted = counted_once_more applied history seat (came_by task) answer few cell.counted;
+}
+
+pub replayed : {T : Type 0} (note : T → Note) (o : Opening) {power new : Power T} {history : List Logged} {applied : List ℕ} (cell : IsCell note o power history applied) (seat : Seated) (task : Task) (answer : Result Said Fault) → is_right (record { opening = o; history = history }) seat ≡ true
+    → Moves note o cell.past (asked (came_by task)) answer [] new → (past : List FrameEntry) × IsReplay (record { opening = o; history = entry_of seat task answer ∷ history }) past
+replayed note o {history = history} cell seat task answer right m = (
+  m.after,
+  record {
+    numbered = (cell.replay.numbered, eqb-true seat.applied (times seat.number history) (and_parts (seat.server == o.me) (seat.applied == times seat.number history) right).1);
+    made = (cell.past, cell.replay.made, m.ends);
+  },
+)
+
+pub seat_fits : (items : List Logged) (cell : ServerLog) (seat : Seated) → is_right cell seat ≡ true → cell.history ≡ reverse items → length items + 1 < 2 ^ 64 → seat.applied + 1 < 2 ^ 64
+seat_fits items cell seat right is small =
+    omega (arith, eqb-true seat.applied (times seat.number cell.history) (and_parts (seat.server == cell.opening.me) (seat.applied == times seat.number cell.history) right).1, times_few seat.number cell.history, ap length is, length-reverse items, small)
+
+-- The newest entry is the last of the items.
+pub pushed : (items : List Logged) (l : Logged) → reverse (items ++ l ∷ []) ≡ l ∷ reverse items
+pushed items l = reverse-append items (l ∷ [])

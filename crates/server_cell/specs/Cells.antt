@@ -1,5 +1,5 @@
 -- What a server's cell shows, and what is true of every one.
-use Rattle.std.specs.Prelude.{◌≡◌, ℕ, ◌<◌, List, ◌∷◌, slice_index}
+use Rattle.std.specs.Prelude.{◌≡◌, ℕ, ◌<◌, List, length, slice_index_or}
 use Rattle.disk_model.specs.Notes.{Note}
 use Rattle.server_core.specs.History.{Opening}
 use Rattle.server_core.specs.Ranges.{OpensInRange, CameInRange}
@@ -21,9 +21,10 @@ pub record IsReplay (cell : ServerLog) (past : List FrameEntry) : Type 0 where
   pub numbered : IsNumbered cell.history
   pub made : Makes (rules cell.opening) cell.history past
 
--- Each seat has applied as many events as are counted for it.
-abbrev pub AreCounted : List ℕ → List Logged → Type 0
-AreCounted applied history = (seat : ℕ) → seat < 17 → slice_index applied seat ≡ times seat history
+-- For each of 17 seats its events are counted.
+pub record AreCounted (applied : List ℕ) (history : List Logged) : Type 0 where
+  pub long : length applied ≡ 17
+  pub each : (seat : ℕ) → seat < 17 → slice_index_or applied seat 0 ≡ times seat history
 
 -- What is true of every cell: the server stands for a list that its history makes, in which all is in
 -- its ranges, and the events of each seat are counted.

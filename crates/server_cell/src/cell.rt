@@ -6,6 +6,7 @@ ghost use Rattle.node_history.specs.ServerRules.{is_up};
 ghost use Rattle.node_history.specs.Seats.{new_seats};
 
 mod apply;
+mod hear;
 
 use crate::power::Power;
 use crate::seats::{SEATS, new_seats};

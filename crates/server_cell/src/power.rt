@@ -59,7 +59,12 @@ impl<N: Notes + Drop> Power<N> {
     }
 
     /// Does what is asked from a seat, which sends nothing.
-    pub(crate) fn perform(&mut self, alloc: Global, me: ServerNo, task: &Task) -> Result<Said, Fault>
+    pub(crate) fn perform(
+        &mut self,
+        alloc: Global,
+        me: ServerNo,
+        task: &Task,
+    ) -> Result<Said, Fault>
         requires { me < 8 }
         ensures { (o : Opening) (past : List FrameEntry) → o.me ≡ me → Stands N.note o past self.old →
             TaskEnds N.note o past task.now self.new result }

@@ -1,0 +1,52 @@
+use Rattle.std.proofs.Common.{refl, sym, ◌∙◌, ap, subst, arith, ◌<◌, [], ◌∷◌}
+use Rattle.std.proofs.lemmas.List.{length-append}
+use Rattle.std.specs.Prelude.{reverse, length}
+use Rattle.server_cell.specs.Cells.{ServerLog}
+use Rattle.server_cell.specs.Calls.{is_right}
+use Rattle.server_cell.proofs.CellLemmas.{opening_with, count_fits, seat_fits, lacks, stays, moved, same_cell, entered, replayed, pushed}
+use Rattle.server_cell.proofs.cell.ServerCell.apply.Goals as goal
+
+pub returns-then-is_err-clause-ends : goal.returns-then-is_err-clause-ends
+returns-then-is_err-clause-ends g c =
+    lacks c.args.self.now _ c.args.seat.now c.args.task (sym c.is_right.ensures ∙ c.if-not-is_right.false) (rw c.reserve.ensures.items c.self.view_is)
+
+pub invariant_of-self-then-lacks_memory : goal.invariant_of-self-then-lacks_memory
+invariant_of-self-then-lacks_memory g c =
+    let note = g.N.Notes.note in
+    let cell = c.self.invariant in
+    let o = opening_with c.self.inside.me c.self.inside.boot c.self.inside.last_run in
+    rw c.reserve.ensures.items
+    (same_cell note o c.self.inside.power c.perform-answer.new.self (reverse c.self.inside.history.items) c.self.inside.applied cell
+    (stays note o cell.past c.args.task c.perform-answer.new.self c.perform-answer.result (sym c.lacks_memory.ensures ∙ c.if-lacks_memory.true) (c.perform-answer.ensures o cell.past refl cell.stands)))
+
+pub returns-then-lacks_memory-clause-ends : goal.returns-then-lacks_memory-clause-ends
+returns-then-lacks_memory-clause-ends g c =
+    lacks c.args.self.now _ c.args.seat.now c.args.task (sym c.is_right.ensures ∙ c.if-not-is_right.false) (rw c.reserve.ensures.items c.self.view_is)
+
+pub overflow_add-self : goal.overflow_add-self
+overflow_add-self g c =
+    omega (arith, count_fits c.self.inside.applied c.self.inside.history.items c.number.result c.self.invariant.counted c.number.ensures.few (omega (arith, c.push_reserved.new.self.small, c.push_reserved.new.self.ok, ap length c.push_reserved.ensures.items, length-append c.reserve.new.self.items (c.entry.result ∷ []), ap length c.reserve.ensures.items)))
+
+pub advance-requires : goal.advance-requires
+advance-requires g c =
+    seat_fits c.self.inside.history.items c.args.self.now c.args.seat.now (sym c.is_right.ensures ∙ c.if-not-is_right.false) (ap (λ (log : ServerLog). log.history) (sym c.self.view_is)) (omega (arith, c.push_reserved.new.self.small, c.push_reserved.new.self.ok, ap length c.push_reserved.ensures.items, length-append c.reserve.new.self.items (c.entry.result ∷ []), ap length c.reserve.ensures.items))
+
+pub invariant_of-self-2 : goal.invariant_of-self-2
+invariant_of-self-2 g c =
+    let note = g.N.Notes.note in
+    let cell = c.self.invariant in
+    let o = opening_with c.self.inside.me c.self.inside.boot c.self.inside.last_run in
+    let m = moved note o cell.past c.args.task c.perform-answer.new.self c.perform-answer.result (sym c.lacks_memory.ensures ∙ c.if-lacks_memory.false) (c.perform-answer.ensures o cell.past refl cell.stands) in
+    let right = ap (λ (log : ServerLog). is_right log c.args.seat.now) c.self.view_is ∙ sym c.is_right.ensures ∙ c.if-not-is_right.false in
+    rw (c.push_reserved.ensures.items, c.reserve.ensures.items, pushed c.self.inside.history.items c.entry.result, c.entry.ensures, c.came-came.ensures, c.number.ensures.value)
+    (entered note o c.self.inside.power c.perform-answer.new.self (reverse c.self.inside.history.items) c.self.inside.applied c.args.seat.now c.args.task c.perform-answer.result cell right (subst (λ n. n < 17) c.number.ensures.value c.number.ensures.few) m)
+
+pub returns-clause-replay : goal.returns-clause-replay
+returns-clause-replay g c =
+    let note = g.N.Notes.note in
+    let cell = c.self.invariant in
+    let o = opening_with c.self.inside.me c.self.inside.boot c.self.inside.last_run in
+    let m = moved note o cell.past c.args.task c.perform-answer.new.self c.perform-answer.result (sym c.lacks_memory.ensures ∙ c.if-lacks_memory.false) (c.perform-answer.ensures o cell.past refl cell.stands) in
+    let right = ap (λ (log : ServerLog). is_right log c.args.seat.now) c.self.view_is ∙ sym c.is_right.ensures ∙ c.if-not-is_right.false in
+    rw (c.push_reserved.ensures.items, c.reserve.ensures.items, pushed c.self.inside.history.items c.entry.result, c.entry.ensures, c.came-came.ensures)
+    (replayed note o cell c.args.seat.now c.args.task c.perform-answer.result right m)
