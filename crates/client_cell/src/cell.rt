@@ -7,6 +7,8 @@ ghost use Rattle.client_core.specs.Hearing.{FrameEntry};
 ghost use Rattle.node_history.specs.ClientRules.{is_up};
 
 mod apply;
+mod enter;
+mod hear;
 
 use crate::power::Power;
 use client_core::Client;
