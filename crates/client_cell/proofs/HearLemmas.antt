@@ -8,7 +8,7 @@ use Rattle.std.proofs.lemmas.List.Elements.{All-nil, All-append}
 use Rattle.std.proofs.lemmas.List.Sums.{sum_by-append, sum_by-cons}
 use Rattle.std.proofs.lemmas.Option.{slice_get_within, get_or_from_slice_get}
 use Rattle.fc_base.specs.declared.fault.Fault.{Fault}
-use Rattle.fc_base.specs.declared.fault.Fault.TheVariants.{NoMemory, NoFrame, LoadFault, FrameBadField}
+use Rattle.fc_base.specs.declared.fault.Fault.TheVariants.{NoMemory, NodeOff, NoFrame, LoadFault, FrameBadField}
 use Rattle.fc_base.specs.declared.fault.FaultSort.{FaultSort}
 use Rattle.fc_base.specs.declared.fault.FaultSort.TheVariants as sorts
 use Rattle.fc_base.specs.Fault.{sort_of}
@@ -50,7 +50,7 @@ use Rattle.client_cell.specs.declared.request.Request.TheVariants as requests
 use Rattle.client_cell.specs.Stands.{Stands, Moves, Faults, StepEnds}
 use Rattle.client_cell.specs.Cells.{ClientLog, IsReplay, IsCell}
 use Rattle.client_cell.specs.Tasks.{came_of, input_of}
-use Rattle.client_cell.specs.Hearing.{outcome_of, HasWhy, IsWhyNot, Delivers}
+use Rattle.client_cell.specs.Hearing.{outcome_of, HasWhy, IsWhyWhere, IsWhyNot, Delivers}
 
 -- ---- nothing happens
 
@@ -62,6 +62,9 @@ no_drop fault h e = clash (sym h ∙ ap (λ f. not (is_drop f)) e)
 
 pub lacking : (came : Came) (taken : Option ℕ) (old new : Network) (before after : List Logged) → new ≡ old → after ≡ before → Posts nodes.Client came taken old new before after (Err NoMemory)
 lacking came taken old new before after net same = (Err NoMemory, [], refl, record { net = net; history = same })
+
+pub off : (came : Came) (taken : Option ℕ) (net : Network) (history : List Logged) → Posts nodes.Client came taken net net history history (Err NodeOff)
+off came taken net history = (Err NodeOff, [], refl, record { net = refl; history = refl })
 
 pub where_ok : {X E P : Type 0} (result : Result X E) → OnOk result P → is_ok result ≡ true → P
 where_ok (Ok x) h e = h
@@ -205,8 +208,15 @@ replayed note log power cell = (cell.o, cell.past, cell.replay)
 
 -- ---- why it was refused
 
-pub lacks_why : {T : Type 0} (note : T → Note) (log : ClientLog) (power : Power T) (came : Came) → IsCell note log power → HasWhy log came NoMemory
-lacks_why note log power came cell = record { o = cell.o; past = cell.past; replay = cell.replay; why = refl }
+why_up : (log : ClientLog) (o : Opening) (past : List FrameEntry) (came : Came) (fault : Fault) → IsReplay log o past → is_up o past ≡ true → IsWhy (rules o) past (asked came) fault → HasWhy log came fault
+why_up log o past came fault replay up why = record { o = o; past = past; replay = replay; why = subst (λ b. IsWhyWhere b o past came fault) (sym up) why }
+
+pub lacks_why : {T : Type 0} (note : T → Note) (log : ClientLog) (power : Power T) (cell : IsCell note log power) (came : Came) (shown : ClientLog) → is_up cell.o cell.past ≡ true → log ≡ shown → HasWhy shown came NoMemory
+lacks_why note log power cell came shown up view = subst (λ (l : ClientLog). HasWhy l came NoMemory) view (why_up log cell.o cell.past came NoMemory cell.replay up refl)
+
+pub off_why : {T : Type 0} (note : T → Note) (log : ClientLog) (power : Power T) (cell : IsCell note log power) (came : Came) (shown : ClientLog) → is_up cell.o cell.past ≡ false → log ≡ shown → HasWhy shown came NodeOff
+off_why note log power cell came shown down view =
+    subst (λ (l : ClientLog). HasWhy l came NodeOff) view (record { o = cell.o; past = cell.past; replay = cell.replay; why = subst (λ b. IsWhyWhere b cell.o cell.past came NodeOff) (sym down) refl })
 
 fault_why : {T : Type 0} (note : T → Note) (o : Opening) (past : List FrameEntry) (e : Input) (fault : Fault) (new : Power T) → (sort : FaultSort) → sort_of fault ≡ sort → Faults note o past e sort fault new → IsWhyBy (rules o) past (Meets e) sort fault
 fault_why note o past e fault new sorts.Memory is f = f.0
@@ -225,20 +235,16 @@ fault_why note o past e fault new sorts.Refusal is f = by_why (passes f.moves.af
     by_why : {after : List FrameEntry} → Passes (rules o) past (Meets e) fault [] after → (rules o).refusal past (Meets e) ≡ Some fault
     by_why p = by_sum p.why
 
-pub heard_why : {T : Type 0} (note : T → Note) (log : ClientLog) (power new : Power T) (cell : IsCell note log power) (e : Input) (step : Result Outs Fault) (came : Came) (first sent : ℕ) → asked came ≡ Meets e → StepEnds note cell.o cell.past e new step
+heard_why : {T : Type 0} (note : T → Note) (log : ClientLog) (power new : Power T) (cell : IsCell note log power) (e : Input) (step : Result Outs Fault) (came : Came) (first sent : ℕ) → is_up cell.o cell.past ≡ true → asked came ≡ Meets e → StepEnds note cell.o cell.past e new step
     → IfErr (told_at first sent (outcome_of step).0) (HasWhy log came)
-heard_why note log power new cell e (Ok outs) came first sent asks f = tt
-heard_why note log power new cell e (Err fault) came first sent asks f = record {
-  o = cell.o;
-  past = cell.past;
-  replay = cell.replay;
-  why = subst (λ ask. IsWhy (rules cell.o) cell.past ask fault) (sym asks) (fault_why note cell.o cell.past e fault new (sort_of fault) refl f);
-}
+heard_why note log power new cell e (Ok outs) came first sent up asks f = tt
+heard_why note log power new cell e (Err fault) came first sent up asks f =
+    why_up log cell.o cell.past came fault cell.replay up (subst (λ ask. IsWhy (rules cell.o) cell.past ask fault) (sym asks) (fault_why note cell.o cell.past e fault new (sort_of fault) refl f))
 
-pub told_why : {T : Type 0} (note : T → Note) (log : ClientLog) (power new : Power T) (cell : IsCell note log power) (e : Input) (step : Result Outs Fault) (came : Came) (first sent : ℕ) (result : Result Told Fault) (shown : ClientLog) → asked came ≡ Meets e → StepEnds note cell.o cell.past e new step
+pub told_why : {T : Type 0} (note : T → Note) (log : ClientLog) (power new : Power T) (cell : IsCell note log power) (e : Input) (step : Result Outs Fault) (came : Came) (first sent : ℕ) (result : Result Told Fault) (shown : ClientLog) → is_up cell.o cell.past ≡ true → asked came ≡ Meets e → StepEnds note cell.o cell.past e new step
     → result ≡ told_at first sent (outcome_of step).0 → log ≡ shown → IfErr result (HasWhy shown came)
-told_why note log power new cell e step came first sent result shown asks f is view =
-    rw is (subst (λ (l : ClientLog). IfErr (told_at first sent (outcome_of step).0) (HasWhy l came)) view (heard_why note log power new cell e step came first sent asks f))
+told_why note log power new cell e step came first sent result shown up asks f is view =
+    rw is (subst (λ (l : ClientLog). IfErr (told_at first sent (outcome_of step).0) (HasWhy l came)) view (heard_why note log power new cell e step came first sent up asks f))
 
 -- ---- a delivery
 
@@ -265,5 +271,5 @@ is_there note log (Some client) (o, past, replay, stands, up) some = (o, past, r
 
 pub why_not : (log : ClientLog) (net : Network) (position : ℕ) (fault : Fault) → IsUp log → Comes net position (Err fault) → IsWhyNot log (slice_get net.frames position) fault
 why_not log net position NoFrame (o, past, replay, up) h = rw h (record { o = o; past = past; replay = replay; why = inr (refl, up) })
-why_not log net position NoMemory (o, past, replay, up) (bytes, is) = rw is (inr (record { o = o; past = past; replay = replay; why = refl }))
+why_not log net position NoMemory (o, past, replay, up) (bytes, is) = rw is (why_up log o past (came.Frame bytes) NoMemory replay up refl)
 why_not log net position _ up h = absurd h

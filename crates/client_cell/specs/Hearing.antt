@@ -1,5 +1,5 @@
 -- How what comes to the client at the hub ends.
-use Rattle.std.specs.Prelude.{◌≡◌, ◌⊎◌, ℕ, true, false, List, [], Option, Some, None, Result, Ok, Err}
+use Rattle.std.specs.Prelude.{◌≡◌, ◌⊎◌, ℕ, Bool, true, false, List, [], Option, Some, None, Result, Ok, Err}
 use Rattle.fc_base.specs.declared.fault.Fault.{Fault}
 use Rattle.fc_base.specs.declared.fault.Fault.TheVariants.{NodeOff, NoFrame}
 use Rattle.messages.specs.declared.node.Node.TheVariants.{Client}
@@ -34,12 +34,18 @@ Delivers position None old new before after (Err fault) = IsSame old new before 
 Delivers position (Some bytes) old new before after result =
     Posts Client (Frame bytes) (Some position) old new before after result
 
--- Memory ran out, a save failed, or the rules refuse what came, by a list that the history makes.
+-- Why what came isn't answered: the client isn't on; or it is, and memory ran out, a save failed, or the
+-- rules refuse it.
+abbrev pub IsWhyWhere : Bool → Opening → List FrameEntry → Came → Fault → Type 0
+IsWhyWhere false o past came fault = fault ≡ NodeOff
+IsWhyWhere true o past came fault = IsWhy (rules o) past (asked came) fault
+
+-- So it is by a list that the history makes.
 pub record HasWhy (cell : ClientLog) (came : Came) (fault : Fault) : Type 0 where
   pub o : Opening
   pub past : List FrameEntry
   pub replay : IsReplay cell o past
-  pub why : IsWhy (rules o) past (asked came) fault
+  pub why : IsWhyWhere (is_up o past) o past came fault
 
 -- Why there is nothing to be delivered: it isn't on; or it is, and there is no such frame.
 pub record HasNone (cell : ClientLog) (fault : Fault) : Type 0 where
@@ -48,8 +54,7 @@ pub record HasNone (cell : ClientLog) (fault : Fault) : Type 0 where
   pub replay : IsReplay cell o past
   pub why : ((fault ≡ NodeOff) × (is_up o past ≡ false)) ⊎ ((fault ≡ NoFrame) × (is_up o past ≡ true))
 
--- Why a delivery is refused, where these are the bytes at its position.
+-- Why a delivery isn't answered, where these are the bytes at its position.
 abbrev pub IsWhyNot : ClientLog → Option (List ℕ) → Fault → Type 0
 IsWhyNot cell None fault = HasNone cell fault
-IsWhyNot cell (Some bytes) fault =
-    ((fault ≡ NodeOff) × HasNone cell fault) ⊎ HasWhy cell (Frame bytes) fault
+IsWhyNot cell (Some bytes) fault = HasWhy cell (Frame bytes) fault

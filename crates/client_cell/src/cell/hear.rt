@@ -68,6 +68,9 @@ impl<N: Notes + Drop> ClientCell<N> {
     {
         packets_are_in_range();
         frames_are_spelled();
+        if self.power.client().is_none() {
+            return Err(Fault::NodeOff);
+        }
         if make_room(&mut self.history, hub, FRAMES, BYTES).is_err() {
             return Err(Fault::NoMemory);
         }
@@ -87,6 +90,9 @@ impl<N: Notes + Drop> ClientCell<N> {
     {
         packets_are_in_range();
         frames_are_spelled();
+        if self.power.client().is_none() {
+            return Err(Fault::NodeOff);
+        }
         if make_room(&mut self.history, hub, FRAMES, BYTES).is_err() {
             return Err(Fault::NoMemory);
         }
@@ -105,6 +111,9 @@ impl<N: Notes + Drop> ClientCell<N> {
     {
         packets_are_in_range();
         frames_are_spelled();
+        if self.power.client().is_none() {
+            return Err(Fault::NodeOff);
+        }
         let done = outcome(self.alloc, self.power.tick());
         let Some(bytes) = bytes_of(&done.1) else {
             return Err(Fault::NoMemory);
