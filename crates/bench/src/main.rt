@@ -1,10 +1,11 @@
-//! Measures the check of a disk, the issue of writes, frames in pieces, a server's steps and what a client
-//! takes, but only when it is given a word: what it then prints differs from run to run.
+//! Measures the check of a disk, the issue of writes, frames in pieces, a server's steps, what a client
+//! takes and the events of a world, but only when it is given a word: what it then prints differs from run
+//! to run.
 //!
 //! `bench checks` times a check beside a copy of as many bytes, `bench issues` the slowest of a
 //! million calls of `issue`, `bench pieces` a text that is cut and comes together again beside a copy,
-//! `bench servers` the steps of a server, and `bench clients` what a client takes; `bench rot` rots 60,000 sectors, for a reader of the
-//! process's memory.
+//! `bench servers` the steps of a server, `bench clients` what a client takes, and `bench worlds` the
+//! events of a world; `bench rot` rots 60,000 sectors, for a reader of the process's memory.
 #![tactic(auto)]
 
 mod checks;
@@ -15,6 +16,7 @@ mod rot;
 mod rounds;
 mod servers;
 mod trouble;
+mod worlds;
 
 use std::env;
 use std::fmt::Write;
@@ -43,8 +45,9 @@ fn run<R: Env + AllocGlobal + Print + CpuClock>(rt: &R) -> Result<(), Trouble> {
         Some("pieces") => pieces::measure(rt),
         Some("rot") => rot::measure(rt),
         Some("servers") => servers::measure(rt),
+        Some("worlds") => worlds::measure(rt),
         _ => {
-            println!(rt; "give a word: checks, clients, issues, pieces, rot or servers")?;
+            println!(rt; "give a word: checks, clients, issues, pieces, rot, servers or worlds")?;
             Ok(())
         }
     }

@@ -1,13 +1,13 @@
 -- What comes to a server at the hub is entered, or left out.
-use Rattle.std.proofs.Common.{◌≡◌, refl, sym, ◌∙◌, ap, subst, ℕ, ◌+◌, ◌*◌, ◌<◌, ◌≤◌, arith, Bool, true, false, List, [], ◌∷◌, ◌++◌, length, Option, Some, None, Result, Ok, Err}
-use Rattle.std.specs.Prelude.{map, not, ◌||◌, All, OnOk, is_ok}
+use Rattle.std.proofs.Common.{◌≡◌, refl, sym, ◌∙◌, ap, subst, inl, inr, ℕ, ◌+◌, ◌*◌, ◌<◌, ◌≤◌, arith, Bool, true, false, List, [], ◌∷◌, ◌++◌, length, Option, Some, None, Result, Ok, Err}
+use Rattle.std.specs.Prelude.{◌⊎◌, map, not, ◌||◌, All, OnOk, is_ok}
 use Rattle.std.specs.List.{AllByRecursion, flat_map, sum_by}
 use Rattle.std.proofs.lemmas.List.{map-append}
 use Rattle.std.proofs.lemmas.List.Concat.{flat_map-cons}
 use Rattle.std.proofs.lemmas.List.Elements.{All-nil, All-append}
 use Rattle.std.proofs.lemmas.List.Sums.{sum_by-le}
 use Rattle.fc_base.specs.declared.fault.Fault.{Fault}
-use Rattle.fc_base.specs.declared.fault.Fault.TheVariants.{NoMemory, FrameBadField}
+use Rattle.fc_base.specs.declared.fault.Fault.TheVariants.{NoMemory, FrameBadField, NodeOff, LoadFault}
 use Rattle.fc_base.specs.declared.fault.FaultSort.{FaultSort}
 use Rattle.fc_base.specs.declared.fault.FaultSort.TheVariants as sorts
 use Rattle.fc_base.specs.Fault.{sort_of}
@@ -37,14 +37,14 @@ use Rattle.node_history.specs.declared.answer.Said.{Said}
 use Rattle.node_history.specs.declared.answer.Told.{Told}
 use Rattle.node_history.specs.declared.came.Came.{Came}
 use Rattle.node_history.specs.declared.logged.Logged.{Logged}
-use Rattle.node_history.specs.Rules.{Meets}
-use Rattle.node_history.specs.Replay.{Ends}
-use Rattle.node_history.specs.ServerRules.{asked, rules}
-use Rattle.node_history.specs.AtHub.{is_save, is_drop, is_left_out, told_at, Hears, Posts}
+use Rattle.node_history.specs.Rules.{Ask, Meets}
+use Rattle.node_history.specs.Replay.{Ends, Stops}
+use Rattle.node_history.specs.ServerRules.{asked, rules, is_up}
+use Rattle.node_history.specs.AtHub.{is_save, is_drop, is_left_out, told_at, Hears, Posts, IsWhyBy}
 use Rattle.server_cell.specs.declared.power.Power.{Power}
 use Rattle.server_cell.specs.Stands.{Stands, Moves, Faults, StepEnds}
 use Rattle.server_cell.specs.Cells.{ServerLog, IsReplay, IsCell}
-use Rattle.server_cell.specs.Hearing.{outcome_of}
+use Rattle.server_cell.specs.Hearing.{outcome_of, Explains, ExplainsBy, ExplainsHeard}
 
 -- ---- nothing happens
 
@@ -173,3 +173,40 @@ where_ok (Err f) h e = cc
 
 pub journal_by : (me me' at at' : ℕ) (taken : Option ℕ) (n : ℕ) (old mid new : List Line) → me ≡ me' → at ≡ at' → mid ≡ old → new ≡ line_of (ServerNode me) at taken n ++ mid → new ≡ line_of (ServerNode me') at' taken n ++ old
 journal_by me me' at at' taken n old mid new m a j h = h ∙ ap (λ k. line_of (ServerNode k) at taken n ++ mid) m ∙ ap (λ k. line_of (ServerNode me') k taken n ++ mid) a ∙ ap (λ xs. line_of (ServerNode me') at' taken n ++ xs) j
+
+-- ---- why it isn't done
+
+-- A server that isn't on says so, and nothing changes.
+pub off_posts : (node : Node) (came : Came) (taken : Option ℕ) (old new : Network) (before after : List Logged) → new ≡ old → after ≡ before → Posts node came taken old new before after (Err NodeOff)
+off_posts node came taken old new before after net same = (Err NodeOff, [], refl, record { net = net; history = same })
+
+pub explained_off : (o : Opening) (past : List FrameEntry) (ask : Option (Ask Input)) → is_up o past ≡ false → ExplainsHeard o past ask (Err NodeOff)
+explained_off o past ask off = subst (λ b. ExplainsBy b o past ask (Err NodeOff)) (sym off) refl
+
+pub explained_lack : (o : Opening) (past : List FrameEntry) (ask : Ask Input) → is_up o past ≡ true → ExplainsHeard o past (Some ask) (Err NoMemory)
+explained_lack o past ask on = subst (λ b. ExplainsBy b o past (Some ask) (Err NoMemory)) (sym on) refl
+
+refused_for : {T : Type 0} (note : T → Note) (o : Opening) (past : List FrameEntry) (e : Input) (fault : Fault) (new : Power T) → (sort : FaultSort) → sort_of fault ≡ sort → Faults note o past e sort fault new → IsWhyBy (rules o) past (Meets e) sort fault
+refused_for note o past e fault new sorts.Memory is f = f.0
+refused_for note o past e fault new sorts.Save is f = tt
+refused_for note o past e fault new sorts.Refusal is f =
+    by_stop (subst (λ (sort : FaultSort). Stops (rules o) past (Meets e) sort fault [] f.moves.after) is f.moves.ends)
+  where
+    by_why : ((rules o).refusal past (Meets e) ≡ Some fault) ⊎ ((fault ≡ LoadFault) × ((rules o).loads past (Meets e) ≡ true)) → (rules o).refusal past (Meets e) ≡ Some fault
+    by_why (inl h) = h
+    by_why (inr h) = cc
+
+    by_stop : Stops (rules o) past (Meets e) sorts.Refusal fault [] f.moves.after → (rules o).refusal past (Meets e) ≡ Some fault
+    by_stop p = by_why p.why
+
+pub explained : {T : Type 0} (note : T → Note) (o : Opening) (past : List FrameEntry) (e : Input) (new : Power T) (step : Result Outs Fault) (first sent : ℕ) → is_up o past ≡ true → StepEnds note o past e new step → ExplainsHeard o past (Some (Meets e)) (told_at first sent (outcome_of step).0)
+explained note o past e new step first sent on f = subst (λ b. ExplainsBy b o past (Some (Meets e)) (told_at first sent (outcome_of step).0)) (sym on) (by_step step f)
+  where
+    by_step : (step : Result Outs Fault) → StepEnds note o past e new step → Explains o past (Meets e) (told_at first sent (outcome_of step).0)
+    by_step (Ok outs) f = tt
+    by_step (Err fault) f = refused_for note o past e fault new (sort_of fault) refl f
+
+pub why_with : {T : Type 0} (note : T → Note) (o : Opening) (power : Power T) (history : List Logged) (applied : List ℕ) (cell : IsCell note o power history applied) (log : ServerLog) (ask : Option (Ask Input)) (result : Result Told Fault) → record { opening = o; history = history } ≡ log → ExplainsHeard o cell.past ask result
+    → (past : List FrameEntry) × IsReplay log past × ExplainsHeard log.opening past ask result
+why_with note o power history applied cell log ask result same h =
+    subst (λ (l : ServerLog). (past : List FrameEntry) × IsReplay l past × ExplainsHeard l.opening past ask result) same (cell.past, cell.replay, h)

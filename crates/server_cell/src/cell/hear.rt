@@ -1,15 +1,15 @@
 //! What comes to a server at the hub.
 
-ghost use Rattle.std.specs.Prelude.{◌≡◌, ◌<◌, List, length, slice_get};
+ghost use Rattle.std.specs.Prelude.{◌≡◌, ◌<◌, List, length, Some, slice_get};
 ghost use Rattle.std.specs.Option.{ForSome};
 ghost use Rattle.messages.specs.declared.node.Node.TheVariants.{Server as ServerNode};
 ghost use Rattle.server_core.specs.Hearing.{FrameEntry};
 ghost use Rattle.server_core.specs.declared.input.Input.TheVariants.{CheckDone as ReportDone};
 ghost use Rattle.node_history.specs.Rules.{Meets};
-ghost use Rattle.node_history.specs.ServerRules.{asked};
+ghost use Rattle.node_history.specs.ServerRules.{asked, is_up};
 ghost use Rattle.node_history.specs.AtHub.{Posts};
 ghost use Rattle.server_cell.specs.Cells.{IsReplay};
-ghost use Rattle.server_cell.specs.Hearing.{outcome_of, Delivers, Reports};
+ghost use Rattle.server_cell.specs.Hearing.{outcome_of, Delivers, Reports, asked_by, ExplainsHeard};
 
 use super::ServerCell;
 use disk_model::Notes;
@@ -35,9 +35,10 @@ impl<N: Notes + Drop> ServerCell<N> {
     pub fn deliver(&mut self, hub: &mut Hub, position: u64) -> Result<Told, Fault>
         ensures opening { self.new.opening ≡ self.old.opening }
         ensures ends { Delivers (ServerNode self.old.opening.me) position (slice_get hub.old.net.frames position) hub.old.net hub.new.net self.old.history self.new.history result }
+        ensures why { (past : List FrameEntry) × IsReplay self.old past × ExplainsHeard self.old.opening past (asked_by (slice_get hub.old.net.frames position)) result }
         ensures replay { (past : List FrameEntry) × IsReplay self.new past }
     {
-        if self.server().is_none() {
+        if !self.is_on() {
             return Err(Fault::NodeOff);
         }
         match frame_came(self.alloc, hub, position) {
@@ -59,8 +60,12 @@ impl<N: Notes + Drop> ServerCell<N> {
     ) -> Result<Told, Fault>
         ensures opening { self.new.opening ≡ self.old.opening }
         ensures ends { Reports (ServerNode self.old.opening.me) (ReportDone boot attempt job report) hub.old.net hub.new.net self.old.history self.new.history result }
+        ensures why { (past : List FrameEntry) × IsReplay self.old past × ExplainsHeard self.old.opening past (Some (Meets (ReportDone boot attempt job report))) result }
         ensures replay { (past : List FrameEntry) × IsReplay self.new past }
     {
+        if !self.is_on() {
+            return Err(Fault::NodeOff);
+        }
         let Ok(kept) = Box::new(self.alloc, report) else {
             return Err(Fault::NoMemory);
         };
@@ -79,6 +84,13 @@ impl<N: Notes + Drop> ServerCell<N> {
         self.hear(hub, came, None, input)
     }
 
+    /// Whether the server is on: not off, and not down.
+    fn is_on(&self) -> bool
+        ensures { (past : List FrameEntry) × IsReplay self.now past × (is_up self.now.opening past ≡ result) }
+    {
+        self.server().is_some()
+    }
+
     /// Takes what comes at the hub, which asks this of the server.
     fn hear(
         &mut self,
@@ -91,10 +103,14 @@ impl<N: Notes + Drop> ServerCell<N> {
         requires asks { asked came ≡ Meets input }
         ensures opening { self.new.opening ≡ self.old.opening }
         ensures ends { Posts (ServerNode self.old.opening.me) came taken hub.old.net hub.new.net self.old.history self.new.history result }
+        ensures why { (past : List FrameEntry) × IsReplay self.old past × ExplainsHeard self.old.opening past (Some (Meets input)) result }
         ensures replay { (past : List FrameEntry) × IsReplay self.new past }
     {
         packets_are_in_range();
         frames_are_spelled();
+        if self.power.server().is_none() {
+            return Err(Fault::NodeOff);
+        }
         if self.history.reserve(1).is_err() {
             return Err(Fault::NoMemory);
         }

@@ -1,17 +1,20 @@
-use Rattle.std.proofs.Common.{refl, sym, ◌∙◌, ap, subst, ◌∷◌, ◌++◌, ℕ, List}
+use Rattle.std.proofs.Common.{refl, sym, ◌∙◌, ap, subst, ◌∷◌, ◌++◌, ℕ, List, Some, Err}
 use Rattle.std.proofs.lemmas.List.{length-reverse}
 use Rattle.std.specs.Prelude.{reverse, length, All, Result}
 use Rattle.fc_base.specs.declared.fault.Fault.{Fault}
+use Rattle.fc_base.specs.declared.fault.Fault.TheVariants.{NodeOff, NoMemory}
 use Rattle.hub.specs.Network.{Network, IsSpelled}
 use Rattle.server_core.specs.Bounds.{AreShort}
 use Rattle.node_history.specs.declared.answer.Said.{Said}
 use Rattle.node_history.specs.Rules.{Meets}
-use Rattle.node_history.specs.AtHub.{is_left_out}
+use Rattle.node_history.specs.AtHub.{is_left_out, told_at}
 use Rattle.server_cell.specs.Stands.{Moves}
 use Rattle.messages.specs.declared.node.Node.TheVariants.{Server as ServerNode}
 use Rattle.server_cell.specs.Cells.{ServerLog}
 use Rattle.server_cell.proofs.CellLemmas.{opening_with, same_cell, pushed}
-use Rattle.server_cell.proofs.HearLemmas.{lacking, unmoved, moved, short, has_room, sent_spelled, heard_as, entered, replayed, left_out, told_all, journal_by, where_ok}
+use Rattle.server_cell.proofs.HearLemmas.{lacking, unmoved, moved, short, has_room, sent_spelled, heard_as, entered, replayed, left_out, told_all, journal_by, where_ok, off_posts, explained_off, explained_lack, explained, why_with}
+use Rattle.server_cell.proofs.PowerLemmas.{hidden, there}
+use Rattle.server_cell.specs.Hearing.{ExplainsHeard}
 use Rattle.server_cell.proofs.cell.ServerCell.hear.Goals as goal
 
 pub returns-then-is_err-clause-ends : goal.returns-then-is_err-clause-ends
@@ -89,3 +92,53 @@ returns-clause-ends g c =
     (c.note.ensures.frames ∙ ap (λ (net : Network). net.frames ++ c.outcome-answer.result.1) c.reserve-2.ensures.same)
     (journal_by c.self.inside.me c.args.self.now.opening.me c.len-at.result (length c.args.self.now.history) c.args.taken (length c.outcome-answer.result.1) c.args.hub.now.net.journal c.reserve-2.new.self.net.journal c.note.new.self.net.journal
     (ap (λ (log : ServerLog). log.opening.me) c.self.view_is) (c.len-at.ensures ∙ c.reserve.new.self.ok.0 ∙ ap length c.reserve.ensures.items ∙ sym (length-reverse c.self.inside.history.items) ∙ ap length history) (ap (λ (net : Network). net.journal) c.reserve-2.ensures.same) c.note.ensures.journal)
+
+pub returns-then-is_none-clause-ends : goal.returns-then-is_none-clause-ends
+returns-then-is_none-clause-ends g c =
+    off_posts (ServerNode c.args.self.now.opening.me) c.args.came c.args.taken c.args.hub.now.net c.args.hub.now.net c.args.self.now.history _ refl refl
+
+pub returns-then-is_none-clause-why : goal.returns-then-is_none-clause-why
+returns-then-is_none-clause-why g c =
+    let note = g.N.Notes.note in
+    let cell = c.self.invariant in
+    let o = opening_with c.self.inside.me c.self.inside.boot c.self.inside.last_run in
+    why_with note o c.self.inside.power (reverse c.self.inside.history.items) c.self.inside.applied cell c.args.self.now (Some (Meets c.args.input)) (Err NodeOff) c.self.view_is
+    (explained_off o cell.past (Some (Meets c.args.input)) (hidden note o cell.past c.server.result (c.server.ensures o cell.past cell.stands) c.if-is_none.ensures))
+
+pub returns-then-is_err-clause-why : goal.returns-then-is_err-clause-why
+returns-then-is_err-clause-why g c =
+    let note = g.N.Notes.note in
+    let cell = c.self.invariant in
+    let o = opening_with c.self.inside.me c.self.inside.boot c.self.inside.last_run in
+    let on = there note o cell.past c.server.result (c.server.ensures o cell.past cell.stands) c.if-is_none.ensures in
+    why_with note o c.self.inside.power (reverse c.self.inside.history.items) c.self.inside.applied cell c.args.self.now (Some (Meets c.args.input)) (Err NoMemory) c.self.view_is
+    (explained_lack o cell.past (Meets c.args.input) on)
+
+pub returns-then-is_err-2-clause-why : goal.returns-then-is_err-2-clause-why
+returns-then-is_err-2-clause-why g c =
+    let note = g.N.Notes.note in
+    let cell = c.self.invariant in
+    let o = opening_with c.self.inside.me c.self.inside.boot c.self.inside.last_run in
+    let on = there note o cell.past c.server.result (c.server.ensures o cell.past cell.stands) c.if-is_none.ensures in
+    why_with note o c.self.inside.power (reverse c.self.inside.history.items) c.self.inside.applied cell c.args.self.now (Some (Meets c.args.input)) (Err NoMemory) c.self.view_is
+    (explained_lack o cell.past (Meets c.args.input) on)
+
+pub returns-then-is_left_out-clause-why : goal.returns-then-is_left_out-clause-why
+returns-then-is_left_out-clause-why g c =
+    let note = g.N.Notes.note in
+    let cell = c.self.invariant in
+    let o = opening_with c.self.inside.me c.self.inside.boot c.self.inside.last_run in
+    let on = there note o cell.past c.server.result (c.server.ensures o cell.past cell.stands) c.if-is_none.ensures in
+    why_with note o c.self.inside.power (reverse c.self.inside.history.items) c.self.inside.applied cell c.args.self.now (Some (Meets c.args.input)) c.told_at.result c.self.view_is
+    (subst (ExplainsHeard o cell.past (Some (Meets c.args.input))) (ap (λ (r : Result Said Fault × List (List ℕ)). told_at 0 0 r.0) (sym c.outcome-answer.ensures) ∙ sym c.told_at.ensures)
+    (explained note o cell.past c.args.input c.step.new.self c.step.result 0 0 on (c.step.ensures o cell.past cell.stands)))
+
+pub returns-clause-why : goal.returns-clause-why
+returns-clause-why g c =
+    let note = g.N.Notes.note in
+    let cell = c.self.invariant in
+    let o = opening_with c.self.inside.me c.self.inside.boot c.self.inside.last_run in
+    let on = there note o cell.past c.server.result (c.server.ensures o cell.past cell.stands) c.if-is_none.ensures in
+    why_with note o c.self.inside.power (reverse c.self.inside.history.items) c.self.inside.applied cell c.args.self.now (Some (Meets c.args.input)) c.told_at-told.result c.self.view_is
+    (subst (ExplainsHeard o cell.past (Some (Meets c.args.input))) (ap (λ (r : Result Said Fault × List (List ℕ)). told_at c.len.result c.len-2.result r.0) (sym c.outcome-answer.ensures) ∙ sym c.told_at-told.ensures)
+    (explained note o cell.past c.args.input c.step.new.self c.step.result c.len.result c.len-2.result on (c.step.ensures o cell.past cell.stands)))

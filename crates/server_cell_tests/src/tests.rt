@@ -1,0 +1,156 @@
+//! What no clause shows: that a cell answers where memory is there, and what its history then has.
+
+use disk_model::{FaultNotes, MemNotes, Notes};
+use engine::Issue;
+use fc_base::{Fault, JobNo, ServerNo};
+use node_history::{Answer, Logged, Seat, Told};
+use server_cell::{ServerCell, Task};
+use std::alloc::Global;
+
+/// The number of a seat, what is asked from it, and its answer, or the number of its fault.
+type Row = (usize, Task, Result<Answer, u8>);
+
+const ISSUE: Task = Task::Issue(JobNo(0));
+
+const STOPPED: Result<Answer, u8> = Ok(Answer::Issued(Issue::Stopped));
+
+const PLAIN: Result<Answer, u8> = Ok(Answer::Plain);
+
+/// A server without a run, by two seats: on, off, and on again.
+const POWER: [Row; 8] = [
+    (0, ISSUE, STOPPED),
+    (0, Task::Restart, Err(82)),
+    (1, Task::Cut, PLAIN),
+    (0, ISSUE, Err(81)),
+    (1, Task::Cut, Err(81)),
+    (1, Task::Restart, PLAIN),
+    (0, ISSUE, STOPPED),
+    (1, Task::Restart, Err(82)),
+];
+
+/// Its second save, that of a restart, fails: it stays off until it is restarted again.
+const LOST: [Row; 6] = [
+    (0, Task::Cut, PLAIN),
+    (1, Task::Restart, Err(53)),
+    (1, ISSUE, Err(81)),
+    (0, Task::Restart, PLAIN),
+    (0, Task::Restart, Err(82)),
+    (1, ISSUE, STOPPED),
+];
+
+/// The answer, or the number of the fault, of what sends nothing.
+fn said(told: Result<Told, Fault>) -> Result<Answer, u8> {
+    match told {
+        Ok(told) => Ok(told.answer),
+        Err(fault) => Err(fault.number()),
+    }
+}
+
+/// A cell of server 3 with two seats, tried twice where memory runs out.
+fn cell(alloc: Global) -> Option<(ServerCell<MemNotes>, Vec<Seat>)> {
+    let notes = MemNotes::new(Vec::new(alloc));
+    match ServerCell::new(alloc, ServerNo(3), notes, 2) {
+        Ok(made) => Some(made),
+        Err((notes, _)) => ServerCell::new(alloc, ServerNo(3), notes, 2).ok(),
+    }
+}
+
+/// The first row that isn't answered so. A row for which memory runs out is asked again.
+fn first_unlike<N: Notes + Drop>(
+    cell: &mut ServerCell<N>,
+    seats: &mut [Seat],
+    rows: &[Row],
+) -> Option<usize> {
+    for (place, (number, task, answer)) in rows.iter().enumerate() {
+        let Some(seat) = seats.get_mut(*number) else {
+            return Some(place);
+        };
+        let mut told = said(cell.apply(seat, *task));
+        if told == Err(Fault::NoMemory.number()) {
+            told = said(cell.apply(seat, *task));
+        }
+        if told != *answer {
+            return Some(place);
+        }
+    }
+    None
+}
+
+/// Whether the entries are those of the rows: each of its row's seat, numbered from 0 on, and none sent a
+/// frame.
+fn are_entered(history: &[Logged], rows: &[Row]) -> bool {
+    let mut applied = [0u64; 2];
+    if history.len() != rows.len() {
+        return false;
+    }
+    for (entry, (seat, _, _)) in history.iter().zip(rows) {
+        let (Some(turn), Some(number)) = (entry.by, applied.get_mut(*seat)) else {
+            return false;
+        };
+        if turn.seat as usize != *seat || turn.number != *number || entry.sent.len() > 0 {
+            return false;
+        }
+        *number = number.saturating_add(1);
+    }
+    true
+}
+
+/// Whether a new cell answers the rows, and its history has them.
+fn power_is_kept(alloc: Global) -> bool {
+    let Some((mut cell, mut seats)) = cell(alloc) else {
+        return false;
+    };
+    first_unlike(&mut cell, seats.as_mut_slice(), &POWER).is_none()
+        && are_entered(cell.history(), &POWER)
+        && seats.iter().all(|seat| seat.applied() == 4)
+}
+
+#[test]
+fn power_and_seats(rt: HostRuntime) {
+    assert!(rt; power_is_kept(rt.alloc()));
+}
+
+/// Whether a seat is refused by WrongSeat, and neither it nor the history changes.
+fn is_refused(cell: &mut ServerCell<MemNotes>, seat: &mut Seat) -> bool {
+    let (entries, applied) = (cell.history().len(), seat.applied());
+    said(cell.apply(seat, ISSUE)) == Err(93)
+        && cell.history().len() == entries
+        && seat.applied() == applied
+}
+
+/// Whether a cell refuses a seat that another cell of its server gave, once its own seat of that number
+/// has applied something; and takes it before.
+fn stale_seats_are_refused(alloc: Global) -> bool {
+    let (Some((mut first, mut own)), Some((_, mut others))) = (cell(alloc), cell(alloc)) else {
+        return false;
+    };
+    let (Some(seat), Some(other)) = (own.get_mut(1), others.get_mut(1)) else {
+        return false;
+    };
+    let taken = said(first.apply(other, ISSUE)) == STOPPED;
+    taken && is_refused(&mut first, seat) && said(first.apply(other, ISSUE)) == STOPPED
+}
+
+#[test]
+fn stale_seats(rt: HostRuntime) {
+    assert!(rt; stale_seats_are_refused(rt.alloc()));
+}
+
+/// The boot of a server whose second save fails, once it is on again: `None` where a row isn't answered.
+fn boot_after(alloc: Global, landed: bool) -> Option<u64> {
+    let notes = FaultNotes::new(MemNotes::new(Vec::new(alloc)), 1, landed);
+    let (mut cell, mut seats) = ServerCell::new(alloc, ServerNo(0), notes, 2).ok()?;
+    let unlike = first_unlike(&mut cell, seats.as_mut_slice(), &LOST);
+    let boot = cell.server().map(|server| server.status().boot);
+    if unlike.is_none() && are_entered(cell.history(), &LOST) {
+        boot
+    } else {
+        None
+    }
+}
+
+#[test]
+fn restarts_that_fail(rt: HostRuntime) {
+    assert!(rt; boot_after(rt.alloc(), false) == Some(2));
+    assert!(rt; boot_after(rt.alloc(), true) == Some(3));
+}
