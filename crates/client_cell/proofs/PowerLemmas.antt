@@ -1,0 +1,240 @@
+-- A client that may have no power takes what comes as the rules have it.
+use Rattle.std.proofs.Common.{◌≡◌, refl, sym, ◌∙◌, ap, subst, inl, inr, ℕ, Bool, true, false, List, [], ◌∷◌, Option, Some, None, Result, Ok, Err}
+use Rattle.std.specs.Prelude.{if◌then◌else◌, not, is_some}
+use Rattle.std.specs.Borrow.{Bor}
+use Rattle.std.specs.Option.{option_map, option_copied}
+use Rattle.fc_base.specs.declared.fault.Fault.{Fault}
+use Rattle.fc_base.specs.declared.fault.Fault.TheVariants.{NoMemory, LoadFault, BadNote, NodeOff, NodeOn, FrameBadField}
+use Rattle.fc_base.specs.declared.fault.FaultSort.{FaultSort}
+use Rattle.fc_base.specs.declared.fault.FaultSort.TheVariants as sorts
+use Rattle.fc_base.specs.Fault.{sort_of}
+use Rattle.disk_model.specs.declared.left.Left.{Left}
+use Rattle.disk_model.specs.declared.left.Left.TheVariants as lefts
+use Rattle.disk_model.specs.Left.{is_lost}
+use Rattle.disk_model.specs.Notes.{Note}
+use Rattle.messages.specs.declared.frame.Frame.TheVariants.{Whole, Piece}
+use Rattle.messages.specs.Hearing.{Meaning, Says as Speaks, Waits, Spoils, Strays, meaning, heard_by, with_entry}
+use Rattle.client_core.specs.declared.client.Client.{Client}
+use Rattle.client_core.specs.declared.input.Input.{Input}
+use Rattle.client_core.specs.declared.input.Input.TheVariants as inputs
+use Rattle.client_core.specs.History as packets
+use Rattle.client_core.specs.History.{Opening}
+use Rattle.client_core.specs.Note.{Says}
+use Rattle.client_core.specs.Ranges.{CameInRange}
+use Rattle.client_core.specs.Words.{noted}
+use Rattle.client_core.specs.Stands.{NotOpened}
+use Rattle.client_core.specs.Hearing.{FrameEntry, Met, Cut, Restart, packets_heard, heard_at, rules as hearing}
+use Rattle.client_core.specs.FrameAnswers as answers
+use Rattle.client_core.specs.FrameAnswers.{Sense, Hears, Keeps, Drops, Misses, sense, sense_of, is_drop}
+use Rattle.client_core.specs.HeardRange.{SenseInRange, UnlessMemory, HearsInRange}
+use Rattle.client_core.specs.FrameEnds as ends
+use Rattle.client_core.specs.FrameEnds.{StandsFor}
+use Rattle.node_history.specs.declared.answer.Answer.TheVariants.{Plain, Run, Attempt}
+use Rattle.node_history.specs.Rules.{Meets}
+use Rattle.node_history.specs.Replay.{Stops}
+use Rattle.node_history.specs.ServerRules.{left_by}
+use Rattle.node_history.specs.ClientRules.{rules, is_up, answer_to}
+use Rattle.client_cell.specs.declared.outs.Outs.{Outs}
+use Rattle.client_cell.specs.declared.power.Power.{Power}
+use Rattle.client_cell.specs.declared.power.Power.TheVariants.{On, Off}
+use Rattle.client_cell.specs.declared.task.Task.TheVariants as tasks
+use Rattle.client_cell.specs.Stands.{plain, outs_of, outs_of_run, outs_of_attempt, Stands, Shows, Answers, Faults, StepEnds, TaskEnds}
+
+-- ---- what came stays within its ranges
+
+by_meaning : (o : Opening) (past : List packets.Entry) (left : Left) (q : _) (m : Meaning) → SenseInRange (sense_of q m) → CameInRange past → CameInRange (with_entry (heard_by (hearing o) left m) past)
+by_meaning o past left q (Speaks p) h came = (h, came)
+by_meaning o past left q Waits h came = came
+by_meaning o past left q Spoils h came = came
+by_meaning o past left q Strays h came = came
+
+came_after : (o : Opening) (past : List FrameEntry) (e : Input) (left : Left) → SenseInRange (sense o past e) → CameInRange (packets_heard o past) → CameInRange (packets_heard o (Met e left ∷ past))
+came_after o past (inputs.Deliver (Whole p)) left h came = (h, came)
+came_after o past (inputs.Deliver (Piece q)) left h came = by_meaning o (packets_heard o past) left q (meaning (hearing o) (heard_at o past) (Piece q)) h came
+came_after o past (inputs.Begin text) left h came = came
+came_after o past (inputs.Trigger run act) left h came = came
+came_after o past (inputs.Stop run) left h came = came
+came_after o past (inputs.Verify run text) left h came = came
+came_after o past inputs.Tick left h came = came
+
+-- ---- a step
+
+up : (b : Bool) (x : Option Fault) (y : Option Fault) → b ≡ true → (if b then x else y) ≡ x
+up true x y h = refl
+up false x y h = cc
+
+answers_step : {T : Type 0} (note : T → Note) (o : Opening) (past : List FrameEntry) (e : Input) (client : Client T) (outs : Outs) → is_up o past ≡ true
+    → outs.answer ≡ answer_to o past e → ends.Answers note o past e client outs.frames → SenseInRange (sense o past e) → Answers note o past e (On client) outs
+answers_step note o past e client outs on said a h = record {
+  moves = record {
+    after = answers.answered o past e ∷ past;
+    ends = record {
+      free = up (is_up o past) (answers.refusal o past e) (Some NodeOff) on ∙ a.free;
+      said_is = rw said refl;
+      entry = answers.answered o past e;
+      entry_is = refl;
+      sent_are = a.frames_are;
+      after_is = refl;
+    };
+    stands = a.stands;
+    ranges = came_after o past e _ h;
+  };
+  short = a.short;
+}
+
+left_is : (left : Left) → is_lost left ≡ true → (landed : Bool) × (left_by landed ≡ left)
+left_is lefts.NoSave h = cc
+left_is lefts.Saved h = cc
+left_is lefts.LostNew h = (true, refl)
+left_is lefts.LostOld h = (false, refl)
+
+no_drop : (o : Opening) (past : List FrameEntry) (s : Sense) (fault : Fault) → answers.refusal_in o (packets_heard o past) s ≡ Some fault → (fault ≡ FrameBadField → ⊥) → is_drop s ≡ false
+no_drop o past (Hears c) fault h k = refl
+no_drop o past (Keeps q) fault h k = refl
+no_drop o past (Drops q) fault h k = absurd (k (same FrameBadField fault h))
+  where
+    same : (x y : Fault) → Some x ≡ Some y → y ≡ x
+    same x y h = cc
+no_drop o past Misses fault h k = refl
+
+passed_up : (b : Bool) (xs ys : List FrameEntry) → b ≡ true → xs ≡ (if b then xs else ys)
+passed_up true xs ys h = refl
+passed_up false xs ys h = cc
+
+faults_step : {T : Type 0} (note : T → Note) (o : Opening) (past : List FrameEntry) (e : Input) (old client : Client T) (fault : Fault) → is_up o past ≡ true
+    → (sort : FaultSort) → ends.Faults note o past e sort fault old client → UnlessMemory sort (sense o past e) → sort_of fault ≡ sort → Faults note o past e sort fault (On client)
+faults_step note o past e old client fault on sorts.Memory f h is = (f.why, f.unchanged)
+faults_step note o past e old client fault on sorts.Save f h is =
+    let l = left_is f.left f.lost in
+    record {
+      after = Met e f.left ∷ past;
+      ends = subst (λ (sort : FaultSort). Stops (rules o) past (Meets e) sort fault [] (Met e f.left ∷ past)) (sym is) (record {
+        free = up (is_up o past) (answers.refusal o past e) (Some NodeOff) on ∙ f.free;
+        landed = l.0;
+        entry = Met e f.left;
+        entry_is = ap (option_map (λ addition. Met e (left_by l.0))) f.makes_one ∙ ap (λ left. Some (Met e left)) l.1;
+        sends_none = refl;
+        after_is = refl;
+      });
+      stands = f.stands;
+      ranges = came_after o past e f.left h;
+    }
+faults_step note o past e old client fault on sorts.Refusal f h is = record {
+  moves = record {
+    after = Met e lefts.NoSave ∷ past;
+    ends = subst (λ (sort : FaultSort). Stops (rules o) past (Meets e) sort fault [] (Met e lefts.NoSave ∷ past)) (sym is) (record {
+      why = inl (up (is_up o past) (answers.refusal o past e) (Some NodeOff) on ∙ f.why);
+      sends_none = refl;
+      after_is = passed_up (is_up o past) (Met e lefts.NoSave ∷ past) past on;
+    });
+    stands = f.stands;
+    ranges = came_after o past e lefts.NoSave h;
+  };
+  unchanged = λ k. f.unchanged (no_drop o past (sense o past e) fault f.why k);
+}
+
+-- What comes to a client that isn't on is refused, and nothing changes.
+pub off_ends : {T : Type 0} (note : T → Note) (o : Opening) (past : List FrameEntry) (e : Input) (power : Power T) → is_up o past ≡ false → Stands note o past power → StepEnds note o past e power (Err NodeOff)
+off_ends note o past e power off s = record {
+  moves = record {
+    after = past;
+    ends = record { why = inl (ap (λ b. if b then answers.refusal o past e else Some NodeOff) off); sends_none = refl; after_is = ap (λ b. if b then Met e lefts.NoSave ∷ past else past) (sym off) };
+    stands = s;
+    ranges = λ h. h;
+  };
+  unchanged = λ k. s;
+}
+
+-- A client that is on takes a frame.
+pub deliver_ends : {T : Type 0} (note : T → Note) (o : Opening) (past : List FrameEntry) (frame : _) (old client : Client T) (sent : Result (List (List ℕ)) Fault) → is_up o past ≡ true
+    → ends.Ends note o past (inputs.Deliver frame) old client sent → HearsInRange o past (inputs.Deliver frame) sent → StepEnds note o past (inputs.Deliver frame) (On client) (outs_of sent)
+deliver_ends note o past frame old client (Ok sent) on a h = answers_step note o past (inputs.Deliver frame) client (record { answer = Plain; frames = sent }) on refl a h
+deliver_ends note o past frame old client (Err fault) on f h = faults_step note o past (inputs.Deliver frame) old client fault on (sort_of fault) f h refl
+
+-- What its caller asks brings no packet.
+unasked : (o : Opening) (past : List FrameEntry) (e : Input) (sort : FaultSort) → SenseInRange (sense o past e) → UnlessMemory sort (sense o past e)
+unasked o past e sorts.Memory h = tt
+unasked o past e sorts.Save h = h
+unasked o past e sorts.Refusal h = h
+
+-- A call that is not answered.
+pub not_answered : {T : Type 0} (note : T → Note) (o : Opening) (past : List FrameEntry) (e : Input) (old client : Client T) (fault : Fault) → is_up o past ≡ true
+    → SenseInRange (sense o past e) → ends.Faults note o past e (sort_of fault) fault old client → StepEnds note o past e (On client) (Err fault)
+not_answered note o past e old client fault on h f = faults_step note o past e old client fault on (sort_of fault) f (unasked o past e (sort_of fault) h) refl
+
+-- A call that has no number.
+pub plain_ends : {T : Type 0} (note : T → Note) (o : Opening) (past : List FrameEntry) (e : Input) (old client : Client T) (sent : Result (List (List ℕ)) Fault) → is_up o past ≡ true
+    → SenseInRange (sense o past e) → Plain ≡ answer_to o past e → ends.Ends note o past e old client sent → StepEnds note o past e (On client) (outs_of sent)
+plain_ends note o past e old client (Ok sent) on h said a = answers_step note o past e client (record { answer = Plain; frames = sent }) on said a h
+plain_ends note o past e old client (Err fault) on h said f = not_answered note o past e old client fault on h f
+
+-- A call that gives a number.
+pub begin_ends : {T : Type 0} (note : T → Note) (o : Opening) (past : List FrameEntry) (text : List ℕ) (old client : Client T) (given : Result (ℕ × List (List ℕ)) Fault) → is_up o past ≡ true
+    → ends.Gives note o past (inputs.Begin text) (noted o (packets_heard o past)).runs old client given → StepEnds note o past (inputs.Begin text) (On client) (outs_of_run given)
+begin_ends note o past text old client (Ok given) on a = answers_step note o past (inputs.Begin text) client (record { answer = Run given.0; frames = given.1 }) on (ap Run a.0) a.1 tt
+begin_ends note o past text old client (Err fault) on f = not_answered note o past (inputs.Begin text) old client fault on tt f
+
+pub verify_ends : {T : Type 0} (note : T → Note) (o : Opening) (past : List FrameEntry) (run : ℕ) (text : List ℕ) (old client : Client T) (given : Result (ℕ × List (List ℕ)) Fault) → is_up o past ≡ true
+    → ends.Gives note o past (inputs.Verify run text) (noted o (packets_heard o past)).attempts old client given → StepEnds note o past (inputs.Verify run text) (On client) (outs_of_attempt given)
+verify_ends note o past run text old client (Ok given) on a = answers_step note o past (inputs.Verify run text) client (record { answer = Attempt given.0; frames = given.1 }) on (ap Attempt a.0) a.1 tt
+verify_ends note o past run text old client (Err fault) on f = not_answered note o past (inputs.Verify run text) old client fault on tt f
+
+-- ---- a cut
+
+-- A client that isn't on has no power to lose.
+pub cut_off : {T : Type 0} (note : T → Note) (o : Opening) (past : List FrameEntry) (power : Power T) → is_up o past ≡ false → Stands note o past power → TaskEnds note o past tasks.Cut power (Err NodeOff)
+cut_off note o past power off s = record {
+  after = past;
+  ends = record { why = inl (ap (λ b. if b then None else Some NodeOff) off); sends_none = refl; after_is = refl };
+  stands = s;
+  ranges = λ h. h;
+}
+
+pub cut_ends : {T : Type 0} (note : T → Note) (o : Opening) (past : List FrameEntry) (notes : T) → is_up o past ≡ true → Says (note notes).bytes (noted o (packets_heard o past)) → TaskEnds note o past tasks.Cut (Off notes) (Ok plain)
+cut_ends note o past notes on says = record {
+  after = Cut ∷ past;
+  ends = record { free = up (is_up o past) None (Some NodeOff) on; said_is = refl; entry = Cut; entry_is = refl; sent_are = refl; after_is = refl };
+  stands = (says, refl);
+  ranges = λ h. h;
+}
+
+-- ---- a restart
+
+pub on_refuses : {T : Type 0} (note : T → Note) (o : Opening) (past : List FrameEntry) (power : Power T) → is_up o past ≡ true → Stands note o past power → TaskEnds note o past tasks.Restart power (Err NodeOn)
+on_refuses note o past power on s = record {
+  after = past;
+  ends = record { why = inl (up (is_up o past) (Some NodeOn) None on); sends_none = refl; after_is = refl };
+  stands = s;
+  ranges = λ h. h;
+}
+
+pub started : {T : Type 0} (note : T → Note) (o : Opening) (past : List FrameEntry) (servers : ℕ) (notes : T) (client : Client T) → o.servers ≡ servers → is_up o past ≡ false → Says (note notes).bytes (noted o (packets_heard o past)) → ends.Opens note servers (note notes) client
+    → TaskEnds note o past tasks.Restart (On client) (Ok plain)
+started note o past servers notes client is off says h = record {
+  after = Restart ∷ past;
+  ends = record { free = ap (λ b. if b then Some NodeOn else None) off; said_is = refl; entry = Restart; entry_is = refl; sent_are = refl; after_is = refl };
+  stands = h.stands o past is says;
+  ranges = λ h. h;
+}
+
+pub unstarted : {T : Type 0} (note : T → Note) (o : Opening) (past : List FrameEntry) (notes back : T) (fault : Fault) → is_up o past ≡ false → Says (note notes).bytes (noted o (packets_heard o past)) → NotOpened (note notes) (note back) fault
+    → TaskEnds note o past tasks.Restart (Off back) (Err fault)
+unstarted note o past notes back LoadFault off says h = record {
+  after = past;
+  ends = record { why = inr (refl, ap not off); sends_none = refl; after_is = refl };
+  stands = (subst (λ bytes. Says bytes (noted o (packets_heard o past))) (sym h.1) says, off);
+  ranges = λ h. h;
+}
+unstarted note o past notes back BadNote off says h = absurd (h.1 (noted o (packets_heard o past)) says)
+unstarted note o past notes back NoMemory off says h = (refl, (subst (λ (n : Note). Says n.bytes (noted o (packets_heard o past))) (sym h) says, off))
+unstarted note o past notes back _ off says h = absurd h
+
+-- ---- whether it is on
+
+pub hidden : {T : Type 0} (note : T → Note) (o : Opening) (past : List FrameEntry) (shown : Option (Bor (Client T))) → Shows note o past (option_copied shown) → is_some shown ≡ false → is_up o past ≡ false
+hidden note o past None s h = s
+hidden note o past (Some client) s h = cc
+
+pub there : {T : Type 0} (note : T → Note) (o : Opening) (past : List FrameEntry) (shown : Option (Bor (Client T))) → Shows note o past (option_copied shown) → is_some shown ≡ true → is_up o past ≡ true
+there note o past None s h = cc
+there note o past (Some client) s h = s.1

@@ -1,0 +1,20 @@
+use Rattle.std.proofs.Common.{sym, subst, Ok}
+use Rattle.client_cell.specs.declared.power.Power.TheVariants.{Off}
+use Rattle.client_cell.specs.declared.task.Task.TheVariants as tasks
+use Rattle.client_cell.specs.Stands.{TaskEnds}
+use Rattle.client_cell.proofs.PowerLemmas.{hidden, there, cut_off, cut_ends}
+use Rattle.client_cell.proofs.power.Power.cut.Goals as goal
+
+pub returns-then-is_none : goal.returns-then-is_none
+returns-then-is_none g c o past s =
+    let note = g.N.Notes.note in
+    cut_off note o past c.args.self.now (hidden note o past c.client.result (c.client.ensures o past s) c.if-is_none.ensures) s
+
+pub returns-in-Some : goal.returns-in-Some
+returns-in-Some g c o past s =
+    let note = g.N.Notes.note in
+    subst (λ said. TaskEnds note o past tasks.Cut (Off c.in-Some.notes) (Ok said)) (sym c.plain.ensures)
+    (cut_ends note o past c.in-Some.notes (there note o past c.client.result (c.client.ensures o past s) c.if-is_none.ensures) (c.in-Some.ensures.some o past s))
+
+pub returns-in-None : goal.returns-in-None
+returns-in-None g c o past s = absurd (c.in-None.ensures.none o past s)

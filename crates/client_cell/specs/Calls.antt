@@ -1,0 +1,49 @@
+-- How what is asked of the client's cell ends.
+use Rattle.std.specs.Prelude.{◌≡◌, Bool, true, false, [], ◌∷◌, None, Result, Ok, Err}
+use Rattle.fc_base.specs.declared.fault.Fault.{Fault}
+use Rattle.fc_base.specs.declared.fault.Fault.TheVariants.{NoMemory}
+use Rattle.fc_base.specs.declared.fault.FaultSort.{FaultSort}
+use Rattle.fc_base.specs.declared.fault.FaultSort.TheVariants as sorts
+use Rattle.fc_base.specs.Fault.{sort_of}
+use Rattle.node_history.specs.declared.answer.Said.{Said}
+use Rattle.node_history.specs.declared.answer.Told.{Told}
+use Rattle.node_history.specs.declared.came.Came.{Came}
+use Rattle.node_history.specs.declared.logged.Logged.{Logged}
+use Rattle.client_cell.specs.declared.task.Task.{Task}
+use Rattle.client_cell.specs.Cells.{ClientLog}
+use Rattle.client_cell.specs.Tasks.{came_by}
+
+-- What is told of an answer that sends nothing.
+abbrev pub told_by : Result Said Fault → Result Told Fault
+told_by (Ok said) = Ok (record { answer = said.answer; first = 0; sent = 0; act = said.act })
+told_by (Err fault) = Err fault
+
+-- The entry of what came from no seat and was answered so, which sends nothing.
+abbrev pub logged_by : Came → Result Said Fault → Logged
+logged_by came answer = record { by = None; came = came; answer = answer; sent = [] }
+
+-- The history has one entry more.
+abbrev pub with_entry : Logged → ClientLog → ClientLog
+with_entry entry cell = record { servers = cell.servers; is_blank = cell.is_blank; history = entry ∷ cell.history }
+
+-- Memory ran out.
+abbrev pub is_memory : FaultSort → Bool
+is_memory sorts.Memory = true
+is_memory sorts.Save = false
+is_memory sorts.Refusal = false
+
+abbrev pub lacks_memory : Result Said Fault → Bool
+lacks_memory (Ok said) = false
+lacks_memory (Err fault) = is_memory (sort_of fault)
+
+-- What a task leaves that has this answer: for want of memory nothing changes, and any other answer is
+-- entered.
+abbrev pub Enters : Bool → ClientLog → Task → ClientLog → Result Said Fault → Type 0
+Enters true old task new answer = (new ≡ old) × (answer ≡ Err NoMemory)
+Enters false old task new answer = new ≡ with_entry (logged_by (came_by task) answer) old
+
+-- How a task ends: its answer is told, and sends nothing.
+abbrev pub Applies : ClientLog → Task → ClientLog → Result Told Fault → Type 0
+Applies old task new result =
+    (answer : Result Said Fault) × (result ≡ told_by answer)
+    × Enters (lacks_memory answer) old task new answer

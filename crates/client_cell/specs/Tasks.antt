@@ -1,0 +1,28 @@
+-- What is asked of the client, as what comes to it.
+use Rattle.client_core.specs.declared.input.Input.{Input}
+use Rattle.client_core.specs.declared.input.Input.TheVariants as inputs
+use Rattle.node_history.specs.declared.came.Came.{Came}
+use Rattle.node_history.specs.declared.came.Came.TheVariants as came
+use Rattle.client_cell.specs.declared.task.Task.{Task}
+use Rattle.client_cell.specs.declared.task.Task.TheVariants.{Cut, Restart}
+use Rattle.client_cell.specs.declared.request.Request.{Request}
+use Rattle.client_cell.specs.declared.request.Request.TheVariants.{Begin, Trigger, Stop, Verify}
+
+-- What comes to the client by a task.
+abbrev pub came_by : Task → Came
+came_by Cut = came.Cut
+came_by Restart = came.Restart
+
+-- What comes to the client by a request.
+abbrev pub came_of : Request → Came
+came_of (Begin text) = came.Begin text
+came_of (Trigger run act) = came.Trigger run act
+came_of (Stop run) = came.Stop run
+came_of (Verify run text) = came.Verify run text
+
+-- What its core meets by a request.
+abbrev pub input_of : Request → Input
+input_of (Begin text) = inputs.Begin text
+input_of (Trigger run act) = inputs.Trigger run act
+input_of (Stop run) = inputs.Stop run
+input_of (Verify run text) = inputs.Verify run text

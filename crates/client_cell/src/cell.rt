@@ -1,0 +1,98 @@
+//! The client under its lock.
+
+ghost use Rattle.std.specs.Prelude.{◌≡◌, ◌≤◌, [], true, false, List, IfOk, IfErr, IfSome, IfNone, reverse};
+ghost use Rattle.client_core.specs.declared.noted.Noted.{Noted};
+ghost use Rattle.client_core.specs.History.{Opening};
+ghost use Rattle.client_core.specs.Hearing.{FrameEntry};
+ghost use Rattle.node_history.specs.ClientRules.{is_up};
+
+mod apply;
+mod enter;
+mod hear;
+
+use crate::power::Power;
+use client_core::Client;
+use disk_model::Notes;
+use fc_base::Fault;
+use node_history::Logged;
+use std::alloc::Global;
+use std::marker::Model;
+
+/// The client, and the history of all that came to it. Its state is always the replay of that history.
+#[derive(Drop)]
+pub struct ClientCell<N: Notes + Drop> {
+    alloc: Global,
+    servers: u32,
+    /// It was opened over a blank note.
+    is_blank: bool,
+    power: Power<N>,
+    history: Vec<Logged>,
+}
+
+impl<N: Notes + Drop> Model for ClientCell<N> {
+    ghost use Rattle.std.specs.Prelude.{reverse};
+    ghost use Rattle.client_cell.specs.Cells.{ClientLog, IsCell};
+
+    ghost Value = { ClientLog };
+
+    ghost view = { λ c. record { servers = c.servers; is_blank = c.is_blank; history = reverse c.history.items } };
+
+    ghost invariant = { λ c. IsCell N.note (record { servers = c.servers; is_blank = c.is_blank; history = reverse c.history.items }) c.power };
+}
+
+impl<N: Notes + Drop> ClientCell<N> {
+    ghost use Rattle.client_core.specs.Note.{Says, is_blank};
+    ghost use Rattle.client_core.specs.Stands.{NotOpened};
+    ghost use Rattle.client_core.specs.FrameEnds.{StandsFor};
+    ghost use Rattle.client_cell.specs.Cells.{IsReplay};
+
+    /// Opens a client of so many servers over its note, as `Client::restart` does. Where it isn't opened,
+    /// the notes come back.
+    ///
+    /// `LoadFault`, `BadNote`, `NoMemory`: the notes hold what they held.
+    pub fn new(alloc: Global, servers: u32, notes: N) -> Result<ClientCell<N>, (N, Fault)>
+        requires some { 1 ≤ servers }
+        requires few { servers ≤ 8 }
+        ensures opened { IfOk result (λ cell. (said : Noted) × Says (N.note notes).bytes said
+            × (cell ≡ record { servers = servers; is_blank = is_blank said; history = [] })) }
+        ensures refused { IfErr result (λ back. NotOpened (N.note notes) (N.note back.0) back.1) }
+    {
+        let client = Client::restart(alloc, servers, notes)?;
+        let is_blank = client.is_blank();
+        Ok(ClientCell {
+            alloc,
+            servers,
+            is_blank,
+            power: Power::On(client),
+            history: Vec::new(alloc),
+        })
+    }
+
+    /// How many servers it drives.
+    pub fn servers(&self) -> u32
+        ensures { result ≡ self.now.servers }
+    {
+        self.servers
+    }
+
+    /// All that came to it, the oldest first.
+    pub fn history(&self) -> &[Logged]
+        ensures entries { result.now ≡ reverse self.now.history }
+        ensures replay { (o : Opening) × (past : List FrameEntry) × IsReplay self.now o past }
+    {
+        self.history.as_slice()
+    }
+
+    /// The client, where it is on: not off, and not down.
+    pub fn client(&self) -> Option<&Client<N>>
+        ensures on { IfSome result (λ client. (o : Opening) × (past : List FrameEntry) × IsReplay self.now o past
+            × StandsFor N.note client.now o past × (is_up o past ≡ true)) }
+        ensures off { IfNone result ((o : Opening) × (past : List FrameEntry) × IsReplay self.now o past
+            × (is_up o past ≡ false)) }
+    {
+        match self.power.client() {
+            Some(client) => Some(client),
+            None => None,
+        }
+    }
+}

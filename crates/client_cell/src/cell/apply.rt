@@ -1,0 +1,76 @@
+//! What happens to the client without the network.
+
+ghost use Rattle.std.specs.Prelude.{◌≡◌, List};
+ghost use Rattle.client_core.specs.History.{Opening};
+ghost use Rattle.client_core.specs.Hearing.{FrameEntry};
+ghost use Rattle.client_cell.specs.Cells.{IsReplay};
+ghost use Rattle.client_cell.specs.Calls.{lacks_memory, logged_by, told_by, Applies};
+
+use super::ClientCell;
+use crate::task::Task;
+use disk_model::Notes;
+use fc_base::{Fault, FaultSort};
+use messages::Frames;
+use node_history::{Came, Logged, Said, Told};
+use std::alloc::Global;
+
+impl<N: Notes + Drop> ClientCell<N> {
+    /// Cuts the client, or starts it again. Each answer but `NoMemory`, for which nothing changes, is
+    /// entered in the history.
+    ///
+    /// `NodeOff`: a cut of a client that isn't on. `NodeOn`: a restart of one that is. `LoadFault`: a
+    /// restart whose note wasn't loaded.
+    pub fn apply(&mut self, task: Task) -> Result<Told, Fault>
+        ensures ends { Applies self.old task self.new result }
+        ensures replay { (o : Opening) × (past : List FrameEntry) × IsReplay self.new o past }
+    {
+        if self.history.reserve(1).is_err() {
+            return Err(Fault::NoMemory);
+        }
+        let (alloc, servers) = (self.alloc, self.servers);
+        let came = task.came();
+        let answer = self.power.perform(alloc, servers, &task);
+        if lacks_memory(&answer) {
+            return Err(Fault::NoMemory);
+        }
+        self.history.push_reserved(entry(alloc, came, &answer));
+        told(&answer)
+    }
+}
+
+/// The entry of what came from no seat and was answered so, which sends nothing.
+fn entry(alloc: Global, came: Came, answer: &Result<Said, Fault>) -> Logged
+    ensures { result ≡ logged_by came answer.now }
+{
+    Logged {
+        by: None,
+        came,
+        answer: *answer,
+        sent: Frames::new(alloc),
+    }
+}
+
+/// What is told of an answer that sends nothing.
+fn told(answer: &Result<Said, Fault>) -> Result<Told, Fault>
+    ensures { result ≡ told_by answer.now }
+{
+    match answer {
+        Ok(said) => Ok(Told {
+            answer: said.answer,
+            first: 0,
+            sent: 0,
+            act: said.act,
+        }),
+        Err(fault) => Err(*fault),
+    }
+}
+
+/// Whether memory ran out.
+fn lacks_memory(answer: &Result<Said, Fault>) -> bool
+    ensures { result ≡ lacks_memory answer.now }
+{
+    match answer {
+        Ok(_) => false,
+        Err(fault) => matches!(fault.sort(), FaultSort::Memory),
+    }
+}

@@ -1,0 +1,88 @@
+//! What came to the client at the hub is entered.
+
+ghost use Rattle.std.specs.Prelude.{◌≡◌, ◌+◌, ◌<◌, ◌≤◌, length, sum_by, reverse, vec_len, vec_capacity, All, IfSome, OnOk};
+ghost use Rattle.std.specs.Option.{ForSome};
+ghost use Rattle.messages.specs.declared.node.Node.TheVariants.{Client};
+ghost use Rattle.hub.specs.Network.{HasRoom, IsSpelled};
+ghost use Rattle.node_history.specs.AtHub.{is_left_out, told_at, Hears};
+ghost use Rattle.client_cell.specs.Hearing.{outcome_of};
+
+use crate::outs::Outs;
+use fc_base::Fault;
+use hub::Hub;
+use messages::{Act, Frames, Node};
+use node_history::{Came, Logged, Said, Told, is_left_out, told_at};
+use std::alloc::{AllocError, Global};
+
+/// Makes room for one more entry of a history, and at the hub for so many frames of so many bytes
+/// together. Where memory runs out nothing changes.
+pub(super) fn make_room(
+    history: &mut Vec<Logged>,
+    hub: &mut Hub,
+    frames: usize,
+    bytes: usize,
+) -> Result<(), AllocError>
+    ensures place { OnOk result (vec_len history.new + 1 ≤ vec_capacity history.new) }
+    ensures room { OnOk result (HasRoom hub.new.room frames bytes) }
+    ensures items { history.new.items ≡ history.old.items }
+    ensures net { hub.new.net ≡ hub.old.net }
+{
+    history.reserve(1)?;
+    hub.reserve(frames, bytes)
+}
+
+/// Enters what came in the client's history, with its answer and the frames that were sent, and at the
+/// hub; or leaves it out where it was refused and nothing has changed.
+pub(super) fn enter(
+    history: &mut Vec<Logged>,
+    hub: &mut Hub,
+    came: Came,
+    taken: Option<u64>,
+    outcome: (Result<Said, Fault>, Frames),
+) -> Result<Told, Fault>
+    requires place { vec_len history.old + 1 ≤ vec_capacity history.old }
+    requires room { HasRoom hub.old.room (length outcome.1) (sum_by (λ frame. length frame) outcome.1) }
+    requires taken { ForSome taken (λ i. i < length hub.old.net.frames) }
+    requires spelled { All IsSpelled outcome.1 }
+    ensures told { result ≡ told_at (length hub.old.net.frames) (length outcome.1) outcome.0 }
+    ensures heard { Hears (is_left_out outcome.0) Client came taken outcome.0 outcome.1 hub.old.net hub.new.net (reverse history.old.items) (reverse history.new.items) }
+{
+    let (answer, sent) = outcome;
+    if is_left_out(&answer) {
+        return told_at(0, 0, &answer);
+    }
+    let told = told_at(hub.len() as u64, sent.len() as u64, &answer);
+    hub.note(Node::Client, history.len() as u64, taken, &sent);
+    history.push_reserved(Logged {
+        by: None,
+        came,
+        answer,
+        sent,
+    });
+    told
+}
+
+/// What a step is answered, and the frames that it sends.
+pub(super) fn outcome(alloc: Global, step: Result<Outs, Fault>) -> (Result<Said, Fault>, Frames)
+    ensures { result ≡ outcome_of step }
+{
+    match step {
+        Ok(Outs { answer, frames }) => {
+            let act = Act::None;
+            (Ok(Said { answer, act }), frames)
+        }
+        Err(fault) => (Err(fault), Frames::new(alloc)),
+    }
+}
+
+/// How many bytes these frames have together, where that is a number of eight bytes.
+pub(super) fn bytes_of(frames: &Frames) -> Option<usize>
+    ensures { IfSome result (λ bytes. bytes ≡ sum_by (λ frame. length frame) frames.now) }
+{
+    let mut bytes: usize = 0;
+    for i in 0..frames.len() {
+        let frame = frames.get(i)?;
+        bytes = bytes.checked_add(frame.len())?;
+    }
+    Some(bytes)
+}

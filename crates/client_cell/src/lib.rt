@@ -1,0 +1,15 @@
+//! The client under its lock, and the history of all that came to it.
+#![tactic(auto)]
+
+mod cell;
+mod outs;
+mod power;
+mod request;
+mod task;
+
+pub use cell::ClientCell;
+pub use request::Request;
+pub use task::Task;
+
+#[cfg(test)]
+mod tests;

@@ -1,0 +1,27 @@
+//! What the client's cell is asked without the network.
+
+ghost use Rattle.std.specs.Prelude.{◌≡◌};
+ghost use Rattle.client_cell.specs.Tasks.{came_by};
+
+use node_history::Came;
+
+/// What happens to the client without the network.
+#[derive(Clone, Copy, Debug, PartialEq, Eq)]
+pub enum Task {
+    /// The client loses its power.
+    Cut,
+    /// The client is started again.
+    Restart,
+}
+
+impl Task {
+    /// What comes to the client.
+    pub(crate) fn came(&self) -> Came
+        ensures { result ≡ came_by self.now }
+    {
+        match self {
+            Task::Cut => Came::Cut,
+            Task::Restart => Came::Restart,
+        }
+    }
+}
