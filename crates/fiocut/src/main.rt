@@ -10,13 +10,13 @@ mod tests;
 mod world;
 
 use command::{Request, read_words, refuse_words};
+use fc_base::Fault;
 use jobs::{REFUSED, run_jobs};
-use std::alloc::Global;
 use std::io;
-use std::io::{BufWriter, Read, Write};
+use std::io::BufWriter;
 use std::process::ExitCode;
 use std::rt::Env;
-use world::run_world;
+use world::{refuse_script, run_in_blocks};
 
 fn main(rt: HostRuntime) -> ExitCode {
     ExitCode::from(run(&rt))
@@ -28,20 +28,21 @@ fn run<R: Env + AllocGlobal + Input + Print>(rt: &R) -> u8 {
     let mut writer = io::writer(rt);
     let answer = match request_of(rt) {
         Some(Request::Jobs) => run_jobs(rt.alloc(), &mut rt.reader(), &mut writer),
-        Some(Request::World) => run_in_blocks(rt.alloc(), &mut rt.reader(), &mut writer),
+        Some(Request::World) => answer_script(rt),
         None => refuse_words(&mut writer),
     };
     answer.unwrap_or(REFUSED)
 }
 
-/// Runs the script of a reader. Its output goes out in blocks, as they are full.
-fn run_in_blocks<R: Read, W: Write>(
-    alloc: Global,
-    reader: &mut R,
-    writer: &mut W,
-) -> io::Result<u8> {
-    let mut writer = BufWriter::new(alloc, writer)?;
-    run_world(alloc, reader, &mut writer)
+/// Answers the script on standard input. Its output goes out in blocks, as they are full.
+fn answer_script<R: AllocGlobal + Input + Print>(rt: &R) -> io::Result<u8> {
+    match BufWriter::new(rt.alloc(), io::writer(rt)) {
+        Ok(blocks) => {
+            let (status, _) = run_in_blocks(rt.alloc(), &mut rt.reader(), blocks)?;
+            Ok(status)
+        }
+        Err(_) => refuse_script(&mut io::writer(rt), Fault::NoMemory),
+    }
 }
 
 /// What this process's command line asks for. `None` is a bad command: also words that are not

@@ -1,6 +1,6 @@
 //! A world in memory: its nodes, their notes and files, and every frame that was ever sent.
 
-ghost use Rattle.std.specs.Prelude.{◌≡◌, ◌≤◌, ◌+◌, ◌*◌, ◌&&◌, [], ℕ, List, length, nat_lt, IfOk, OnOk, ◌∷◌};
+ghost use Rattle.std.specs.Prelude.{◌≡◌, ◌≤◌, ◌+◌, ◌*◌, ◌&&◌, [], ℕ, List, length, nat_lt, IfOk, OnOk, OnErr, ◌∷◌};
 ghost use Rattle.std.specs.Option.{option_copied};
 ghost use Rattle.net_world.specs.Opened.{AreOpened, AreBlank, blank};
 ghost use Rattle.disk_model.specs.MemDisk.{file_of};
@@ -87,10 +87,13 @@ impl World {
         }
     }
 
-    /// Something happens, which is passed over where it is refused.
+    /// Something happens, which is passed over where it is refused. An error is that memory ran out:
+    /// nothing has happened.
     pub(crate) fn pass(&mut self, event: &Event) -> Result<(), AllocError>
-        ensures { OnOk result ((n : ℕ) (events : List Happening) → StandsFor n (world n events) self.old →
+        ensures passed { OnOk result ((n : ℕ) (events : List Happening) → StandsFor n (world n events) self.old →
             StandsFor n (world n (happening event.now ∷ events)) self.new) }
+        ensures spent { OnErr result ((n : ℕ) (events : List Happening) → StandsFor n (world n events) self.old →
+            StandsFor n (world n events) self.new) }
     {
         match self.apply(event) {
             Ok(_) => Ok(()),

@@ -12,7 +12,7 @@ loop-event-preserved c =
     let n = c.args.config.servers in
     subst (λ hs. StandsFor n (world n hs) c.pass.new.self)
     (next_is_newest c.args.events.now c.loop-event.event-index c.event-item.result c.loop-event-test.true c.event-item.is)
-    (c.in_ok-pass.ensures n (map happening (reverse (take c.loop-event.event-index c.args.events.now))) c.loop-event.invariant)
+    (c.in_ok-pass.ensures.passed n (map happening (reverse (take c.loop-event.event-index c.args.events.now))) c.loop-event.invariant)
 
 pub returns-clause-one_taking : goal.returns-clause-one_taking
 returns-clause-one_taking c key =
