@@ -1,0 +1,3 @@
+mod ClientLemmas
+mod EndLemmas
+mod ServerLemmas

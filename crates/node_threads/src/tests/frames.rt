@@ -1,0 +1,119 @@
+//! The frames that the nodes send, as another program made them.
+
+use crate::{Hub, Line};
+use fc_base::ServerNo;
+use messages::Node as Name;
+
+/// Of the stored run.
+pub const STORED_RUN: [&str; 11] = [
+    "4643010100000008000000000000002e00000000000000015b615d0a72773d77726974650a62733d3531320a73697a653d316b0a696f64657074683d320a",
+    "4643010200000000000000080000000c000000000000000100000001",
+    "464301030000000800000000000000080000000000000001",
+    "464301040000000000000008000000080000000000000001",
+    "46430105000000080000000000000009000000000000000101",
+    "4643010600000000000000080000008c0000000146435632000000000000000100000000000000000000000000000200000000020000000000000002000000000000000100000002000000020000000000000002cfc5d07f6f03c29bbf424132963fe08d19a37d5757aaf520bf08119f05cd56d600000000000000000000000000000001000000000000000000000000000000000000000000000000",
+    "4643010800000008000000000000000c000000000000000100000000",
+    "4643010b00000008000000000000003f000000000000000100000000000000015b615d0a72773d726561640a62733d3531320a73697a653d316b0a7665726966795f73746174655f6c6f61643d310a",
+    "4643010c0000000000000008000000140000000000000001000000000000000100000000",
+    "4643010d000000080000000000000090000000000000000146435632000000000000000100000000000000000000000000000200000000020000000000000002000000000000000100000002000000020000000000000002cfc5d07f6f03c29bbf424132963fe08d19a37d5757aaf520bf08119f05cd56d600000000000000000000000000000001000000000000000000000000000000000000000000000000",
+    "4643010f0000000000000008000000290000000000000001000000000000000100000000000000010000000000000000010000000000000000",
+];
+
+/// Of a start whose save failed with the old bytes left.
+pub const BEFORE_ITS_SAVE: [&str; 8] = [
+    "4643010100000008000000000000002e00000000000000015b615d0a72773d77726974650a62733d3531320a73697a653d316b0a696f64657074683d320a",
+    "4643010200000000000000080000000c000000000000000100000001",
+    "464301030000000800000000000000080000000000000001",
+    "46430110000000000000000800000022033e0000000000000000000000000000000100000000000000000000000000000000",
+    "4643010100000008000000000000002e00000000000000015b615d0a72773d77726974650a62733d3531320a73697a653d316b0a696f64657074683d320a",
+    "4643010200000000000000080000000c000000000000000100000001",
+    "464301030000000800000000000000080000000000000001",
+    "464301040000000000000008000000080000000000000001",
+];
+
+/// And with the new bytes left.
+pub const BEHIND_ITS_SAVE: [&str; 4] = [
+    "4643010100000008000000000000002e00000000000000015b615d0a72773d77726974650a62733d3531320a73697a653d316b0a696f64657074683d320a",
+    "4643010200000000000000080000000c000000000000000100000001",
+    "464301030000000800000000000000080000000000000001",
+    "46430110000000000000000800000022033c0000000000000000000000000000000100000000000000000000000000000001",
+];
+
+const CLIENT: Name = Name::Client;
+
+const SERVER: Name = Name::Server(ServerNo(0));
+
+/// Who took and sent which frame of the stored run: the node, the place in its history, the frame taken,
+/// and how many were sent.
+pub const JOURNAL: [(Name, u64, Option<u64>, u64); 15] = [
+    (CLIENT, 0, None, 1),
+    (SERVER, 0, Some(0), 1),
+    (CLIENT, 1, Some(1), 1),
+    (SERVER, 1, Some(2), 1),
+    (CLIENT, 2, Some(3), 0),
+    (CLIENT, 3, None, 1),
+    (SERVER, 7, Some(4), 1),
+    (CLIENT, 4, Some(5), 1),
+    (SERVER, 8, Some(6), 0),
+    (CLIENT, 5, None, 1),
+    (SERVER, 12, Some(7), 1),
+    (CLIENT, 6, Some(8), 1),
+    (SERVER, 13, Some(9), 0),
+    (SERVER, 14, None, 1),
+    (CLIENT, 7, Some(10), 0),
+];
+
+/// The number of the first frame that isn't as its digits say, or isn't there, or is there beyond them.
+pub fn first_unlike_frame(hub: &Hub, frames: &[&str]) -> Option<usize> {
+    for (i, digits) in frames.iter().enumerate() {
+        match hub.frame(i as u64) {
+            Some(bytes) => if !are_digits_of(digits.as_bytes(), bytes) {
+                return Some(i);
+            },
+            None => return Some(i),
+        }
+    }
+    if hub.len() == frames.len() {
+        None
+    } else {
+        Some(frames.len())
+    }
+}
+
+/// The digits are those of the bytes, two for each.
+fn are_digits_of(digits: &[u8], bytes: &[u8]) -> bool {
+    let pairs = digits.chunks(2);
+    pairs.len() == bytes.len() && pairs.zip(bytes).all(|(pair, byte)| is_pair_of(pair, *byte))
+}
+
+fn is_pair_of(pair: &[u8], byte: u8) -> bool {
+    match pair {
+        [high, low] => *high == digit(byte >> 4) && *low == digit(byte & 15),
+        _ => false,
+    }
+}
+
+/// The digit of a number below 16.
+fn digit(number: u8) -> u8 {
+    b"0123456789abcdef"
+        .get(number as usize)
+        .copied()
+        .unwrap_or(b'?')
+}
+
+/// The place of the first entry of the journal that isn't this one, or isn't there.
+pub fn first_unlike_line(hub: &Hub, lines: &[(Name, u64, Option<u64>, u64)]) -> Option<usize> {
+    let journal = hub.journal();
+    for (i, (node, at, taken, sent)) in lines.iter().enumerate() {
+        let line = Line {
+            node: *node,
+            at: *at,
+            taken: *taken,
+            sent: *sent,
+        };
+        if journal.get(i) != Some(&line) {
+            return Some(i);
+        }
+    }
+    None
+}

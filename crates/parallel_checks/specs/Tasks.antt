@@ -1,0 +1,27 @@
+-- What the checks of a list of tasks answer.
+use Rattle.std.specs.Prelude.{◌≡◌, List, ◌∷◌, ◌++◌, Result, Ok, Err}
+use Rattle.std.specs.List.{AllZip}
+use Rattle.fc_base.specs.declared.fault.Fault.{Fault}
+use Rattle.fc_base.specs.declared.report.ReportParts.{ReportParts}
+use Rattle.disk_model.specs.File.{File}
+use Rattle.recheck.specs.Disk.{ChecksDisk}
+use Rattle.parallel_checks.specs.declared.task.Task.{Task}
+
+-- What the check of a task's disk may answer, whatever it leaves of the file.
+abbrev pub Answers : {T : Type 0} → (T → File) → Task T → Result ReportParts Fault → Type 0
+Answers file task answer =
+    (left : File) × ChecksDisk answer task.key task.rec task.state task.fatal (file task.disk) left
+
+-- These are the reports of the tasks, one for each, in their order.
+abbrev pub AreReports : {T : Type 0} → (T → File) → List (Task T) → List ReportParts → Type 0
+AreReports file tasks reports = AllZip (λ task report. Answers file task (Ok report)) tasks reports
+
+-- This is the refusal of a task before which each has a report.
+pub record IsFirstRefusal {T : Type 0} (file : T → File) (tasks : List (Task T)) (fault : Fault) : Type 0 where
+  pub before : List (Task T)
+  pub task : Task T
+  pub behind : List (Task T)
+  pub place : tasks ≡ before ++ task ∷ behind
+  pub reports : List ReportParts
+  pub reported : AreReports file before reports
+  pub refused : Answers file task (Err fault)
