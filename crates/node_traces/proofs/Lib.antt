@@ -1,0 +1,5 @@
+mod MarkLemmas
+mod PlaceLemmas
+mod MergedLemmas
+mod RefusalLemmas
+mod ServerLemmas
