@@ -3,3 +3,6 @@ mod PlaceLemmas
 mod MergedLemmas
 mod RefusalLemmas
 mod ServerLemmas
+mod ClientLemmas
+mod SentLemmas
+mod NodeLemmas

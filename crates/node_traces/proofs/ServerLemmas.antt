@@ -49,8 +49,8 @@ use Rattle.node_history.specs.Rules.{Ask, Meets, Cuts, Restarts, Nothing}
 use Rattle.node_history.specs.ServerRules.{rules, asked, added, delivered, has_boot, is_up, left_by, lost, passed, refusal, reported}
 use Rattle.net_world.specs.Frames.{OfServer, MayHappen, to_of}
 use Rattle.net_world.specs.InRange.{FrameStepFits}
-use Rattle.node_traces.proofs.RefusalLemmas.{MayPass, no_pass, undropped, dropped}
 use Rattle.node_traces.specs.Marks.{frame_of}
+use Rattle.node_traces.proofs.RefusalLemmas.{MayPass, MayNot, IsFor, drop_for, no_pass, no_power, undropped, dropped, CameOf}
 
 -- ---- a frame that isn't refused is for the server
 
@@ -174,32 +174,6 @@ lost_save o past Nothing landed entry free is = cc
 
 -- ---- a tag that is dropped
 
--- Why something is refused: by this reason, or since no note was loaded.
-abbrev pub IsFor : Option Fault → Bool → Fault → Type 0
-IsFor x loads fault = (x ≡ Some fault) ⊎ ((fault ≡ LoadFault) × (loads ≡ true))
-
-drop_for : (x : Option Fault) (loads : Bool) (fault : Fault) → is_drop fault ≡ true → IsFor x loads fault → MayPass x
-drop_for x loads fault d (inl h) = inr (fault, h, d)
-drop_for x loads fault d (inr h) = absurd (clash (sym d ∙ ap is_drop h.0))
-  where
-    clash : true ≡ false → ⊥
-    clash h = cc
-
--- Only what a core meets drops a tag.
-no_cut : (up : Bool) → MayPass (if up then None else Some NodeOff) → (fault : Fault) → is_drop fault ≡ true → IsFor (if up then None else Some NodeOff) false fault → ⊥
-no_cut true h fault d (inl k) = cc
-no_cut true h fault d (inr k) = cc
-no_cut false h fault d k = no_pass NodeOff refl h
-
-no_restart : (up boots : Bool) (loads : Bool) (fault : Fault) → is_drop fault ≡ true → IsFor (if up then Some NodeOn else (if boots then None else Some NumbersSpent)) loads fault → ⊥
-no_restart true boots loads fault d k = no_pass NodeOn refl (drop_for (Some NodeOn) loads fault d k)
-no_restart false false loads fault d k = no_pass NumbersSpent refl (drop_for (Some NumbersSpent) loads fault d k)
-no_restart false true loads fault d (inl k) = cc
-no_restart false true loads fault d (inr k) = clash (sym d ∙ ap is_drop k.0)
-  where
-    clash : true ≡ false → ⊥
-    clash h = cc
-
 drops : (o : Opening) (past : List FrameEntry) (ask : Ask Input) (fault : Fault) (sent : List (List ℕ)) (after : List FrameEntry) → is_drop fault ≡ true → Passes (rules o) past ask fault sent after → Adds o past ask sent after
 unfolding Quiet
 drops o past (Meets e) fault sent after d p =
@@ -215,13 +189,18 @@ drops o past (Meets e) fault sent after d p =
     refused x true (inl h) = (fault, h)
     refused x true (inr h) = cc
     refused x false h = absurd (no_pass NodeOff refl (drop_for (Some NodeOff) false fault d h))
-drops o past Cuts fault sent after d p = absurd (no_cut (is_up o past) (drop_for (refusal o past Cuts) false fault d p.why) fault d p.why)
-drops o past Restarts fault sent after d p = absurd (no_restart (is_up o past) (has_boot o past) (not (is_up o past)) fault d p.why)
-drops o past Nothing fault sent after d p = absurd (never p.why)
+drops o past Cuts fault sent after d p = absurd (no_power (refusal o past Cuts) false fault d p.why (cuts (is_up o past)))
   where
-    never : IsFor None false fault → ⊥
-    never (inl h) = cc
-    never (inr h) = cc
+    cuts : (up : Bool) → MayNot (if up then None else Some NodeOff)
+    cuts true = inl refl
+    cuts false = inr (NodeOff, refl, refl)
+drops o past Restarts fault sent after d p = absurd (no_power (refusal o past Restarts) (not (is_up o past)) fault d p.why (restarts (is_up o past) (has_boot o past)))
+  where
+    restarts : (up boots : Bool) → MayNot (if up then Some NodeOn else (if boots then None else Some NumbersSpent))
+    restarts true boots = inr (NodeOn, refl, refl)
+    restarts false true = inl refl
+    restarts false false = inr (NumbersSpent, refl, refl)
+drops o past Nothing fault sent after d p = absurd (no_power None false fault d p.why (inl refl))
 
 -- ---- each event
 
@@ -255,11 +234,6 @@ adds o past ask (Err fault) sent after h ends = by_sort (sort_of fault) h ends
     by_sort sorts.Refusal h ends = drops o past ask fault sent after (dropped (is_drop fault) h) ends
 
 -- ---- what it is in a trace
-
--- What came of these frames, if one came.
-abbrev pub CameOf : List Frame → Option (List ℕ) → Type 0
-CameOf frames None = Unit {0}
-CameOf frames (Some bytes) = (f : Frame) → frame_at bytes ≡ Some f → Contains frames f
 
 -- What is asked is of these frames, and within its ranges.
 IsOf : List Frame → Ask Input → Type 0
