@@ -6,3 +6,7 @@ mod ServerLemmas
 mod ClientLemmas
 mod SentLemmas
 mod NodeLemmas
+mod TellLemmas
+mod LeftLemmas
+mod TraceLemmas
+mod HeldLemmas

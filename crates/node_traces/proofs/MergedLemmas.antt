@@ -120,7 +120,7 @@ client_left ran journal (suc k) order =
 
 -- ---- the whole
 
-below_or_not : (r n : ℕ) → (r < n) ⊎ (n ≤ r)
+pub below_or_not : (r n : ℕ) → (r < n) ⊎ (n ≤ r)
 below_or_not r zero = inr (omega arith)
 below_or_not zero (suc n) = inl (omega arith)
 below_or_not (suc r) (suc n) = further (below_or_not r n)
