@@ -8,7 +8,7 @@ use Rattle.hub.specs.declared.line.Line.{Line}
 use Rattle.hub.specs.Waiting.{is_same_node}
 use Rattle.node_history.specs.declared.logged.Logged.{Logged}
 use Rattle.node_traces.specs.declared.place.Place.{Place}
-use Rattle.node_traces.specs.Journal.{count_sent}
+use Rattle.hub.specs.Journal.{count_sent}
 use Rattle.node_traces.specs.Marks.{Mark, mark_of_line, marks_in, marks_of}
 use Rattle.node_traces.specs.Lists.{EndAt}
 use Rattle.node_traces.specs.Orders.{IsWithin, place_of, places_of, standing}

@@ -13,7 +13,7 @@ use Rattle.node_history.specs.declared.logged.Logged.{Logged}
 use Rattle.node_history.specs.AtHub.{is_left_out}
 use Rattle.node_traces.specs.declared.place.Place.{Place}
 use Rattle.node_traces.specs.Marks.{Mark, mark_of_line, marks_in, marks_if, mark_of, marks_of, frame_of}
-use Rattle.node_traces.specs.Journal.{count_sent}
+use Rattle.hub.specs.Journal.{count_sent}
 use Rattle.node_traces.specs.Lists.{EndAt}
 use Rattle.node_traces.specs.Orders.{standing, places_of, IsWithin, place_of, next_place, up_to_last, left_of, left_below, IsMerge, merged}
 use Rattle.node_traces.specs.Laws.{Agree, MergedOrdersAreMerges}

@@ -17,7 +17,7 @@ use Rattle.node_history.specs.Replay.{Ends, Makes}
 use Rattle.net_world.specs.Frames.{FrameStep, frames_of_step, frames_sent, IsFrameTrace}
 use Rattle.net_world.specs.InRange.{FrameStepFits, FitsFrames}
 use Rattle.node_traces.specs.declared.place.Place.{Place}
-use Rattle.node_traces.specs.Journal.{count_sent, AreSentBefore}
+use Rattle.hub.specs.Journal.{count_sent, AreSentBefore}
 use Rattle.node_traces.specs.Marks.{Mark, frame_of, mark_of, mark_of_line, marks_if, marks_in, marks_of}
 use Rattle.node_traces.specs.Lists.{EndAt}
 use Rattle.node_traces.specs.Orders.{IsWithin, place_of, places_of, standing}

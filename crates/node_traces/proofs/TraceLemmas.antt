@@ -13,7 +13,7 @@ use Rattle.node_history.specs.Replay.{Makes}
 use Rattle.net_world.specs.Frames.{FrameStep, frames_sent}
 use Rattle.net_world.specs.InRange.{FitsFrames}
 use Rattle.node_traces.specs.declared.place.Place.{Place}
-use Rattle.node_traces.specs.Journal.{count_sent, AreSentBefore}
+use Rattle.hub.specs.Journal.{count_sent, AreSentBefore}
 use Rattle.node_traces.specs.Marks.{Mark, frame_of, mark_of_line, marks_if, marks_in, marks_of}
 use Rattle.node_traces.specs.Lists.{EndAt, Lists}
 use Rattle.node_traces.specs.Orders.{IsWithin, place_of, places_of, standing}

@@ -7,7 +7,7 @@ use Rattle.client_core.specs.Hearing.{FrameEntry as ClientEntry}
 use Rattle.node_history.specs.declared.logged.Logged.{Logged}
 use Rattle.net_world.specs.Frames.{FrameStep}
 use Rattle.node_traces.specs.declared.place.Place.{Place}
-use Rattle.node_traces.specs.Journal.{IsLegal}
+use Rattle.hub.specs.Journal.{IsLegal}
 use Rattle.node_traces.specs.Marks.{AreMarked}
 use Rattle.node_traces.specs.Lists.{EndAt}
 use Rattle.node_traces.specs.Orders.{IsMerge, merged}

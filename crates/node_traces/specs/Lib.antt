@@ -1,4 +1,3 @@
-pub mod Journal
 pub mod Marks
 pub mod Lists
 pub mod Orders

@@ -10,7 +10,7 @@ use Rattle.node_history.specs.declared.came.Came.{Came}
 use Rattle.node_history.specs.declared.came.Came.TheVariants.{Frame}
 use Rattle.node_history.specs.declared.logged.Logged.{Logged}
 use Rattle.node_history.specs.AtHub.{is_left_out}
-use Rattle.node_traces.specs.Journal.{count_sent}
+use Rattle.hub.specs.Journal.{count_sent}
 
 -- The mark of an event: its place in its node's history, the frame that it took, and those that it sent.
 pub record Mark : Type 0 where
