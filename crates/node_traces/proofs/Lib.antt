@@ -1,6 +1,7 @@
 mod MarkLemmas
 mod PlaceLemmas
 mod MergedLemmas
+mod RisingLemmas
 mod RefusalLemmas
 mod ServerLemmas
 mod ClientLemmas

@@ -1,5 +1,6 @@
 //! The laws of nodes that ran under locks. The functions have nothing to run.
 
+ghost use Rattle.node_traces.specs.Rising.{HistoriesRise};
 ghost use Rattle.node_traces.specs.Laws.{MergesNameATrace, MergedOrdersAreMerges, AgreeingNodesAreATrace, AssembledAreHeard, AssembledNodesHoldOneState};
 
 use hub::frames_are_readable;
@@ -7,6 +8,11 @@ use messages::frames_are_read_back;
 use net_world::{
     frames_are_of_packets, one_state_of_each_job, only_sent_is_heard, sent_are_in_range,
 };
+
+/// One event more adds its place and its mark to those of the events before it.
+pub fn histories_rise()
+    ensures { HistoriesRise }
+{}
 
 /// Of nodes that agree with a legal journal, each order that keeps the order of every node's events, and
 /// that of the journal, names one trace: of just the lists that the histories make, with just the frames

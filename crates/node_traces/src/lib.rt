@@ -9,7 +9,7 @@ mod law;
 mod place;
 
 pub use law::{
-    agreeing_nodes_are_a_trace, assembled_nodes_hold_one_state, merged_orders_are_merges,
-    merges_name_a_trace,
+    agreeing_nodes_are_a_trace, assembled_nodes_hold_one_state, histories_rise,
+    merged_orders_are_merges, merges_name_a_trace,
 };
 pub use place::Place;
