@@ -4,7 +4,7 @@ use Rattle.std.specs.Prelude.{Contains, map, not, is_none, if◌then◌else◌, 
 use Rattle.std.specs.List.{flat_map}
 use Rattle.std.specs.Option.{option_map}
 use Rattle.fc_base.specs.declared.fault.Fault.{Fault}
-use Rattle.fc_base.specs.declared.fault.Fault.TheVariants.{Down, Misdirected, NodeOff, NodeOn, LoadFault}
+use Rattle.fc_base.specs.declared.fault.Fault.TheVariants.{Down, Misdirected, NodeOff, NodeOn}
 use Rattle.fc_base.specs.declared.fault.FaultSort.{FaultSort}
 use Rattle.fc_base.specs.declared.fault.FaultSort.TheVariants as sorts
 use Rattle.fc_base.specs.Fault.{sort_of}
@@ -43,12 +43,11 @@ use Rattle.node_history.specs.declared.answer.Said.{Said}
 use Rattle.node_history.specs.declared.came.Came.{Came}
 use Rattle.node_history.specs.declared.came.Came.TheVariants as came
 use Rattle.node_history.specs.AtHub.{is_drop, is_left_out, is_save}
-use Rattle.node_history.specs.Replay.{Accepts, Ends, Loses, Passes, Stops}
+use Rattle.node_history.specs.Replay.{Ends, Passes, Stops}
 use Rattle.node_history.specs.Rules.{Ask, Meets, Cuts, Restarts, Nothing}
 use Rattle.node_history.specs.ServerRules.{left_by}
 use Rattle.node_history.specs.ClientRules.{rules, asked, added, delivered, is_up, lost, passed, refusal}
 use Rattle.net_world.specs.Frames.{OfClient, MayHappen, to_of}
-use Rattle.net_world.specs.InRange.{FrameStepFits}
 use Rattle.node_traces.specs.Marks.{frame_of}
 use Rattle.node_traces.proofs.RefusalLemmas.{MayPass, MayNot, IsFor, drop_for, no_pass, no_power, undropped, dropped, CameOf}
 

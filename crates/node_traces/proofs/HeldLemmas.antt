@@ -1,7 +1,5 @@
 -- Nodes that are one trace hear a trace of packets, and hold one state of each job.
-use Rattle.std.proofs.Common.{◌≡◌, refl, sym, ◌∙◌, ap, subst, ℕ, ◌≤◌, List, [], ◌∷◌, length, Some}
-use Rattle.fc_base.specs.declared.numbers.Key.{Key}
-use Rattle.verify_state.specs.State.{State}
+use Rattle.std.proofs.Common.{◌≡◌, sym, ◌∙◌, ap, subst, ◌≤◌, List, [], ◌∷◌, length, Some}
 use Rattle.disk_model.specs.declared.left.Left.{Left}
 use Rattle.messages.specs.Hearing.{Coming, heard}
 use Rattle.server_core.specs.History as server
@@ -13,9 +11,8 @@ use Rattle.client_core.specs.Words.{kept}
 use Rattle.net_world.specs.Trace.{opening_of, client_opening}
 use Rattle.net_world.specs.Frames.{at_server, at_client, trace_heard}
 use Rattle.net_world.specs.FrameLaws.{NodesHearTheirOwn, OnlySentIsHeard}
-use Rattle.net_world.specs.Holders.{Holds, ByClient}
+use Rattle.net_world.specs.Holders.{ByClient}
 use Rattle.net_world.specs.Verdict.{OneTaking, HeldIsTheTaken, CountsTheCompleted, QuietUntilTheCheck, IsBased}
-use Rattle.node_traces.specs.Verdict.{client_hears}
 use Rattle.node_traces.specs.Laws.{AssembledAreHeard, AssembledNodesHoldOneState}
 
 pub assembled_are_heard : OnlySentIsHeard → NodesHearTheirOwn → AssembledAreHeard

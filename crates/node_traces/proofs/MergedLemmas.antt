@@ -1,5 +1,5 @@
 -- The order that a legal journal gives merges the histories that agree with it.
-use Rattle.std.proofs.Common.{◌≡◌, refl, sym, ◌∙◌, ap, subst, ◌⊎◌, inl, inr, ℕ, zero, suc, ◌+◌, ◌<◌, ◌≤◌, arith, Bool, true, false, ◌==◌, List, [], ◌∷◌, ◌++◌, length, Option, Some, None}
+use Rattle.std.proofs.Common.{◌≡◌, refl, sym, ◌∙◌, ap, subst, ◌⊎◌, inl, inr, ℕ, zero, suc, ◌<◌, ◌≤◌, arith, Bool, true, false, ◌==◌, List, [], ◌∷◌, ◌++◌, length}
 use Rattle.std.specs.Prelude.{map, if◌then◌else◌}
 use Rattle.std.proofs.lemmas.List.{append_assoc}
 use Rattle.std.proofs.lemmas.Bool.{eqb-true}
@@ -12,13 +12,12 @@ use Rattle.hub.specs.Waiting.{is_same_node}
 use Rattle.node_history.specs.declared.logged.Logged.{Logged}
 use Rattle.node_history.specs.AtHub.{is_left_out}
 use Rattle.node_traces.specs.declared.place.Place.{Place}
-use Rattle.node_traces.specs.Marks.{Mark, mark_of_line, marks_in, marks_if, mark_of, marks_of, frame_of}
+use Rattle.node_traces.specs.Marks.{Mark, mark_of_line, marks_in, marks_if, marks_of, frame_of}
 use Rattle.hub.specs.Journal.{count_sent}
-use Rattle.node_traces.specs.Lists.{EndAt}
-use Rattle.node_traces.specs.Orders.{standing, places_of, IsWithin, place_of, next_place, up_to_last, left_of, left_below, IsMerge, merged}
+use Rattle.node_traces.specs.Orders.{standing, places_of, IsWithin, place_of, next_place, up_to_last, left_of, left_below, merged}
 use Rattle.node_traces.specs.Laws.{Agree, MergedOrdersAreMerges}
 use Rattle.node_traces.proofs.MarkLemmas.{HasNone, none_or_one}
-use Rattle.node_traces.proofs.PlaceLemmas.{itself, within_more, Falls, falls_wider, span, below, all_below, spans_meet, own_places, other_places, noted_at, next_le, AreNoted, standing_falls, up_to, in_order}
+use Rattle.node_traces.proofs.PlaceLemmas.{within_more, Falls, falls_wider, span, below, all_below, spans_meet, own_places, other_places, noted_at, next_le, AreNoted, standing_falls, up_to, in_order}
 
 -- ---- the marks of a history fall, and stand in its list
 

@@ -1,17 +1,14 @@
 -- Both kinds of node in one form: their entries, their rules, and their steps in a trace.
-use Rattle.std.proofs.Common.{◌≡◌, refl, sym, ◌∙◌, ap, subst, ℕ, ◌<◌, arith, Bool, true, false, ◌==◌, List, [], ◌∷◌, ◌++◌, length, Option, Some, None, Result}
+use Rattle.std.proofs.Common.{◌≡◌, refl, ◌∙◌, ap, subst, ℕ, ◌<◌, arith, Bool, true, false, ◌==◌, List, [], ◌∷◌, Option, Some, None}
 use Rattle.std.specs.Prelude.{map, if◌then◌else◌}
-use Rattle.std.specs.List.{flat_map}
 use Rattle.std.proofs.lemmas.Bool.{eqb-true}
 use Rattle.std.proofs.lemmas.Bool.Decides.{nat_tests}
-use Rattle.fc_base.specs.declared.fault.Fault.{Fault}
 use Rattle.disk_model.specs.declared.left.Left.{Left}
 use Rattle.messages.specs.declared.node.Node.{Node}
 use Rattle.messages.specs.declared.node.Node.TheVariants.{Server, Client}
 use Rattle.messages.specs.declared.frame.Frame.{Frame}
 use Rattle.messages.specs.FrameBytes.{frame_spelling}
 use Rattle.messages.specs.Hearing.{Coming, entry_of, heard}
-use Rattle.messages.specs.Pieces.{frames_of}
 use Rattle.hub.specs.Waiting.{is_same_node}
 use Rattle.server_core.specs.History as server
 use Rattle.server_core.specs.Answers.{packets as server_packets}
@@ -23,15 +20,14 @@ use Rattle.client_core.specs.Packets.{packets as client_packets}
 use Rattle.client_core.specs.declared.input.Input.{Input as ClientInput}
 use Rattle.client_core.specs.Hearing.{FrameEntry as ClientEntry, coming as client_coming}
 use Rattle.client_core.specs.FrameAnswers as client_answers
-use Rattle.node_history.specs.declared.answer.Said.{Said}
 use Rattle.node_history.specs.declared.logged.Logged.{Logged}
 use Rattle.node_history.specs.AtHub.{is_left_out}
 use Rattle.node_history.specs.Replay.{Ends, Makes}
-use Rattle.node_history.specs.Rules.{Ask, Rules}
+use Rattle.node_history.specs.Rules.{Rules}
 use Rattle.node_history.specs.ServerRules.{rules as server_rules}
 use Rattle.node_history.specs.ClientRules.{rules as client_rules}
 use Rattle.net_world.specs.Trace.{opening_of, client_opening}
-use Rattle.net_world.specs.Frames.{FrameStep, OfServer, OfClient, of_server, of_client, at_server, at_client, frames_by, frames_of_step, frames_sent, MayHappen}
+use Rattle.net_world.specs.Frames.{FrameStep, OfServer, OfClient, of_server, of_client, at_server, at_client, frames_by, frames_of_step, MayHappen}
 use Rattle.net_world.specs.InRange.{FrameStepFits}
 use Rattle.node_traces.specs.Marks.{frame_of}
 use Rattle.node_traces.specs.Names.{node_of}

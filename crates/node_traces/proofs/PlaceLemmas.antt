@@ -1,5 +1,5 @@
 -- The order that a journal gives merges the histories that agree with it.
-use Rattle.std.proofs.Common.{◌≡◌, refl, sym, ◌∙◌, ap, subst, ◌⊎◌, inl, inr, ℕ, zero, suc, ◌+◌, ◌<◌, ◌≤◌, arith, Bool, true, false, ◌&&◌, ◌==◌, List, [], ◌∷◌, ◌++◌, length, Option, Some, None}
+use Rattle.std.proofs.Common.{◌≡◌, refl, sym, ◌∙◌, ap, subst, ◌⊎◌, inl, inr, ℕ, suc, ◌+◌, ◌<◌, ◌≤◌, arith, Bool, true, false, ◌&&◌, List, [], ◌∷◌, ◌++◌, length}
 use Rattle.std.specs.Prelude.{map, filter, if◌then◌else◌, nat_le, nat_lt}
 use Rattle.std.proofs.lemmas.Bool.{eqb-true}
 use Rattle.std.proofs.lemmas.Bool.Decides.{nat_tests}
@@ -10,7 +10,7 @@ use Rattle.hub.specs.Waiting.{is_same_node}
 use Rattle.node_history.specs.declared.logged.Logged.{Logged}
 use Rattle.node_history.specs.AtHub.{is_left_out}
 use Rattle.node_traces.specs.declared.place.Place.{Place}
-use Rattle.node_traces.specs.Orders.{standing, places_of, IsWithin, place_of, next_place, between, up_to_last, left_of, left_below}
+use Rattle.node_traces.specs.Orders.{standing, places_of, IsWithin, place_of, next_place, between, up_to_last}
 
 -- ---- two nodes are one, or they aren't
 

@@ -1,5 +1,5 @@
 -- Histories followed from their oldest event on.
-use Rattle.std.proofs.Common.{◌≡◌, refl, sym, ◌∙◌, ap, subst, ◌⊎◌, inl, inr, ℕ, zero, suc, ◌+◌, ◌<◌, ◌≤◌, arith, Bool, true, false, ◌&&◌, List, [], ◌∷◌, ◌++◌, length, Some}
+use Rattle.std.proofs.Common.{◌≡◌, refl, sym, ◌∙◌, ap, ◌⊎◌, inl, inr, ℕ, zero, suc, ◌+◌, ◌≤◌, arith, Bool, true, false, ◌&&◌, List, [], ◌∷◌, ◌++◌, length, Some}
 use Rattle.std.specs.Prelude.{map, filter, reverse, if◌then◌else◌, nat_le, nat_lt, slice_get}
 use Rattle.std.proofs.lemmas.List.{append_assoc, length-reverse, reverse-append, reverse-reverse}
 use Rattle.std.proofs.lemmas.List.Elements.{filter-append}
@@ -14,7 +14,6 @@ use Rattle.node_traces.specs.Orders.{between, standing}
 use Rattle.node_traces.specs.Rising.{PlacesRise, MarksRise, HistoriesRise, marks_before}
 use Rattle.node_traces.proofs.MarkLemmas.{HasNone, none_or_one}
 use Rattle.node_traces.proofs.PlaceLemmas.{Falls, falls_wider, span, le_true, lt_false, lt_true, standing_falls}
-use Rattle.node_traces.proofs.MergedLemmas.{marked_at, marks_fall}
 
 -- ---- the event at a place, between newer ones and older ones
 

@@ -1,5 +1,5 @@
 -- Frames that were sent in a trace are read back from their bytes.
-use Rattle.std.proofs.Common.{◌≡◌, refl, sym, ◌∙◌, ap, subst, ℕ, zero, suc, ◌<◌, ◌≤◌, arith, List, [], ◌∷◌, ◌++◌, length, take, Option, Some, None}
+use Rattle.std.proofs.Common.{◌≡◌, refl, sym, ◌∙◌, ap, subst, ℕ, zero, suc, ◌<◌, arith, List, [], ◌∷◌, take, Option, Some, None}
 use Rattle.std.specs.Prelude.{All, Contains, map, slice_get}
 use Rattle.std.specs.List.{AllByRecursion, flat_map}
 use Rattle.std.specs.Option.{ForSome, option_and_then, option_map}
@@ -9,17 +9,16 @@ use Rattle.messages.specs.declared.packet.PacketParts.{PacketParts}
 use Rattle.messages.specs.declared.frame.Frame.{Frame}
 use Rattle.messages.specs.FrameBytes.{frame_at, frame_spelling}
 use Rattle.messages.specs.FrameLaws.{FramesAreRead}
-use Rattle.messages.specs.Hearing.{Comes, Happens, Heard, Meaning, Says, Waits, Spoils, Strays, entry_of, heard, heard_by, meaning, with_entry}
+use Rattle.messages.specs.Hearing.{Comes, Happens, Meaning, Says, Waits, Spoils, Strays, entry_of, heard, heard_by, meaning, with_entry}
 use Rattle.messages.specs.PieceLaws.{ArePackets}
 use Rattle.messages.specs.Pieces.{frames_of}
 use Rattle.disk_model.specs.declared.left.Left.{Left}
 use Rattle.hub.specs.Laws.{FramesAreReadable, IsReadable}
-use Rattle.server_core.specs.History as server
 use Rattle.client_core.specs.History as client
 use Rattle.net_world.specs.Trace.{Step, AtServer, AtClient, sent}
 use Rattle.net_world.specs.Frames.{FrameStep, OfServer, OfClient, of_server, of_client, at_server, at_client, frames_sent, step_heard, trace_heard, IsFrameTrace}
 use Rattle.net_world.specs.FrameLaws.{FramesAreOfPackets, OnlySentIsHeard}
-use Rattle.net_world.specs.InRange.{FrameStepFits, StepFits, Fits, FitsFrames, SentAreInRange}
+use Rattle.net_world.specs.InRange.{FrameStepFits, StepFits, FitsFrames, SentAreInRange}
 use Rattle.node_traces.proofs.RefusalLemmas.{CameOf}
 
 -- The laws on which this rests.

@@ -5,7 +5,7 @@ use Rattle.std.specs.List.{flat_map}
 use Rattle.std.specs.Option.{option_map}
 use Rattle.std.proofs.lemmas.Bool.{eqb-true}
 use Rattle.fc_base.specs.declared.fault.Fault.{Fault}
-use Rattle.fc_base.specs.declared.fault.Fault.TheVariants.{Down, Misdirected, NodeOff, NodeOn, NumbersSpent, LoadFault}
+use Rattle.fc_base.specs.declared.fault.Fault.TheVariants.{Down, Misdirected, NodeOff, NodeOn, NumbersSpent}
 use Rattle.fc_base.specs.declared.fault.FaultSort.{FaultSort}
 use Rattle.fc_base.specs.declared.fault.FaultSort.TheVariants as sorts
 use Rattle.fc_base.specs.declared.report.ReportParts.{ReportParts}
@@ -44,7 +44,7 @@ use Rattle.node_history.specs.declared.answer.Said.{Said}
 use Rattle.node_history.specs.declared.came.Came.{Came}
 use Rattle.node_history.specs.declared.came.Came.TheVariants as came
 use Rattle.node_history.specs.AtHub.{is_drop, is_left_out, is_save}
-use Rattle.node_history.specs.Replay.{Accepts, Ends, Loses, Passes, Stops}
+use Rattle.node_history.specs.Replay.{Ends, Passes, Stops}
 use Rattle.node_history.specs.Rules.{Ask, Meets, Cuts, Restarts, Nothing}
 use Rattle.node_history.specs.ServerRules.{rules, asked, added, delivered, has_boot, is_up, left_by, lost, passed, refusal, reported}
 use Rattle.net_world.specs.Frames.{OfServer, MayHappen, to_of}

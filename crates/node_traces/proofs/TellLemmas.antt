@@ -1,33 +1,22 @@
 -- An order that merges histories which agree with a legal journal names a trace.
-use Rattle.std.proofs.Common.{◌≡◌, refl, sym, ◌∙◌, ap, subst, ◌⊎◌, inl, inr, ℕ, zero, suc, ◌+◌, ◌<◌, ◌≤◌, arith, Bool, true, false, ◌==◌, List, [], ◌∷◌, ◌++◌, length, take, drop, Option, Some, None}
-use Rattle.std.specs.Prelude.{map, if◌then◌else◌, slice_get}
+use Rattle.std.proofs.Common.{◌≡◌, refl, sym, ◌∙◌, ap, subst, ℕ, Bool, true, false, List, [], ◌∷◌, ◌++◌, length}
+use Rattle.std.specs.Prelude.{map, if◌then◌else◌}
 use Rattle.std.specs.List.{AllByRecursion}
-use Rattle.std.specs.Option.{ForSome, option_and_then}
-use Rattle.std.proofs.Math.Seq.{take-add}
 use Rattle.std.proofs.lemmas.List.{map-append}
-use Rattle.std.proofs.lemmas.Bool.Decides.{nat_tests}
 use Rattle.messages.specs.declared.node.Node.{Node}
-use Rattle.messages.specs.declared.node.Node.TheVariants.{Server, Client}
 use Rattle.messages.specs.FrameBytes.{frame_spelling}
-use Rattle.hub.specs.declared.line.Line.{Line}
 use Rattle.hub.specs.Waiting.{is_same_node}
 use Rattle.node_history.specs.declared.logged.Logged.{Logged}
 use Rattle.node_history.specs.AtHub.{is_left_out}
 use Rattle.node_history.specs.Replay.{Ends, Makes}
 use Rattle.net_world.specs.Frames.{FrameStep, frames_of_step, frames_sent, IsFrameTrace}
-use Rattle.net_world.specs.InRange.{FrameStepFits, FitsFrames}
+use Rattle.net_world.specs.InRange.{FrameStepFits}
 use Rattle.node_traces.specs.declared.place.Place.{Place}
-use Rattle.hub.specs.Journal.{count_sent, AreSentBefore}
-use Rattle.node_traces.specs.Marks.{Mark, frame_of, mark_of, mark_of_line, marks_if, marks_in, marks_of}
-use Rattle.node_traces.specs.Lists.{EndAt}
-use Rattle.node_traces.specs.Orders.{IsWithin, place_of, places_of, standing}
+use Rattle.node_traces.specs.Marks.{frame_of, mark_of, marks_if, marks_of}
+use Rattle.node_traces.specs.Orders.{standing}
 use Rattle.node_traces.specs.Names.{node_of}
-use Rattle.node_traces.proofs.MarkLemmas.{HasNone, none_or_one}
-use Rattle.node_traces.proofs.RefusalLemmas.{CameOf}
-use Rattle.node_traces.proofs.SentLemmas.{Laws, taken_was_sent}
-use Rattle.node_traces.proofs.PlaceLemmas.{IsIn, Falls, in_falls, itself, own_places, other_places, same_node, standing_falls}
-use Rattle.node_traces.proofs.MergedLemmas.{below_or_not, marked_at, marks_fall}
-use Rattle.node_traces.proofs.NodeLemmas.{EntryOf, IsBelow, Goes, AreMade, coming_to, frames_at, goes, happened_to, made_with, node_at, opens, other_list, other_step, own_list, own_step, rules_of, stays, step_at, with_history, with_list}
+use Rattle.node_traces.proofs.PlaceLemmas.{same_node}
+use Rattle.node_traces.proofs.NodeLemmas.{EntryOf, Goes, coming_to, frames_at, happened_to, node_at, other_list, other_step, own_list, own_step, rules_of, stays, step_at, with_list}
 
 -- ---- a history's newest event that stands
 
@@ -120,17 +109,20 @@ none_sent n = refl
 -- One event more.
 pub more : (n : ℕ) (p : Place) (order : List Place) (frames sent : List (List ℕ)) (lists : (node : Node) → List (EntryOf node)) (before : List (EntryOf p.node)) (t : List FrameStep) → IsTold n frames (with_list p.node before lists) order t
     → Goes n p.node (frames_sent n t) before (lists p.node) sent → Told n (frames ++ sent) lists (p ∷ order)
-more n p order frames sent lists before t told g = (step ∷ t, record {
-  legal = (told.legal, g.may);
-  fits = (g.fits, told.fits);
-  lists_are = λ node. list_at node (is_same_node p.node node) refl;
-  frames_are =
-      ap (map frame_spelling) (sent_more n step t)
-      ∙ (map-append frame_spelling (frames_sent n t) (frames_of_step n t step)
-      ∙ (ap (λ fs. fs ++ map frame_spelling (frames_of_step n t step)) told.frames_are
-      ∙ ap (λ fs. frames ++ fs) (ap (map frame_spelling) (frames_at n p.node t before g.entry own) ∙ sym g.sent_are)));
-  nodes_are = ap (λ ns. p.node ∷ ns) told.nodes_are ∙ ap (λ m. m ∷ map node_of t) (sym (node_at p.node (coming_to p.node g.entry)));
-})
+more n p order frames sent lists before t told g = (
+  step ∷ t,
+  record {
+    legal = (told.legal, g.may);
+    fits = (g.fits, told.fits);
+    lists_are = λ node. list_at node (is_same_node p.node node) refl;
+    frames_are =
+        ap (map frame_spelling) (sent_more n step t)
+        ∙ (map-append frame_spelling (frames_sent n t) (frames_of_step n t step)
+        ∙ (ap (λ fs. fs ++ map frame_spelling (frames_of_step n t step)) told.frames_are
+        ∙ ap (λ fs. frames ++ fs) (ap (map frame_spelling) (frames_at n p.node t before g.entry own) ∙ sym g.sent_are)));
+    nodes_are = ap (λ ns. p.node ∷ ns) told.nodes_are ∙ ap (λ m. m ∷ map node_of t) (sym (node_at p.node (coming_to p.node g.entry)));
+  },
+)
   where
     step : FrameStep
     step = step_at p.node (coming_to p.node g.entry)

@@ -1,7 +1,6 @@
 -- An order that merges histories which agree with a legal journal names a trace.
-use Rattle.std.proofs.Common.{◌≡◌, refl, sym, ◌∙◌, ap, subst, ◌⊎◌, inl, inr, ℕ, ◌+◌, ◌≤◌, arith, Bool, true, false, List, [], ◌∷◌, ◌++◌, length, take, drop, Option, Some, None}
-use Rattle.std.specs.Prelude.{map, if◌then◌else◌, slice_get}
-use Rattle.std.specs.Option.{ForSome, option_and_then}
+use Rattle.std.proofs.Common.{◌≡◌, refl, sym, ◌∙◌, ap, subst, ◌⊎◌, inl, inr, ℕ, ◌≤◌, arith, Bool, true, false, List, [], ◌∷◌, ◌++◌, length, take, Option}
+use Rattle.std.specs.Prelude.{map, if◌then◌else◌}
 use Rattle.std.proofs.Math.Seq.{take-add}
 use Rattle.std.proofs.lemmas.List.{append-nil, take_all}
 use Rattle.messages.specs.declared.node.Node.{Node}
@@ -10,7 +9,7 @@ use Rattle.hub.specs.declared.line.Line.{Line}
 use Rattle.hub.specs.Waiting.{is_same_node}
 use Rattle.node_history.specs.declared.logged.Logged.{Logged}
 use Rattle.node_history.specs.Replay.{Makes}
-use Rattle.net_world.specs.Frames.{FrameStep, frames_sent}
+use Rattle.net_world.specs.Frames.{frames_sent}
 use Rattle.net_world.specs.InRange.{FitsFrames}
 use Rattle.node_traces.specs.declared.place.Place.{Place}
 use Rattle.hub.specs.Journal.{count_sent, AreSentBefore}
@@ -68,7 +67,7 @@ quietly laws n few frames p order journal ran lists below sent marked within top
     let t = before journal top.older top.past sent top.made top.rest_is (left here) (later_within frames p order journal top.older top.at_is here within) in
     let came : CameOf (frames_sent n t.0) (frame_of top.event.came) = subst (λ (x : Option (List ℕ)). CameOf (frames_sent n t.0) x) (sym none.no_frame) tt in
     let told = more n p order (take (count_sent journal) frames) top.event.sent lists top.past t.0 t.1
-        (goes n p.node (frames_sent n t.0) top.past (lists p.node) top.event (few_below n p.node few below) came top.stands top.ends) in
+    (goes n p.node (frames_sent n t.0) top.past (lists p.node) top.event (few_below n p.node few below) came top.stands top.ends) in
     subst (λ fs. Told n fs lists (p ∷ order)) (ap (λ fs. take (count_sent journal) frames ++ fs) none.no_sent ∙ append-nil (take (count_sent journal) frames)) told
   where
     left : marks_of top.older ≡ marks_in frames p.node journal → AreMarked frames journal (with_history p.node top.older ran)
@@ -109,10 +108,10 @@ with_line laws n few frames p order l lines ran lists below sent marked within t
     let t = before lines top.older top.past sent.0 top.made top.rest_is left within in
     let fits : FitsFrames n t.0 = record { few = few; steps = t.1.fits } in
     let came : CameOf (frames_sent n t.0) (frame_of top.event.came) =
-        subst (λ (x : Option (List ℕ)). CameOf (frames_sent n t.0) x) (sym (ap (λ (m : Mark). m.taken) noted.mark_is))
-        (taken_was_sent laws n t.0 frames (count_sent lines) t.1.legal fits t.1.frames_are l.taken sent.1) in
+    subst (λ (x : Option (List ℕ)). CameOf (frames_sent n t.0) x) (sym (ap (λ (m : Mark). m.taken) noted.mark_is))
+    (taken_was_sent laws n t.0 frames (count_sent lines) t.1.legal fits t.1.frames_are l.taken sent.1) in
     let told = more n p order (take (count_sent lines) frames) top.event.sent lists top.past t.0 t.1
-        (goes n p.node (frames_sent n t.0) top.past (lists p.node) top.event (few_below n p.node few below) came top.stands top.ends) in
+    (goes n p.node (frames_sent n t.0) top.past (lists p.node) top.event (few_below n p.node few below) came top.stands top.ends) in
     subst (λ fs. Told n fs lists (p ∷ order)) (ap (λ (m : Mark). take (count_sent lines) frames ++ m.sent) noted.mark_is ∙ sym (take-add (count_sent lines) l.sent frames)) told
   where
     others : (node : Node) → is_same_node p.node node ≡ false → marks_in frames node (l ∷ lines) ≡ marks_in frames node lines
@@ -171,13 +170,16 @@ event laws n few frames p order journal ran lists below sent marked within top b
 tell : Laws → (n : ℕ) → n ≤ 8 → (frames : List (List ℕ)) (order : List Place) (journal : List Line) (ran : Node → List Logged) (lists : (node : Node) → List (EntryOf node)) →
     AreMade n ran lists → EndAt n ran → AreSentBefore journal → AreMarked frames journal ran → ((node : Node) → places_of node order ≡ standing (ran node)) → IsWithin (map place_of journal) order →
     Told n (take (count_sent journal) frames) lists order
-tell laws n few frames [] [] ran lists made ends sent marked places within = ([], record {
-  legal = tt;
-  fits = tt;
-  lists_are = λ node. opens n node ∙ ap (map (coming_to node)) (sym (opened_still n node (ran node) (lists node) (made node) (sym (places node))));
-  frames_are = none_sent n;
-  nodes_are = refl;
-})
+tell laws n few frames [] [] ran lists made ends sent marked places within = (
+  [],
+  record {
+    legal = tt;
+    fits = tt;
+    lists_are = λ node. opens n node ∙ ap (map (coming_to node)) (sym (opened_still n node (ran node) (lists node) (made node) (sym (places node))));
+    frames_are = none_sent n;
+    nodes_are = refl;
+  },
+)
 tell laws n few frames [] (l ∷ lines) ran lists made ends sent marked places within = absurd (never within)
   where
     never : place_of l ∷ map place_of lines ≡ [] → ⊥
@@ -188,7 +190,7 @@ tell laws n few frames (p ∷ order) journal ran lists made ends sent marked pla
     let below = node_below n ran p.node p.at (places_of p.node order) ends at_top in
     event laws n few frames p order journal ran lists below sent marked within top
     (λ lines older past s m rest marks w.
-      tell laws n few frames order lines (with_history p.node older ran) (with_list p.node past lists) (made_with n p.node older past m ran lists made) (ends_with n p.node older ran below ends) s marks (places_left p order ran older places rest) w)
+    tell laws n few frames order lines (with_history p.node older ran) (with_list p.node past lists) (made_with n p.node older past m ran lists made) (ends_with n p.node older ran below ends) s marks (places_left p order ran older places rest) w)
 
 -- ---- the laws
 

@@ -1,6 +1,6 @@
 -- The events of nodes that have to do with the network: in a history, and in the journal. All lists are
 -- newest first.
-use Rattle.std.specs.Prelude.{◌≡◌, ℕ, Bool, if◌then◌else◌, List, [], ◌∷◌, ◌++◌, length, take, drop, Option, Some, None, slice_get}
+use Rattle.std.specs.Prelude.{◌≡◌, ℕ, if◌then◌else◌, List, [], ◌∷◌, ◌++◌, length, take, drop, Option, Some, None, slice_get}
 use Rattle.std.specs.Option.{option_and_then}
 use Rattle.messages.specs.declared.node.Node.{Node}
 use Rattle.hub.specs.declared.line.Line.{Line}
