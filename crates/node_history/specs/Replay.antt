@@ -1,6 +1,6 @@
 -- What a history makes of a node: the list of its core, in which each answer is the one that the rules
 -- give there. Histories and lists are newest first.
-use Rattle.std.specs.Prelude.{◌≡◌, ◌⊎◌, ℕ, Bool, true, List, [], ◌∷◌, map, Option, Some, None, Result, Ok, Err}
+use Rattle.std.specs.Prelude.{◌≡◌, ◌⊎◌, ℕ, Bool, true, List, [], ◌∷◌, map, Some, None, Result, Ok, Err}
 use Rattle.fc_base.specs.declared.fault.Fault.{Fault}
 use Rattle.fc_base.specs.declared.fault.Fault.TheVariants.{LoadFault}
 use Rattle.fc_base.specs.declared.fault.FaultSort.{FaultSort}
