@@ -138,8 +138,8 @@ goes n Client frames past after l few came stands ends =
     }
 
 pub stays : (n : ℕ) (node : Node) (past after : List (EntryOf node)) (l : Logged) → is_left_out l.answer ≡ true → Ends (rules_of n node) past ((rules_of n node).asked l.came) l.answer l.sent after → after ≡ past
-stays n (Server s) past after l out ends = (of_servers.stays (opening_of s) past _ l.answer l.sent after out ends).0
-stays n Client past after l out ends = (of_clients.stays (client_opening n) past _ l.answer l.sent after out ends).0
+stays n (Server s) past after l out ends = of_servers.stays (opening_of s) past _ l.answer l.sent after out ends
+stays n Client past after l out ends = of_clients.stays (client_opening n) past _ l.answer l.sent after out ends
 
 -- ---- one node's history and list in place of another
 

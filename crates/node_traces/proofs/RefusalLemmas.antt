@@ -1,11 +1,17 @@
 -- Which refusals let an event stand in its node's list, and which frames it may take.
-use Rattle.std.proofs.Common.{◌≡◌, refl, sym, ◌∙◌, ap, ◌⊎◌, inl, inr, ℕ, Bool, true, false, ◌||◌, List, Option, Some, None}
+use Rattle.std.proofs.Common.{◌≡◌, refl, sym, ◌∙◌, ap, ◌⊎◌, inl, inr, ℕ, Bool, true, false, ◌||◌, List, Option, Some, None, Result, Ok, Err}
 use Rattle.std.specs.Prelude.{Contains, not}
 use Rattle.fc_base.specs.declared.fault.Fault.{Fault}
 use Rattle.fc_base.specs.declared.fault.Fault.TheVariants.{LoadFault}
+use Rattle.fc_base.specs.declared.fault.FaultSort.{FaultSort}
+use Rattle.fc_base.specs.declared.fault.FaultSort.TheVariants as sorts
+use Rattle.fc_base.specs.Fault.{sort_of}
 use Rattle.messages.specs.declared.frame.Frame.{Frame}
 use Rattle.messages.specs.FrameBytes.{frame_at}
-use Rattle.node_history.specs.AtHub.{is_drop}
+use Rattle.node_history.specs.declared.answer.Said.{Said}
+use Rattle.node_history.specs.AtHub.{is_drop, is_left_out, is_save}
+use Rattle.node_history.specs.Replay.{Ends, Stops}
+use Rattle.node_history.specs.Rules.{Ask, Rules}
 
 -- It isn't refused, or for a tag that was dropped.
 abbrev pub MayPass : Option Fault → Type 0
@@ -43,13 +49,24 @@ no_power x loads fault d (inl k) (inl h) = never (sym h ∙ k)
     never h = cc
 no_power x loads fault d (inl k) (inr h) = no_pass h.0 h.2 (inr (fault, sym h.1 ∙ k, d))
 
-pub undropped : (b : Bool) → not (false || b) ≡ true → b ≡ false
+undropped : (b : Bool) → not (false || b) ≡ true → b ≡ false
 undropped true h = cc
 undropped false h = refl
 
 pub dropped : (b : Bool) → not (false || b) ≡ false → b ≡ true
 dropped true h = refl
 dropped false h = cc
+
+-- Where a refusal without a drop leaves a list as it was, what is left out does.
+pub left_out_stays : {E X : Type 0} (rules : Rules E X) → ((past : List X) (ask : Ask E) (fault : Fault) → is_drop fault ≡ false → rules.passed past ask fault ≡ past) → (past : List X) (ask : Ask E) (answer : Result Said Fault) (sent : List (List ℕ)) (after : List X) →
+    is_left_out answer ≡ true → Ends rules past ask answer sent after → after ≡ past
+left_out_stays rules passed past ask (Ok said) sent after h ends = cc
+left_out_stays rules passed past ask (Err fault) sent after h ends = by_sort (sort_of fault) h ends
+  where
+    by_sort : (sort : FaultSort) → not (is_save sort || is_drop fault) ≡ true → Stops rules past ask sort fault sent after → after ≡ past
+    by_sort sorts.Memory h ends = absurd ends
+    by_sort sorts.Save h ends = cc
+    by_sort sorts.Refusal h ends = ends.after_is ∙ passed past ask fault (undropped (is_drop fault) h)
 
 -- What came is one of these frames, if a frame came.
 abbrev pub CameOf : List Frame → Option (List ℕ) → Type 0

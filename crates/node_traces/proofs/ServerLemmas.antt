@@ -50,7 +50,7 @@ use Rattle.node_history.specs.ServerRules.{rules, asked, added, delivered, has_b
 use Rattle.net_world.specs.Frames.{OfServer, MayHappen, to_of}
 use Rattle.net_world.specs.InRange.{FrameStepFits}
 use Rattle.node_traces.specs.Marks.{frame_of}
-use Rattle.node_traces.proofs.RefusalLemmas.{MayPass, MayNot, IsFor, drop_for, no_pass, no_power, undropped, dropped, CameOf}
+use Rattle.node_traces.proofs.RefusalLemmas.{CameOf, IsFor, MayNot, MayPass, drop_for, dropped, left_out_stays, no_pass, no_power}
 
 -- ---- a frame that isn't refused is for the server
 
@@ -210,15 +210,9 @@ passed_none past Cuts fault h = refl
 passed_none past Restarts fault h = refl
 passed_none past Nothing fault h = refl
 
--- What is left out changes nothing, and sends nothing.
-pub stays : (o : Opening) (past : List FrameEntry) (ask : Ask Input) (answer : Result Said Fault) (sent : List (List ℕ)) (after : List FrameEntry) → is_left_out answer ≡ true → Ends (rules o) past ask answer sent after → (after ≡ past) × (sent ≡ [])
-stays o past ask (Ok said) sent after h ends = cc
-stays o past ask (Err fault) sent after h ends = by_sort (sort_of fault) h ends
-  where
-    by_sort : (sort : FaultSort) → not (is_save sort || is_drop fault) ≡ true → Stops (rules o) past ask sort fault sent after → (after ≡ past) × (sent ≡ [])
-    by_sort sorts.Memory h ends = absurd ends
-    by_sort sorts.Save h ends = cc
-    by_sort sorts.Refusal h ends = (ends.after_is ∙ passed_none past ask fault (undropped (is_drop fault) h), ends.sends_none)
+-- What is left out changes nothing.
+pub stays : (o : Opening) (past : List FrameEntry) (ask : Ask Input) (answer : Result Said Fault) (sent : List (List ℕ)) (after : List FrameEntry) → is_left_out answer ≡ true → Ends (rules o) past ask answer sent after → after ≡ past
+stays o past ask answer sent after h ends = left_out_stays (rules o) passed_none past ask answer sent after h ends
 
 -- All else adds an entry.
 pub adds : (o : Opening) (past : List FrameEntry) (ask : Ask Input) (answer : Result Said Fault) (sent : List (List ℕ)) (after : List FrameEntry) → is_left_out answer ≡ false → Ends (rules o) past ask answer sent after → Adds o past ask sent after
