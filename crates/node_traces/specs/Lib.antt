@@ -5,3 +5,4 @@ pub mod Rising
 pub mod Names
 pub mod Verdict
 pub mod Laws
+pub mod Examples

@@ -5,9 +5,11 @@
 //! in which order it can be told.
 #![tactic(auto)]
 
+mod example;
 mod law;
 mod place;
 
+pub use example::followed_by_hand;
 pub use law::{
     agreeing_nodes_are_a_trace, assembled_nodes_hold_one_state, histories_rise,
     merged_orders_are_merges, merges_name_a_trace,
