@@ -30,6 +30,7 @@ use Rattle.client_core.specs.HeardRange.{SenseInRange, UnlessMemory, HearsInRang
 use Rattle.client_core.specs.FrameEnds as ends
 use Rattle.client_core.specs.FrameEnds.{StandsFor}
 use Rattle.node_history.specs.declared.answer.Answer.TheVariants.{Plain, Run, Attempt}
+use Rattle.node_history.specs.AtHub.{is_drop as says_drop}
 use Rattle.node_history.specs.Rules.{Meets}
 use Rattle.node_history.specs.Replay.{Stops}
 use Rattle.node_history.specs.ServerRules.{left_by}
@@ -38,7 +39,7 @@ use Rattle.client_cell.specs.declared.outs.Outs.{Outs}
 use Rattle.client_cell.specs.declared.power.Power.{Power}
 use Rattle.client_cell.specs.declared.power.Power.TheVariants.{On, Off}
 use Rattle.client_cell.specs.declared.task.Task.TheVariants as tasks
-use Rattle.client_cell.specs.Stands.{plain, outs_of, outs_of_run, outs_of_attempt, Stands, Shows, Answers, Faults, StepEnds, TaskEnds}
+use Rattle.client_cell.specs.Stands.{plain, outs_of, outs_of_run, outs_of_attempt, Stands, Shows, Moves, Answers, Faults, StepEnds, TaskEnds}
 
 -- ---- what came stays within its ranges
 
@@ -97,9 +98,36 @@ no_drop o past (Drops q) fault h k = absurd (k (same FrameBadField fault h))
     same x y h = cc
 no_drop o past Misses fault h k = refl
 
-passed_up : (b : Bool) (xs ys : List FrameEntry) → b ≡ true → xs ≡ (if b then xs else ys)
-passed_up true xs ys h = refl
-passed_up false xs ys h = cc
+-- Where the fault tells of no dropped tag, it is another.
+another : (fault : Fault) → says_drop fault ≡ false → fault ≡ FrameBadField → ⊥
+another fault h e = clash (sym h ∙ ap says_drop e)
+  where
+    clash : false ≡ true → ⊥
+    clash h = cc
+
+-- What is refused stands in the list where it dropped a tag, and else it doesn't.
+refused_step : {T : Type 0} (note : T → Note) (o : Opening) (past : List FrameEntry) (e : Input) (old client : Client T) (fault : Fault) → is_up o past ≡ true → ends.Refuses note o past e fault old client → SenseInRange (sense o past e) → sort_of fault ≡ sorts.Refusal
+    → (b : Bool) → says_drop fault ≡ b → Moves note o past (Meets e) (Err fault) [] (On client)
+refused_step note o past e old client fault on f h is true d = record {
+  after = Met e lefts.NoSave ∷ past;
+  ends = subst (λ (sort : FaultSort). Stops (rules o) past (Meets e) sort fault [] (Met e lefts.NoSave ∷ past)) (sym is) (record {
+    why = inl (up (is_up o past) (answers.refusal o past e) (Some NodeOff) on ∙ f.why);
+    sends_none = refl;
+    after_is = ap (λ b. if b then Met e lefts.NoSave ∷ past else past) (sym d);
+  });
+  stands = f.stands;
+  ranges = came_after o past e lefts.NoSave h;
+}
+refused_step note o past e old client fault on f h is false d = record {
+  after = past;
+  ends = subst (λ (sort : FaultSort). Stops (rules o) past (Meets e) sort fault [] past) (sym is) (record {
+    why = inl (up (is_up o past) (answers.refusal o past e) (Some NodeOff) on ∙ f.why);
+    sends_none = refl;
+    after_is = ap (λ b. if b then Met e lefts.NoSave ∷ past else past) (sym d);
+  });
+  stands = f.unchanged (no_drop o past (sense o past e) fault f.why (another fault d));
+  ranges = λ h. h;
+}
 
 faults_step : {T : Type 0} (note : T → Note) (o : Opening) (past : List FrameEntry) (e : Input) (old client : Client T) (fault : Fault) → is_up o past ≡ true
     → (sort : FaultSort) → ends.Faults note o past e sort fault old client → UnlessMemory sort (sense o past e) → sort_of fault ≡ sort → Faults note o past e sort fault (On client)
@@ -120,16 +148,7 @@ faults_step note o past e old client fault on sorts.Save f h is =
       ranges = came_after o past e f.left h;
     }
 faults_step note o past e old client fault on sorts.Refusal f h is = record {
-  moves = record {
-    after = Met e lefts.NoSave ∷ past;
-    ends = subst (λ (sort : FaultSort). Stops (rules o) past (Meets e) sort fault [] (Met e lefts.NoSave ∷ past)) (sym is) (record {
-      why = inl (up (is_up o past) (answers.refusal o past e) (Some NodeOff) on ∙ f.why);
-      sends_none = refl;
-      after_is = passed_up (is_up o past) (Met e lefts.NoSave ∷ past) past on;
-    });
-    stands = f.stands;
-    ranges = came_after o past e lefts.NoSave h;
-  };
+  moves = refused_step note o past e old client fault on f h is (says_drop fault) refl;
   unchanged = λ k. f.unchanged (no_drop o past (sense o past e) fault f.why k);
 }
 
@@ -138,7 +157,7 @@ pub off_ends : {T : Type 0} (note : T → Note) (o : Opening) (past : List Frame
 off_ends note o past e power off s = record {
   moves = record {
     after = past;
-    ends = record { why = inl (ap (λ b. if b then answers.refusal o past e else Some NodeOff) off); sends_none = refl; after_is = ap (λ b. if b then Met e lefts.NoSave ∷ past else past) (sym off) };
+    ends = record { why = inl (ap (λ b. if b then answers.refusal o past e else Some NodeOff) off); sends_none = refl; after_is = refl };
     stands = s;
     ranges = λ h. h;
   };

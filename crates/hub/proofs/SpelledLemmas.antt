@@ -16,10 +16,10 @@ use Rattle.messages.specs.Ranges.{is_body, is_run, is_attempt, is_text, KeepsSta
 use Rattle.messages.specs.Bodies.{length_of, spelled_body}
 use Rattle.messages.specs.Laws.{IsPacket, LengthsAreBounded}
 use Rattle.messages.specs.FrameBytes.{frame_spelling}
-use Rattle.messages.specs.Pieces.{is_cut, tag_of, places_from, places, bytes_at, piece_at, pieces_of}
+use Rattle.messages.specs.Pieces.{is_cut, tag_of, places_from, places, bytes_at, piece_at, pieces_of, frames_of}
 use Rattle.messages.specs.PieceRanges.{is_tag_in_range, is_place, is_piece}
 use Rattle.hub.specs.Network.{IsSpelled}
-use Rattle.hub.specs.Laws.{FramesAreSpelled}
+use Rattle.hub.specs.Laws.{IsReadable, FramesAreReadable, FramesAreSpelled}
 
 -- ---- the places of a body
 
@@ -158,19 +158,23 @@ piece_fits p h w at place =
 not_cut : (len : ℕ) → nat_lt 1024 len ≡ false → len ≤ 1024
 not_cut len h = grind (arith, nat_tests)
 
-pieces_spelled : (p : PacketParts) → IsPacket p → IsCutWell p.body → All IsSpelled (map frame_spelling (map Piece (pieces_of p)))
-pieces_spelled p h w =
-    All-map IsSpelled frame_spelling (map Piece (pieces_of p))
-    (All-map (λ f. IsSpelled (frame_spelling f)) Piece (pieces_of p)
-    (All-map (λ q. IsSpelled (frame_spelling (Piece q))) (piece_at p) (places (length_of p.body))
-    (All-weaker (IsPlaceOf (length_of p.body)) (λ at. IsSpelled (frame_spelling (Piece (piece_at p at))))
-    (λ at place. record { frame = Piece (piece_at p at); in_range = piece_fits p h w at place; is_short = tt; spelled = refl })
-    (places (length_of p.body)) (places_are (length_of p.body) 0 (length_of p.body) refl))))
+pieces_readable : (p : PacketParts) → IsPacket p → IsCutWell p.body → All IsReadable (map Piece (pieces_of p))
+pieces_readable p h w =
+    All-map IsReadable Piece (pieces_of p)
+    (All-map (λ q. IsReadable (Piece q)) (piece_at p) (places (length_of p.body))
+    (All-weaker (IsPlaceOf (length_of p.body)) (λ at. IsReadable (Piece (piece_at p at)))
+    (λ at place. record { in_range = piece_fits p h w at place; is_short = tt })
+    (places (length_of p.body)) (places_are (length_of p.body) 0 (length_of p.body) refl)))
 
-spelled_by : LengthsAreBounded → (p : PacketParts) → IsPacket p → (b : Bool) → is_cut p.body ≡ b → All IsSpelled (map frame_spelling (if b then map Piece (pieces_of p) else Whole p ∷ []))
-spelled_by law p h true e = pieces_spelled p h (cut_well law p.body (and_parts (is_node p.from && is_node p.to) (is_body p.body) h.in_range).1 h.state e)
-spelled_by law p h false e =
-    All-cons IsSpelled (frame_spelling (Whole p)) [] (record { frame = Whole p; in_range = h; is_short = not_cut (length_of p.body) e; spelled = refl }) (All-nil IsSpelled)
+readable_by : LengthsAreBounded → (p : PacketParts) → IsPacket p → (b : Bool) → is_cut p.body ≡ b → All IsReadable (if b then map Piece (pieces_of p) else Whole p ∷ [])
+readable_by law p h true e = pieces_readable p h (cut_well law p.body (and_parts (is_node p.from && is_node p.to) (is_body p.body) h.in_range).1 h.state e)
+readable_by law p h false e =
+    All-cons IsReadable (Whole p) [] (record { in_range = h; is_short = not_cut (length_of p.body) e }) (All-nil IsReadable)
 
-pub frames_spelled : LengthsAreBounded → FramesAreSpelled
-frames_spelled law p h = spelled_by law p h (is_cut p.body) refl
+pub frames_readable : LengthsAreBounded → FramesAreReadable
+frames_readable law p h = readable_by law p h (is_cut p.body) refl
+
+pub frames_spelled : FramesAreReadable → FramesAreSpelled
+frames_spelled law p h =
+    All-map IsSpelled frame_spelling (frames_of p)
+    (All-weaker IsReadable (λ f. IsSpelled (frame_spelling f)) (λ f fit. record { frame = f; in_range = fit.in_range; is_short = fit.is_short; spelled = refl }) (frames_of p) (law p h))

@@ -1,4 +1,5 @@
 pub mod Network
 pub mod Waiting
 pub mod Kept
+pub mod Journal
 pub mod Laws

@@ -1,5 +1,5 @@
 -- The rules of the client under its lock.
-use Rattle.std.specs.Prelude.{◌+◌, Bool, true, false, not, if◌then◌else◌, List, [], ◌∷◌, Option, Some, None}
+use Rattle.std.specs.Prelude.{◌+◌, Bool, false, not, if◌then◌else◌, List, [], ◌∷◌, Option, Some, None}
 use Rattle.std.specs.Option.{option_map}
 use Rattle.fc_base.specs.declared.fault.Fault.{Fault}
 use Rattle.fc_base.specs.declared.fault.Fault.TheVariants.{NodeOff, NodeOn}
@@ -18,6 +18,7 @@ use Rattle.node_history.specs.declared.came.Came.TheVariants as came
 use Rattle.node_history.specs.declared.answer.Answer.{Answer}
 use Rattle.node_history.specs.declared.answer.Answer.TheVariants.{Plain, Run, Attempt}
 use Rattle.node_history.specs.declared.answer.Said.{Said}
+use Rattle.node_history.specs.AtHub.{is_drop}
 use Rattle.node_history.specs.Rules.{Ask, Meets, Cuts, Restarts, Nothing, Rules}
 use Rattle.node_history.specs.ServerRules.{left_by}
 
@@ -73,10 +74,10 @@ added o past Cuts = Some Cut
 added o past Restarts = Some Restart
 added o past Nothing = None
 
--- What a client that is on refuses stands in its list without a save.
-abbrev pub passed : Opening → List FrameEntry → Ask Input → List FrameEntry
-passed o past (Meets e) = if is_up o past then Met e NoSave ∷ past else past
-passed o past _ = past
+-- What is refused doesn't stand in the list, but for a piece whose tag is dropped, without a save.
+abbrev pub passed : List FrameEntry → Ask Input → Fault → List FrameEntry
+passed past (Meets e) fault = if is_drop fault then Met e NoSave ∷ past else past
+passed past _ fault = past
 
 -- The entry of a call that was due to add something to the note, whose save failed. A restart saves
 -- nothing.
@@ -93,7 +94,7 @@ rules o = record {
   loads = loads o;
   said = said o;
   added = added o;
-  passed = passed o;
+  passed = passed;
   lost = lost o;
   frames = answers.frames o;
 }

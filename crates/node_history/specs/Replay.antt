@@ -1,6 +1,6 @@
 -- What a history makes of a node: the list of its core, in which each answer is the one that the rules
 -- give there. Histories and lists are newest first.
-use Rattle.std.specs.Prelude.{◌≡◌, ◌⊎◌, ℕ, Bool, true, List, [], ◌∷◌, map, Option, Some, None, Result, Ok, Err}
+use Rattle.std.specs.Prelude.{◌≡◌, ◌⊎◌, ℕ, Bool, true, List, [], ◌∷◌, map, Some, None, Result, Ok, Err}
 use Rattle.fc_base.specs.declared.fault.Fault.{Fault}
 use Rattle.fc_base.specs.declared.fault.Fault.TheVariants.{LoadFault}
 use Rattle.fc_base.specs.declared.fault.FaultSort.{FaultSort}
@@ -33,7 +33,7 @@ pub record Loses {E X : Type 0} (rules : Rules E X) (past : List X) (ask : Ask E
 pub record Passes {E X : Type 0} (rules : Rules E X) (past : List X) (ask : Ask E) (fault : Fault) (sent : List (List ℕ)) (after : List X) : Type 0 where
   pub why : (rules.refusal past ask ≡ Some fault) ⊎ ((fault ≡ LoadFault) × (rules.loads past ask ≡ true))
   pub sends_none : sent ≡ []
-  pub after_is : after ≡ rules.passed past ask
+  pub after_is : after ≡ rules.passed past ask fault
 
 -- What a fault makes of a list, by its sort. Want of memory is no event.
 abbrev pub Stops : {E X : Type 0} → Rules E X → List X → Ask E → FaultSort → Fault → List (List ℕ) → List X → Type 0

@@ -20,6 +20,6 @@ pub record Rules (E X : Type 0) : Type 0 where
   pub loads : List X → Ask E → Bool  -- the note is loaded, which may fail
   pub said : List X → Ask E → Said  -- what is answered
   pub added : List X → Ask E → Option X  -- the entry that is added where all goes well
-  pub passed : List X → Ask E → List X  -- the list behind a refusal
+  pub passed : List X → Ask E → Fault → List X  -- the list behind a refusal for this reason
   pub lost : List X → Ask E → Bool → Option X  -- the entry of a save that failed and left the new bytes, or the old
   pub frames : List X → X → List Frame  -- the frames that an entry sends

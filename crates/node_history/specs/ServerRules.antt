@@ -3,6 +3,7 @@ use Rattle.std.specs.Prelude.{◌+◌, ◌^◌, Bool, true, false, not, nat_lt, 
 use Rattle.std.specs.Option.{option_map}
 use Rattle.fc_base.specs.declared.fault.Fault.{Fault}
 use Rattle.fc_base.specs.declared.fault.Fault.TheVariants.{NumbersSpent, NodeOff, NodeOn}
+use Rattle.fc_base.specs.Report.{is_report}
 use Rattle.engine.specs.declared.issue.Issue.{Issue}
 use Rattle.disk_model.specs.declared.left.Left.{Left}
 use Rattle.disk_model.specs.declared.left.Left.TheVariants.{NoSave, Saved, LostNew, LostOld}
@@ -20,6 +21,7 @@ use Rattle.node_history.specs.declared.came.Came.TheVariants as came
 use Rattle.node_history.specs.declared.answer.Answer.{Answer}
 use Rattle.node_history.specs.declared.answer.Answer.TheVariants.{Plain, Issued}
 use Rattle.node_history.specs.declared.answer.Said.{Said}
+use Rattle.node_history.specs.AtHub.{is_drop}
 use Rattle.node_history.specs.Rules.{Ask, Meets, Cuts, Restarts, Nothing, Rules}
 
 -- The frame that the bytes say is delivered.
@@ -27,12 +29,18 @@ abbrev pub delivered : Option Frame → Ask Input
 delivered None = Nothing
 delivered (Some f) = Meets (inputs.Deliver f)
 
+-- The report of a check comes, as all that are handed in are within their ranges.
+abbrev pub reported : Bool → Input → Ask Input
+reported true e = Meets e
+reported false e = Nothing
+
 -- What is asked of a server.
 abbrev pub asked : Came → Ask Input
 asked (came.Frame bytes) = delivered (frame_at bytes)
 asked (came.Issue j) = Meets (inputs.Issue j)
 asked (came.WriteDone ticket end) = Meets (inputs.WriteDone ticket end)
-asked (came.CheckDone now attempt job report) = Meets (inputs.CheckDone now attempt job report.value)
+asked (came.CheckDone now attempt job report) =
+    reported (is_report report.value) (inputs.CheckDone now attempt job report.value)
 asked came.Cut = Cuts
 asked came.Restart = Restarts
 asked _ = Nothing
@@ -75,10 +83,10 @@ added o past Cuts = Some Cut
 added o past Restarts = Some (Restart Saved)
 added o past Nothing = None
 
--- What a server that is on refuses stands in its list without a save.
-abbrev pub passed : Opening → List FrameEntry → Ask Input → List FrameEntry
-passed o past (Meets e) = if is_up o past then Met e NoSave ∷ past else past
-passed o past _ = past
+-- What is refused doesn't stand in the list, but for a piece whose tag is dropped, without a save.
+abbrev pub passed : List FrameEntry → Ask Input → Fault → List FrameEntry
+passed past (Meets e) fault = if is_drop fault then Met e NoSave ∷ past else past
+passed past _ fault = past
 
 -- What a save left that failed.
 abbrev pub left_by : Bool → Left
@@ -100,7 +108,7 @@ rules o = record {
   loads = loads o;
   said = said o;
   added = added o;
-  passed = passed o;
+  passed = passed;
   lost = lost o;
   frames = answers.frames o;
 }

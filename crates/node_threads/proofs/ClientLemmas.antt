@@ -15,7 +15,7 @@ use Rattle.node_history.specs.AtHub.{Posts}
 use Rattle.node_history.specs.ClientRules.{rules, asked, is_up}
 use Rattle.client_cell.specs.declared.request.Request.{Request}
 use Rattle.client_cell.specs.declared.request.Request.TheVariants as requests
-use Rattle.client_cell.specs.Tasks.{came_of, input_of}
+use Rattle.client_cell.specs.Tasks.{came_of}
 use Rattle.client_cell.specs.Cells.{ClientLog}
 use Rattle.client_cell.specs.Cells as cells
 use Rattle.client_cell.specs.Hearing as client

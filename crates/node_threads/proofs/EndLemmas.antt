@@ -1,5 +1,5 @@
 -- What is refused, and changes nothing, ends as any call does.
-use Rattle.std.proofs.Common.{◌≡◌, refl, sym, subst, ℕ, true, List, [], Option, Result, Err}
+use Rattle.std.proofs.Common.{◌≡◌, sym, subst, ℕ, true, List, [], Option, Result, Err}
 use Rattle.fc_base.specs.declared.fault.Fault.{Fault}
 use Rattle.messages.specs.declared.node.Node.{Node}
 use Rattle.hub.specs.Network.{Network}

@@ -17,7 +17,7 @@ use Rattle.server_cell.specs.Cells.{ServerLog}
 use Rattle.server_cell.specs.Cells as cells
 use Rattle.server_cell.specs.Hearing as server
 use Rattle.server_cell.specs.Hearing.{asked_by, ExplainsBy, ExplainsHeard}
-use Rattle.node_threads.specs.Calls.{says_off, is_off, IsReplay, Replays, IsWhyWhere, HasWhy, IsWhyNot, Delivers, Misses, Commands}
+use Rattle.node_threads.specs.Calls.{says_off, is_off, Replays, IsWhyWhere, HasWhy, IsWhyNot, Delivers, Misses, Commands}
 use Rattle.node_threads.proofs.EndLemmas.{left_out}
 
 -- It was opened so.

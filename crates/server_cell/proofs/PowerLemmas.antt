@@ -40,6 +40,7 @@ use Rattle.server_core.specs.HeardRange.{SenseInRange, UnlessMemory, HearsInRang
 use Rattle.server_core.specs.FrameEnds as ends
 use Rattle.server_core.specs.FrameEnds.{StandsFor, is_drop}
 use Rattle.node_history.specs.declared.answer.Said.{Said}
+use Rattle.node_history.specs.AtHub.{is_drop as says_drop}
 use Rattle.node_history.specs.Rules.{Meets}
 use Rattle.node_history.specs.Replay.{Stops}
 use Rattle.node_history.specs.ServerRules.{rules, is_up, has_boot, left_by}
@@ -103,9 +104,36 @@ no_drop o past (Drops q) fault h k = absurd (k (same FrameBadField fault h))
     same x y h = cc
 no_drop o past Misses fault h k = refl
 
-passed_up : (b : Bool) (xs ys : List FrameEntry) → b ≡ true → xs ≡ (if b then xs else ys)
-passed_up true xs ys h = refl
-passed_up false xs ys h = cc
+-- Where the fault tells of no dropped tag, it is another.
+another : (fault : Fault) → says_drop fault ≡ false → fault ≡ FrameBadField → ⊥
+another fault h e = clash (sym h ∙ ap says_drop e)
+  where
+    clash : false ≡ true → ⊥
+    clash h = cc
+
+-- What is refused stands in the list where it dropped a tag, and else it doesn't.
+refused_step : {T : Type 0} (note : T → Note) (o : Opening) (past : List FrameEntry) (e : Input) (old server : Server T) (fault : Fault) → is_up o past ≡ true → ends.Refuses note o past e fault old server → SenseInRange (sense o past e) → sort_of fault ≡ sorts.Refusal
+    → (b : Bool) → says_drop fault ≡ b → Moves note o past (Meets e) (Err fault) [] (On server)
+refused_step note o past e old server fault on f h is true d = record {
+  after = Met e lefts.NoSave ∷ past;
+  ends = subst (λ (sort : FaultSort). Stops (rules o) past (Meets e) sort fault [] (Met e lefts.NoSave ∷ past)) (sym is) (record {
+    why = inl (up (is_up o past) (answers.refusal o past e) (Some NodeOff) on ∙ f.why);
+    sends_none = refl;
+    after_is = ap (λ b. if b then Met e lefts.NoSave ∷ past else past) (sym d);
+  });
+  stands = f.stands;
+  ranges = came_after o past e lefts.NoSave h;
+}
+refused_step note o past e old server fault on f h is false d = record {
+  after = past;
+  ends = subst (λ (sort : FaultSort). Stops (rules o) past (Meets e) sort fault [] past) (sym is) (record {
+    why = inl (up (is_up o past) (answers.refusal o past e) (Some NodeOff) on ∙ f.why);
+    sends_none = refl;
+    after_is = ap (λ b. if b then Met e lefts.NoSave ∷ past else past) (sym d);
+  });
+  stands = f.unchanged (no_drop o past (sense o past e) fault f.why (another fault d));
+  ranges = λ h. h;
+}
 
 faults_step : {T : Type 0} (note : T → Note) (o : Opening) (past : List FrameEntry) (e : Input) (old server : Server T) (fault : Fault) → is_up o past ≡ true
     → (sort : FaultSort) → ends.Faults note o past e sort fault old server → UnlessMemory sort (sense o past e) → sort_of fault ≡ sort → Faults note o past e sort fault (On server)
@@ -126,16 +154,7 @@ faults_step note o past e old server fault on sorts.Save f h is =
       ranges = came_after o past e f.left h;
     }
 faults_step note o past e old server fault on sorts.Refusal f h is = record {
-  moves = record {
-    after = Met e lefts.NoSave ∷ past;
-    ends = subst (λ (sort : FaultSort). Stops (rules o) past (Meets e) sort fault [] (Met e lefts.NoSave ∷ past)) (sym is) (record {
-      why = inl (up (is_up o past) (answers.refusal o past e) (Some NodeOff) on ∙ f.why);
-      sends_none = refl;
-      after_is = passed_up (is_up o past) (Met e lefts.NoSave ∷ past) past on;
-    });
-    stands = f.stands;
-    ranges = came_after o past e lefts.NoSave h;
-  };
+  moves = refused_step note o past e old server fault on f h is (says_drop fault) refl;
   unchanged = λ k. f.unchanged (no_drop o past (sense o past e) fault f.why k);
 }
 
@@ -150,7 +169,7 @@ pub off_ends : {T : Type 0} (note : T → Note) (o : Opening) (past : List Frame
 off_ends note o past e power off s = record {
   moves = record {
     after = past;
-    ends = record { why = inl (ap (λ b. if b then answers.refusal o past e else Some NodeOff) off); sends_none = refl; after_is = ap (λ b. if b then Met e lefts.NoSave ∷ past else past) (sym off) };
+    ends = record { why = inl (ap (λ b. if b then answers.refusal o past e else Some NodeOff) off); sends_none = refl; after_is = refl };
     stands = s;
     ranges = λ h. h;
   };

@@ -2,4 +2,4 @@ use Rattle.hub.proofs.SpelledLemmas.{frames_spelled}
 use Rattle.hub.proofs.law.frames_are_spelled.Goals as goal
 
 pub returns : goal.returns
-returns c = frames_spelled c.lengths_are_bounded.ensures
+returns c = frames_spelled c.frames_are_readable.ensures

@@ -1,0 +1,13 @@
+mod MarkLemmas
+mod PlaceLemmas
+mod MergedLemmas
+mod RisingLemmas
+mod RefusalLemmas
+mod ServerLemmas
+mod ClientLemmas
+mod SentLemmas
+mod NodeLemmas
+mod TellLemmas
+mod LeftLemmas
+mod TraceLemmas
+mod HeldLemmas

@@ -1,0 +1,179 @@
+-- Both kinds of node in one form: their entries, their rules, and their steps in a trace.
+use Rattle.std.proofs.Common.{◌≡◌, refl, ◌∙◌, ap, subst, ℕ, ◌<◌, arith, Bool, true, false, ◌==◌, List, [], ◌∷◌, Option, Some, None}
+use Rattle.std.specs.Prelude.{map, if◌then◌else◌}
+use Rattle.std.proofs.lemmas.Bool.{eqb-true}
+use Rattle.std.proofs.lemmas.Bool.Decides.{nat_tests}
+use Rattle.disk_model.specs.declared.left.Left.{Left}
+use Rattle.messages.specs.declared.node.Node.{Node}
+use Rattle.messages.specs.declared.node.Node.TheVariants.{Server, Client}
+use Rattle.messages.specs.declared.frame.Frame.{Frame}
+use Rattle.messages.specs.FrameBytes.{frame_spelling}
+use Rattle.messages.specs.Hearing.{Coming, entry_of, heard}
+use Rattle.hub.specs.Waiting.{is_same_node}
+use Rattle.server_core.specs.History as server
+use Rattle.server_core.specs.Answers.{packets as server_packets}
+use Rattle.server_core.specs.declared.input.Input.{Input as ServerInput}
+use Rattle.server_core.specs.Hearing.{FrameEntry as ServerEntry, coming as server_coming}
+use Rattle.server_core.specs.FrameAnswers as server_answers
+use Rattle.client_core.specs.History as client
+use Rattle.client_core.specs.Packets.{packets as client_packets}
+use Rattle.client_core.specs.declared.input.Input.{Input as ClientInput}
+use Rattle.client_core.specs.Hearing.{FrameEntry as ClientEntry, coming as client_coming}
+use Rattle.client_core.specs.FrameAnswers as client_answers
+use Rattle.node_history.specs.declared.logged.Logged.{Logged}
+use Rattle.node_history.specs.AtHub.{is_left_out}
+use Rattle.node_history.specs.Replay.{Ends, Makes}
+use Rattle.node_history.specs.Rules.{Rules}
+use Rattle.node_history.specs.ServerRules.{rules as server_rules}
+use Rattle.node_history.specs.ClientRules.{rules as client_rules}
+use Rattle.net_world.specs.Trace.{opening_of, client_opening}
+use Rattle.net_world.specs.Frames.{FrameStep, OfServer, OfClient, of_server, of_client, at_server, at_client, frames_by, frames_of_step, MayHappen}
+use Rattle.net_world.specs.InRange.{FrameStepFits}
+use Rattle.node_traces.specs.Marks.{frame_of}
+use Rattle.node_traces.specs.Names.{node_of}
+use Rattle.node_traces.proofs.RefusalLemmas.{CameOf}
+use Rattle.node_traces.proofs.ServerLemmas as of_servers
+use Rattle.node_traces.proofs.ClientLemmas as of_clients
+
+abbrev pub EntryOf : Node → Type 0
+EntryOf (Server s) = ServerEntry
+EntryOf Client = ClientEntry
+
+abbrev pub InputOf : Node → Type 0
+InputOf (Server s) = ServerInput
+InputOf Client = ClientInput
+
+abbrev pub ComingTo : Node → Type 0
+ComingTo (Server s) = Coming server.Entry Left
+ComingTo Client = Coming client.Entry Left
+
+abbrev pub rules_of : (n : ℕ) (node : Node) → Rules (InputOf node) (EntryOf node)
+rules_of n (Server s) = server_rules (opening_of s)
+rules_of n Client = client_rules (client_opening n)
+
+abbrev pub coming_to : (node : Node) → EntryOf node → ComingTo node
+coming_to (Server s) e = server_coming e
+coming_to Client e = client_coming e
+
+-- What has happened to a node in a trace.
+abbrev pub happened_to : (node : Node) → List FrameStep → List (ComingTo node)
+happened_to (Server s) t = of_server s t
+happened_to Client t = of_client t
+
+abbrev pub step_at : (node : Node) → ComingTo node → FrameStep
+step_at (Server s) c = OfServer s c
+step_at Client c = OfClient c
+
+-- A server's number is below the number of servers.
+abbrev pub IsBelow : ℕ → Node → Type 0
+IsBelow n (Server s) = s < n
+IsBelow n Client = Unit {0}
+
+-- ---- the steps of a node
+
+pub own_step : (node : Node) (c : ComingTo node) (t : List FrameStep) → happened_to node (step_at node c ∷ t) ≡ c ∷ happened_to node t
+own_step (Server s) c t = let same : (s == s) ≡ true = grind (arith, nat_tests) in rw same refl
+own_step Client c t = refl
+
+pub other_step : (node other : Node) (c : ComingTo node) (t : List FrameStep) → is_same_node node other ≡ false → happened_to other (step_at node c ∷ t) ≡ happened_to other t
+other_step (Server s) (Server r) c t h = rw h refl
+other_step (Server s) Client c t h = refl
+other_step Client (Server r) c t h = refl
+other_step Client Client c t h = cc
+
+pub node_at : (node : Node) (c : ComingTo node) → node_of (step_at node c) ≡ node
+node_at (Server s) c = refl
+node_at Client c = refl
+
+pub opens : (n : ℕ) (node : Node) → happened_to node [] ≡ map (coming_to node) (rules_of n node).opened
+opens n (Server s) = refl
+opens n Client = refl
+
+server_frames : (s : ℕ) (list : List server.Entry) (x : Option server.Entry) → frames_by (server_packets (opening_of s)) list x ≡ server_answers.frames_by (opening_of s) list x
+server_frames s list None = refl
+server_frames s list (Some e) = refl
+
+client_frames : (n : ℕ) (list : List client.Entry) (x : Option client.Entry) → frames_by (client_packets (client_opening n)) list x ≡ client_answers.frames_by (client_opening n) list x
+client_frames n list None = refl
+client_frames n list (Some e) = refl
+
+-- A step sends the frames of its entry.
+pub frames_at : (n : ℕ) (node : Node) (t : List FrameStep) (past : List (EntryOf node)) (e : EntryOf node) → happened_to node t ≡ map (coming_to node) past → frames_of_step n t (step_at node (coming_to node e)) ≡ (rules_of n node).frames past e
+frames_at n (Server s) t past e h =
+    ap (λ (list : List (Coming server.Entry Left)). frames_by (server_packets (opening_of s)) (heard (at_server s) list).entries (entry_of (at_server s) (heard (at_server s) list) (server_coming e))) h
+    ∙ server_frames s (heard (at_server s) (map server_coming past)).entries (entry_of (at_server s) (heard (at_server s) (map server_coming past)) (server_coming e))
+frames_at n Client t past e h =
+    ap (λ (list : List (Coming client.Entry Left)). frames_by (client_packets (client_opening n)) (heard (at_client n) list).entries (entry_of (at_client n) (heard (at_client n) list) (client_coming e))) h
+    ∙ client_frames n (heard (at_client n) (map client_coming past)).entries (entry_of (at_client n) (heard (at_client n) (map client_coming past)) (client_coming e))
+
+-- ---- the events of a node
+
+-- What an event adds behind these frames: an entry, of which a step may be made.
+pub record Goes (n : ℕ) (node : Node) (frames : List Frame) (past after : List (EntryOf node)) (sent : List (List ℕ)) : Type 0 where
+  pub entry : EntryOf node
+  pub after_is : after ≡ entry ∷ past
+  pub sent_are : sent ≡ map frame_spelling ((rules_of n node).frames past entry)
+  pub may : MayHappen frames (step_at node (coming_to node entry))
+  pub fits : FrameStepFits (step_at node (coming_to node entry))
+
+pub goes : (n : ℕ) (node : Node) (frames : List Frame) (past after : List (EntryOf node)) (l : Logged) → IsBelow 8 node → CameOf frames (frame_of l.came) → is_left_out l.answer ≡ false
+    → Ends (rules_of n node) past ((rules_of n node).asked l.came) l.answer l.sent after → Goes n node frames past after l.sent
+goes n (Server s) frames past after l few came stands ends =
+    let a = of_servers.adds (opening_of s) past _ l.answer l.sent after stands ends in
+    record {
+      entry = a.entry;
+      after_is = a.after_is;
+      sent_are = a.sent_are;
+      may = of_servers.server_happens frames (opening_of s) l.came a.entry came a.is_asked;
+      fits = of_servers.server_fits frames (opening_of s) l.came a.entry few came a.is_asked;
+    }
+goes n Client frames past after l few came stands ends =
+    let a = of_clients.adds (client_opening n) past _ l.answer l.sent after stands ends in
+    record {
+      entry = a.entry;
+      after_is = a.after_is;
+      sent_are = a.sent_are;
+      may = of_clients.client_happens frames l.came a.entry came a.is_asked;
+      fits = tt;
+    }
+
+pub stays : (n : ℕ) (node : Node) (past after : List (EntryOf node)) (l : Logged) → is_left_out l.answer ≡ true → Ends (rules_of n node) past ((rules_of n node).asked l.came) l.answer l.sent after → after ≡ past
+stays n (Server s) past after l out ends = of_servers.stays (opening_of s) past _ l.answer l.sent after out ends
+stays n Client past after l out ends = of_clients.stays (client_opening n) past _ l.answer l.sent after out ends
+
+-- ---- one node's history and list in place of another
+
+abbrev pub with_history : Node → List Logged → (Node → List Logged) → Node → List Logged
+with_history node h ran other = if is_same_node node other then h else ran other
+
+abbrev pub with_list : (node : Node) → List (EntryOf node) → ((other : Node) → List (EntryOf other)) → (other : Node) → List (EntryOf other)
+with_list (Server s) list past (Server r) = if s == r then list else past (Server r)
+with_list (Server s) list past Client = past Client
+with_list Client list past (Server r) = past (Server r)
+with_list Client list past Client = list
+
+-- The histories make these lists.
+abbrev pub AreMade : ℕ → (Node → List Logged) → ((node : Node) → List (EntryOf node)) → Type 0
+AreMade n ran past = (node : Node) → Makes (rules_of n node) (ran node) (past node)
+
+made_at : (s r : ℕ) (b : Bool) (h g : List Logged) (p q : List ServerEntry) → (s == r) ≡ b → Makes (server_rules (opening_of s)) h p → Makes (server_rules (opening_of r)) g q
+    → Makes (server_rules (opening_of r)) (if b then h else g) (if b then p else q)
+made_at s r true h g p q e here there = subst (λ i. Makes (server_rules (opening_of i)) h p) (eqb-true s r e) here
+made_at s r false h g p q e here there = there
+
+pub made_with : (n : ℕ) (node : Node) (h : List Logged) (list : List (EntryOf node)) → Makes (rules_of n node) h list → (ran : Node → List Logged) (past : (other : Node) → List (EntryOf other)) → AreMade n ran past
+    → AreMade n (with_history node h ran) (with_list node list past)
+made_with n (Server s) h list made ran past all (Server r) = made_at s r (s == r) h (ran (Server r)) list (past (Server r)) refl made (all (Server r))
+made_with n (Server s) h list made ran past all Client = all Client
+made_with n Client h list made ran past all (Server r) = all (Server r)
+made_with n Client h list made ran past all Client = made
+
+pub own_list : (node : Node) (list : List (EntryOf node)) (past : (other : Node) → List (EntryOf other)) → with_list node list past node ≡ list
+own_list (Server s) list past = let same : (s == s) ≡ true = grind (arith, nat_tests) in rw same refl
+own_list Client list past = refl
+
+pub other_list : (node other : Node) (list : List (EntryOf node)) (past : (other : Node) → List (EntryOf other)) → is_same_node node other ≡ false → with_list node list past other ≡ past other
+other_list (Server s) (Server r) list past h = rw h refl
+other_list (Server s) Client list past h = refl
+other_list Client (Server r) list past h = refl
+other_list Client Client list past h = cc

@@ -1,0 +1,114 @@
+-- Frames that were sent in a trace are read back from their bytes.
+use Rattle.std.proofs.Common.{◌≡◌, refl, sym, ◌∙◌, ap, subst, ℕ, zero, suc, ◌<◌, arith, List, [], ◌∷◌, take, Option, Some, None}
+use Rattle.std.specs.Prelude.{All, Contains, map, slice_get}
+use Rattle.std.specs.List.{AllByRecursion, flat_map}
+use Rattle.std.specs.Option.{ForSome, option_and_then, option_map}
+use Rattle.std.proofs.lemmas.List.Elements.{All-nil, All-append, All-contains, Contains-append_left, Contains-append_right}
+use Rattle.std.proofs.lemmas.Option.{slice_get-map, slice_get_within, get_or_from_slice_get}
+use Rattle.messages.specs.declared.packet.PacketParts.{PacketParts}
+use Rattle.messages.specs.declared.frame.Frame.{Frame}
+use Rattle.messages.specs.FrameBytes.{frame_at, frame_spelling}
+use Rattle.messages.specs.FrameLaws.{FramesAreRead}
+use Rattle.messages.specs.Hearing.{Comes, Happens, Meaning, Says, Waits, Spoils, Strays, entry_of, heard, heard_by, meaning, with_entry}
+use Rattle.messages.specs.PieceLaws.{ArePackets}
+use Rattle.messages.specs.Pieces.{frames_of}
+use Rattle.disk_model.specs.declared.left.Left.{Left}
+use Rattle.hub.specs.Laws.{FramesAreReadable, IsReadable}
+use Rattle.client_core.specs.History as client
+use Rattle.net_world.specs.Trace.{Step, AtServer, AtClient, sent}
+use Rattle.net_world.specs.Frames.{FrameStep, OfServer, OfClient, of_server, of_client, at_server, at_client, frames_sent, step_heard, trace_heard, IsFrameTrace}
+use Rattle.net_world.specs.FrameLaws.{FramesAreOfPackets, OnlySentIsHeard}
+use Rattle.net_world.specs.InRange.{FrameStepFits, StepFits, FitsFrames, SentAreInRange}
+use Rattle.node_traces.proofs.RefusalLemmas.{CameOf}
+
+-- The laws on which this rests.
+pub record Laws : Type 0 where
+  pub only_sent : OnlySentIsHeard
+  pub in_range : SentAreInRange
+  pub of_packets : FramesAreOfPackets
+  pub readable : FramesAreReadable
+  pub read : FramesAreRead
+
+-- ---- what is heard is within its ranges
+
+StepIf : Option Step → Type 0
+StepIf None = Unit {0}
+StepIf (Some step) = StepFits step
+
+piece_fits : (s : ℕ) (left : Left) (m : Meaning) → s < 8 → StepIf (option_map (AtServer s) (heard_by (at_server s) left m))
+unfolding StepIf
+piece_fits s left (Says p) l = (l, tt)
+piece_fits s left Waits l = tt
+piece_fits s left Spoils l = tt
+piece_fits s left Strays l = tt
+
+client_fits : (x : Option client.Entry) → StepIf (option_map AtClient x)
+unfolding StepIf
+client_fits None = tt
+client_fits (Some e) = tt
+
+step_fits : (n : ℕ) (past : List FrameStep) (step : FrameStep) → FrameStepFits step → StepIf (step_heard n past step)
+unfolding StepIf
+step_fits n past (OfServer s (Comes f left)) h = piece_fits s left (meaning (at_server s) (heard (at_server s) (of_server s past)) f) h
+step_fits n past (OfServer s (Happens e)) h = h
+step_fits n past (OfClient c) h = client_fits (entry_of (at_client n) (heard (at_client n) (of_client past)) c)
+
+more_fits : (x : Option Step) (t : List Step) → StepIf x → AllByRecursion StepFits t → AllByRecursion StepFits (with_entry x t)
+unfolding StepIf
+more_fits None t h f = f
+more_fits (Some step) t h f = (h, f)
+
+all_fit : (n : ℕ) (t : List FrameStep) → AllByRecursion FrameStepFits t → AllByRecursion StepFits (trace_heard n t)
+all_fit n [] h = tt
+all_fit n (step ∷ past) h = more_fits (step_heard n past step) (trace_heard n past) (step_fits n past step h.0) (all_fit n past h.1)
+
+-- ---- the frames of packets
+
+all_readable : FramesAreReadable → (ps : List PacketParts) → ArePackets ps → All IsReadable (flat_map frames_of ps)
+all_readable law [] are = All-nil IsReadable
+all_readable law (p ∷ ps) are =
+    All-append IsReadable (frames_of p) (flat_map frames_of ps)
+    (law p (are p (Contains-append_left (p ∷ []) ps p (zero, omega arith, refl))))
+    (all_readable law ps (λ q i. are q (Contains-append_right (p ∷ []) ps q i)))
+
+pub sent_readable : Laws → (n : ℕ) (t : List FrameStep) → IsFrameTrace n t → FitsFrames n t → All IsReadable (frames_sent n t)
+sent_readable laws n t legal fits =
+    let are = laws.in_range n (trace_heard n t) (laws.only_sent n t legal fits) (record { few = fits.few; steps = all_fit n t fits.steps }) in
+    subst (All IsReadable) (sym (laws.of_packets n t)) (all_readable laws.readable (sent n (trace_heard n t)) are)
+
+-- ---- a frame by its bytes
+
+-- A frame below a number is among the first of that number.
+among_first : (fs : List (List ℕ)) (count i : ℕ) (bytes : List ℕ) → i < count → slice_get fs i ≡ Some bytes → slice_get (take count fs) i ≡ Some bytes
+among_first [] count i bytes l h = absurd (omega (arith, slice_get_within [] i bytes h))
+among_first (f ∷ fs) zero i bytes l h = absurd (omega (arith, l))
+among_first (f ∷ fs) (suc count) zero bytes l h = h
+among_first (f ∷ fs) (suc count) (suc i) bytes l h = among_first fs count i bytes (omega (arith, l)) h
+
+some_is : (x y : Frame) → Some x ≡ Some y → x ≡ y
+some_is x y h = cc
+
+read_at : FramesAreRead → (frames : List Frame) (i : ℕ) (bytes : List ℕ) (x : Option Frame) → All IsReadable frames → slice_get frames i ≡ x → option_map frame_spelling x ≡ Some bytes → (f : Frame) → frame_at bytes ≡ Some f → Contains frames f
+read_at read frames i bytes None all at is f says = cc
+read_at read frames i bytes (Some g) all at is f says =
+    let there : Contains frames g = (i, slice_get_within frames i g at, get_or_from_slice_get frames i g g at) in
+    let fit = All-contains IsReadable frames g all there in
+    let spelled = same (frame_spelling g) is in
+    let again : frame_at bytes ≡ Some g = subst (λ (b : List ℕ). frame_at b ≡ Some g) spelled (read g fit.in_range fit.is_short).1 in
+    subst (Contains frames) (some_is g f (sym again ∙ says)) there
+  where
+    same : (other : List ℕ) → Some other ≡ Some bytes → other ≡ bytes
+    same other h = cc
+
+-- What is taken of the first frames of a network was sent, where these were sent.
+pub taken_was_sent : Laws → (n : ℕ) (t : List FrameStep) (frames : List (List ℕ)) (count : ℕ) → IsFrameTrace n t → FitsFrames n t → map frame_spelling (frames_sent n t) ≡ take count frames
+    → (taken : Option ℕ) → ForSome taken (λ i. i < count) → CameOf (frames_sent n t) (option_and_then (λ i. slice_get frames i) taken)
+taken_was_sent laws n t frames count legal fits are None below = tt
+taken_was_sent laws n t frames count legal fits are (Some i) below = by_found (slice_get frames i) refl
+  where
+    by_found : (x : Option (List ℕ)) → slice_get frames i ≡ x → CameOf (frames_sent n t) x
+    by_found None is = tt
+    by_found (Some bytes) is = λ f says.
+        read_at laws.read (frames_sent n t) i bytes (slice_get (frames_sent n t) i) (sent_readable laws n t legal fits) refl
+        (sym (slice_get-map frame_spelling (frames_sent n t) i) ∙ (ap (λ (fs : List (List ℕ)). slice_get fs i) are ∙ among_first frames count i bytes (below i refl) is))
+        f says

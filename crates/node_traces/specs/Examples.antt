@@ -1,0 +1,67 @@
+-- A client and a server that ran, which can be followed by hand. All lists are newest first.
+use Rattle.std.specs.Prelude.{◌≡◌, ℕ, zero, suc, List, [], ◌∷◌, Some, None, Result, Ok, Err}
+use Rattle.fc_base.specs.declared.fault.Fault.{Fault}
+use Rattle.fc_base.specs.declared.fault.Fault.TheVariants.{NodeOff}
+use Rattle.messages.specs.declared.node.Node.{Node}
+use Rattle.messages.specs.declared.node.Node.TheVariants.{Server, Client}
+use Rattle.messages.specs.declared.refusal.Act.TheVariants as acts
+use Rattle.hub.specs.Network.{Network}
+use Rattle.node_history.specs.declared.answer.Answer.TheVariants.{Plain}
+use Rattle.node_history.specs.declared.answer.Said.{Said}
+use Rattle.node_history.specs.declared.came.Came.{Came}
+use Rattle.node_history.specs.declared.came.Came.TheVariants as came
+use Rattle.node_history.specs.declared.logged.Logged.{Logged}
+use Rattle.node_traces.specs.declared.place.Place.{Place}
+use Rattle.node_traces.specs.Marks.{marks_in, marks_of}
+use Rattle.node_traces.specs.Orders.{merged}
+
+-- The bytes of two frames.
+abbrev pub asking : List ℕ
+asking = 7 ∷ []
+
+abbrev pub answering : List ℕ
+answering = 8 ∷ []
+
+-- An event that was answered, or refused.
+abbrev pub event : Came → Result Said Fault → List (List ℕ) → Logged
+event came answer sent = record { by = None; came = came; answer = answer; sent = sent }
+
+abbrev pub good : Result Said Fault
+good = Ok (record { answer = Plain; act = acts.None })
+
+-- The client ticks, and sends a frame; it ticks and sends none; and a frame comes to it. To the server
+-- comes what asks for a write, and then the client's frame, to which it sends one; what asks for a
+-- write is refused; and it is cut.
+abbrev pub ran : Node → List Logged
+ran Client =
+    event (came.Frame answering) good [] ∷ event came.Tick good [] ∷ event came.Tick good (asking ∷ []) ∷ []
+ran (Server zero) =
+    event came.Cut good [] ∷ event (came.Issue 0) (Err NodeOff) []
+    ∷ event (came.Frame asking) good (answering ∷ []) ∷ event (came.Issue 0) good [] ∷ []
+ran (Server (suc s)) = []
+
+-- The journal tells of three of these events.
+abbrev pub net : Network
+net = record {
+  frames = asking ∷ answering ∷ [];
+  journal =
+      record { node = Client; at = 2; taken = Some 1; sent = 0 }
+      ∷ record { node = Server 0; at = 1; taken = Some 0; sent = 1 }
+      ∷ record { node = Client; at = 0; taken = None; sent = 1 } ∷ [];
+}
+
+-- They agree with it.
+abbrev pub AgreeWithIt : Type 0
+AgreeWithIt =
+    (marks_of (ran Client) ≡ marks_in net.frames Client net.journal)
+    × (marks_of (ran (Server 0)) ≡ marks_in net.frames (Server 0) net.journal)
+
+abbrev pub place : Node → ℕ → Place
+place node at = record { node = node; at = at }
+
+-- What was asked of the server at first is told before the frame that came to it, the client's second
+-- tick before the frame that came to that, and the cut at the end; the refusal isn't told.
+abbrev pub AreToldSo : Type 0
+AreToldSo =
+    merged 1 ran net.journal
+    ≡ place (Server 0) 3 ∷ place Client 2 ∷ place Client 1 ∷ place (Server 0) 1 ∷ place (Server 0) 0 ∷ place Client 0 ∷ []

@@ -1,0 +1,22 @@
+-- What nodes ran, and the lists that their histories make. All lists are newest first.
+use Rattle.std.specs.Prelude.{◌≡◌, ◌≤◌, ℕ, List, []}
+use Rattle.messages.specs.declared.node.Node.{Node}
+use Rattle.messages.specs.declared.node.Node.TheVariants.{Server, Client}
+use Rattle.server_core.specs.Hearing.{FrameEntry as ServerEntry}
+use Rattle.client_core.specs.Hearing.{FrameEntry as ClientEntry}
+use Rattle.node_history.specs.declared.logged.Logged.{Logged}
+use Rattle.node_history.specs.Replay.{Makes}
+use Rattle.node_history.specs.ServerRules.{rules as server_rules}
+use Rattle.node_history.specs.ClientRules.{rules as client_rules}
+use Rattle.net_world.specs.Trace.{opening_of, client_opening}
+
+-- No server ran from this number on.
+abbrev pub EndAt : ℕ → (Node → List Logged) → Type 0
+EndAt n ran = (s : ℕ) → n ≤ s → ran (Server s) ≡ []
+
+-- Lists that the histories make, of n servers and their client, each opened over a blank note.
+pub record Lists (n : ℕ) (ran : Node → List Logged) : Type 0 where
+  pub servers : ℕ → List ServerEntry
+  pub client : List ClientEntry
+  pub servers_made : (s : ℕ) → Makes (server_rules (opening_of s)) (ran (Server s)) (servers s)
+  pub client_made : Makes (client_rules (client_opening n)) (ran Client) client

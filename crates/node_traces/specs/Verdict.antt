@@ -1,0 +1,44 @@
+-- What holds of nodes that are one trace. All lists are newest first.
+use Rattle.std.specs.Prelude.{◌≡◌, ◌≤◌, ℕ, List, [], ◌∷◌, length, Some}
+use Rattle.fc_base.specs.declared.numbers.Key.{Key}
+use Rattle.verify_state.specs.State.{State}
+use Rattle.server_core.specs.History as server_history
+use Rattle.server_core.specs.Hearing.{FrameEntry as ServerEntry, packets_heard as server_heard}
+use Rattle.server_core.specs.Accepted.{IsTaking}
+use Rattle.server_core.specs.Taken.{takings}
+use Rattle.server_core.specs.Check.{With, progress}
+use Rattle.client_core.specs.History as client_history
+use Rattle.client_core.specs.Hearing.{FrameEntry as ClientEntry, packets_heard as client_heard}
+use Rattle.client_core.specs.Words.{kept}
+use Rattle.net_world.specs.Trace.{opening_of, client_opening, of_server, of_client, IsTrace}
+use Rattle.net_world.specs.Frames.{FrameStep, trace_heard}
+use Rattle.net_world.specs.Holders.{Holds}
+use Rattle.net_world.specs.Verdict.{IsBased}
+
+-- The packets that a server hears in its list of frames.
+abbrev pub server_hears : (ℕ → List ServerEntry) → ℕ → List server_history.Entry
+server_hears servers s = server_heard (opening_of s) (servers s)
+
+-- The packets that the client of n servers hears.
+abbrev pub client_hears : ℕ → List ClientEntry → List client_history.Entry
+client_hears n list = client_heard (client_opening n) list
+
+-- What is heard in the trace is a trace of packets, and of each node it has what the node hears.
+pub record IsHeard (n : ℕ) (servers : ℕ → List ServerEntry) (client : List ClientEntry) (trace : List FrameStep) : Type 0 where
+  pub legal : IsTrace n (trace_heard n trace)
+  pub servers_are : (s : ℕ) → of_server s (trace_heard n trace) ≡ server_hears servers s
+  pub client_is : of_client (trace_heard n trace) ≡ client_hears n client
+
+-- The states of a key that its server took.
+abbrev pub taken_by : (ℕ → List ServerEntry) → Key → List State
+taken_by servers key = takings (opening_of key.server) key.run key.job (server_hears servers key.server)
+
+-- Of each job of a run one state was taken at most. Whoever holds one, as the client which keeps it, holds
+-- the one that was taken; it counts just the writes that were completed by then; and where a job is
+-- checked with it, no write was issued at that server since.
+pub record HoldOneState (n : ℕ) (servers : ℕ → List ServerEntry) (client : List ClientEntry) (trace : List FrameStep) : Type 0 where
+  pub once : (key : Key) → length (taken_by servers key) ≤ 1
+  pub keeps : (key : Key) (state : State) → kept (client_opening n) (client_hears n client) key ≡ Some state → Holds n (trace_heard n trace) key state
+  pub held : (key : Key) (state : State) → Holds n (trace_heard n trace) key state → taken_by servers key ≡ state ∷ []
+  pub counted : (key : Key) (state : State) → Holds n (trace_heard n trace) key state → IsTaking (opening_of key.server) key.run key.job (server_hears servers key.server) state
+  pub quiet : (s j : ℕ) (state : State) → progress (opening_of s) (server_hears servers s) j ≡ Some (With state) → IsBased s j (server_hears servers s) state
