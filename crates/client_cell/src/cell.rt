@@ -75,6 +75,13 @@ impl<N: Notes + Drop> ClientCell<N> {
         self.servers
     }
 
+    /// Whether it was opened over a blank note.
+    pub fn is_blank(&self) -> bool
+        ensures { result ≡ self.now.is_blank }
+    {
+        self.is_blank
+    }
+
     /// All that came to it, the oldest first.
     pub fn history(&self) -> &[Logged]
         ensures entries { result.now ≡ reverse self.now.history }

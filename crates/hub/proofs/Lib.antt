@@ -4,4 +4,5 @@ mod QueueLemmas
 mod WaitingLemmas
 mod KeptLemmas
 mod NoteLemmas
+mod LegalLemmas
 mod SpelledLemmas

@@ -4,16 +4,17 @@ use Rattle.std.specs.Prelude.{sum_by, All, slice_get}
 use Rattle.std.proofs.lemmas.List.{drop_more, take_more}
 use Rattle.std.proofs.lemmas.List.Sums.{sum_by-cons}
 use Rattle.std.proofs.lemmas.Option.{slice_get_within, get_or_from_slice_get}
-use Rattle.hub.specs.declared.line.Line.{Line}
-use Rattle.hub.specs.Network.{Held, IsSpelled}
+use Rattle.hub.specs.Network.{IsSpelled}
+use Rattle.hub.specs.Kept.{Stored, Queued, StayKept}
 
 -- The first i frames are in, and there is room for the others.
-pub record IsNoted (sent : List (List ℕ)) (i : ℕ) (entries : List Line) (old new : Held) : Type 0 where
+pub record IsNoted (sent : List (List ℕ)) (i : ℕ) (old : Stored) (before : Queued) (new : Stored) (after : Queued) : Type 0 where
   pub within : i ≤ length sent
-  pub frames : new.net.frames ≡ old.net.frames ++ take i sent
-  pub journal : new.net.journal ≡ entries ++ old.net.journal
-  pub more : length (drop i sent) ≤ new.room.frames
-  pub bytes : sum_by (λ (frame : List ℕ). length frame) (drop i sent) ≤ new.room.bytes
+  pub frames : new.frames ≡ old.frames ++ take i sent
+  pub more : length (drop i sent) ≤ new.more
+  pub waiting : length (drop i sent) ≤ after.more
+  pub bytes : sum_by (λ (frame : List ℕ). length frame) (drop i sent) ≤ new.bytes
+  pub kept : StayKept old.frames new.frames before.lists after.lists
 
 -- What is left begins with the next one.
 next : (sent : List (List ℕ)) (i : ℕ) (f : List ℕ) → slice_get sent i ≡ Some f → drop i sent ≡ f ∷ drop (i + 1) sent
@@ -34,12 +35,15 @@ next_taken sent old i f is =
     append_assoc old (take i sent) (f ∷ [])
     ∙ ap (λ (xs : List (List ℕ)). old ++ xs) (sym (take_more sent i [] (slice_get_within sent i f is) ∙ ap (λ (x : List ℕ). take i sent ++ x ∷ []) (get_or_from_slice_get sent i f [] is)))
 
-pub noted_more : (sent : List (List ℕ)) (i : ℕ) (entries : List Line) (old mid new : Held) (f : List ℕ) → IsNoted sent i entries old mid → slice_get sent i ≡ Some f
-    → new.net.frames ≡ mid.net.frames ++ f ∷ [] → new.net.journal ≡ mid.net.journal → mid.room.frames ≤ new.room.frames + 1 → mid.room.bytes ≤ new.room.bytes + length f → IsNoted sent (i + 1) entries old new
-noted_more sent i entries old mid new f noted is frames_are journal_is more bytes = record {
+pub noted_more : (sent : List (List ℕ)) (i : ℕ) (old : Stored) (before : Queued) (mid : Stored) (between : Queued) (new : Stored) (after : Queued) (f : List ℕ)
+    → IsNoted sent i old before mid between → slice_get sent i ≡ Some f
+    → new.frames ≡ mid.frames ++ f ∷ [] → mid.more ≤ new.more + 1 → between.more ≤ after.more + 1 → mid.bytes ≤ new.bytes + length f
+    → StayKept mid.frames new.frames between.lists after.lists → IsNoted sent (i + 1) old before new after
+noted_more sent i old before mid between new after f noted is frames_are more waiting bytes kept = record {
   within = omega (arith, slice_get_within sent i f is);
-  frames = frames_are ∙ ap (λ (xs : List (List ℕ)). xs ++ f ∷ []) noted.frames ∙ next_taken sent old.net.frames i f is;
-  journal = journal_is ∙ noted.journal;
+  frames = frames_are ∙ ap (λ (xs : List (List ℕ)). xs ++ f ∷ []) noted.frames ∙ next_taken sent old.frames i f is;
   more = omega (arith, noted.more, more, next_length sent i f is);
+  waiting = omega (arith, noted.waiting, waiting, next_length sent i f is);
   bytes = omega (arith, noted.bytes, bytes, next_bytes sent i f is);
+  kept = λ journal was. kept journal (noted.kept journal was);
 }

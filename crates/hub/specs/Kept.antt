@@ -6,6 +6,7 @@ use Rattle.messages.specs.Nodes.{node_number, is_node}
 use Rattle.hub.specs.declared.line.Line.{Line}
 use Rattle.hub.specs.Network.{Network, IsSpelled}
 use Rattle.hub.specs.Waiting.{waiting}
+use Rattle.hub.specs.Journal.{IsLegal}
 
 -- Frames one behind the other, and for how many more of them, and of their bytes, there is room.
 pub record Stored : Type 0 where
@@ -46,3 +47,13 @@ pub record IsKept (net : Network) (lists : List (List ℕ)) : Type 0 where
   pub taken : All (IsTakenBelow (length net.frames)) net.journal
   pub long : length lists ≡ 9
   pub waiting : (node : Node) → list_of lists node ≡ waiting net node
+
+-- With these frames more, whatever the journal was, the network is kept as it was before.
+abbrev pub StayKept : List (List ℕ) → List (List ℕ) → List (List ℕ) → List (List ℕ) → Type 0
+StayKept frames more lists longer =
+    (journal : List Line) → IsKept (record { frames = frames; journal = journal }) lists → IsKept (record { frames = more; journal = journal }) longer
+
+-- What is true of every hub: it keeps its network, whose journal is legal.
+pub record IsHub (net : Network) (lists : List (List ℕ)) : Type 0 where
+  pub kept : IsKept net lists
+  pub legal : IsLegal net

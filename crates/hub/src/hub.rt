@@ -1,8 +1,10 @@
 //! The frames that were ever sent, and who took and sent which.
 
-ghost use Rattle.std.specs.Prelude.{◌≡◌, ◌+◌, ◌<◌, ◌≤◌, [], ◌∷◌, ◌++◌, length, reverse, slice_get, sum_by, All, MatchOption, IfSome, OnOk, Some, IsTrue};
+ghost use Rattle.std.specs.Prelude.{◌≡◌, ◌+◌, ◌<◌, ◌≤◌, ◌^◌, [], ◌∷◌, ◌++◌, length, reverse, slice_get, sum_by, All, MatchOption, IfSome, OnOk, Some, IsTrue};
 ghost use Rattle.std.specs.Option.{ForSome};
 ghost use Rattle.hub.specs.Network.{empty, line_of, HasRoom, IsSpelled};
+ghost use Rattle.hub.specs.Journal.{IsLegal};
+ghost use Rattle.hub.specs.Kept.{StayKept};
 ghost use Rattle.hub.specs.Waiting.{node_of, waiting, picked};
 ghost use Rattle.messages.specs.Nodes.{is_node};
 
@@ -25,7 +27,7 @@ pub struct Hub {
 impl Model for Hub {
     ghost use Rattle.std.specs.Prelude.{◌-◌, min, reverse, vec_len, vec_capacity};
     ghost use Rattle.hub.specs.Network.{Held};
-    ghost use Rattle.hub.specs.Kept.{IsKept};
+    ghost use Rattle.hub.specs.Kept.{IsHub};
 
     ghost Value = { Held };
 
@@ -38,7 +40,7 @@ impl Model for Hub {
       };
     } };
 
-    ghost invariant = { λ h. IsKept (record { frames = h.store.frames; journal = reverse h.journal.items }) h.queues.lists };
+    ghost invariant = { λ h. IsHub (record { frames = h.store.frames; journal = reverse h.journal.items }) h.queues.lists };
 }
 
 impl Hub {
@@ -71,7 +73,8 @@ impl Hub {
 
     /// The journal, the oldest entry first.
     pub fn journal(&self) -> &[Line]
-        ensures { result.now ≡ reverse self.now.net.journal }
+        ensures entries { result.now ≡ reverse self.now.net.journal }
+        ensures legal { IsLegal self.now.net }
     {
         self.journal.as_slice()
     }
@@ -109,51 +112,53 @@ impl Hub {
         ensures frames { self.new.net.frames ≡ self.old.net.frames ++ sent.now }
         ensures journal { self.new.net.journal ≡ line_of node at taken (length sent.now) ++ self.old.net.journal }
     {
-        self.enter(node, at, taken, sent.len());
-        let mut i = 0;
-        while let Some(frame) = sent.get(i) {
-            self.add(frame);
-            i += 1;
-        }
-    }
-
-    /// Takes a frame out of those that wait for a node, and puts an entry of an event that took or sent
-    /// frames into the journal.
-    fn enter(&mut self, node: Node, at: u64, taken: Option<u64>, sent: usize)
-        requires room { 1 ≤ self.old.room.lines }
-        requires taken { ForSome taken (λ i. i < length self.old.net.frames) }
-        ensures frames { self.new.net.frames ≡ self.old.net.frames }
-        ensures journal { self.new.net.journal ≡ line_of node at taken sent ++ self.old.net.journal }
-        ensures more { self.old.room.frames ≤ self.new.room.frames }
-        ensures bytes { self.new.room.bytes ≡ self.old.room.bytes }
-    {
-        if taken.is_none() && sent == 0 {
+        if taken.is_none() && sent.len() == 0 {
             return;
         }
         let line = Line {
             node,
             at,
             taken,
-            sent: sent as u64,
+            sent: sent.len() as u64,
         };
         self.queues.take(&line);
         self.journal.push_reserved(line);
+        add_all(&mut self.store, &mut self.queues, sent);
     }
+}
 
-    /// Adds a frame that was sent, which then waits for its node.
-    fn add(&mut self, frame: &[u8])
-        requires frames { 1 ≤ self.old.room.frames }
-        requires bytes { length frame.now ≤ self.old.room.bytes }
-        requires spelled { IsSpelled frame.now }
-        ensures frames { self.new.net.frames ≡ self.old.net.frames ++ frame.now ∷ [] }
-        ensures journal { self.new.net.journal ≡ self.old.net.journal }
-        ensures more { self.old.room.frames ≤ self.new.room.frames + 1 }
-        ensures bytes { self.old.room.bytes ≤ self.new.room.bytes + length frame.now }
-    {
-        let node = node_of(frame);
-        self.queues.push(node, self.store.len() as u64);
-        self.store.push(frame);
+/// Adds frames that were sent, each of which then waits for its node.
+fn add_all(store: &mut Store, queues: &mut Queues, sent: &Frames)
+    requires fits { length sent.now < 2 ^ 64 }
+    requires frames { length sent.now ≤ store.old.more }
+    requires waiting { length sent.now ≤ queues.old.more }
+    requires bytes { sum_by (λ frame. length frame) sent.now ≤ store.old.bytes }
+    requires spelled { All IsSpelled sent.now }
+    ensures frames { store.new.frames ≡ store.old.frames ++ sent.now }
+    ensures kept { StayKept store.old.frames store.new.frames queues.old.lists queues.new.lists }
+{
+    let mut i = 0;
+    while let Some(frame) = sent.get(i) {
+        add(store, queues, frame);
+        i += 1;
     }
+}
+
+/// Adds a frame that was sent, which then waits for its node.
+fn add(store: &mut Store, queues: &mut Queues, frame: &[u8])
+    requires frames { 1 ≤ store.old.more }
+    requires waiting { 1 ≤ queues.old.more }
+    requires bytes { length frame.now ≤ store.old.bytes }
+    requires spelled { IsSpelled frame.now }
+    ensures frames { store.new.frames ≡ store.old.frames ++ frame.now ∷ [] }
+    ensures more { store.old.more ≤ store.new.more + 1 }
+    ensures waiting { queues.old.more ≤ queues.new.more + 1 }
+    ensures bytes { store.old.bytes ≤ store.new.bytes + length frame.now }
+    ensures kept { StayKept store.old.frames store.new.frames queues.old.lists queues.new.lists }
+{
+    let node = node_of(frame);
+    queues.push(node, store.len() as u64);
+    store.push(frame);
 }
 
 /// The node that a frame is for.

@@ -1,5 +1,5 @@
 -- What a server's cell shows, and what is true of every one.
-use Rattle.std.specs.Prelude.{◌≡◌, ℕ, ◌<◌, List, length, slice_index_or}
+use Rattle.std.specs.Prelude.{◌≡◌, ℕ, ◌<◌, ◌==◌, ◌&&◌, Bool, List, length, slice_index_or}
 use Rattle.disk_model.specs.Notes.{Note}
 use Rattle.server_core.specs.History.{Opening}
 use Rattle.server_core.specs.Ranges.{OpensInRange, CameInRange}
@@ -15,6 +15,10 @@ use Rattle.server_cell.specs.Stands.{Stands}
 pub record ServerLog : Type 0 where
   pub opening : Opening
   pub history : List Logged
+
+-- It was opened over a note that says of no boot and no run.
+abbrev pub is_blank : Opening → Bool
+is_blank o = (o.boot == 0) && (o.last == 0)
 
 -- The history is numbered, and makes this list by the rules.
 pub record IsReplay (cell : ServerLog) (past : List FrameEntry) : Type 0 where

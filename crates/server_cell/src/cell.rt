@@ -45,7 +45,7 @@ impl<N: Notes + Drop> ServerCell<N> {
     ghost use Rattle.server_core.specs.Note.{Says};
     ghost use Rattle.server_core.specs.Serves.{NotOpened};
     ghost use Rattle.server_core.specs.FrameEnds.{StandsFor};
-    ghost use Rattle.server_cell.specs.Cells.{IsReplay};
+    ghost use Rattle.server_cell.specs.Cells.{is_blank, IsReplay};
 
     /// Opens the server with this number over its note, as `Server::restart` does, with so many seats for
     /// its workers. Where it isn't opened, the notes come back.
@@ -89,6 +89,13 @@ impl<N: Notes + Drop> ServerCell<N> {
         ensures { result ≡ self.now.opening.me }
     {
         self.me
+    }
+
+    /// Whether it was opened over a note that says of no boot and no run.
+    pub fn is_blank(&self) -> bool
+        ensures { result ≡ is_blank self.now.opening }
+    {
+        self.boot == 0 && self.last_run.0 == 0
     }
 
     /// All that came to it, the oldest first.

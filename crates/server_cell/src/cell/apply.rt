@@ -44,7 +44,7 @@ impl<N: Notes + Drop> ServerCell<N> {
     }
 
     /// Whether the seat is of this server, which has just as many events of it as it has applied.
-    fn is_right(&self, seat: &Seat) -> bool
+    pub fn is_right(&self, seat: &Seat) -> bool
         ensures { result ≡ is_right self.now seat.now }
     {
         seat.server() == self.me && seat.applied() == self.applied[seat.number() as usize]

@@ -1,25 +1,22 @@
-use Rattle.std.proofs.Common.{arith, length}
-use Rattle.std.proofs.lemmas.Option.{slice_get_within}
-use Rattle.hub.specs.Network.{line_of}
-use Rattle.hub.proofs.NoteLemmas.{next_bytes, next_length, next_spelled, noted_more}
+use Rattle.std.proofs.Common.{◌∷◌, [], reverse, ap, length}
+use Rattle.std.proofs.lemmas.List.{reverse-append}
+use Rattle.hub.specs.declared.line.Line.{Line}
+use Rattle.hub.specs.Network.{Held}
+use Rattle.hub.proofs.WaitingLemmas.{waiting_increase}
+use Rattle.hub.proofs.KeptLemmas.{kept_entry}
+use Rattle.hub.proofs.LegalLemmas.{legal_more}
 use Rattle.hub.proofs.hub.Hub.note.Goals as goal
 
-pub add-requires-clause-frames : goal.add-requires-clause-frames
-add-requires-clause-frames c = omega (arith, c.loop-frame.invariant.more, next_length c.args.sent.now c.loop-frame.i c.in-Some.frame.now c.in-Some.ensures)
+pub take-requires : goal.take-requires
+take-requires c =
+    rw (c.self.invariant.kept.waiting c.args.node) (waiting_increase (record { frames = c.self.inside.store.frames; journal = reverse c.self.inside.journal.items }) c.args.node)
 
-pub add-requires-clause-bytes : goal.add-requires-clause-bytes
-add-requires-clause-bytes c = omega (arith, c.loop-frame.invariant.bytes, next_bytes c.args.sent.now c.loop-frame.i c.in-Some.frame.now c.in-Some.ensures)
-
-pub add-requires-clause-spelled : goal.add-requires-clause-spelled
-add-requires-clause-spelled c = next_spelled c.args.sent.now c.loop-frame.i c.in-Some.frame.now c.in-Some.ensures c.requires.spelled
-
-pub overflow_add-i : goal.overflow_add-i
-overflow_add-i c = omega (arith, slice_get_within c.args.sent.now c.loop-frame.i c.in-Some.frame.now c.in-Some.ensures, c.len.ensures)
-
-pub loop-frame-smaller : goal.loop-frame-smaller
-loop-frame-smaller c = omega (arith, slice_get_within c.args.sent.now c.loop-frame.i c.in-Some.frame.now c.in-Some.ensures)
-
-pub loop-frame-preserved : goal.loop-frame-preserved
-loop-frame-preserved c =
-    noted_more c.args.sent.now c.loop-frame.i (line_of c.args.node c.args.at c.args.taken (length c.args.sent.now)) c.args.self.now c.loop-frame.self c.add.new.self c.in-Some.frame.now
-    c.loop-frame.invariant c.in-Some.ensures c.add.ensures.frames c.add.ensures.journal c.add.ensures.more c.add.ensures.bytes
+pub invariant_of-self : goal.invariant_of-self
+invariant_of-self c =
+    let line : Line = record { node = c.args.node; at = c.args.at; taken = c.args.taken; sent = length c.args.sent.now } in
+    let below = (rw (← ap (λ (h : Held). h.net.frames) c.self.view_is) at c.requires.taken) in
+    rw (c.push_reserved.ensures.items, c.len-2.ensures, reverse-append c.self.inside.journal.items (line ∷ [])) (record {
+      kept = c.add_all.ensures.kept (line ∷ reverse c.self.inside.journal.items)
+          (rw c.take.ensures.lists (kept_entry c.self.inside.store.frames (reverse c.self.inside.journal.items) c.self.inside.queues.lists c.args.node c.args.at (length c.args.sent.now) c.args.taken below c.self.invariant.kept));
+      legal = rw c.add_all.ensures.frames (legal_more c.self.inside.store.frames c.args.sent.now (reverse c.self.inside.journal.items) c.args.node c.args.at c.args.taken below c.self.invariant.legal);
+    })
