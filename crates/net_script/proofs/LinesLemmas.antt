@@ -31,34 +31,28 @@ two_behind d f b c rest =
     append_assoc d (b ++ (f ++ c)) rest
     ∙ ap (λ l. d ++ l) (append_assoc b (f ++ c) rest ∙ ap (λ l. b ++ l) (append_assoc f c rest))
 
--- The blocks stand behind the rest of the line.
+-- The blocks stand behind the other words.
 blocks_behind : (d f b c : List ℕ) (blocks : List (List ℕ))
-    → (d ++ (b ++ (f ++ (c ++ codes "first")))) ++ (flat_map blank_before blocks ++ codes "\n")
-    ≡ (d ++ (b ++ (f ++ (c ++ spaced (codes "first" ∷ blocks))))) ++ codes "\n"
+    → (d ++ (b ++ (f ++ (c ++ codes "first")))) ++ flat_map blank_before blocks
+    ≡ d ++ (b ++ (f ++ (c ++ spaced (codes "first" ∷ blocks))))
 blocks_behind d f b c blocks =
-    two_behind d f b (c ++ codes "first") (flat_map blank_before blocks ++ codes "\n")
-    ∙ ap (λ l. d ++ (b ++ (f ++ l))) behind
-    ∙ sym (two_behind d f b (c ++ spaced (codes "first" ∷ blocks)) (codes "\n"))
-  where
-    behind : (c ++ codes "first") ++ (flat_map blank_before blocks ++ codes "\n") ≡ (c ++ spaced (codes "first" ∷ blocks)) ++ codes "\n"
-    behind =
-        sym (append_assoc (c ++ codes "first") (flat_map blank_before blocks) (codes "\n"))
-        ∙ ap (λ l. l ++ codes "\n") (append_assoc c (codes "first") (flat_map blank_before blocks) ∙ ap (λ l. c ++ l) (sym (words_text (codes "first") blocks)))
+    two_behind d f b (c ++ codes "first") (flat_map blank_before blocks)
+    ∙ ap (λ l. d ++ (b ++ (f ++ l))) (append_assoc c (codes "first") (flat_map blank_before blocks) ∙ ap (λ l. c ++ l) (sym (words_text (codes "first") blocks)))
 
--- The line of a report.
+-- The words of a report.
 pub report_text : (checked faults : ℕ) (end : ReportEnd) (blocks : List (List ℕ))
-    → (codes "ok report checked " ++ (decimal checked ++ (codes " faults " ++ (decimal faults ++ (codes " end " ++ (spaced (end_words end) ++ codes " first"))))))
-    ++ (flat_map blank_before blocks ++ codes "\n")
-    ≡ ended (spaced (codes "ok" ∷ codes "report" ∷ codes "checked" ∷ decimal checked ∷ codes "faults" ∷ decimal faults ∷ codes "end" ∷ (end_words end ++ (codes "first" ∷ blocks))))
+    → (codes "checked " ++ (decimal checked ++ (codes " faults " ++ (decimal faults ++ (codes " end " ++ (spaced (end_words end) ++ codes " first"))))))
+    ++ flat_map blank_before blocks
+    ≡ spaced (codes "checked" ∷ decimal checked ∷ codes "faults" ∷ decimal faults ∷ codes "end" ∷ (end_words end ++ (codes "first" ∷ blocks)))
 report_text checked faults Whole blocks =
-    ap (λ l. codes "ok report checked " ++ l) (blocks_behind (decimal checked) (decimal faults) (codes " faults ") (codes " end whole ") blocks)
+    ap (λ l. codes "checked " ++ l) (blocks_behind (decimal checked) (decimal faults) (codes " faults ") (codes " end whole ") blocks)
 report_text checked faults AtFault blocks =
-    ap (λ l. codes "ok report checked " ++ l) (blocks_behind (decimal checked) (decimal faults) (codes " faults ") (codes " end fault ") blocks)
+    ap (λ l. codes "checked " ++ l) (blocks_behind (decimal checked) (decimal faults) (codes " faults ") (codes " end fault ") blocks)
 report_text checked faults (ReadFault block) blocks =
-    ap (λ l. codes "ok report checked " ++ ((decimal checked ++ (codes " faults " ++ (decimal faults ++ (codes " end read " ++ l)))) ++ (flat_map blank_before blocks ++ codes "\n")))
+    ap (λ l. codes "checked " ++ ((decimal checked ++ (codes " faults " ++ (decimal faults ++ (codes " end read " ++ l)))) ++ flat_map blank_before blocks))
     (sym (append_assoc (decimal block) (codes " ") (codes "first")))
-    ∙ ap (λ l. codes "ok report checked " ++ l) (blocks_behind (decimal checked) (decimal faults) (codes " faults ") (codes " end read " ++ (decimal block ++ codes " ")) blocks)
-    ∙ ap (λ l. codes "ok report checked " ++ ((decimal checked ++ (codes " faults " ++ (decimal faults ++ (codes " end read " ++ l)))) ++ codes "\n"))
+    ∙ ap (λ l. codes "checked " ++ l) (blocks_behind (decimal checked) (decimal faults) (codes " faults ") (codes " end read " ++ (decimal block ++ codes " ")) blocks)
+    ∙ ap (λ l. codes "checked " ++ (decimal checked ++ (codes " faults " ++ (decimal faults ++ (codes " end read " ++ l)))))
     (append_assoc (decimal block) (codes " ") (spaced (codes "first" ∷ blocks)))
 
 -- One more line.

@@ -8,6 +8,7 @@ mod line;
 mod order;
 mod orders;
 mod printed;
+mod report;
 mod running;
 mod script_fault;
 mod table;
@@ -16,6 +17,7 @@ mod words;
 
 pub use command::{Command, Saving};
 pub use line::Line;
+pub use report::write_report_words;
 pub use running::{MAX_SCRIPT, run_script};
 pub use script_fault::ScriptFault;
 pub use table::line_of;

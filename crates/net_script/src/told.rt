@@ -11,7 +11,8 @@ ghost use Rattle.net_script.specs.Orders.{ended};
 ghost use Rattle.net_script.specs.Printed.{answer_line, answer_words, issue_words, end_words, has_faults, act_lines, block_words, sent_lines};
 ghost use Rattle.net_script.specs.Told.{blank_before, AreBytesOf};
 
-use crate::printed::{CutLine, EndWords, FrameLine};
+use crate::printed::{CutLine, FrameLine};
+use crate::report::write_report_words;
 use engine::Issue;
 use fc_base::CheckReport;
 use messages::{Act, Node, look_at};
@@ -71,28 +72,9 @@ fn write_issue<W: Write>(writer: &mut W, issue: &Issue) -> io::Result<()>
 fn write_report<W: Write>(writer: &mut W, report: &CheckReport) -> io::Result<()>
     ensures { OnOk result (Appends (W.contents writer.old) (W.contents writer.new) (ended (answer_line (Answer.Checked report.now)))) }
 {
-    write!(
-        writer,
-        "ok report checked {} faults {} end {} first",
-        report.checked(),
-        report.faults(),
-        EndWords(report.end()),
-    )?;
-    write_blocks(writer, report.first())?;
+    write!(writer, "ok report ")?;
+    write_report_words(writer, report)?;
     writeln!(writer)
-}
-
-/// Writes blocks with a blank before each, or `-` for none.
-fn write_blocks<W: Write>(writer: &mut W, blocks: &[u32]) -> io::Result<()>
-    ensures { OnOk result (Appends (W.contents writer.old) (W.contents writer.new) (flat_map blank_before (block_words blocks.now))) }
-{
-    if blocks.is_empty() {
-        return write!(writer, " -");
-    }
-    for block in blocks {
-        write!(writer, " {block}")?;
-    }
-    Ok(())
 }
 
 /// Writes the lines of so many frames, from one on. An error where there are fewer.

@@ -2,7 +2,7 @@ use Rattle.std.proofs.Common.{map, take, decimal}
 use Rattle.std.specs.List.{flat_map}
 use Rattle.std.specs.Io.KnownBytes.{Appends}
 use Rattle.net_script.specs.Told.{blank_before}
-use Rattle.net_script.proofs.told.write_blocks.Given as goal
+use Rattle.net_script.proofs.report.write_blocks.Given as goal
 
 abbrev pub invariant-loop-block : goal.invariant-loop-block
 invariant-loop-block g l =
