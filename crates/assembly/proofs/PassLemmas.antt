@@ -1,0 +1,154 @@
+-- Following a node, event by event.
+use Rattle.std.proofs.Common.{◌≡◌, ◌≢◌, refl, sym, ◌∙◌, ap, subst, inl, inr, ℕ, ◌+◌, ◌≤◌, ◌<◌, arith, Bool, true, false, List, [], ◌∷◌, ◌++◌, length, Some}
+use Rattle.std.specs.Prelude.{reverse, if◌then◌else◌, slice_get}
+use Rattle.std.proofs.lemmas.List.{append_assoc, append-nil, reverse-append, length-reverse}
+use Rattle.messages.specs.declared.node.Node.{Node}
+use Rattle.node_history.specs.declared.logged.Logged.{Logged}
+use Rattle.node_history.specs.AtHub.{is_left_out}
+use Rattle.node_traces.specs.declared.place.Place.{Place}
+use Rattle.node_traces.specs.Marks.{Mark, mark_of}
+use Rattle.node_traces.specs.Orders.{between}
+use Rattle.node_traces.specs.Rising.{HistoriesRise, marks_before}
+use Rattle.assembly.specs.declared.fault.AssembleFault.{AssembleFault}
+use Rattle.assembly.specs.declared.fault.AssembleFault.TheVariants.{Unlike, NoMemory}
+use Rattle.assembly.specs.Order.{Followed, next_of, with_next, whole_mark, IsPassed, IsMarkedAt, IsStopped, IsTold, IsOther, IsUntold}
+use Rattle.assembly.proofs.MarkLemmas.{OneMark, one_mark, comes_next, stands, other_before, other_behind, other_than, other_than_none}
+
+-- The place of an event, and its place alone where it stands.
+abbrev pub place_at : Node → ℕ → Place
+place_at node at = record { node = node; at = at }
+
+-- The places with one event more, if it stands.
+abbrev pub with_event : Bool → List Place → Place → List Place
+with_event true places place = places
+with_event false places place = places ++ place ∷ []
+
+behind_all : (old between_them : List Place) (place : Place) → (old ++ reverse between_them) ++ place ∷ [] ≡ old ++ reverse (place ∷ between_them)
+behind_all old between_them place =
+    append_assoc old (reverse between_them) (place ∷ []) ∙ ap (λ (ps : List Place). old ++ ps) (sym (reverse-append (place ∷ []) between_them))
+
+more_places : (node : Node) (from at : ℕ) (b : Bool) (old mid between_them more : List Place) → mid ≡ old ++ reverse between_them → more ≡ (if b then between_them else place_at node at ∷ between_them)
+    → with_event b mid (place_at node at) ≡ old ++ reverse more
+more_places node from at true old mid between_them more e m = rw m e
+more_places node from at false old mid between_them more e m = rw m (ap (λ (ps : List Place). ps ++ place_at node at ∷ []) e ∙ behind_all old between_them (place_at node at))
+
+-- What a test says of an event's mark.
+pub marked_so : (l : Logged) (r : Bool) → ((at : ℕ) → mark_of at l ≡ (if r then whole_mark at l ∷ [] else [])) → r ≡ true → (at : ℕ) → mark_of at l ≡ whole_mark at l ∷ []
+marked_so l true h e at = h at
+marked_so l false h e at = absurd (cc)
+
+pub unmarked_so : (l : Logged) (r : Bool) → ((at : ℕ) → mark_of at l ≡ (if r then whole_mark at l ∷ [] else [])) → r ≡ false → (at : ℕ) → mark_of at l ≡ []
+unmarked_so l true h e at = absurd (cc)
+unmarked_so l false h e at = h at
+
+event_added : (b : Bool) (mid : List Place) (place : Place) → (if b then mid else mid ++ place ∷ []) ≡ with_event b mid place
+event_added true mid place = refl
+event_added false mid place = refl
+
+-- Nothing was passed yet.
+pub passed_none : HistoriesRise → (node : Node) (h : List Logged) (from : ℕ) (old : List Place) → IsPassed node h from from old old
+passed_none rise node h from old = record {
+  places = sym (ap (λ (ps : List Place). old ++ reverse ps) ((rise node h).0.none from) ∙ append-nil old);
+  unmarked = refl;
+}
+
+-- The places up to the event at a place and with it, if it stands.
+pub places_with : HistoriesRise → (node : Node) (h : List Logged) (from at : ℕ) (l : Logged) (old mid : List Place) → from ≤ at → slice_get (reverse h) at ≡ Some l
+    → mid ≡ old ++ reverse (between node from at h) → with_event (is_left_out l.answer) mid (place_at node at) ≡ old ++ reverse (between node from (at + 1) h)
+places_with rise node h from at l old mid low is e =
+    more_places node from at (is_left_out l.answer) old mid (between node from at h) (between node from (at + 1) h) e ((rise node h).0.more from at l low is)
+
+-- The event at a place of the history, as it is read.
+pub read_there : (history h : List Logged) (at : ℕ) (l : Logged) → history ≡ reverse h → slice_get history at ≡ Some l → slice_get (reverse h) at ≡ Some l
+read_there history h at l e is = ap (λ (ls : List Logged). slice_get ls at) (sym e) ∙ is
+
+pub long_as : (history h : List Logged) → history ≡ reverse h → length history ≡ length h
+long_as history h e = ap (λ (ls : List Logged). length ls) e ∙ length-reverse h
+
+-- One event more was passed, which isn't marked.
+pub passed_more : HistoriesRise → (node : Node) (h : List Logged) (from at : ℕ) (l : Logged) (old mid new : List Place) → from ≤ at → slice_get (reverse h) at ≡ Some l
+    → mark_of at l ≡ [] → IsPassed node h from at old mid → new ≡ (if is_left_out l.answer then mid else mid ++ place_at node at ∷ []) → IsPassed node h from (at + 1) old new
+passed_more rise node h from at l old mid new low is none passed e = record {
+  places = e ∙ (event_added (is_left_out l.answer) mid (place_at node at) ∙ places_with rise node h from at l old mid low is passed.places);
+  unmarked = (rise node h).1.more at l is ∙ (ap (λ (ms : List Mark). ms ++ marks_before at h) none ∙ passed.unmarked);
+}
+
+-- The next event is marked.
+pub stopped_at : HistoriesRise → (node : Node) (h : List Logged) (from to at : ℕ) (l : Logged) (old mid : List Place) → at < to → at < length h → slice_get (reverse h) at ≡ Some l
+    → mark_of at l ≡ whole_mark at l ∷ [] → IsPassed node h from at old mid → IsMarkedAt h from to at
+stopped_at rise node h from to at l old mid below low is one passed = record {
+  mark = whole_mark at l;
+  goes_on = comes_next h (rise node h).1 from at l low is passed.unmarked one;
+  at_is = refl;
+  below = below;
+}
+
+-- ---- up to the event of an entry
+
+-- Why an entry wasn't told, since an event before it is marked.
+pub untold_before : (node : Node) (h : List Logged) (from to : ℕ) (entry : Mark) (fault : AssembleFault) → to ≤ entry.at → IsStopped node h from to fault → IsUntold node h from entry fault
+untold_before node h from to entry (Unlike n at) low stopped = (stopped.0, other_before h from to at entry stopped.1 low)
+untold_before node h from to entry NoMemory low stopped = tt
+
+-- The entry's event is told.
+pub told_at : HistoriesRise → (node : Node) (h : List Logged) (at : ℕ) (l : Logged) (entry : Mark) (old : Followed) (mid : List Place) (new : Followed)
+    → at < length h → slice_get (reverse h) at ≡ Some l → next_of old.next node ≤ at → entry.at ≡ at → mark_of at l ≡ whole_mark at l ∷ [] → whole_mark at l ≡ entry
+    → IsPassed node h (next_of old.next node) at old.places mid → new.places ≡ mid ++ place_at node at ∷ [] → new.next ≡ with_next old.next node (at + 1) → IsTold node h entry old new
+told_at rise node h at l entry old mid new low is from entry_is one same passed places next =
+    let out : is_left_out l.answer ≡ false = stands at l one in
+    let all = places_with rise node h (next_of old.next node) at l old.places mid from is passed.places in
+    record {
+      within = omega (arith, low, entry_is);
+      rises = omega (arith, from, entry_is);
+      places = rw entry_is (places ∙ (ap (λ (b : Bool). with_event b mid (place_at node at)) (sym out) ∙ all));
+      next = rw entry_is next;
+      marks = subst (λ (n : ℕ). marks_before (n + 1) h ≡ entry ∷ marks_before (next_of old.next node) h) (sym entry_is)
+          ((rise node h).1.more at l is ∙ (ap (λ (ms : List Mark). ms ++ marks_before at h) one ∙ (ap (λ (m : Mark). m ∷ marks_before at h) same ∙ ap (λ (ms : List Mark). entry ∷ ms) passed.unmarked)));
+    }
+
+-- It is marked otherwise.
+other_mark : HistoriesRise → (node : Node) (h : List Logged) (from at : ℕ) (l : Logged) (entry : Mark) (old mid : List Place) → at < length h → slice_get (reverse h) at ≡ Some l → entry.at ≡ at
+    → mark_of at l ≡ whole_mark at l ∷ [] → whole_mark at l ≢ entry → IsPassed node h from at old mid → IsOther h from entry at
+other_mark rise node h from at l entry old mid low is e one differ passed =
+    other_than h from at entry (Some (whole_mark at l)) (comes_next h (rise node h).1 from at l low is passed.unmarked one) e
+    (λ m is_m. let same : whole_mark at l ≡ m = cc in omega (arith, ap (λ (k : Mark). k.at) same))
+    (λ same. differ (cc))
+
+-- It isn't marked.
+no_mark : HistoriesRise → (node : Node) (h : List Logged) (from at : ℕ) (l : Logged) (entry : Mark) (old mid : List Place) → at < length h → slice_get (reverse h) at ≡ Some l → entry.at ≡ at
+    → mark_of at l ≡ [] → IsPassed node h from at old mid → IsOther h from entry at
+no_mark rise node h from at l entry old mid low is e none passed =
+    other_behind h (rise node h).1 from at (at + 1) entry (omega (arith, low))
+    ((rise node h).1.more at l is ∙ (ap (λ (ms : List Mark). ms ++ marks_before at h) none ∙ passed.unmarked)) e (omega arith)
+
+-- There is no such event.
+pub no_event : HistoriesRise → (node : Node) (h : List Logged) (from at : ℕ) (entry : Mark) (old mid : List Place) → entry.at ≡ at → IsPassed node h from (length h) old mid → IsOther h from entry at
+no_event rise node h from at entry old mid e passed = other_than_none h (rise node h).1 from at entry passed.unmarked e
+
+-- The node was followed beyond it.
+pub gone_by : HistoriesRise → (node : Node) (h : List Logged) (from at : ℕ) (entry : Mark) → from ≤ length h → entry.at ≡ at → at < from → IsOther h from entry at
+gone_by rise node h from at entry within e low = other_behind h (rise node h).1 from at from entry within refl e (omega (arith, low))
+
+-- Its mark isn't that of the entry.
+pub other_event : HistoriesRise → (node : Node) (h : List Logged) (from at : ℕ) (l : Logged) (entry : Mark) (old mid : List Place) → at < length h → slice_get (reverse h) at ≡ Some l → entry.at ≡ at
+    → (mark_of at l ≡ entry ∷ [] → ⊥) → IsPassed node h from at old mid → IsOther h from entry at
+other_event rise node h from at l entry old mid low is e differ passed = by (one_mark at l)
+  where
+    by : OneMark at l → IsOther h from entry at
+    by (inl none) = no_mark rise node h from at l entry old mid low is e none passed
+    by (inr one) = other_mark rise node h from at l entry old mid low is e one (λ same. differ (one ∙ ap (λ (m : Mark). m ∷ []) same)) passed
+
+never_one : (marks : List Mark) (entry : Mark) → marks ≡ [] → marks ≡ entry ∷ [] → ⊥
+never_one marks entry none one = cc
+
+-- It is that of the entry.
+pub told_so : HistoriesRise → (node : Node) (h : List Logged) (at : ℕ) (l : Logged) (entry : Mark) (old : Followed) (mid : List Place) (new : Followed)
+    → at < length h → slice_get (reverse h) at ≡ Some l → next_of old.next node ≤ at → entry.at ≡ at → mark_of at l ≡ entry ∷ []
+    → IsPassed node h (next_of old.next node) at old.places mid → new.places ≡ mid ++ place_at node at ∷ [] → new.next ≡ with_next old.next node (at + 1) → IsTold node h entry old new
+told_so rise node h at l entry old mid new low is from entry_is told passed places next = by (one_mark at l)
+  where
+    by : OneMark at l → IsTold node h entry old new
+    by (inl none) = absurd (never_one (mark_of at l) entry none told)
+    by (inr one) =
+        let both : (whole_mark at l ∷ []) ≡ (entry ∷ []) = sym one ∙ told in
+        told_at rise node h at l entry old mid new low is from entry_is one (cc) passed places next

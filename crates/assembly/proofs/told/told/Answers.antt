@@ -1,0 +1,15 @@
+use Rattle.messages.specs.declared.node.Node.TheVariants.{Client}
+use Rattle.assembly.specs.Ran.{ran}
+use Rattle.assembly.proofs.RestLemmas.{no_cell}
+use Rattle.assembly.proofs.told.told.Goals as goal
+
+pub follow_journal-requires-clause-few : goal.follow_journal-requires-clause-few
+follow_journal-requires-clause-few g c = (c.requires Client).2
+
+pub returns-clause-agree : goal.returns-clause-agree
+returns-clause-agree g c = record {
+  few = (c.requires Client).2;
+  legal = c.follow_journal.ensures.legal;
+  ends = λ s far. no_cell (ran c.args.client.now c.args.servers.now) s far;
+  marked = c.in_ok-follow_rest.ensures.marked;
+}

@@ -1,0 +1,21 @@
+-- The nodes that ran. Histories are newest first.
+use Rattle.std.specs.Prelude.{List, [], slice_get}
+use Rattle.std.specs.Option.{option_map_or}
+use Rattle.messages.specs.declared.node.Node.{Node}
+use Rattle.messages.specs.declared.node.Node.TheVariants.{Server, Client}
+use Rattle.node_history.specs.declared.logged.Logged.{Logged}
+use Rattle.server_cell.specs.Cells.{ServerLog}
+use Rattle.client_cell.specs.Cells.{ClientLog}
+
+-- What ran: the client, and the servers in the order of their numbers.
+pub record Ran : Type 0 where
+  pub client : ClientLog
+  pub servers : List ServerLog
+
+abbrev pub ran : ClientLog → List ServerLog → Ran
+ran client servers = record { client = client; servers = servers }
+
+-- The history of a node, which is empty where it has no cell.
+abbrev pub history_of : Ran → Node → List Logged
+history_of r Client = r.client.history
+history_of r (Server s) = option_map_or (λ cell. cell.history) (slice_get r.servers s) []

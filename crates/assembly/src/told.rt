@@ -1,0 +1,107 @@
+//! All events, told in the order of the journal.
+
+ghost use Rattle.std.specs.Prelude.{◌≡◌, ◌≤◌, length, reverse, IfOk, IfErr, OnOk};
+ghost use Rattle.hub.specs.Journal.{IsLegal};
+ghost use Rattle.node_traces.specs.Laws.{Agree};
+ghost use Rattle.node_traces.specs.Orders.{merged};
+ghost use Rattle.messages.specs.declared.node.Node.{Node as Name};
+ghost use Rattle.assembly.specs.Ran.{ran, history_of};
+ghost use Rattle.assembly.specs.Agrees.{IsOpened, IsMarked};
+ghost use Rattle.assembly.specs.Order.{Differs, IsFollowed, nothing_followed};
+
+use crate::fault::AssembleFault;
+use crate::order::Order;
+use client_cell::ClientCell;
+use disk_model::Notes;
+use fc_base::ServerNo;
+use hub::Hub;
+use messages::Node;
+use node_history::Logged;
+use node_traces::{Place, histories_rise};
+use server_cell::ServerCell;
+use std::alloc::Global;
+
+/// The events of nodes that were opened rightly, in the order that the journal gives. A node and the journal
+/// that differ are `Unlike`.
+pub(crate) fn told<N: Notes + Drop>(
+    alloc: Global,
+    hub: &Hub,
+    client: &ClientCell<N>,
+    servers: &[ServerCell<N>],
+) -> Result<Vec<Place>, AssembleFault>
+    requires { (node : Name) → IsOpened (ran client.now servers.now) node }
+    ensures agree { OnOk result (Agree (length servers.now) hub.now.net (history_of (ran client.now servers.now))) }
+    ensures merged { IfOk result (λ places. places.items ≡ reverse (merged (length servers.now) (history_of (ran client.now servers.now)) hub.now.net.journal)) }
+    ensures differs { IfErr result (Differs (ran client.now servers.now) hub.now.net) }
+{
+    let mut order = Order::new(alloc);
+    follow_journal(&mut order, hub, client, servers)?;
+    follow_rest(&mut order, hub, client, servers)?;
+    Ok(order.into_places())
+}
+
+/// Follows each node up to its last entry in the journal.
+fn follow_journal<N: Notes + Drop>(
+    order: &mut Order,
+    hub: &Hub,
+    client: &ClientCell<N>,
+    servers: &[ServerCell<N>],
+) -> Result<(), AssembleFault>
+    requires few { length servers.now ≤ 8 }
+    requires new { order.old ≡ nothing_followed }
+    ensures legal { IsLegal hub.now.net }
+    ensures followed { OnOk result (IsFollowed (ran client.now servers.now) hub.now.net hub.now.net.journal order.new) }
+    ensures differs { IfErr result (Differs (ran client.now servers.now) hub.now.net) }
+{
+    histories_rise();
+    let _frames = hub.len();
+    let mut sent = 0;
+    for line in hub.journal() {
+        order.tell(hub, sent, line, history_of(client, servers, line.node))?;
+        sent += line.sent;
+    }
+    Ok(())
+}
+
+/// Follows each node to its end, behind its last entry: the servers, and then the client.
+fn follow_rest<N: Notes + Drop>(
+    order: &mut Order,
+    hub: &Hub,
+    client: &ClientCell<N>,
+    servers: &[ServerCell<N>],
+) -> Result<(), AssembleFault>
+    requires opened { (node : Name) → IsOpened (ran client.now servers.now) node }
+    requires followed { IsFollowed (ran client.now servers.now) hub.now.net hub.now.net.journal order.old }
+    ensures marked { OnOk result ((node : Name) → IsMarked (ran client.now servers.now) hub.now.net node) }
+    ensures merged { OnOk result (order.new.places ≡ reverse (merged (length servers.now) (history_of (ran client.now servers.now)) hub.now.net.journal)) }
+    ensures differs { IfErr result (Differs (ran client.now servers.now) hub.now.net) }
+{
+    histories_rise();
+    for number in 0..client.servers() {
+        let history = servers[number as usize].history();
+        order.pass(
+            &Node::Server(ServerNo(number)),
+            history,
+            history.len() as u64,
+        )?;
+    }
+    let history = client.history();
+    order.pass(&Node::Client, history, history.len() as u64)
+}
+
+/// The history of a node, the oldest event first; empty where it has no cell.
+fn history_of<'a, N: Notes + Drop>(
+    client: &'a ClientCell<N>,
+    servers: &'a [ServerCell<N>],
+    node: Node,
+) -> &'a [Logged]
+    ensures { result.now ≡ reverse (history_of (ran client.now servers.now) node) }
+{
+    match node {
+        Node::Client => client.history(),
+        Node::Server(number) => match servers.get(number.0 as usize) {
+            Some(cell) => cell.history(),
+            None => &[],
+        },
+    }
+}

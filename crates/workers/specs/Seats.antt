@@ -1,0 +1,44 @@
+-- What a worker does to its seat.
+use Rattle.std.specs.Prelude.{◌≡◌, ◌<◌, ◌≤◌, Bool, true, false, Option, None, Some, Result, Ok, Err}
+use Rattle.fc_base.specs.declared.fault.Fault.{Fault}
+use Rattle.fc_base.specs.declared.fault.Fault.TheVariants.{NodeOff}
+use Rattle.engine.specs.declared.issue.Issue.{Issue}
+use Rattle.engine.specs.declared.issue.Issue.TheVariants.{Finished, Stopped}
+use Rattle.node_history.specs.declared.answer.Answer.{Answer}
+use Rattle.node_history.specs.declared.answer.Answer.TheVariants.{Issued}
+use Rattle.node_history.specs.declared.answer.Said.{Said}
+use Rattle.node_history.specs.Seated.{Seated}
+
+-- It is the same seat, which may have applied more.
+pub record IsSeatOf (seat back : Seated) : Type 0 where
+  pub server : back.server ≡ seat.server
+  pub number : back.number ≡ seat.number
+  pub grown : seat.applied ≤ back.applied
+
+-- The job issues no more writes.
+abbrev pub is_final : Issue → Bool
+is_final Finished = true
+is_final Stopped = true
+is_final _ = false
+
+-- The answer says so.
+abbrev pub says_final : Answer → Bool
+says_final (Issued issue) = is_final issue
+says_final _ = false
+
+-- The server is off, or down.
+abbrev pub is_off : Fault → Bool
+is_off NodeOff = true
+is_off _ = false
+
+-- The last answer is that of a job that is over, or that the server is off.
+abbrev pub ends_with : Option (Result Said Fault) → Bool
+ends_with None = false
+ends_with (Some (Ok said)) = says_final said.answer
+ends_with (Some (Err fault)) = is_off fault
+
+-- The seat has applied at least one event more, and its last answer ends a worker.
+pub record HasWorked (seat back : Seated) : Type 0 where
+  pub same : IsSeatOf seat back
+  pub more : seat.applied < back.applied
+  pub ended : ends_with back.last ≡ true
