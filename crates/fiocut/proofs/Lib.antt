@@ -1,2 +1,3 @@
 pub mod Numbered
 pub mod Whole
+pub mod LiveWhole

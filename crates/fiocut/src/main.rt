@@ -1,21 +1,29 @@
-//! The program: it prints the jobs of a job file of fio, or runs a script of events.
+//! The program: it prints the jobs of a job file of fio, runs a script of events, or has servers and
+//! workers run two job files live.
 #![tactic(auto)]
 
 mod command;
 mod jobs;
 mod lines;
+mod live;
 mod refusal;
 #[cfg(test)]
 mod tests;
 mod world;
 
+ghost use Rattle.fiocut.specs.Live.{IsFleetSize};
+
 use command::{Request, read_words, refuse_words};
 use fc_base::Fault;
 use jobs::{REFUSED, run_jobs};
+use live::{FileTrigger, FleetSize, run_live};
+use std::fs::Files;
 use std::io;
 use std::io::BufWriter;
 use std::process::ExitCode;
 use std::rt::Env;
+use std::sync::Wait;
+use std::thread::Threads;
 use world::{refuse_script, run_in_blocks};
 
 fn main(rt: HostRuntime) -> ExitCode {
@@ -24,14 +32,36 @@ fn main(rt: HostRuntime) -> ExitCode {
 
 /// Does what the command line asks for, and answers the exit status. All text goes to standard
 /// output.
-fn run<R: Env + AllocGlobal + Input + Print>(rt: &R) -> u8 {
+fn run<R: Env + AllocGlobal + Files + Input + Print + Threads + Wait + Sync>(rt: &R) -> u8 {
+    let words = words_of(rt).unwrap_or(Vec::new(rt.alloc()));
+    let request = read_words(rt.alloc(), words.as_slice());
     let mut writer = io::writer(rt);
-    let answer = match request_of(rt) {
+    let answer = match request {
         Some(Request::Jobs) => run_jobs(rt.alloc(), &mut rt.reader(), &mut writer),
         Some(Request::World) => answer_script(rt),
+        Some(Request::Live { size, path }) => answer_texts(rt, size, path),
         None => refuse_words(&mut writer),
     };
     answer.unwrap_or(REFUSED)
+}
+
+/// Answers the two texts on standard input, with a file at this path as the trigger.
+fn answer_texts<R: AllocGlobal + Files + Input + Print + Threads + Wait + Sync>(
+    rt: &R,
+    size: FleetSize,
+    path: &str,
+) -> io::Result<u8>
+    requires { IsFleetSize size }
+{
+    let mut trigger = FileTrigger { files: rt, path };
+    run_live(
+        rt,
+        rt.alloc(),
+        size,
+        &mut trigger,
+        &mut rt.reader(),
+        &mut io::writer(rt),
+    )
 }
 
 /// Answers the script on standard input. Its output goes out in blocks, as they are full.
@@ -45,10 +75,9 @@ fn answer_script<R: AllocGlobal + Input + Print>(rt: &R) -> io::Result<u8> {
     }
 }
 
-/// What this process's command line asks for. `None` is a bad command: also words that are not
-/// UTF-8, or that there is no memory for.
-fn request_of<R: Env + AllocGlobal>(rt: &R) -> Option<Request> {
+/// The words of this process's command line. `None` where they aren't UTF-8, or there is no memory
+/// for them.
+fn words_of<R: Env + AllocGlobal>(rt: &R) -> Option<Vec<String>> {
     let words = std::env::args(rt).ok()?;
-    let words: Vec<String> = words.collect(rt.alloc()).ok()?;
-    read_words(rt.alloc(), words.as_slice())
+    words.collect(rt.alloc()).ok()
 }

@@ -1,8 +1,11 @@
 //! What no clause shows: the printed texts, the exit statuses, the bounds of reading, and which
 //! command lines are read.
 
+mod live;
+
 use crate::command::{Request, read_words, refuse_words};
 use crate::jobs::run_jobs;
+use crate::live::FleetSize;
 use crate::world::run_world;
 use fake_io::{Held, Source, failing, held_output, in_steps, interrupted, page_with, source_of};
 use std::alloc::{AllocError, Global};
@@ -222,6 +225,13 @@ fn good_commands(rt: HostRuntime) {
     assert!(rt; read_words(rt.alloc(), &words) == Some(Request::Jobs));
     let words = ["fiocut", "world"];
     assert!(rt; read_words(rt.alloc(), &words) == Some(Request::World));
+    let words = ["fiocut", "live", "8", "16", "a path"];
+    let size = FleetSize {
+        servers: 8,
+        workers: 16,
+    };
+    let path = "a path";
+    assert!(rt; read_words(rt.alloc(), &words) == Some(Request::Live { size, path }));
 }
 
 const SCRIPT: &[u8] = b"servers 1\ncut 0\nissue 0 0\nfrob\n";
@@ -259,7 +269,7 @@ fn scripts_that_cannot_be_answered(rt: HostRuntime) {
 
 #[test]
 fn bad_commands(rt: HostRuntime) {
-    let bad: [&[&str]; 23] = [
+    let bad: [&[&str]; 32] = [
         &[],
         &["fiocut"],
         &["fiocut", ""],
@@ -282,7 +292,16 @@ fn bad_commands(rt: HostRuntime) {
         &["fiocut", "world", "x"],
         &["fiocut", "worlds"],
         &["fiocut", "jobs", "world"],
-        &["fiocut", "live", "1", "1", "path"],
+        &["fiocut", "live"],
+        &["fiocut", "live", "1", "1"],
+        &["fiocut", "live", "0", "1", "path"],
+        &["fiocut", "live", "9", "1", "path"],
+        &["fiocut", "live", "1", "0", "path"],
+        &["fiocut", "live", "1", "17", "path"],
+        &["fiocut", "live", "one", "1", "path"],
+        &["fiocut", "live", "-1", "1", "path"],
+        &["fiocut", "live", "4294967297", "1", "path"],
+        &["fiocut", "live", "1", "1", "path", "x"],
     ];
     for words in bad {
         expect_bad(&rt, words);

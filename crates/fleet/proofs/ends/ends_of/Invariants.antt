@@ -1,0 +1,5 @@
+use Rattle.fleet.specs.Ends.{AreEnds}
+use Rattle.fleet.proofs.ends.ends_of.Given as goal
+
+abbrev pub invariant-loop-number : goal.invariant-loop-number
+invariant-loop-number g l = AreEnds l.number l.ends.items

@@ -1,0 +1,96 @@
+//! The workers of all servers.
+
+use crate::flags::Flags;
+use crate::nodes::Nodes;
+use node_threads::Seat;
+use std::alloc::Global;
+use std::sync::Wait;
+use std::thread;
+use std::thread::Threads;
+use workers::{Gate, run_worker};
+
+/// A worker: the place of its server, and its seat there, unless it is at work.
+#[derive(Drop)]
+pub(crate) struct Hand {
+    server: usize,
+    seat: Option<Seat>,
+}
+
+impl Hand {
+    /// A worker of the server at this place.
+    pub fn new(server: usize, seat: Seat) -> Hand {
+        Hand {
+            server,
+            seat: Some(seat),
+        }
+    }
+
+    /// Its seat.
+    pub fn into_seat(self) -> Option<Seat> {
+        let Hand { seat, .. } = self;
+        seat
+    }
+
+    /// Works until there is nothing more to write at its server.
+    fn work<R: Wait, G: Gate>(
+        &mut self,
+        rt: &R,
+        alloc: Global,
+        nodes: &Nodes,
+        gate: &G,
+        flags: &Flags,
+    ) {
+        let (Some(cell), Some(files)) = (
+            nodes.servers.get(self.server),
+            nodes.files.get(self.server),
+        ) else {
+            return;
+        };
+        if files.is_empty() {
+            return;
+        }
+        let Some(seat) = self.seat.take() else {
+            return;
+        };
+        let seat = match run_worker(rt, alloc, cell, seat, files, gate) {
+            Ok(seat) => seat,
+            Err((seat, fault)) => {
+                flags.fail(rt, fault);
+                seat
+            }
+        };
+        self.seat = Some(seat);
+    }
+}
+
+/// Has all workers work, each in a thread of its own, once they may start; none where the fleet stops
+/// before. Where no thread can be made, they work one after the other. The seats come back.
+pub(crate) fn work_all<R: Threads + Wait + Sync, G: Gate + Sync>(
+    rt: &R,
+    alloc: Global,
+    nodes: &Nodes,
+    mut hands: Vec<Hand>,
+    gate: &G,
+    flags: &Flags,
+) -> Vec<Hand> {
+    for _ in rt.forever() {
+        if flags.has_started() {
+            break;
+        }
+        if flags.has_stopped() {
+            return hands;
+        }
+        thread::yield_now();
+    }
+    let threads = hands.len().max(1);
+    thread::for_each_mut(
+        rt,
+        &mut hands,
+        threads,
+        &|_, hand| {
+            hand.work(rt, alloc, nodes, gate, flags);
+        },
+    );
+    flags.work_ends();
+    hands
+}

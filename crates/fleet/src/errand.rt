@@ -1,0 +1,121 @@
+//! What the calling thread does.
+
+ghost use Rattle.std.specs.Prelude.{◌≡◌, ◌≤◌, IfOk};
+ghost use Rattle.fleet.specs.Ends.{AreEnds};
+
+use crate::awaited::{Awaited, wait_for};
+use crate::checks::check_all;
+use crate::ends::{End, ends_of};
+use crate::flags::Flags;
+use crate::nodes::Nodes;
+use crate::trigger::Trigger;
+use fc_base::{Attempt, Fault, MAX_TEXT, RunNo};
+use messages::{Act, Text};
+use node_threads::{Answer, ClientCommand, Node, Request};
+use std::alloc::Global;
+use std::sync::Wait;
+use std::thread;
+use std::thread::Threads;
+
+/// What a fleet is to do: how many servers it has, how many workers each of them, and the job files by
+/// which it writes and checks.
+#[derive(Clone, Copy)]
+pub(crate) struct Plan<'w, 'r> {
+    pub servers: u32,
+    pub workers: u32,
+    pub write: &'w [u8],
+    pub read: &'r [u8],
+}
+
+/// Begins a run, and lets the workers start once all servers write; triggers it with a cut once the
+/// trigger is pulled or all workers are done; verifies it once all servers were started again, and checks
+/// their files once they have their states. How all that has ended, as the client has heard it.
+pub(crate) fn run<R: Threads + Wait + Sync, T: Trigger>(
+    rt: &R,
+    alloc: Global,
+    nodes: &Nodes,
+    flags: &Flags,
+    plan: Plan<'_, '_>,
+    trigger: &mut T,
+) -> Result<Vec<End>, Fault>
+    requires some { 1 ≤ plan.workers }
+    requires few { plan.workers ≤ 16 }
+    ensures { IfOk result (λ ends. AreEnds plan.entry.servers ends.items) }
+{
+    let Plan {
+        servers,
+        workers,
+        write,
+        read,
+    } = plan;
+    let run = begin(rt, nodes, text_of(alloc, write)?)?;
+    wait_for(rt, nodes, flags, &Awaited::Writing(run))?;
+    flags.start();
+    wait_for_trigger(rt, flags, trigger)?;
+    cut_all(rt, nodes, run)?;
+    wait_for(rt, nodes, flags, &Awaited::Restarted(run))?;
+    let attempt = verify(rt, nodes, run, text_of(alloc, read)?)?;
+    wait_for(rt, nodes, flags, &Awaited::Ready(attempt))?;
+    check_all(rt, alloc, nodes, attempt, workers)?;
+    wait_for(rt, nodes, flags, &Awaited::Reported(attempt))?;
+    ends_of(rt, alloc, nodes, servers, attempt)
+}
+
+/// The text of a job file.
+fn text_of(alloc: Global, bytes: &[u8]) -> Result<Text, Fault> {
+    if bytes.len() > MAX_TEXT {
+        return Err(Fault::JobTooLong);
+    }
+    Text::copied(alloc, bytes).or(Err(Fault::NoMemory))
+}
+
+/// Waits until the trigger is pulled or all workers are done. A thread that has ended with a fault ends
+/// the wait.
+fn wait_for_trigger<R: Wait, T: Trigger>(
+    rt: &R,
+    flags: &Flags,
+    trigger: &mut T,
+) -> Result<(), Fault> {
+    for _ in rt.forever() {
+        if let Some(fault) = flags.fault(rt) {
+            return Err(fault);
+        }
+        if trigger.pulled() || flags.has_worked() {
+            return Ok(());
+        }
+        thread::yield_now();
+    }
+    unreachable!()
+}
+
+/// Has the client begin a run.
+fn begin<R: Wait>(rt: &R, nodes: &Nodes, text: Text) -> Result<RunNo, Fault> {
+    match ask(rt, nodes, Request::Begin(text))? {
+        Answer::Run(run) => Ok(run),
+        _ => Err(Fault::NoSuchRun),
+    }
+}
+
+/// Has the client trigger the run, and with it the cut of each server.
+fn cut_all<R: Wait>(rt: &R, nodes: &Nodes, run: RunNo) -> Result<(), Fault> {
+    ask(rt, nodes, Request::Trigger(run, Act::Cut))?;
+    Ok(())
+}
+
+/// Has the client verify the run.
+fn verify<R: Wait>(rt: &R, nodes: &Nodes, run: RunNo, text: Text) -> Result<Attempt, Fault> {
+    match ask(rt, nodes, Request::Verify(run, text))? {
+        Answer::Attempt(attempt) => Ok(attempt),
+        _ => Err(Fault::NoSuchRun),
+    }
+}
+
+/// Asks this of the client, under its lock and that of the hub.
+fn ask<R: Wait>(rt: &R, nodes: &Nodes, request: Request) -> Result<Answer, Fault> {
+    let mut client = nodes.client.lock(rt);
+    let mut hub = nodes.hub.lock(rt);
+    match Node::post(&mut *client, &mut hub, ClientCommand::Request(request)) {
+        Ok(told) => Ok(told.answer),
+        Err(fault) => Err(fault),
+    }
+}

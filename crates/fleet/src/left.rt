@@ -1,0 +1,73 @@
+//! What is left of a fleet.
+
+ghost use Rattle.std.specs.Prelude.{IfOk};
+ghost use Rattle.fleet.specs.OneRun.{IsOneRun};
+
+use crate::crew::Hand;
+use crate::nodes::{Client, Nodes, Server, add};
+use assembly::{Assembled, Place, assemble};
+use fc_base::Fault;
+use node_threads::{Hub, Seat};
+use std::alloc::Global;
+
+/// What is left of a fleet that has ended: the network, the nodes with their histories, the seats of all
+/// servers, and all that has happened in one order, the oldest first.
+#[derive(Drop)]
+pub struct Left {
+    pub hub: Hub,
+    pub client: Client,
+    pub servers: Vec<Server>,
+    pub seats: Vec<Seat>,
+    pub order: Vec<Place>,
+}
+
+/// Takes the nodes out of their locks, and the seats out of all hands, and makes one list of all events.
+pub(crate) fn take_apart(
+    alloc: Global,
+    nodes: Nodes,
+    posts: Vec<Seat>,
+    hands: Vec<Hand>,
+) -> Result<Left, Fault>
+    ensures { IfOk result IsOneRun }
+{
+    let Nodes {
+        hub,
+        client,
+        servers: cells,
+        files: _,
+    } = nodes;
+    let mut servers = Vec::new(alloc);
+    for cell in cells {
+        add(&mut servers, cell.into_inner())?;
+    }
+    let mut seats = posts;
+    for hand in hands {
+        if let Some(seat) = hand.into_seat() {
+            add(&mut seats, seat)?;
+        }
+    }
+    put_in_order(alloc, hub.into_inner(), client.into_inner(), servers, seats)
+}
+
+/// Puts all that has happened in one order.
+fn put_in_order(
+    alloc: Global,
+    hub: Hub,
+    client: Client,
+    servers: Vec<Server>,
+    seats: Vec<Seat>,
+) -> Result<Left, Fault>
+    ensures { IfOk result IsOneRun }
+{
+    let order = match assemble(alloc, &hub, &client, &servers, &seats) {
+        Ok(Assembled { order }) => order,
+        Err(fault) => return Err(fault.fault()),
+    };
+    Ok(Left {
+        hub,
+        client,
+        servers,
+        seats,
+        order,
+    })
+}

@@ -1,0 +1,140 @@
+//! The nodes of a fleet.
+
+ghost use Rattle.std.specs.Prelude.{◌≡◌, ◌<◌, ◌≤◌, ◌+◌, ◌++◌, ◌∷◌, [], length, IfOk, OnOk};
+
+use crate::crew::Hand;
+use disk_model::{MemDisk, MemNotes};
+use fc_base::{Fault, MAX_JOBS, ServerNo};
+use node_threads::{ClientCell, Hub, Seat, ServerCell};
+use std::alloc::Global;
+use std::sync::Mutex;
+
+/// The client, with its notes in memory.
+pub type Client = ClientCell<MemNotes>;
+
+/// A server, with its notes in memory.
+pub type Server = ServerCell<MemNotes>;
+
+/// The nodes of a fleet and the network between them, each under its lock, and the files of each server,
+/// each under a lock of its own.
+#[derive(Drop)]
+pub(crate) struct Nodes {
+    pub hub: Mutex<Hub>,
+    pub client: Mutex<Client>,
+    pub servers: Vec<Mutex<Server>>,
+    pub files: Vec<Vec<Mutex<MemDisk>>>,
+}
+
+/// Nodes that have just been opened, with their seats: one of each server for the post, and one in the
+/// hand of each worker.
+#[derive(Drop)]
+pub(crate) struct Opened {
+    pub nodes: Nodes,
+    pub posts: Vec<Seat>,
+    pub hands: Vec<Hand>,
+}
+
+/// A client and so many servers, of so many workers each, over blank notes and blank files.
+pub(crate) fn open(alloc: Global, servers: u32, workers: u32) -> Result<Opened, Fault>
+    requires some { 1 ≤ servers }
+    requires few { servers ≤ 8 }
+    requires crew { workers ≤ 16 }
+    ensures servers { IfOk result (λ opened. length opened.nodes.servers.items ≡ servers) }
+    ensures files { IfOk result (λ opened. length opened.nodes.files.items ≡ servers) }
+    ensures posts { IfOk result (λ opened. length opened.posts.items ≡ servers) }
+{
+    let client = open_client(alloc, servers)?;
+    let mut cells = Vec::new(alloc);
+    let mut files = Vec::new(alloc);
+    let mut posts = Vec::new(alloc);
+    let mut hands = Vec::new(alloc);
+    for number in 0..servers {
+        let (cell, seats) = open_server(alloc, number, workers)?;
+        add(&mut files, blank_files(alloc, boot_of(&cell)?)?)?;
+        add(&mut cells, Mutex::new(cell))?;
+        deal(number as usize, seats, &mut posts, &mut hands)?;
+    }
+    let nodes = Nodes {
+        hub: Mutex::new(Hub::new(alloc)),
+        client: Mutex::new(client),
+        servers: cells,
+        files,
+    };
+    Ok(Opened {
+        nodes,
+        posts,
+        hands,
+    })
+}
+
+/// A client of so many servers, over a blank note.
+fn open_client(alloc: Global, servers: u32) -> Result<Client, Fault>
+    requires some { 1 ≤ servers }
+    requires few { servers ≤ 8 }
+{
+    match ClientCell::new(alloc, servers, MemNotes::new(Vec::new(alloc))) {
+        Ok(client) => Ok(client),
+        Err((_, fault)) => Err(fault),
+    }
+}
+
+/// A server over a blank note, with its seats: one for each worker, and the last for the post.
+fn open_server(alloc: Global, number: u32, workers: u32) -> Result<(Server, Vec<Seat>), Fault>
+    requires server { number < 8 }
+    requires crew { workers ≤ 16 }
+{
+    let notes = MemNotes::new(Vec::new(alloc));
+    match ServerCell::new(alloc, ServerNo(number), notes, workers + 1) {
+        Ok(opened) => Ok(opened),
+        Err((_, fault)) => Err(fault),
+    }
+}
+
+/// The boot of a server that is on.
+pub(crate) fn boot_of(server: &Server) -> Result<u64, Fault> {
+    match server.server() {
+        Some(server) => Ok(server.status().boot),
+        None => Err(Fault::NodeOff),
+    }
+}
+
+/// A file for each job that a run can have, on which nothing was written, and which is on in this boot.
+fn blank_files(alloc: Global, boot: u64) -> Result<Vec<Mutex<MemDisk>>, Fault> {
+    let mut files = Vec::new(alloc);
+    for _ in 0..MAX_JOBS {
+        let mut disk = MemDisk::new(alloc);
+        disk.power_on(boot);
+        add(&mut files, Mutex::new(disk))?;
+    }
+    Ok(files)
+}
+
+/// Puts the seats of a server where they belong: the last to those of the post, and each other into the
+/// hand of a worker.
+fn deal(
+    server: usize,
+    mut seats: Vec<Seat>,
+    posts: &mut Vec<Seat>,
+    hands: &mut Vec<Hand>,
+) -> Result<(), Fault>
+    ensures { OnOk result (length posts.new.items ≡ length posts.old.items + 1) }
+{
+    let Some(post) = seats.pop() else {
+        return Err(Fault::WrongSeat);
+    };
+    add(posts, post)?;
+    for seat in seats {
+        add(hands, Hand::new(server, seat))?;
+    }
+    Ok(())
+}
+
+/// Adds an item to a list.
+pub(crate) fn add<T: Drop>(list: &mut Vec<T>, item: T) -> Result<(), Fault>
+    ensures { OnOk result (list.new.items ≡ list.old.items ++ item ∷ []) }
+{
+    match list.push(item) {
+        Ok(()) => Ok(()),
+        Err(_) => Err(Fault::NoMemory),
+    }
+}

@@ -1,0 +1,96 @@
+//! Frames are delivered.
+
+ghost use Rattle.std.specs.Prelude.{◌≡◌, length};
+
+use crate::cut::cut;
+use disk_model::{MemDisk, Notes};
+use fc_base::Fault;
+use messages::Act;
+use node_threads::{ClientCell, Hub, Node, Seat, ServerCell};
+use rand_xoshiro::Xoshiro256PlusPlus;
+use rand_xoshiro::rand_core::SeedableRng;
+use rand_xoshiro::rand_core::utils::NextWord;
+use std::sync::atomic::{AtomicBool, Ordering};
+use std::sync::{Mutex, Wait};
+use std::thread;
+
+/// Goes round the client and the servers, and delivers to each one of the frames that it hasn't taken,
+/// picked by a generator with this seed. A server that asks for its cut is cut off and started again: its
+/// files are off meanwhile, and then take writes of the new boot alone. Seat `i` and files `i` are of
+/// server `i`.
+///
+/// It ends once `stop` is set and no frame waits for any node. A delivery that is refused, or a cut or a
+/// restart, ends it with that fault.
+pub fn run_post<R: Wait, N: Notes + Drop>(
+    rt: &R,
+    hub: &Mutex<Hub>,
+    client: &Mutex<ClientCell<N>>,
+    servers: &[Mutex<ServerCell<N>>],
+    posts: &mut [Seat],
+    files: &[Vec<Mutex<MemDisk>>],
+    stop: &AtomicBool,
+    seed: u64,
+) -> Result<(), Fault>
+    requires posts { length posts.old ≡ length servers.now }
+    requires files { length files.now ≡ length servers.now }
+{
+    let mut words = Xoshiro256PlusPlus::seed_from_u64(seed);
+    for _ in rt.forever() {
+        let is_last = stop.load(Ordering::SeqCst);
+        let asked = deliver(rt, hub, client, words.next_word())?;
+        let some = serve_all(rt, hub, servers, posts, files, &mut words)?;
+        if asked.is_none() && !some {
+            if is_last {
+                return Ok(());
+            }
+            thread::yield_now();
+        }
+    }
+    unreachable!()
+}
+
+/// Delivers a frame to each server for which one waits. Whether there was any.
+fn serve_all<R: Wait, N: Notes + Drop>(
+    rt: &R,
+    hub: &Mutex<Hub>,
+    servers: &[Mutex<ServerCell<N>>],
+    posts: &mut [Seat],
+    files: &[Vec<Mutex<MemDisk>>],
+    words: &mut Xoshiro256PlusPlus,
+) -> Result<bool, Fault>
+    requires posts { length posts.old ≡ length servers.now }
+    requires files { length files.now ≡ length servers.now }
+    ensures { length posts.new ≡ length posts.old }
+{
+    let mut some = false;
+    for i in 0..servers.len() {
+        match deliver(rt, hub, &servers[i], words.next_word())? {
+            Some(Act::Cut) => {
+                some = true;
+                cut(rt, &servers[i], &mut posts[i], &files[i])?;
+            }
+            Some(Act::None) => some = true,
+            None => {}
+        }
+    }
+    Ok(some)
+}
+
+/// Delivers a frame to a node: of those that it hasn't taken, the oldest first, the one at `word` mod
+/// their number. What the node then asks of its caller; `None` where there is no such frame.
+fn deliver<R: Wait, C: Node>(
+    rt: &R,
+    hub: &Mutex<Hub>,
+    node: &Mutex<C>,
+    word: u64,
+) -> Result<Option<Act>, Fault> {
+    let mut node = node.lock(rt);
+    let mut hub = hub.lock(rt);
+    let Some(position) = hub.pick(node.number(), word) else {
+        return Ok(None);
+    };
+    match node.deliver(&mut hub, position) {
+        Ok(told) => Ok(Some(told.act)),
+        Err(fault) => Err(fault),
+    }
+}
