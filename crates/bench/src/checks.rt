@@ -10,9 +10,10 @@ use std::time::CpuClock;
 use write_order::fill_block;
 
 /// How many bytes are checked and copied.
-const BYTES: u64 = 64 << 20;
+pub const BYTES: u64 = 64 << 20;
 
-const KEY: Key = Key {
+/// The key of the job.
+pub const KEY: Key = Key {
     run: RunNo(1),
     server: ServerNo(0),
     job: JobNo(0),
@@ -93,7 +94,8 @@ fn copy(target: &mut [u8], source: &[u8]) {
     }
 }
 
-fn job_of(verify: Verify, bs: u64) -> Result<JobRecord, Trouble> {
+/// A job that writes each block of a disk once.
+pub fn job_of(verify: Verify, bs: u64) -> Result<JobRecord, Trouble> {
     let blocks = BYTES / bs.max(1);
     let job = JobRecord::make(JobParts {
         kind: Kind::Sequential,
@@ -113,7 +115,7 @@ fn job_of(verify: Verify, bs: u64) -> Result<JobRecord, Trouble> {
 }
 
 /// A disk to which each write of the job was written.
-fn written(alloc: Global, job: &JobRecord) -> Result<MemDisk, Trouble> {
+pub fn written(alloc: Global, job: &JobRecord) -> Result<MemDisk, Trouble> {
     let mut disk = MemDisk::new(alloc);
     disk.power_on(1);
     let mut bytes = vec![in alloc; 0u8; job.bs() as usize]?;

@@ -1,16 +1,22 @@
 //! Measures the check of a disk, the issue of writes, frames in pieces, a server's steps, what a client
-//! takes and the events of a world, but only when it is given a word: what it then prints differs from run
-//! to run.
+//! takes, the events of a world, the writes of workers at servers under locks, checks by threads, and one
+//! list of all events, but only when it is given a word: what it then prints differs from run to run.
 //!
 //! `bench checks` times a check beside a copy of as many bytes, `bench issues` the slowest of a
 //! million calls of `issue`, `bench pieces` a text that is cut and comes together again beside a copy,
-//! `bench servers` the steps of a server, `bench clients` what a client takes, and `bench worlds` the
-//! events of a world; `bench rot` rots 60,000 sectors, for a reader of the process's memory.
+//! `bench servers` the steps of a server, `bench cells` those of a server under its lock, `bench workers`
+//! the writes of workers in threads, `bench clients` what a client takes, `bench worlds` the events of a
+//! world, `bench parallel` checks in threads, and `bench assemblies` one list of all events; `bench rot`
+//! rots 60,000 sectors, for a reader of the process's memory.
 #![tactic(auto)]
 
+mod assemblies;
+mod cells;
 mod checks;
 mod clients;
+mod hands;
 mod issues;
+mod parallel;
 mod pieces;
 mod rot;
 mod rounds;
@@ -22,7 +28,9 @@ use std::env;
 use std::fmt::Write;
 use std::process::ExitCode;
 use std::rt::Env;
-use std::time::CpuClock;
+use std::sync::Wait;
+use std::thread::Threads;
+use std::time::{Clock, CpuClock};
 use trouble::Trouble;
 
 fn main(rt: HostRuntime) -> ExitCode {
@@ -36,18 +44,26 @@ fn main(rt: HostRuntime) -> ExitCode {
 }
 
 /// Measures what the first word asks for.
-fn run<R: Env + AllocGlobal + Print + CpuClock>(rt: &R) -> Result<(), Trouble> {
+fn run<R: Env + AllocGlobal + Print + Clock + CpuClock + Threads + Wait + Sync>(
+    rt: &R,
+) -> Result<(), Trouble> {
     let words = env::args(rt)?.collect::<Vec<String>>(rt.alloc())?;
     match words.get(1).map(String::as_str) {
+        Some("assemblies") => assemblies::measure(rt),
+        Some("cells") => cells::measure(rt),
         Some("checks") => checks::measure(rt),
         Some("clients") => clients::measure(rt),
         Some("issues") => issues::measure(rt),
+        Some("parallel") => parallel::measure(rt),
         Some("pieces") => pieces::measure(rt),
         Some("rot") => rot::measure(rt),
         Some("servers") => servers::measure(rt),
+        Some("workers") => hands::measure(rt),
         Some("worlds") => worlds::measure(rt),
         _ => {
-            println!(rt; "give a word: checks, clients, issues, pieces, rot, servers or worlds")?;
+            println!(rt;
+                "give a word: assemblies, cells, checks, clients, issues, parallel, pieces, rot, servers, workers or worlds"
+            )?;
             Ok(())
         }
     }

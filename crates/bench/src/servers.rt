@@ -2,7 +2,7 @@
 //! and a Verify with the longest text: medians of five, in processor time.
 
 mod deliveries;
-mod writes;
+pub mod writes;
 
 use crate::rounds::{ROUNDS, median};
 use crate::trouble::Trouble;

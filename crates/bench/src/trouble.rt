@@ -1,7 +1,8 @@
 //! Why nothing was measured.
 
+use assembly::AssembleFault;
 use fc_base::Fault;
-use std::alloc::AllocError;
+use std::alloc::{AllocError, AllocFailed};
 use std::{fmt, io};
 
 #[derive(Drop)]
@@ -18,6 +19,8 @@ pub enum Trouble {
     NoBlock,
     /// The engine issued no write.
     NoWrite,
+    /// The server has no such seat.
+    NoSeat,
     /// The check found a fault in what was written.
     FaultFound,
     /// The bytes are no packet.
@@ -38,6 +41,7 @@ impl fmt::Display for Trouble {
             Trouble::NoKey => f.write_str("no job has the key"),
             Trouble::NoBlock => f.write_str("the disk has no such block"),
             Trouble::NoWrite => f.write_str("no write was issued"),
+            Trouble::NoSeat => f.write_str("the server has no such seat"),
             Trouble::FaultFound => f.write_str("the check found a fault"),
             Trouble::NoPacket => f.write_str("no packet was given"),
             Trouble::NoPiece => f.write_str("no piece was given"),
@@ -61,5 +65,17 @@ impl From<AllocError> for Trouble {
 impl From<Fault> for Trouble {
     fn from(fault: Fault) -> Trouble {
         Trouble::Refused(fault)
+    }
+}
+
+impl From<AssembleFault> for Trouble {
+    fn from(fault: AssembleFault) -> Trouble {
+        Trouble::Refused(fault.fault())
+    }
+}
+
+impl<T: Drop> From<AllocFailed<T>> for Trouble {
+    fn from(_failed: AllocFailed<T>) -> Trouble {
+        Trouble::NoMemory
     }
 }

@@ -23,7 +23,7 @@ const JOB: JobParts = JobParts {
 };
 
 /// The same job, in a job file.
-const TEXT: &[u8] = b"[a]\nrw=randwrite\nbs=4k\nsize=256m\nio_size=4096000000\nrandseed=7\n\
+pub const TEXT: &[u8] = b"[a]\nrw=randwrite\nbs=4k\nsize=256m\nio_size=4096000000\nrandseed=7\n\
     iodepth=16\nx_window=256\n";
 
 const KEY: Key = Key {
@@ -59,7 +59,7 @@ fn time_steps<R: AllocGlobal + CpuClock>(rt: &R) -> Result<u128, Trouble> {
 }
 
 /// The nanoseconds of all writes, by the engine alone.
-fn time_calls<R: AllocGlobal + CpuClock>(rt: &R) -> Result<u128, Trouble> {
+pub fn time_calls<R: AllocGlobal + CpuClock>(rt: &R) -> Result<u128, Trouble> {
     let mut engine = engine(rt.alloc())?;
     let start = rt.process_cpu_time()?;
     for _ in 0..JOB.total {
