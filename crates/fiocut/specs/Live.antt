@@ -1,5 +1,5 @@
 -- What the program answers to the two texts of a live run.
-use Rattle.std.specs.Prelude.{◌≡◌, ◌⊎◌, ◌<◌, ◌≤◌, ℕ, Bool, true, false, nat_lt, if◌then◌else◌, List, [], ◌∷◌, ◌++◌, length, Option, Some, None, Result, Ok, Err, codes, decimal}
+use Rattle.std.specs.Prelude.{◌≡◌, ◌⊎◌, ◌<◌, ◌≤◌, ℕ, Bool, true, false, nat_lt, if◌then◌else◌, List, [], ◌∷◌, ◌++◌, length, Option, Some, None, codes, decimal}
 use Rattle.std.specs.List.{flat_map, list_any}
 use Rattle.fc_base.specs.declared.fault.Fault.{Fault}
 use Rattle.fc_base.specs.declared.fault.Fault.TheVariants.{JobTooLong, JobNoMemory, WrongPhase, ReadError, Misfit}
@@ -11,7 +11,7 @@ use Rattle.job_file.specs.JobSet.{refusal_of, phase_in}
 use Rattle.net_script.specs.Printed.{report_words}
 use Rattle.net_script.specs.Runs.{Finishes}
 use Rattle.fleet.specs.declared.ends.End.{End}
-use Rattle.fleet.specs.Ends.{AreEnds}
+use Rattle.fleet.specs.Heard.{AreOfOneRun}
 use Rattle.fiocut.specs.declared.live.FleetSize.{FleetSize}
 use Rattle.fiocut.specs.declared.live.TheConstants.{MAX_INPUT}
 use Rattle.fiocut.specs.declared.refusal.Refusal.{Refusal}
@@ -106,17 +106,16 @@ pub record HasSoundTexts (input : List ℕ) : Type 0 where
   pub writes : IsSound Write writing
   pub reads : IsSound Read reading
 
--- What an input comes to: ends only where its texts are sound, or else why there are none.
-abbrev pub ComesTo : {X : Type 0} → Result X Refusal → List ℕ → Type 0
-ComesTo (Ok ends) input = HasSoundTexts input
-ComesTo (Err refusal) input = IsLiveRefusal input refusal
-
--- The texts have run at so many servers: a line is written for each job, by server and job, and the status
--- is theirs.
-pub record WritesEnds (servers : ℕ) (input : List ℕ) (old new : Option (List ℕ)) (status : ℕ) : Type 0 where
+-- Both texts of an input are sound, and the ends are what the client of a run by them has heard.
+pub record RunsTexts (servers : ℕ) (input : List ℕ) (ends : List End) : Type 0 where
   pub sound : HasSoundTexts input
+  pub are_ends : AreOfOneRun servers sound.writing sound.reading ends
+
+-- The texts have run at so many servers: a line is written for each job that is checked, by server and job,
+-- with what the client of that run has heard of it, and the status is theirs.
+pub record WritesEnds (servers : ℕ) (input : List ℕ) (old new : Option (List ℕ)) (status : ℕ) : Type 0 where
   pub ends : List End
-  pub are_ends : AreEnds servers ends
+  pub runs : RunsTexts servers input ends
   pub finishes : Finishes (ends_text ends) (ends_status ends) old new status
 
 -- The one line of a refusal is written, and the status is 2.

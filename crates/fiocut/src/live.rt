@@ -2,9 +2,8 @@
 
 ghost use Rattle.std.specs.Prelude.{◌≡◌, ◌+◌, IfOk, IfErr, IfSome};
 ghost use Rattle.bounded_input.specs.Input.{HasRead};
-ghost use Rattle.fleet.specs.Ends.{AreEnds};
 ghost use Rattle.job_file.specs.declared.job.Phase.TheVariants.{Write as Writes, Read as Reads};
-ghost use Rattle.fiocut.specs.Live.{IsFleetSize, IsSound, IsUnfit, IsRefusedFor, ComesTo, AnswersLive};
+ghost use Rattle.fiocut.specs.Live.{IsFleetSize, IsSound, IsUnfit, IsRefusedFor, IsLiveRefusal, RunsTexts, AnswersLive};
 
 mod ends;
 mod file_trigger;
@@ -91,8 +90,8 @@ fn ends_of_input<H: Threads + Wait + Sync, T: Trigger, R: Read>(
     reader: &mut R,
 ) -> Result<Vec<End>, Refusal>
     requires { IsFleetSize size }
-    ensures answer { IfSome (R.remaining reader.old) (ComesTo result) }
-    ensures ends { IfOk result (λ ends. AreEnds size.servers ends.items) }
+    ensures runs { IfSome (R.remaining reader.old) (λ input. IfOk result (λ ends. RunsTexts size.servers input ends.items)) }
+    ensures refused { IfSome (R.remaining reader.old) (λ input. IfErr result (IsLiveRefusal input)) }
     ensures read { HasRead (MAX_INPUT + 1) (R.remaining reader.old) (R.remaining reader.new) }
 {
     let input = read_input(alloc, reader, MAX_INPUT + 1, MAX_READS)?;
@@ -108,8 +107,8 @@ fn ends_of_texts<H: Threads + Wait + Sync, T: Trigger>(
     input: &[u8],
 ) -> Result<Vec<End>, Refusal>
     requires { IsFleetSize size }
-    ensures answer { ComesTo result input.now }
-    ensures ends { IfOk result (λ ends. AreEnds size.servers ends.items) }
+    ensures runs { IfOk result (λ ends. RunsTexts size.servers input.now ends.items) }
+    ensures refused { IfErr result (IsLiveRefusal input.now) }
 {
     if input.len() > MAX_INPUT {
         return Err(Refusal::from(Fault::JobTooLong));

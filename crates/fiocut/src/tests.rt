@@ -1,11 +1,11 @@
 //! What no clause shows: the printed texts, the exit statuses, the bounds of reading, and which
 //! command lines are read.
 
+mod commands;
 mod live;
 
-use crate::command::{Request, read_words, refuse_words};
+use crate::command::refuse_words;
 use crate::jobs::run_jobs;
-use crate::live::FleetSize;
 use crate::world::run_world;
 use fake_io::{Held, Source, failing, held_output, in_steps, interrupted, page_with, source_of};
 use std::alloc::{AllocError, Global};
@@ -214,26 +214,6 @@ fn answers_are_flushed(rt: HostRuntime) {
     assert!(rt; shows(&output, answer, 2, "bad command\n"));
 }
 
-/// Checks that no command is read from these words.
-fn expect_bad<R: Abort + AllocGlobal>(rt: &R, words: &[&str]) {
-    assert!(rt; read_words(rt.alloc(), words).is_none(), "{words:?}");
-}
-
-#[test]
-fn good_commands(rt: HostRuntime) {
-    let words = ["fiocut", "jobs"];
-    assert!(rt; read_words(rt.alloc(), &words) == Some(Request::Jobs));
-    let words = ["fiocut", "world"];
-    assert!(rt; read_words(rt.alloc(), &words) == Some(Request::World));
-    let words = ["fiocut", "live", "8", "16", "a path"];
-    let size = FleetSize {
-        servers: 8,
-        workers: 16,
-    };
-    let path = "a path";
-    assert!(rt; read_words(rt.alloc(), &words) == Some(Request::Live { size, path }));
-}
-
 const SCRIPT: &[u8] = b"servers 1\ncut 0\nissue 0 0\nfrob\n";
 
 const SCRIPT_LINES: &str = "\
@@ -264,46 +244,5 @@ fn scripts_that_cannot_be_answered(rt: HostRuntime) {
         let answer = run_world(rt.alloc(), &mut source_of(SCRIPT), &mut page);
         assert!(rt; answer.is_err() && page.late_writes == 0);
         assert!(rt; SCRIPT_LINES.as_bytes().starts_with(page.text.as_slice()));
-    }
-}
-
-#[test]
-fn bad_commands(rt: HostRuntime) {
-    let bad: [&[&str]; 32] = [
-        &[],
-        &["fiocut"],
-        &["fiocut", ""],
-        &["fiocut", "job"],
-        &["fiocut", "Jobs"],
-        &["fiocut", "jobs "],
-        &["fiocut", "jobs", ""],
-        &["fiocut", "jobs", "x"],
-        &["fiocut", "jobs", "jobs"],
-        &["fiocut", "jobs", "--"],
-        &["fiocut", "jobs", "-v"],
-        &["fiocut", "-x", "jobs"],
-        &["fiocut", "--", "jobs"],
-        &["fiocut", "help"],
-        &["fiocut", "help", "jobs"],
-        &["fiocut", "-h"],
-        &["fiocut", "--help"],
-        &["fiocut", "jobs", "--help"],
-        &["fiocut", "--version"],
-        &["fiocut", "world", "x"],
-        &["fiocut", "worlds"],
-        &["fiocut", "jobs", "world"],
-        &["fiocut", "live"],
-        &["fiocut", "live", "1", "1"],
-        &["fiocut", "live", "0", "1", "path"],
-        &["fiocut", "live", "9", "1", "path"],
-        &["fiocut", "live", "1", "0", "path"],
-        &["fiocut", "live", "1", "17", "path"],
-        &["fiocut", "live", "one", "1", "path"],
-        &["fiocut", "live", "-1", "1", "path"],
-        &["fiocut", "live", "4294967297", "1", "path"],
-        &["fiocut", "live", "1", "1", "path", "x"],
-    ];
-    for words in bad {
-        expect_bad(&rt, words);
     }
 }

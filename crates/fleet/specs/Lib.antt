@@ -1,2 +1,4 @@
+pub mod Asked
 pub mod Ends
+pub mod Heard
 pub mod OneRun

@@ -1,13 +1,21 @@
 //! How the checks of a fleet have ended.
 
-ghost use Rattle.std.specs.Prelude.{◌≡◌, ◌≤◌, ◌++◌, map, IfOk, OnOk};
-ghost use Rattle.fleet.specs.Ends.{AreEnds, place_of, jobs_of};
+ghost use Rattle.std.specs.Prelude.{◌≡◌, min, length, List, IfOk, OnOk};
+ghost use Rattle.server_core.specs.History.{Opening};
+ghost use Rattle.server_core.specs.Answers.{looked};
+ghost use Rattle.server_core.specs.Hearing.{FrameEntry, packets_heard};
+ghost use Rattle.server_core.specs.FrameEnds.{StandsFor};
+ghost use Rattle.disk_model.specs.MemNotes.{note_of};
+ghost use Rattle.fleet.specs.Ends.{AddsEnds, Checks, IsEndAt, Refuses, jobs_checked, place_of, report_of};
+ghost use Rattle.fleet.specs.Heard.{AreHeard};
 
-use crate::nodes::{Client, Nodes, Server, add};
+use crate::left::Left;
+use crate::nodes::{Server, add};
+use client_core::Received;
 use disk_model::MemNotes;
 use fc_base::{Attempt, CheckReport, Fault, JobNo, MAX_JOBS, ServerNo};
+use server_core::Progress;
 use std::alloc::Global;
-use std::sync::Wait;
 
 /// How the check of a job has ended: by its report, or by none, where the job is of another shape than
 /// the state that was kept of it (`Misfit`).
@@ -18,39 +26,49 @@ pub struct End {
     pub report: Option<CheckReport>,
 }
 
-/// The ends of an attempt, by server and job. One lock is taken at a time.
-pub(crate) fn ends_of<R: Wait>(
-    rt: &R,
-    alloc: Global,
-    nodes: &Nodes,
-    servers: u32,
-    attempt: Attempt,
-) -> Result<Vec<End>, Fault>
-    ensures { IfOk result (λ ends. AreEnds servers ends.items) }
+/// The ends of the last attempt that the client has begun, by server and job, from so many servers which
+/// are left with it: of each job of a server's open check the report that the client has heard.
+///
+/// `NodeOff`: a node is off. `NotInFlight`: a server has no open check of that attempt, or one whose job has
+/// no report and wasn't refused. `NoServer`: a server isn't there. `NoMemory`.
+pub(crate) fn ends_of(alloc: Global, left: &Left, servers: u32) -> Result<Vec<End>, Fault>
+    ensures { IfOk result (λ ends. AreHeard left.now servers ends.items) }
 {
+    let Some(core) = left.client.client() else {
+        return Err(Fault::NodeOff);
+    };
+    let (attempt, reports) = (Attempt(core.attempts_used()), core.reports());
     let mut ends = Vec::new(alloc);
     for number in 0..servers {
-        let jobs = jobs_at(rt, nodes, number, attempt)?;
-        let client = nodes.client.lock(rt);
-        add_ends(&client, attempt, number, jobs, &mut ends)?;
+        add_ends(&left.servers, reports, attempt, number, &mut ends)?;
     }
     Ok(ends)
 }
 
-/// How many jobs the open check of a server has, which is of this attempt.
-fn jobs_at<R: Wait>(rt: &R, nodes: &Nodes, number: u32, attempt: Attempt) -> Result<u32, Fault>
-    ensures some { IfOk result (λ jobs. 1 ≤ jobs) }
-    ensures few { IfOk result (λ jobs. jobs ≤ 16) }
+/// Adds the ends of a server's jobs.
+fn add_ends(
+    servers: &[Server],
+    reports: &[Received],
+    attempt: Attempt,
+    number: u32,
+    ends: &mut Vec<End>,
+) -> Result<(), Fault>
+    ensures { OnOk result (AddsEnds servers.now reports.now attempt number ends.old.items ends.new.items) }
 {
-    let Some(server) = nodes.servers.get(number as usize) else {
+    let Some(server) = servers.get(number as usize) else {
         return Err(Fault::NoServer);
     };
-    jobs_in(&server.lock(rt), attempt)
+    let jobs = jobs_in(server, attempt)?;
+    for job in 0..jobs {
+        let end = end_of(server, reports, attempt, ServerNo(number), JobNo(job))?;
+        add(ends, end)?;
+    }
+    Ok(())
 }
 
+/// How many jobs the open check of a server has, which is of this attempt.
 fn jobs_in(server: &Server, attempt: Attempt) -> Result<u32, Fault>
-    ensures some { IfOk result (λ jobs. 1 ≤ jobs) }
-    ensures few { IfOk result (λ jobs. jobs ≤ 16) }
+    ensures { IfOk result (λ jobs. Checks attempt jobs server.now) }
 {
     let Some(core) = server.server() else {
         return Err(Fault::NodeOff);
@@ -64,7 +82,8 @@ fn jobs_in(server: &Server, attempt: Attempt) -> Result<u32, Fault>
 
 /// How many jobs the open check of a server has.
 fn count_of(core: &server_core::Server<MemNotes>) -> u32
-    ensures { result ≤ 16 }
+    ensures { (o : Opening) (past : List FrameEntry) → StandsFor note_of core.now o past →
+        result ≡ min 16 (length (jobs_checked o (looked (packets_heard o past)))) }
 {
     for job in 0..MAX_JOBS {
         if core.check_job(JobNo(job)).is_none() {
@@ -74,38 +93,52 @@ fn count_of(core: &server_core::Server<MemNotes>) -> u32
     MAX_JOBS
 }
 
-/// Adds the ends of a server's jobs.
-fn add_ends(
-    client: &Client,
+/// The end of a server's job.
+fn end_of(
+    server: &Server,
+    reports: &[Received],
     attempt: Attempt,
-    server: u32,
-    jobs: u32,
-    ends: &mut Vec<End>,
-) -> Result<(), Fault>
-    ensures { OnOk result (map place_of ends.new.items ≡ map place_of ends.old.items ++ jobs_of server jobs) }
+    number: ServerNo,
+    job: JobNo,
+) -> Result<End, Fault>
+    ensures place { IfOk result (λ end. place_of end ≡ (number, job)) }
+    ensures end { IfOk result (IsEndAt server.now reports.now attempt) }
 {
-    for job in 0..jobs {
-        let end = End {
-            server: ServerNo(server),
-            job: JobNo(job),
-            report: report_of(client, attempt, ServerNo(server), JobNo(job)),
-        };
-        add(ends, end)?;
+    let report = report_of(reports, attempt, number, job);
+    if report.is_none() {
+        look_for_refusal(server, job)?;
     }
-    Ok(())
+    Ok(End {
+        server: number,
+        job,
+        report,
+    })
 }
 
-/// The report of a job in an attempt, as the client has heard it.
+/// The report of a job, as the client has heard it.
 fn report_of(
-    client: &Client,
+    reports: &[Received],
     attempt: Attempt,
     server: ServerNo,
     job: JobNo,
-) -> Option<CheckReport> {
-    for heard in client.client()?.reports() {
-        if heard.attempt == attempt && heard.server == server && heard.job == job {
-            return Some(heard.report);
-        }
+) -> Option<CheckReport>
+    ensures { result ≡ report_of reports.now attempt server job }
+{
+    let received = reports.iter().find(|received| {
+        received.attempt == attempt && received.server == server && received.job == job
+    })?;
+    Some(received.report)
+}
+
+/// Looks that a server has refused the state that came for a job.
+fn look_for_refusal(server: &Server, job: JobNo) -> Result<(), Fault>
+    ensures { OnOk result (Refuses job server.now) }
+{
+    let Some(core) = server.server() else {
+        return Err(Fault::NodeOff);
+    };
+    match core.check_progress(job) {
+        Some(Progress::Refused(_)) => Ok(()),
+        _ => Err(Fault::NotInFlight),
     }
-    None
 }

@@ -1,11 +1,9 @@
 //! What the calling thread does.
 
-ghost use Rattle.std.specs.Prelude.{◌≡◌, ◌≤◌, IfOk};
-ghost use Rattle.fleet.specs.Ends.{AreEnds};
+ghost use Rattle.std.specs.Prelude.{◌≤◌};
 
 use crate::awaited::{Awaited, wait_for};
 use crate::checks::check_all;
-use crate::ends::{End, ends_of};
 use crate::flags::Flags;
 use crate::nodes::Nodes;
 use crate::trigger::Trigger;
@@ -17,11 +15,10 @@ use std::sync::Wait;
 use std::thread;
 use std::thread::Threads;
 
-/// What a fleet is to do: how many servers it has, how many workers each of them, and the job files by
-/// which it writes and checks.
+/// What a fleet is to do: how many workers each of its servers has, and the job files by which it writes
+/// and checks.
 #[derive(Clone, Copy)]
 pub(crate) struct Plan<'w, 'r> {
-    pub servers: u32,
     pub workers: u32,
     pub write: &'w [u8],
     pub read: &'r [u8],
@@ -29,7 +26,8 @@ pub(crate) struct Plan<'w, 'r> {
 
 /// Begins a run, and lets the workers start once all servers write; triggers it with a cut once the
 /// trigger is pulled or all workers are done; verifies it once all servers were started again, and checks
-/// their files once they have their states. How all that has ended, as the client has heard it.
+/// their files once they have their states. It ends once the client has heard how each check has ended, and
+/// answers the run.
 pub(crate) fn run<R: Threads + Wait + Sync, T: Trigger>(
     rt: &R,
     alloc: Global,
@@ -37,13 +35,11 @@ pub(crate) fn run<R: Threads + Wait + Sync, T: Trigger>(
     flags: &Flags,
     plan: Plan<'_, '_>,
     trigger: &mut T,
-) -> Result<Vec<End>, Fault>
+) -> Result<RunNo, Fault>
     requires some { 1 ≤ plan.workers }
     requires few { plan.workers ≤ 16 }
-    ensures { IfOk result (λ ends. AreEnds plan.entry.servers ends.items) }
 {
     let Plan {
-        servers,
         workers,
         write,
         read,
@@ -58,7 +54,7 @@ pub(crate) fn run<R: Threads + Wait + Sync, T: Trigger>(
     wait_for(rt, nodes, flags, &Awaited::Ready(attempt))?;
     check_all(rt, alloc, nodes, attempt, workers)?;
     wait_for(rt, nodes, flags, &Awaited::Reported(attempt))?;
-    ends_of(rt, alloc, nodes, servers, attempt)
+    Ok(run)
 }
 
 /// The text of a job file.

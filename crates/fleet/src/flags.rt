@@ -1,9 +1,6 @@
 //! What the threads of a fleet tell each other.
 
-ghost use Rattle.std.specs.Prelude.{◌≡◌, IfOk, Ok};
-
-use crate::ends::End;
-use fc_base::Fault;
+use fc_base::{Fault, RunNo};
 use std::sync::atomic::{AtomicBool, Ordering};
 use std::sync::{Mutex, Wait};
 
@@ -47,24 +44,18 @@ impl Flags {
     }
 
     /// The errand has ended so, and with it the fleet.
-    pub fn stop_after<R: Wait>(&self, rt: &R, ends: &Result<Vec<End>, Fault>) {
-        if let Err(fault) = ends {
+    pub fn stop_after<R: Wait>(&self, rt: &R, ended: &Result<RunNo, Fault>) {
+        if let Err(fault) = ended {
             self.fail(rt, *fault);
         }
         self.stop();
     }
 
-    /// These ends, or the first fault with which a thread has ended.
-    pub fn or_fault<R: Wait>(
-        &self,
-        rt: &R,
-        ends: Result<Vec<End>, Fault>,
-    ) -> Result<Vec<End>, Fault>
-        ensures { IfOk result (λ after. ends ≡ Ok after) }
-    {
+    /// How the errand has ended, or the first fault with which a thread has.
+    pub fn or_fault<R: Wait>(&self, rt: &R, ended: Result<RunNo, Fault>) -> Result<RunNo, Fault> {
         match self.fault(rt) {
             Some(fault) => Err(fault),
-            None => ends,
+            None => ended,
         }
     }
 

@@ -1,12 +1,14 @@
 //! A fleet, from the text of a run to the reports of its checks.
 
 ghost use Rattle.std.specs.Prelude.{◌≡◌, ◌≤◌, length, IfOk};
-ghost use Rattle.fleet.specs.Ends.{AreEnds};
+ghost use Rattle.fleet.specs.Asked.{IsAsked};
+ghost use Rattle.fleet.specs.Heard.{AreHeard, AreOfOneRun};
 ghost use Rattle.fleet.specs.OneRun.{IsOneRun};
 
+use crate::asked::look_for_errand;
 use crate::crew::{Hand, work_all};
 use crate::cut::cut_all;
-use crate::ends::End;
+use crate::ends::{End, ends_of};
 use crate::errand;
 use crate::errand::Plan;
 use crate::flags::Flags;
@@ -14,7 +16,7 @@ use crate::left::{Left, take_apart};
 use crate::nodes::{Nodes, Opened, open};
 use crate::post::run_post;
 use crate::trigger::Trigger;
-use fc_base::{Fault, MAX_TEXT};
+use fc_base::{Fault, MAX_TEXT, RunNo};
 use node_threads::Seat;
 use std::alloc::Global;
 use std::sync::Wait;
@@ -29,12 +31,13 @@ const SEED: u64 = 1;
 /// client begins a run by the text `write`; the workers write, each write once `gate` lets it through,
 /// until the trigger is pulled or all of them are done; each server sends its states, is cut off and
 /// started again; then the run is verified by the text `read`. How the check of each job has ended, by
-/// server and job.
+/// server and job, as the client has heard it.
 ///
 /// `JobTooLong`: a text is too long. A server that refuses a request ends the run with that fault, as
 /// `BadJobs` for a text that isn't a job file of its phase. So does a worker or the post that ends with
 /// one, as `TurnsSpent` of a gate that doesn't open. `NoMemory` is want of memory, or of a thread.
-/// `Unlike`: the nodes' histories and the network's journal aren't one list of events.
+/// `Unlike`: the nodes' histories and the network's journal aren't one list of events. `NoSuchRun`: the
+/// client was asked for something else than this run. Neither ever comes of what is here.
 pub fn run_fleet<R: Threads + Wait + Sync, T: Trigger, G: Gate + Sync>(
     rt: &R,
     alloc: Global,
@@ -47,7 +50,7 @@ pub fn run_fleet<R: Threads + Wait + Sync, T: Trigger, G: Gate + Sync>(
 ) -> Result<Vec<End>, Fault>
     requires servers { (1 ≤ servers) × (servers ≤ 8) }
     requires workers { (1 ≤ workers) × (workers ≤ 16) }
-    ensures { IfOk result (λ ends. AreEnds servers ends.items) }
+    ensures { IfOk result (λ ends. AreOfOneRun servers write.now read.now ends.items) }
 {
     let (ends, _left) = run_and_leave(rt, alloc, servers, workers, write, read, trigger, gate)?;
     Ok(ends)
@@ -66,14 +69,14 @@ pub fn run_and_leave<R: Threads + Wait + Sync, T: Trigger, G: Gate + Sync>(
 ) -> Result<(Vec<End>, Left), Fault>
     requires servers { (1 ≤ servers) × (servers ≤ 8) }
     requires workers { (1 ≤ workers) × (workers ≤ 16) }
-    ensures ends { IfOk result (λ ran. AreEnds servers ran.0.items) }
+    ensures heard { IfOk result (λ ran. AreHeard ran.1 servers ran.0.items) }
     ensures one_run { IfOk result (λ ran. IsOneRun ran.1) }
+    ensures asked { IfOk result (λ ran. IsAsked ran.1.client write.now read.now) }
 {
     if write.len() > MAX_TEXT || read.len() > MAX_TEXT {
         return Err(Fault::JobTooLong);
     }
     let plan = Plan {
-        servers,
         workers,
         write,
         read,
@@ -83,17 +86,21 @@ pub fn run_and_leave<R: Threads + Wait + Sync, T: Trigger, G: Gate + Sync>(
         posts,
         hands,
     } = open(alloc, servers, workers)?;
-    let Ran { ends, posts, hands } = run_threads(
-        rt, alloc, &nodes, posts, hands, plan, trigger, gate,
-    )?;
+    let Ran {
+        ended,
+        posts,
+        hands,
+    } = run_threads(rt, alloc, &nodes, posts, hands, plan, trigger, gate)?;
     let left = take_apart(alloc, nodes, posts, hands)?;
-    Ok((ends?, left))
+    look_for_errand(&left.client, ended?, write, read)?;
+    let ends = ends_of(alloc, &left, servers)?;
+    Ok((ends, left))
 }
 
-/// The ends of a fleet's checks, or the first fault of its threads; and the seats, which come back.
+/// How the threads of a fleet have ended, by the first fault of one; and the seats, which come back.
 #[derive(Drop)]
 struct Ran {
-    ends: Result<Vec<End>, Fault>,
+    ended: Result<RunNo, Fault>,
     posts: Vec<Seat>,
     hands: Vec<Hand>,
 }
@@ -114,7 +121,6 @@ fn run_threads<R: Threads + Wait + Sync, T: Trigger, G: Gate + Sync>(
     requires files { length nodes.now.files.items ≡ length nodes.now.servers.items }
     requires some { 1 ≤ plan.workers }
     requires few { plan.workers ≤ 16 }
-    ensures { IfOk result (λ ran. IfOk ran.ends (λ ends. AreEnds plan.entry.servers ends.items)) }
 {
     let flags = Flags::new();
     let flags = &flags;
@@ -126,7 +132,6 @@ fn run_threads<R: Threads + Wait + Sync, T: Trigger, G: Gate + Sync>(
             requires files { length nodes.now.files.items ≡ length nodes.now.servers.items }
             requires some { 1 ≤ plan.workers }
             requires few { plan.workers ≤ 16 }
-            ensures { IfOk result (λ ran. IfOk ran.ends (λ ends. AreEnds plan.entry.servers ends.items)) }
         {
             let post = move || -> Vec<Seat>
                 requires posts { length posts.items ≡ length nodes.now.servers.items }
@@ -140,11 +145,15 @@ fn run_threads<R: Threads + Wait + Sync, T: Trigger, G: Gate + Sync>(
                 flags.stop();
                 return Err(Fault::NoMemory);
             };
-            let ends = errand::run(rt, alloc, nodes, flags, plan, trigger);
-            flags.stop_after(rt, &ends);
+            let ended = errand::run(rt, alloc, nodes, flags, plan, trigger);
+            flags.stop_after(rt, &ended);
             let (posts, hands) = (post.join(rt), crew.join(rt));
-            let ends = flags.or_fault(rt, ends);
-            Ok(Ran { ends, posts, hands })
+            let ended = flags.or_fault(rt, ended);
+            Ok(Ran {
+                ended,
+                posts,
+                hands,
+            })
         },
     )
 }

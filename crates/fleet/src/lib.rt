@@ -10,6 +10,7 @@
 //! by asking over and over; each takes one lock at a time, but for a node's and then the hub's.
 #![tactic(auto)]
 
+mod asked;
 mod awaited;
 mod checks;
 mod crew;

@@ -1,0 +1,37 @@
+-- What the client of a fleet has heard of its checks.
+use Rattle.std.specs.Prelude.{◌≡◌, ℕ, List}
+use Rattle.client_core.specs.declared.received.Received.{Received}
+use Rattle.client_core.specs.History.{Opening}
+use Rattle.client_core.specs.Hearing.{FrameEntry, packets_heard}
+use Rattle.client_core.specs.Life.{life}
+use Rattle.client_core.specs.Reports.{reports}
+use Rattle.client_core.specs.Words.{looked, noted}
+use Rattle.client_cell.specs.Cells.{ClientLog, IsReplay}
+use Rattle.fleet.specs.declared.ends.End.{End}
+use Rattle.fleet.specs.declared.left.Left.{Left}
+use Rattle.fleet.specs.Asked.{IsAsked}
+use Rattle.fleet.specs.Ends.{AreEnds}
+use Rattle.fleet.specs.OneRun.{IsOneRun}
+
+-- By its history, a client has begun this attempt last, and these reports have come.
+pub record HasHeard (client : ClientLog) (attempt : ℕ) (came : List Received) : Type 0 where
+  pub o : Opening
+  pub past : List FrameEntry
+  pub replay : IsReplay client o past
+  pub attempt_is : attempt ≡ (noted o (looked (packets_heard o past))).attempts
+  pub reports_are : came ≡ reports (life o (looked (packets_heard o past)))
+
+-- The ends of so many servers are what the client that is left has heard in its last attempt.
+pub record AreHeard (left : Left) (servers : ℕ) (ends : List End) : Type 0 where
+  pub attempt : ℕ
+  pub came : List Received
+  pub heard : HasHeard left.client attempt came
+  pub ends_are : AreEnds left.servers.items came attempt servers ends
+
+-- The ends of so many servers are what the client has heard in one run, which it was asked to begin and to
+-- verify by these texts.
+pub record AreOfOneRun (servers : ℕ) (write read : List ℕ) (ends : List End) : Type 0 where
+  pub left : Left
+  pub one_run : IsOneRun left
+  pub asked : IsAsked left.client write read
+  pub heard : AreHeard left servers ends
