@@ -1,11 +1,13 @@
 //! What no clause shows: that nodes which ran are assembled where memory is there, in the order that can be
 //! counted by hand; and which node is told of, and which place, where they don't agree.
 
+mod cells;
+mod play;
 mod plays;
 mod stage;
 mod unlike;
 
-use plays::{LOST, LOST_ORDER, RUN, RUN_ORDER};
+use plays::{LOST, LOST_ORDER, REPEATED, REPEATED_ORDER, RUN, RUN_ORDER};
 use stage::{Shown, outcome_of};
 use unlike::UNLIKE;
 
@@ -22,6 +24,12 @@ fn a_save_that_failed_stands(rt: HostRuntime) {
         let answer = outcome_of(rt.alloc(), &play, &LOST_ORDER);
         assert!(rt; answer == Some(Shown::Order), "{landed} {answer:?}");
     }
+}
+
+#[test]
+fn entries_put_in_by_hand(rt: HostRuntime) {
+    let answer = outcome_of(rt.alloc(), &REPEATED, &REPEATED_ORDER);
+    assert!(rt; answer == Some(Shown::Order), "{answer:?}");
 }
 
 #[test]

@@ -1,6 +1,6 @@
 //! Plays, and their events in the order that the journal gives.
 
-use super::stage::{Handed, Play, Step};
+use super::play::{Handed, Play, Step};
 use Step::*;
 
 /// The nodes' numbers.
@@ -82,3 +82,28 @@ pub const LOST: Play = Play {
 };
 
 pub const LOST_ORDER: [(u32, u64); 5] = [(CLIENT, 0), (0, 0), (CLIENT, 1), (0, 1), (0, 3)];
+
+/// A frame comes to the client twice more, from a hub elsewhere with the same frames: the entries of these
+/// events are put into the journal by hand, in their order.
+pub const REPEATED: Play = Play {
+    steps: &[
+        Begin,
+        ToServer(0),
+        ToClient,
+        RivalBeginsAlike,
+        ToTwinElsewhere,
+        ToClientElsewhere(1),
+        ToClientElsewhere(1),
+        Forged(CLIENT, 2, 1),
+        Forged(CLIENT, 3, 1),
+    ],
+    ..LOST
+};
+
+pub const REPEATED_ORDER: [(u32, u64); 5] = [
+    (CLIENT, 0),
+    (0, 0),
+    (CLIENT, 1),
+    (CLIENT, 2),
+    (CLIENT, 3),
+];

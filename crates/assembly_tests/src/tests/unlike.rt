@@ -1,7 +1,7 @@
 //! Plays after which the nodes and the hub are unlike.
 
+use super::play::{Handed, Play, Step};
 use super::plays::{FIRST, LOST, OWN};
-use super::stage::{Handed, Play, Step};
 use Step::*;
 
 /// The client's number.
@@ -51,7 +51,7 @@ const ELSEWHERE: Handed = Handed {
 };
 
 /// Plays, and what is unlike behind each.
-pub const UNLIKE: [Case; 14] = [
+pub const UNLIKE: [Case; 15] = [
     // The hub lacks the entry of the client's second event: the last, and with others behind it.
     Case {
         is_used: false,
@@ -86,38 +86,56 @@ pub const UNLIKE: [Case; 14] = [
     // a server that has no cell, and of a number that no server has.
     Case {
         is_used: false,
-        steps: &[Begin, Forged(0, 5)],
+        steps: &[Begin, Forged(0, 5, 0)],
         handed: FIRST,
         node: 0,
         at: 5,
     },
     Case {
         is_used: false,
-        steps: &[Begin, Issue(0), Forged(0, 0)],
+        steps: &[Begin, Issue(0), Forged(0, 0, 0)],
         handed: FIRST,
         node: 0,
         at: 0,
     },
     Case {
         is_used: false,
-        steps: &[Begin, ToServer(0), Forged(0, 0)],
+        steps: &[Begin, ToServer(0), Forged(0, 0, 0)],
         handed: FIRST,
         node: 0,
         at: 0,
     },
     Case {
         is_used: false,
-        steps: &[Begin, ToServer(0), Forged(1, 0)],
+        steps: &[Begin, ToServer(0), Forged(1, 0, 0)],
         handed: FIRST,
         node: 1,
         at: 0,
     },
     Case {
         is_used: false,
-        steps: &[Begin, Forged(77, 3)],
+        steps: &[Begin, Forged(77, 3, 0)],
         handed: FIRST,
         node: 77,
         at: 3,
+    },
+    // It has the client's third and fourth entries in each other's place.
+    Case {
+        is_used: false,
+        steps: &[
+            Begin,
+            ToServer(0),
+            ToClient,
+            RivalBeginsAlike,
+            ToTwinElsewhere,
+            ToClientElsewhere(1),
+            ToClientElsewhere(1),
+            Forged(CLIENT, 3, 1),
+            Forged(CLIENT, 2, 1),
+        ],
+        handed: FIRST,
+        node: CLIENT,
+        at: 2,
     },
     // The cell is of another server; there are more than the client drives.
     Case {
