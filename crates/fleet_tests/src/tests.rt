@@ -1,23 +1,18 @@
 //! What no clause of a fleet shows: that its threads do their work.
 
-ghost use Rattle.std.specs.Prelude.{◌≤◌};
-
 mod gates;
 mod replay;
+mod story;
 
-use fc_base::{CheckReport, Fault, ReportEnd};
-use fleet::{End, Gate, Left, OpenGate, run_and_leave, run_fleet};
+use fc_base::Fault;
+use fleet::{End, Left, OpenGate, run_and_leave};
 use gates::{Always, Behind, Shut, Write};
 use replay::sends_the_same;
 use std::alloc::Global;
 use std::process::Abort;
 use std::sync::Wait;
 use std::thread::Threads;
-
-/// Two writes to two blocks, at most two at the same time.
-const WRITING: &[u8] = b"[a]\nrw=write\nbs=512\nsize=1k\niodepth=2\n";
-
-const READING: &[u8] = b"[a]\nrw=read\nbs=512\nsize=1k\nverify_state_load=1\n";
+use story::{READING, Row, STORED, Story, WRITING, checked, fault_of, told, unlike};
 
 /// Two jobs; the second is read in larger blocks than it was written.
 const WRITING_TWO: &[u8] = b"[a]\nrw=write\nbs=512\nsize=1k\n[b]\nrw=write\nbs=512\nsize=2k\n";
@@ -30,127 +25,6 @@ const REVERSED: [(Write, Write); 1] = [((0, 0), (0, 1))];
 
 /// The second write of each server waits for the first of the other.
 const CROSSWISE: [(Write, Write); 2] = [((0, 1), (1, 0)), ((1, 1), (0, 0))];
-
-/// A fleet: how many servers and workers, the texts, and whether its trigger is pulled from the start.
-#[derive(Clone, Copy)]
-struct Story {
-    servers: u32,
-    workers: u32,
-    texts: (&'static [u8], &'static [u8]),
-    pulled: bool,
-}
-
-/// The end of a check: its server and job, and how many blocks were checked where none was faulty and
-/// the check went through; `None` where there is no report.
-type Row = (u32, u32, Option<u32>);
-
-/// The two jobs of two writes.
-const STORED: Story = Story {
-    servers: 2,
-    workers: 2,
-    texts: (WRITING, READING),
-    pulled: false,
-};
-
-/// What comes of a story, which is told once more where memory runs out.
-fn told<R: Threads + Wait + Sync, G: Gate + Sync>(
-    rt: &R,
-    alloc: Global,
-    story: &Story,
-    gate: &G,
-) -> Result<Vec<End>, Fault>
-    requires servers { (1 ≤ story.now.servers) × (story.now.servers ≤ 8) }
-    requires workers { (1 ≤ story.now.workers) × (story.now.workers ≤ 16) }
-{
-    match tell(rt, alloc, story, gate) {
-        Err(Fault::NoMemory) => tell(rt, alloc, story, gate),
-        ends => ends,
-    }
-}
-
-fn tell<R: Threads + Wait + Sync, G: Gate + Sync>(
-    rt: &R,
-    alloc: Global,
-    story: &Story,
-    gate: &G,
-) -> Result<Vec<End>, Fault>
-    requires servers { (1 ≤ story.now.servers) × (story.now.servers ≤ 8) }
-    requires workers { (1 ≤ story.now.workers) × (story.now.workers ≤ 16) }
-{
-    let mut trigger = Always(story.pulled);
-    let (write, read) = story.texts;
-    run_fleet(
-        rt,
-        alloc,
-        story.servers,
-        story.workers,
-        write,
-        read,
-        &mut trigger,
-        gate,
-    )
-}
-
-/// How many blocks a check went through without a fault.
-fn checked(report: &CheckReport) -> Option<u32> {
-    if report.faults() == 0 && report.end() == ReportEnd::Whole {
-        Some(report.checked())
-    } else {
-        None
-    }
-}
-
-/// The first end that isn't as its row has it, where there are just as many; the number of ends where
-/// there aren't. `None`: all are.
-fn first_unlike(ends: &[End], rows: &[Row]) -> Option<usize> {
-    if ends.len() != rows.len() {
-        return Some(ends.len());
-    }
-    ends.iter()
-        .zip(rows)
-        .position(|(end, row)| !is_row(end, row))
-}
-
-fn is_row(end: &End, row: &Row) -> bool {
-    let (server, job, wanted) = *row;
-    let sound = match (&end.report, wanted) {
-        (Some(report), Some(blocks)) => checked(report) == Some(blocks),
-        (None, None) => true,
-        _ => false,
-    };
-    end.server.0 == server && end.job.0 == job && sound
-}
-
-/// The first end of a story that isn't as its row has it.
-fn unlike<R: Threads + Wait + Sync, G: Gate + Sync>(
-    rt: &R,
-    alloc: Global,
-    story: &Story,
-    gate: &G,
-    rows: &[Row],
-) -> Result<Option<usize>, Fault>
-    requires servers { (1 ≤ story.now.servers) × (story.now.servers ≤ 8) }
-    requires workers { (1 ≤ story.now.workers) × (story.now.workers ≤ 16) }
-{
-    let ends = told(rt, alloc, story, gate)?;
-    Ok(first_unlike(&ends, rows))
-}
-
-/// The fault that ends the fleet.
-fn fault_of<R: Threads + Wait + Sync, G: Gate + Sync>(
-    rt: &R,
-    alloc: Global,
-    story: &Story,
-    gate: &G,
-) -> Option<Fault>
-    requires servers { (1 ≤ story.now.servers) × (story.now.servers ≤ 8) }
-    requires workers { (1 ≤ story.now.workers) × (story.now.workers ≤ 16) }
-{
-    match told(rt, alloc, story, gate) {
-        Ok(_) => None,
-        Err(fault) => Some(fault),
-    }
-}
 
 #[test]
 fn the_stored_run(rt: HostRuntime) {
