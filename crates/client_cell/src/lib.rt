@@ -10,6 +10,3 @@ mod task;
 pub use cell::ClientCell;
 pub use request::Request;
 pub use task::Task;
-
-#[cfg(test)]
-mod tests;

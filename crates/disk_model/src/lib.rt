@@ -36,6 +36,3 @@ pub use left::Left;
 pub use mem_disk::MemDisk;
 pub use mem_notes::MemNotes;
 pub use notes::Notes;
-
-#[cfg(test)]
-mod tests;

@@ -35,6 +35,3 @@ pub use marks::Marks;
 pub use numbers::{Attempt, JobNo, Key, RunNo, Seq, ServerNo};
 pub use record::{JobParts, JobRecord, Kind, Verify};
 pub use report::{Blocks, CheckReport, ReportEnd, ReportParts};
-
-#[cfg(test)]
-mod tests;

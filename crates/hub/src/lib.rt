@@ -21,6 +21,3 @@ mod store;
 pub use hub::Hub;
 pub use law::{frames_are_readable, frames_are_spelled};
 pub use line::Line;
-
-#[cfg(test)]
-mod tests;

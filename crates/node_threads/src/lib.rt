@@ -25,6 +25,3 @@ pub use hub::{Hub, Line};
 pub use node::Node;
 pub use node_history::{Answer, Came, FrameBytes, Logged, Said, Seat, Told, Turn};
 pub use server_cell::{ServerCell, Task as ServerTask};
-
-#[cfg(test)]
-mod tests;

@@ -14,6 +14,3 @@ mod task;
 
 pub use jobs::check_jobs;
 pub use task::Task;
-
-#[cfg(test)]
-mod tests;

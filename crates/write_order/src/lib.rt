@@ -29,6 +29,3 @@ pub use law::{
 pub use order::{Order, place_of};
 pub use picks::pick_blocks;
 pub use stamp::fill_block;
-
-#[cfg(test)]
-mod tests;

@@ -1,7 +1,7 @@
 //! What no clause shows: that the calls succeed with ample memory, and that what they leave is what
 //! a reader of the manual expects.
 
-use super::*;
+use disk_model::{Disk, FaultDisk, FaultNotes, MemDisk, MemNotes, Notes};
 use fc_base::Fault;
 use std::alloc::{AllocError, Global};
 use std::test::Fail;

@@ -9,7 +9,7 @@ use Rattle.messages.specs.Laws.{IsPacket}
 use Rattle.messages.specs.FramesOf.{spelled_frames, AreFew}
 use Rattle.hub.specs.Laws.{FramesAreSpelled}
 use Rattle.hub.specs.Network.{IsSpelled}
-use Rattle.hub.proofs.tests.frames_to.Goals as goal
+use Rattle.hub_tests.proofs.tests.frames_to.Goals as goal
 
 -- The frames with those of one packet more, whose body has 8 bytes.
 more : FramesAreSpelled → (p : PacketParts) (old frames new : List (List ℕ)) (i : ℕ) → IsPacket p → length_of p.body ≡ 8 → frames ≡ spelled_frames p → AreFew p frames → new ≡ old ++ frames

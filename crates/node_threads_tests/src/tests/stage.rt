@@ -2,10 +2,6 @@
 
 use super::frames::{JOURNAL, first_unlike_frame, first_unlike_line};
 use super::rows::{Row, Said, Step};
-use crate::{
-    ClientCell, ClientCommand, ClientTask, Hub, Node, Report, Request, Seat, ServerCell,
-    ServerTask, Told, Turn,
-};
 use disk_model::{FaultNotes, MemNotes};
 use engine::Ticket;
 use fc_base::{
@@ -13,6 +9,10 @@ use fc_base::{
     ServerNo,
 };
 use messages::{Act, Text};
+use node_threads::{
+    ClientCell, ClientCommand, ClientTask, Hub, Node, Report, Request, Seat, ServerCell,
+    ServerTask, Told, Turn,
+};
 use server_core::WriteEnd;
 use std::alloc::Global;
 

@@ -3,11 +3,11 @@
 
 mod vectors;
 
-use super::*;
 use fc_base::{JobNo, JobParts, JobRecord, Key, Kind, RunNo, Seq, ServerNo, Verify};
 use std::alloc::{AllocError, Global};
 use std::test::Fail;
 use vectors::{BLOCKS, FRONTS, PLACES, WORDS};
+use write_order::{Order, fill_block, holds_write, pick_blocks, place_of};
 
 const JOB: JobParts = JobParts {
     kind: Kind::Sequential,

@@ -1,7 +1,7 @@
 use Rattle.std.proofs.Common.{◌*◌, ◌≤◌, length, List, ℕ}
 use Rattle.std.specs.Prelude.{sum_by, All}
 use Rattle.hub.specs.Network.{IsSpelled}
-use Rattle.hub.proofs.tests.frames_to.Given as goal
+use Rattle.hub_tests.proofs.tests.frames_to.Given as goal
 
 abbrev pub invariant-loop-to : goal.invariant-loop-to
 invariant-loop-to l =

@@ -1,8 +1,8 @@
 //! The frames that the nodes send, as another program made them.
 
-use crate::{Hub, Line};
 use fc_base::ServerNo;
 use messages::Node as Name;
+use node_threads::{Hub, Line};
 
 /// Of the stored run.
 pub const STORED_RUN: [&str; 11] = [

@@ -1,6 +1,9 @@
 //! What no clause shows: that the limits, the table and the counting rule are the manual's.
 
-use super::*;
+use fc_base::{
+    Blocks, CheckReport, Fault, FaultSort, JobParts, JobRecord, Kind, Marks, ReportEnd,
+    ReportParts, Seq, Verify, is_counted,
+};
 use std::test::Fail;
 
 const PARTS: JobParts = JobParts {

@@ -1,9 +1,9 @@
 //! What the nodes are asked, and what they answer.
 
-use crate::Answer;
 use engine::{Issue, Ticket};
 use fc_base::{Attempt, JobNo, Key, RunNo, Seq, ServerNo};
 use messages::Act;
+use node_threads::Answer;
 
 /// What is asked of the client, of the server at the hub, or from one of its seats.
 #[derive(Clone, Copy)]

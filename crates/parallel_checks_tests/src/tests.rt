@@ -5,13 +5,13 @@ ghost use Rattle.std.specs.Prelude.{◌≡◌, ◌≤◌, IfOk};
 
 mod meeting;
 
-use super::*;
 use disk_model::{FaultDisk, MemDisk};
 use fc_base::{
     CheckReport, Fault, JobNo, JobParts, JobRecord, Key, Kind, ReportEnd, RunNo, Seq, ServerNo,
     Verify,
 };
 use meeting::Meeting;
+use parallel_checks::{Task, check_jobs};
 use std::alloc::Global;
 use std::process::Abort;
 use std::thread::Threads;

@@ -1,6 +1,6 @@
 //! What no clause shows: that each call answers where memory is there, and what it refuses.
 
-use super::*;
+use client_cell::{ClientCell, Request, Task};
 use disk_model::{FaultNotes, MemNotes};
 use fc_base::{Fault, RunNo};
 use hub::Hub;

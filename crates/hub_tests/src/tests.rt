@@ -5,8 +5,8 @@ ghost use Rattle.std.specs.Prelude.{◌≡◌, ◌*◌, ◌≤◌, length, sum_b
 ghost use Rattle.messages.specs.Bodies.{length_of};
 ghost use Rattle.hub.specs.Network.{IsSpelled, HasRoom};
 
-use super::*;
 use fc_base::{RunNo, ServerNo};
+use hub::{Hub, frames_are_spelled};
 use messages::{Body, Frames, Node, Packet, PacketParts, frames_of, look_at};
 use std::alloc::{AllocError, Global};
 use std::test::Fail;
