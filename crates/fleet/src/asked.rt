@@ -3,8 +3,8 @@
 ghost use Rattle.std.specs.Prelude.{◌≡◌, IsTrue, Some, OnOk, slice_get};
 ghost use Rattle.fleet.specs.Asked.{IsAsked, is_frame, asked, errand};
 
-use crate::nodes::Client;
 use fc_base::{Fault, RunNo};
+use fleet_threads::Client;
 use messages::Act;
 use node_threads::{Came, Logged};
 

@@ -10,10 +10,10 @@ ghost use Rattle.fleet.specs.Ends.{AddsEnds, Checks, IsEndAt, Refuses, jobs_chec
 ghost use Rattle.fleet.specs.Heard.{AreHeard};
 
 use crate::left::Left;
-use crate::nodes::{Server, add};
 use client_core::Received;
 use disk_model::MemNotes;
 use fc_base::{Attempt, CheckReport, Fault, JobNo, MAX_JOBS, ServerNo};
+use fleet_threads::{Server, add};
 use server_core::Progress;
 use std::alloc::Global;
 

@@ -3,10 +3,9 @@
 ghost use Rattle.std.specs.Prelude.{IfOk};
 ghost use Rattle.fleet.specs.OneRun.{IsOneRun};
 
-use crate::crew::Hand;
-use crate::nodes::{Client, Nodes, Server, add};
 use assembly::{Assembled, Place, assemble};
 use fc_base::Fault;
+use fleet_threads::{Client, Hand, Nodes, Server, add};
 use node_threads::{Hub, Seat};
 use std::alloc::Global;
 

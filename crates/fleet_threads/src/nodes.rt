@@ -18,7 +18,7 @@ pub type Server = ServerCell<MemNotes>;
 /// The nodes of a fleet and the network between them, each under its lock, and the files of each server,
 /// each under a lock of its own.
 #[derive(Drop)]
-pub(crate) struct Nodes {
+pub struct Nodes {
     pub hub: Mutex<Hub>,
     pub client: Mutex<Client>,
     pub servers: Vec<Mutex<Server>>,
@@ -28,14 +28,15 @@ pub(crate) struct Nodes {
 /// Nodes that have just been opened, with their seats: one of each server for the post, and one in the
 /// hand of each worker.
 #[derive(Drop)]
-pub(crate) struct Opened {
+pub struct Opened {
     pub nodes: Nodes,
     pub posts: Vec<Seat>,
     pub hands: Vec<Hand>,
 }
 
-/// A client and so many servers, of so many workers each, over blank notes and blank files.
-pub(crate) fn open(alloc: Global, servers: u32, workers: u32) -> Result<Opened, Fault>
+/// A client and so many servers, of so many workers each, over blank notes and blank files: 1 to 8 servers,
+/// 1 to 16 workers. `NoMemory` is want of memory.
+pub fn open(alloc: Global, servers: u32, workers: u32) -> Result<Opened, Fault>
     requires some { 1 ≤ servers }
     requires few { servers ≤ 8 }
     requires crew { workers ≤ 16 }
@@ -129,8 +130,8 @@ fn deal(
     Ok(())
 }
 
-/// Adds an item to a list.
-pub(crate) fn add<T: Drop>(list: &mut Vec<T>, item: T) -> Result<(), Fault>
+/// Adds an item to a list. `NoMemory`: there was no room, and the list is as before.
+pub fn add<T: Drop>(list: &mut Vec<T>, item: T) -> Result<(), Fault>
     ensures { OnOk result (list.new.items ≡ list.old.items ++ item ∷ []) }
 {
     match list.push(item) {

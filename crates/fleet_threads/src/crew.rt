@@ -11,14 +11,14 @@ use workers::{Gate, run_worker};
 
 /// A worker: the place of its server, and its seat there, unless it is at work.
 #[derive(Drop)]
-pub(crate) struct Hand {
+pub struct Hand {
     server: usize,
     seat: Option<Seat>,
 }
 
 impl Hand {
     /// A worker of the server at this place.
-    pub fn new(server: usize, seat: Seat) -> Hand {
+    pub(crate) fn new(server: usize, seat: Seat) -> Hand {
         Hand {
             server,
             seat: Some(seat),

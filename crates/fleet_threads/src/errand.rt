@@ -18,7 +18,7 @@ use std::thread::Threads;
 /// What a fleet is to do: how many workers each of its servers has, and the job files by which it writes
 /// and checks.
 #[derive(Clone, Copy)]
-pub(crate) struct Plan<'w, 'r> {
+pub struct Plan<'w, 'r> {
     pub workers: u32,
     pub write: &'w [u8],
     pub read: &'r [u8],
