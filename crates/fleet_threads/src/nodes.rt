@@ -44,28 +44,57 @@ pub fn open(alloc: Global, servers: u32, workers: u32) -> Result<Opened, Fault>
     ensures files { IfOk result (λ opened. length opened.nodes.files.items ≡ servers) }
     ensures posts { IfOk result (λ opened. length opened.posts.items ≡ servers) }
 {
-    let client = open_client(alloc, servers)?;
-    let mut cells = Vec::new(alloc);
-    let mut files = Vec::new(alloc);
-    let mut posts = Vec::new(alloc);
-    let mut hands = Vec::new(alloc);
+    let mut opened = Opened::new(alloc, open_client(alloc, servers)?);
     for number in 0..servers {
-        let (cell, seats) = open_server(alloc, number, workers)?;
-        add(&mut files, blank_files(alloc, boot_of(&cell)?)?)?;
-        add(&mut cells, Mutex::new(cell))?;
-        deal(number as usize, seats, &mut posts, &mut hands)?;
+        opened.add_server(alloc, number, workers)?;
     }
-    let nodes = Nodes {
-        hub: Mutex::new(Hub::new(alloc)),
-        client: Mutex::new(client),
-        servers: cells,
-        files,
-    };
-    Ok(Opened {
-        nodes,
-        posts,
-        hands,
-    })
+    Ok(opened)
+}
+
+impl Opened {
+    /// A client without servers.
+    fn new(alloc: Global, client: Client) -> Opened
+        ensures servers { length result.nodes.servers.items ≡ 0 }
+        ensures files { length result.nodes.files.items ≡ 0 }
+        ensures posts { length result.posts.items ≡ 0 }
+    {
+        let nodes = Nodes {
+            hub: Mutex::new(Hub::new(alloc)),
+            client: Mutex::new(client),
+            servers: Vec::new(alloc),
+            files: Vec::new(alloc),
+        };
+        Opened {
+            nodes,
+            posts: Vec::new(alloc),
+            hands: Vec::new(alloc),
+        }
+    }
+
+    /// Opens one server more, of this number.
+    fn add_server(&mut self, alloc: Global, number: u32, workers: u32) -> Result<(), Fault>
+        requires server { number < 8 }
+        requires crew { workers ≤ 16 }
+        ensures servers { OnOk result (length self.new.nodes.servers.items ≡ length self.old.nodes.servers.items + 1) }
+        ensures files { OnOk result (length self.new.nodes.files.items ≡ length self.old.nodes.files.items + 1) }
+        ensures posts { OnOk result (length self.new.posts.items ≡ length self.old.posts.items + 1) }
+    {
+        let (cell, seats) = open_server(alloc, number, workers)?;
+        deal(number as usize, seats, &mut self.posts, &mut self.hands)?;
+        self.nodes.add_server(alloc, cell)
+    }
+}
+
+impl Nodes {
+    /// Adds a server, with its files.
+    fn add_server(&mut self, alloc: Global, cell: Server) -> Result<(), Fault>
+        ensures servers { OnOk result (length self.new.servers.items ≡ length self.old.servers.items + 1) }
+        ensures files { OnOk result (length self.new.files.items ≡ length self.old.files.items + 1) }
+    {
+        let files = blank_files(alloc, boot_of(&cell)?)?;
+        add(&mut self.files, files)?;
+        add(&mut self.servers, Mutex::new(cell))
+    }
 }
 
 /// A client of so many servers, over a blank note.
