@@ -7,7 +7,7 @@ ghost use Rattle.fiocut.specs.Command.{IsRequest, IsLive};
 use crate::jobs::REFUSED;
 use crate::live::FleetSize;
 use clap::{Arg, ArgMatches, Command, Error};
-use std::alloc::Global;
+use std::alloc::{AllocError, Global};
 use std::convert::AsStr;
 use std::io;
 use std::io::Write;
@@ -48,21 +48,31 @@ fn has_end_of_options<S: AsStr>(words: &[S]) -> bool {
 }
 
 fn matches_of<'a, S: AsStr>(alloc: Global, words: &'a [S]) -> Result<ArgMatches<'a>, Error> {
-    let jobs = Command::new(alloc, "jobs").disable_help_flag(true);
-    let world = Command::new(alloc, "world").disable_help_flag(true);
-    let live = Command::new(alloc, "live")
-        .disable_help_flag(true)
-        .arg(Arg::new(alloc, "servers").required(true))?
-        .arg(Arg::new(alloc, "workers").required(true))?
-        .arg(Arg::new(alloc, "path").required(true))?;
+    let command = command_of(alloc)?;
+    command.try_get_matches_from(words)
+}
+
+/// What a command line may have: one of three subcommands, and no options.
+fn command_of<'a>(alloc: Global) -> Result<Command<'a>, AllocError> {
+    let live = live_command(alloc)?;
     Command::new(alloc, "fiocut")
         .disable_help_flag(true)
         .disable_help_subcommand(true)
         .subcommand_required(true)
-        .subcommand(jobs)?
-        .subcommand(world)?
-        .subcommand(live)?
-        .try_get_matches_from(words)
+        .subcommand(subcommand(alloc, "jobs"))?
+        .subcommand(subcommand(alloc, "world"))?
+        .subcommand(live)
+}
+
+fn live_command<'a>(alloc: Global) -> Result<Command<'a>, AllocError> {
+    subcommand(alloc, "live")
+        .arg(Arg::new(alloc, "servers").required(true))?
+        .arg(Arg::new(alloc, "workers").required(true))?
+        .arg(Arg::new(alloc, "path").required(true))
+}
+
+fn subcommand<'a>(alloc: Global, name: &'a str) -> Command<'a> {
+    Command::new(alloc, name).disable_help_flag(true)
 }
 
 /// What the words behind `live` ask for.
