@@ -1,7 +1,7 @@
 -- The table of faults: what each is called, which number it has, and what sort it is of.
 use Rattle.std.specs.Prelude.{ℕ, List, codes}
 use Rattle.fc_base.specs.declared.fault.Fault.{Fault}
-use Rattle.fc_base.specs.declared.fault.Fault.TheVariants.{JobTooLong, NotAscii, BadLine, UnknownOption, BadValue, JobNoJobs, TooManyJobs, NoSize, OutOfLimits, SharedFile, MixedPhases, JobNoMemory, WrongPhase, OldBoot, NotInFlight, StateShort, StateBadMagic, StateBadField, Impossible, StateTrailing, NoMemory, OtherKey, OtherJob, OtherPlace, FrameShort, FrameBadMagic, BadKind, FrameBadField, FrameTooLong, FrameTrailing, FrameNoMemory, Off, WriteFault, ReadFault, SaveFault, BadNote, LoadFault, Old, Busy, NoJobs, Gone, Overwritten, Unknown, BadJobs, Misfit, Down, Misdirected, NoSuchRun, Conflict, NumbersSpent, TableFull, NoFrame, NodeOff, NodeOn, NoWrite, NoSave, NoServer, Unlike, TurnsSpent, ReadError, WriteError, WrongSeat}
+use Rattle.fc_base.specs.declared.fault.Fault.TheVariants.{JobTooLong, NotAscii, BadLine, UnknownOption, BadValue, JobNoJobs, TooManyJobs, NoSize, OutOfLimits, SharedFile, MixedPhases, JobNoMemory, WrongPhase, OldBoot, NotInFlight, StateShort, StateBadMagic, StateBadField, Impossible, StateTrailing, NoMemory, OtherKey, OtherJob, OtherPlace, FrameShort, FrameBadMagic, BadKind, FrameBadField, FrameTooLong, FrameTrailing, FrameNoMemory, Off, WriteFault, ReadFault, SaveFault, BadNote, LoadFault, Old, Busy, NoJobs, Gone, Overwritten, Unknown, BadJobs, Misfit, Down, Misdirected, NoSuchRun, Conflict, NumbersSpent, TableFull, NoFrame, NodeOff, NodeOn, NoWrite, NoSave, NoServer, Unlike, UsedGeneration, BadGeneration, NoMirror, TurnsSpent, ReadError, WriteError, WrongSeat}
 use Rattle.fc_base.specs.declared.fault.FaultSort.{FaultSort}
 use Rattle.fc_base.specs.declared.fault.FaultSort.TheVariants.{Memory, Save, Refusal}
 
@@ -65,6 +65,9 @@ number_of NoWrite = 83
 number_of NoSave = 84
 number_of NoServer = 85
 number_of Unlike = 86
+number_of UsedGeneration = 87
+number_of BadGeneration = 88
+number_of NoMirror = 89
 number_of TurnsSpent = 90
 number_of ReadError = 91
 number_of WriteError = 92
@@ -130,6 +133,9 @@ name_of NoWrite = codes "NoWrite"
 name_of NoSave = codes "NoSave"
 name_of NoServer = codes "NoServer"
 name_of Unlike = codes "Unlike"
+name_of UsedGeneration = codes "UsedGeneration"
+name_of BadGeneration = codes "BadGeneration"
+name_of NoMirror = codes "NoMirror"
 name_of TurnsSpent = codes "TurnsSpent"
 name_of ReadError = codes "ReadError"
 name_of WriteError = codes "WriteError"

@@ -127,6 +127,12 @@ pub enum Fault {
     NoServer = 85,
     /// A node and the journal of frames differ.
     Unlike = 86,
+    /// A generation that isn't above each one before it.
+    UsedGeneration = 87,
+    /// A number that no generation has.
+    BadGeneration = 88,
+    /// There is no mirror.
+    NoMirror = 89,
     /// A worker waited for too many turns.
     TurnsSpent = 90,
     /// Input could not be read.
@@ -211,6 +217,9 @@ impl Fault {
             Fault::NoSave => "NoSave",
             Fault::NoServer => "NoServer",
             Fault::Unlike => "Unlike",
+            Fault::UsedGeneration => "UsedGeneration",
+            Fault::BadGeneration => "BadGeneration",
+            Fault::NoMirror => "NoMirror",
             Fault::TurnsSpent => "TurnsSpent",
             Fault::ReadError => "ReadError",
             Fault::WriteError => "WriteError",

@@ -29,3 +29,6 @@ pub const MAX_WINDOW: u32 = 256;
 
 /// How many faulty blocks a report lists at the most.
 pub const MAX_LISTED: usize = 32;
+
+/// The greatest [`Generation`](crate::Generation).
+pub const MAX_GENERATION: u64 = 4_294_967_295;

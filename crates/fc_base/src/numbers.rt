@@ -33,6 +33,21 @@ impl Model for Attempt {
     ghost inverse = { λ n. record { 0 = n } };
 }
 
+/// The number of a client's note: a client that begins anew after its note was lost has a higher one,
+/// up to [`MAX_GENERATION`](crate::MAX_GENERATION). It is 0 where there never was one.
+#[derive(Clone, Copy, Debug, PartialEq, Eq, PartialOrd, Ord, Hash)]
+pub struct Generation(pub u64);
+
+impl Model for Generation {
+    ghost use Rattle.std.specs.Prelude.{ℕ};
+
+    ghost Value = { ℕ };
+
+    ghost view = { λ n. n.0 };
+
+    ghost inverse = { λ n. record { 0 = n } };
+}
+
 /// The number of a server, from 0.
 #[derive(Clone, Copy, Debug, PartialEq, Eq, PartialOrd, Ord, Hash)]
 pub struct ServerNo(pub u32);

@@ -75,6 +75,7 @@ fn names_and_numbers_of_faults(rt: HostRuntime) -> Result<(), Fail> {
         (Fault::FrameNoMemory, 46, "NoMemory", FaultSort::Memory),
         (Fault::SaveFault, 53, "SaveFault", FaultSort::Save),
         (Fault::NoJobs, 62, "NoJobs", FaultSort::Refusal),
+        (Fault::NoMirror, 89, "NoMirror", FaultSort::Refusal),
         (Fault::WrongSeat, 93, "WrongSeat", FaultSort::Refusal),
     ];
     for (fault, number, name, sort) in table {
