@@ -7,7 +7,7 @@ use Rattle.std.proofs.lemmas.List.{length-append}
 use Rattle.fc_base.specs.declared.report.ReportParts.{ReportParts}
 use Rattle.fc_base.specs.Report.{is_report}
 use Rattle.messages.specs.declared.body.Body.{Body}
-use Rattle.messages.specs.declared.body.Body.TheVariants.{Jobs, JobsOk, Start, Started, Trigger, State, NoState, StateAck, Stop, Stopped, Verify, WantState, Saved, NoSaved, Report, Refused}
+use Rattle.messages.specs.declared.body.Body.TheVariants.{Jobs, JobsOk, Start, Started, Trigger, State, NoState, StateAck, Stop, Stopped, Verify, WantState, Saved, NoSaved, Report, Refused, Copy, CopyOk, Fetch, Granted}
 use Rattle.messages.specs.declared.kind.PacketKind.{PacketKind}
 use Rattle.messages.specs.declared.kind.PacketKind.TheVariants as kinds
 use Rattle.fc_base.specs.Layouts.{number_in, size, spelled, numbers}
@@ -38,6 +38,10 @@ are_wide kinds.Saved = (wide64, tt)
 are_wide kinds.NoSaved = (wide64, (wide64, (wide32, tt)))
 are_wide kinds.Report = (wide64, (wide64, (wide32, (wide32, (wide8, (wide32, (wide32, (wide32, (wide32, tt)))))))))
 are_wide kinds.Refused = (wide8, (wide8, (wide32, (wide32, (wide64, (wide64, (wide64, tt)))))))
+are_wide kinds.Copy = tt
+are_wide kinds.CopyOk = (wide64, (wide32, (wide32, tt)))
+are_wide kinds.Fetch = (wide64, tt)
+are_wide kinds.Granted = (wide64, tt)
 
 pub length-numbers_of : (b : Body) → length (numbers_of b) ≡ length (layout (kind_of b))
 length-numbers_of (Jobs run text) = refl
@@ -56,6 +60,10 @@ length-numbers_of (Saved attempt state) = refl
 length-numbers_of (NoSaved run attempt job) = refl
 length-numbers_of (Report run attempt job jobs report) = refl
 length-numbers_of (Refused r) = refl
+length-numbers_of (Copy state) = refl
+length-numbers_of (CopyOk run server job) = refl
+length-numbers_of (Fetch generation) = refl
+length-numbers_of (Granted generation) = refl
 
 pub length-spelled_body : (b : Body) → length (spelled_body b) ≡ length_of b
 length-spelled_body b =
@@ -79,6 +87,10 @@ within_limit kinds.Saved = omega arith
 within_limit kinds.NoSaved = omega arith
 within_limit kinds.Report = omega arith
 within_limit kinds.Refused = omega arith
+within_limit kinds.Copy = omega arith
+within_limit kinds.CopyOk = omega arith
+within_limit kinds.Fetch = omega arith
+within_limit kinds.Granted = omega arith
 
 report_length : (r : ReportParts) → IsTrue (is_report r) → length r.first ≤ 32
 report_length r h = grind (arith, nat_tests)
@@ -102,6 +114,10 @@ length_of-limit law (NoSaved run attempt job) h keeps = omega arith
 length_of-limit law (Report run attempt job jobs r) h keeps =
     omega (arith, length-spelled_blocks r.first, report_length r (both (is_run run && is_attempt attempt && is_job_of job jobs) (is_report r) h).1)
 length_of-limit law (Refused r) h keeps = omega arith
+length_of-limit law (Copy state) h keeps = omega (arith, length-spelled_state law state keeps)
+length_of-limit law (CopyOk run server job) h keeps = omega arith
+length_of-limit law (Fetch generation) h keeps = omega arith
+length_of-limit law (Granted generation) h keeps = omega arith
 
 some_is : (x y : Body) → Some x ≡ Some y → x ≡ y
 some_is x y same = cc

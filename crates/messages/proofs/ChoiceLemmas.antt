@@ -8,7 +8,7 @@ use Rattle.fc_base.specs.declared.report.ReportEnd.TheVariants as ends
 use Rattle.messages.specs.declared.kind.PacketKind.{PacketKind}
 use Rattle.messages.specs.declared.kind.PacketKind.TheVariants as kinds
 use Rattle.messages.specs.declared.node.Node.{Node}
-use Rattle.messages.specs.declared.node.Node.TheVariants.{Server, Client}
+use Rattle.messages.specs.declared.node.Node.TheVariants.{Server, Client, Mirror}
 use Rattle.messages.specs.declared.refusal.Act.{Act}
 use Rattle.messages.specs.declared.refusal.Act.TheVariants as acts
 use Rattle.messages.specs.declared.refusal.Asked.{Asked}
@@ -47,6 +47,10 @@ kind_again kinds.Saved = refl
 kind_again kinds.NoSaved = refl
 kind_again kinds.Report = refl
 kind_again kinds.Refused = refl
+kind_again kinds.Copy = refl
+kind_again kinds.CopyOk = refl
+kind_again kinds.Fetch = refl
+kind_again kinds.Granted = refl
 
 pub kind_is : (n : ℕ) (k : PacketKind) → kind_numbered n ≡ Some k → number_of k ≡ n
 unfolding kind_numbered
@@ -69,6 +73,10 @@ kind_fits kinds.Saved = omega arith
 kind_fits kinds.NoSaved = omega arith
 kind_fits kinds.Report = omega arith
 kind_fits kinds.Refused = omega arith
+kind_fits kinds.Copy = omega arith
+kind_fits kinds.CopyOk = omega arith
+kind_fits kinds.Fetch = omega arith
+kind_fits kinds.Granted = omega arith
 
 pub act_again : (a : Act) → act_numbered (act_number a) ≡ Some a
 unfolding act_numbered
@@ -154,15 +162,18 @@ end_fits (ends.ReadFault b) = omega arith
 pub node_again : (node : Node) → is_node node ≡ true → node_numbered (node_number node) ≡ Some node
 node_again (Server s) h = rw h refl
 node_again Client h = refl
+node_again Mirror h = refl
 
 pub node_is : (n : ℕ) (node : Node) → node_numbered n ≡ Some node → node_number node ≡ n
-node_is n node e = pick (nat_lt n 8) (n == 8) refl e
+node_is n node e = pick (nat_lt n 8) (n == 8) refl (n == 9) refl e
   where
-    pick : (below last : Bool) → (n == 8) ≡ last → (if below then Some (Server n) else if last then Some Client else None) ≡ Some node → node_number node ≡ n
-    pick true last l same = let here : Server n ≡ node = cc in rw (← here) refl
-    pick false true l same = let here : Client ≡ node = cc in rw (← here) (sym (eqb-true n 8 l))
-    pick false false l same = absurd cc
+    pick : (below client : Bool) → (n == 8) ≡ client → (last : Bool) → (n == 9) ≡ last → (if below then Some (Server n) else if client then Some Client else if last then Some Mirror else None) ≡ Some node → node_number node ≡ n
+    pick true client l last m same = let here : Server n ≡ node = cc in rw (← here) refl
+    pick false true l last m same = let here : Client ≡ node = cc in rw (← here) (sym (eqb-true n 8 l))
+    pick false false l true m same = let here : Mirror ≡ node = cc in rw (← here) (sym (eqb-true n 9 m))
+    pick false false l false m same = absurd cc
 
 pub node_fits : (node : Node) → is_node node ≡ true → node_number node < 4294967296
 node_fits (Server s) h = grind (arith, nat_tests)
 node_fits Client h = omega arith
+node_fits Mirror h = omega arith

@@ -6,7 +6,7 @@ use Rattle.fc_base.specs.declared.fault.Fault.{Fault}
 use Rattle.messages.specs.declared.body.Body.{Body}
 use Rattle.messages.specs.declared.kind.PacketKind.{PacketKind}
 use Rattle.messages.specs.declared.node.Node.{Node}
-use Rattle.messages.specs.declared.node.Node.TheVariants.{Server, Client}
+use Rattle.messages.specs.declared.node.Node.TheVariants.{Server, Client, Mirror}
 use Rattle.messages.specs.declared.packet.PacketParts.{PacketParts}
 use Rattle.messages.specs.declared.reading.Header.{Header}
 use Rattle.messages.specs.Kinds.{kind_numbered}
@@ -24,12 +24,13 @@ some_node : (x y : Node) → Some x ≡ Some y → x ≡ y
 some_node x y e = cc
 
 pub node_in_range : (n : ℕ) (node : Node) → node_numbered n ≡ Some node → is_node node ≡ true
-node_in_range n node e = pick (nat_lt n 8) refl (n == 8) refl e
+node_in_range n node e = pick (nat_lt n 8) refl (n == 8) (n == 9) e
   where
-    pick : (below : Bool) → nat_lt n 8 ≡ below → (last : Bool) → (n == 8) ≡ last → (if below then Some (Server n) else if last then Some Client else None) ≡ Some node → is_node node ≡ true
-    pick true b last l same = rw (← some_node (Server n) node same) b
-    pick false b true l same = rw (← some_node Client node same) refl
-    pick false b false l same = absurd cc
+    pick : (below : Bool) → nat_lt n 8 ≡ below → (client last : Bool) → (if below then Some (Server n) else if client then Some Client else if last then Some Mirror else None) ≡ Some node → is_node node ≡ true
+    pick true b client last same = rw (← some_node (Server n) node same) b
+    pick false b true last same = rw (← some_node Client node same) refl
+    pick false b false true same = rw (← some_node Mirror node same) refl
+    pick false b false false same = absurd cc
 
 pub packet_in_range : (h : Header PacketKind) (bytes : List ℕ) (b : Body) → HeaderIs kind_numbered body_limit (Ok h) bytes → body_at h.kind (drop 16 bytes) ≡ Some b → is_packet (packet_of h b) ≡ true
 packet_in_range h bytes b told e =

@@ -12,13 +12,13 @@ use Rattle.fc_base.specs.declared.report.ReportEnd.{ReportEnd}
 use Rattle.fc_base.specs.declared.report.ReportEnd.TheVariants as ends
 use Rattle.fc_base.specs.Report.{has_counts, has_list, has_end, is_report}
 use Rattle.messages.specs.declared.body.Body.{Body}
-use Rattle.messages.specs.declared.body.Body.TheVariants.{Jobs, JobsOk, Start, Started, Trigger, State, NoState, StateAck, Stop, Stopped, Verify, WantState, Saved, NoSaved, Report, Refused}
+use Rattle.messages.specs.declared.body.Body.TheVariants.{Jobs, JobsOk, Start, Started, Trigger, State, NoState, StateAck, Stop, Stopped, Verify, WantState, Saved, NoSaved, Report, Refused, Copy, CopyOk, Fetch, Granted}
 use Rattle.messages.specs.declared.refusal.Asked.{Asked}
 use Rattle.messages.specs.declared.refusal.Asked.TheVariants as asks
 use Rattle.messages.specs.declared.refusal.Reason.{Reason}
 use Rattle.messages.specs.declared.refusal.Reason.TheVariants as reasons
 use Rattle.fc_base.specs.Layouts.{bytes_of, spelled_blocks, blocks_in}
-use Rattle.messages.specs.Ranges.{is_word, is_run, is_attempt, is_jobs, is_job, is_job_of, is_text, is_job_refused, is_attempt_refused, is_body, KeepsState}
+use Rattle.messages.specs.Ranges.{is_word, is_run, is_attempt, is_jobs, is_job, is_job_of, is_server_no, is_generation, is_text, is_job_refused, is_attempt_refused, is_body, KeepsState}
 use Rattle.messages.specs.Bodies.{kind_of, layout, numbers_of, tail_of, spelled_body, length_of, takes_all, body_of, whole, body_at, end_at}
 use Rattle.verify_state.specs.Laws.{ReadsBack}
 use Rattle.messages.proofs.StateLemmas.{state_again}
@@ -38,6 +38,12 @@ jobs_fit n h = grind (arith, nat_tests)
 
 job_fits : (n : ℕ) → is_job n ≡ true → n < 4294967296
 job_fits n h = grind (arith, nat_tests)
+
+server_fits : (n : ℕ) → is_server_no n ≡ true → n < 4294967296
+server_fits n h = grind (arith, nat_tests)
+
+generation_fits : (n : ℕ) → is_generation n ≡ true → n < 18446744073709551616
+generation_fits n h = grind (arith, nat_tests)
 
 job_of_fits : (job jobs : ℕ) → is_job_of job jobs ≡ true → (job < 4294967296) × (jobs < 4294967296)
 job_of_fits job jobs h =
@@ -134,6 +140,13 @@ fit_of (Refused r) h =
     let parts = both (is_run r.run) (is_word r.value) named.0 in
     let numbers = job_refused_fits r.reason r.job r.jobs named.1 in
     (asked_fits r.asked, (reason_fits r.reason, (numbers.0, (numbers.1, (run_fits r.run parts.0, (attempt_refused_fits r.asked r.attempt last.1, (lt_of r.value 18446744073709551616 parts.1, tt)))))))
+fit_of (Copy state) h = tt
+fit_of (CopyOk run server job) h =
+    let last = both (is_run run && is_server_no server) (is_job job) h in
+    let parts = both (is_run run) (is_server_no server) last.0 in
+    (run_fits run parts.0, (server_fits server parts.1, (job_fits job last.1, tt)))
+fit_of (Fetch generation) h = (generation_fits generation h, tt)
+fit_of (Granted generation) h = (generation_fits generation h, tt)
 
 blocks_again : (bs : List ℕ) → list_all is_block bs ≡ true → blocks_in (length bs) (spelled_blocks bs) ≡ bs
 blocks_again [] h = refl
@@ -169,6 +182,10 @@ body_of-again law (Report run attempt job jobs r) h keeps =
     blocks_of_list : (x : ReportParts) → has_list x ≡ true → list_all is_block x.first ≡ true
     blocks_of_list x e = grind (arith, nat_tests)
 body_of-again law (Refused r) h keeps = rw (asked_again r.asked, reason_again r.reason) refl
+body_of-again law (Copy state) h keeps = rw (state_again law state keeps) refl
+body_of-again law (CopyOk run server job) h keeps = refl
+body_of-again law (Fetch generation) h keeps = refl
+body_of-again law (Granted generation) h keeps = refl
 
 same_length : (n : ℕ) → (n == n) ≡ true
 same_length n = grind (arith, nat_tests)
@@ -194,6 +211,10 @@ takes_its_own (Saved attempt state) = at_least 8 (length (tail_of (Saved attempt
 takes_its_own (NoSaved run attempt job) = refl
 takes_its_own (Report run attempt job jobs r) = same_length (length_of (Report run attempt job jobs r))
 takes_its_own (Refused r) = refl
+takes_its_own (Copy state) = refl
+takes_its_own (CopyOk run server job) = refl
+takes_its_own (Fetch generation) = refl
+takes_its_own (Granted generation) = refl
 
 -- A body in its ranges is read from its bytes.
 pub body_at-spelled : ReadsBack → (b : Body) → is_body b ≡ true → KeepsState b → body_at (kind_of b) (spelled_body b) ≡ Some b

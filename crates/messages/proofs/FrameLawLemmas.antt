@@ -68,6 +68,10 @@ sort_of_kind kinds.Saved = ap (λ (o : Option PacketKind). option_map sorts.Pack
 sort_of_kind kinds.NoSaved = ap (λ (o : Option PacketKind). option_map sorts.Packet o) (kind_again kinds.NoSaved)
 sort_of_kind kinds.Report = ap (λ (o : Option PacketKind). option_map sorts.Packet o) (kind_again kinds.Report)
 sort_of_kind kinds.Refused = ap (λ (o : Option PacketKind). option_map sorts.Packet o) (kind_again kinds.Refused)
+sort_of_kind kinds.Copy = ap (λ (o : Option PacketKind). option_map sorts.Packet o) (kind_again kinds.Copy)
+sort_of_kind kinds.CopyOk = ap (λ (o : Option PacketKind). option_map sorts.Packet o) (kind_again kinds.CopyOk)
+sort_of_kind kinds.Fetch = ap (λ (o : Option PacketKind). option_map sorts.Packet o) (kind_again kinds.Fetch)
+sort_of_kind kinds.Granted = ap (λ (o : Option PacketKind). option_map sorts.Packet o) (kind_again kinds.Granted)
 
 whole_read : ReadsBack → (p : PacketParts) → IsPacket p → length_of p.body ≤ 1024 → (frame_faults (spelling p) ≡ []) × (frame_at (spelling p) ≡ Some (Whole p))
 whole_read law p h short =
@@ -104,6 +108,10 @@ number_fits kinds.Saved n l h = word_of n h
 number_fits kinds.NoSaved n l h = absurd cc
 number_fits kinds.Report n l h = absurd cc
 number_fits kinds.Refused n l h = absurd cc
+number_fits kinds.Copy n l h = absurd cc
+number_fits kinds.CopyOk n l h = absurd cc
+number_fits kinds.Fetch n l h = absurd cc
+number_fits kinds.Granted n l h = absurd cc
 
 small_owner : (s j : ℕ) → (nat_lt s 8 && is_job j) ≡ true → (s < 4294967296) × (j < 4294967296)
 small_owner s j h =
@@ -136,6 +144,10 @@ owner_fits kinds.Saved s j l h = small_owner s j h
 owner_fits kinds.NoSaved s j l h = absurd cc
 owner_fits kinds.Report s j l h = absurd cc
 owner_fits kinds.Refused s j l h = absurd cc
+owner_fits kinds.Copy s j l h = absurd cc
+owner_fits kinds.CopyOk s j l h = absurd cc
+owner_fits kinds.Fetch s j l h = absurd cc
+owner_fits kinds.Granted s j l h = absurd cc
 
 pub record Ranged (q : PieceParts) : Type 0 where
   pub from : is_node q.from ≡ true

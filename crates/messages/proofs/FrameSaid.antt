@@ -54,6 +54,10 @@ old_limit kinds.Saved bytes e = omega arith
 old_limit kinds.NoSaved bytes e = absurd cc
 old_limit kinds.Report bytes e = absurd cc
 old_limit kinds.Refused bytes e = absurd cc
+old_limit kinds.Copy bytes e = omega arith
+old_limit kinds.CopyOk bytes e = absurd cc
+old_limit kinds.Fetch bytes e = absurd cc
+old_limit kinds.Granted bytes e = absurd cc
 
 short_body : ReadsBack → IsSpelled → SaysAState → (k : PacketKind) (bytes : List ℕ) (b : Body) → IsBytes bytes → body_at k bytes ≡ Some b → length bytes ≤ 1024 → length_of b ≤ 1024
 short_body law spell says k bytes b fits e short =

@@ -128,8 +128,20 @@ the_other false b t e = absurd cc
 not_old : (bytes : List ℕ) (k : PacketKind) → kind_numbered (header_at 3 bytes) ≡ Some k → holds_layout_1 bytes ≡ false → is_old k (drop 16 bytes) ≡ false
 not_old bytes k known other = by_kind k (sym (kind_is (header_at 3 bytes) k known))
   where
-    parts : (((header_at 3 bytes == 6) && is_layout_1 (drop 20 bytes)) ≡ false) × (((header_at 3 bytes == 13) && is_layout_1 (drop 24 bytes)) ≡ false)
-    parts = neither ((header_at 3 bytes == 6) && is_layout_1 (drop 20 bytes)) ((header_at 3 bytes == 13) && is_layout_1 (drop 24 bytes)) other
+    in_state : Bool
+    in_state = (header_at 3 bytes == 6) && is_layout_1 (drop 20 bytes)
+
+    in_saved : Bool
+    in_saved = (header_at 3 bytes == 13) && is_layout_1 (drop 24 bytes)
+
+    in_copy : Bool
+    in_copy = (header_at 3 bytes == 18) && is_layout_1 (drop 16 bytes)
+
+    first : (in_state ≡ false) × ((in_saved || in_copy) ≡ false)
+    first = neither in_state (in_saved || in_copy) other
+
+    others : (in_saved ≡ false) × (in_copy ≡ false)
+    others = neither in_saved in_copy first.1
 
     behind : (number skip : ℕ) → header_at 3 bytes ≡ number → ((header_at 3 bytes == number) && is_layout_1 (drop (16 + skip) bytes)) ≡ false → is_layout_1 (drop skip (drop 16 bytes)) ≡ false
     behind number skip e other = ap is_layout_1 (drop-drop skip 16 bytes) ∙ the_other (header_at 3 bytes == number) (is_layout_1 (drop (16 + skip) bytes)) (eq-eqb (header_at 3 bytes) number e) other
@@ -140,17 +152,21 @@ not_old bytes k known other = by_kind k (sym (kind_is (header_at 3 bytes) k know
     by_kind kinds.Start e = refl
     by_kind kinds.Started e = refl
     by_kind kinds.Trigger e = refl
-    by_kind kinds.State e = behind 6 4 e parts.0
+    by_kind kinds.State e = behind 6 4 e first.0
     by_kind kinds.NoState e = refl
     by_kind kinds.StateAck e = refl
     by_kind kinds.Stop e = refl
     by_kind kinds.Stopped e = refl
     by_kind kinds.Verify e = refl
     by_kind kinds.WantState e = refl
-    by_kind kinds.Saved e = behind 13 8 e parts.1
+    by_kind kinds.Saved e = behind 13 8 e others.0
     by_kind kinds.NoSaved e = refl
     by_kind kinds.Report e = refl
     by_kind kinds.Refused e = refl
+    by_kind kinds.Copy e = behind 18 0 e others.1
+    by_kind kinds.CopyOk e = refl
+    by_kind kinds.Fetch e = refl
+    by_kind kinds.Granted e = refl
 
 pub only_packets_are_read : IsSpelled → SaysAState → OnlyPacketsAreRead
 only_packets_are_read law says bytes fits none =

@@ -6,7 +6,7 @@ use Rattle.std.proofs.lemmas.Bool.{eqb-true, leb-true}
 use Rattle.std.proofs.lemmas.List.{length-drop, nil_from_length}
 use Rattle.fc_base.specs.declared.report.ReportEnd.{ReportEnd}
 use Rattle.messages.specs.declared.body.Body.{Body}
-use Rattle.messages.specs.declared.body.Body.TheVariants.{Jobs, JobsOk, Start, Started, Trigger, State, NoState, StateAck, Stop, Stopped, Verify, WantState, Saved, NoSaved, Report, Refused}
+use Rattle.messages.specs.declared.body.Body.TheVariants.{Jobs, JobsOk, Start, Started, Trigger, State, NoState, StateAck, Stop, Stopped, Verify, WantState, Saved, NoSaved, Report, Refused, Copy, CopyOk, Fetch, Granted}
 use Rattle.messages.specs.declared.kind.PacketKind.{PacketKind}
 use Rattle.messages.specs.declared.kind.PacketKind.TheVariants as kinds
 use Rattle.messages.specs.declared.refusal.Asked.{Asked}
@@ -35,6 +35,7 @@ some_then f (Some x) y e = (x, refl, e)
 abbrev pub is_old : PacketKind → List ℕ → Bool
 is_old kinds.State bytes = is_layout_1 (drop 4 bytes)
 is_old kinds.Saved bytes = is_layout_1 (drop 8 bytes)
+is_old kinds.Copy bytes = is_layout_1 bytes
 is_old k bytes = false
 
 -- The body has the kind and the numbers of the bytes. Where it takes all of them, the numbers are
@@ -130,6 +131,13 @@ told law says kinds.Refused bytes b fits e =
     let asked = some_then (λ a. option_map (refusal a) (reason_numbered (slice_index ns 1))) (asked_numbered (slice_index ns 0)) b e in
     let reason = some_of (refusal asked.0) (reason_numbered (slice_index ns 1)) b asked.2 in
     plain kinds.Refused bytes (refusal asked.0 reason.0) b (ap (λ (y : Body). Some y) reason.2) refl (rw (asked_is (slice_index ns 0) asked.0 asked.1, reason_is (slice_index ns 1) reason.0 reason.1) refl) refl tt (λ all. eqb-true _ _ all)
+told law says kinds.Copy bytes b fits e =
+    let state = some_of Copy (state_said bytes) b e in
+    let is = state_is law says bytes state.0 fits state.1 in
+    subst (λ (y : Body). Told kinds.Copy bytes y) state.2 (record { kind = refl; numbers = refl; long = λ all. omega arith; tail = λ all other. is.1 other; keeps = is.0 })
+told law says kinds.CopyOk bytes b fits e = plain kinds.CopyOk bytes (CopyOk _ _ _) b e refl refl refl tt (λ all. eqb-true _ _ all)
+told law says kinds.Fetch bytes b fits e = plain kinds.Fetch bytes (Fetch _) b e refl refl refl tt (λ all. eqb-true _ _ all)
+told law says kinds.Granted bytes b fits e = plain kinds.Granted bytes (Granted _) b e refl refl refl tt (λ all. eqb-true _ _ all)
 
 -- What is read as a body of a kind is of that kind and in its ranges, its numbers are there, and it is
 -- spelled by the bytes unless they hold an old state.

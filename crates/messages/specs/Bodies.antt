@@ -1,5 +1,5 @@
 -- The bytes of a body: numbers, and behind them whatever else it holds.
-use Rattle.std.specs.Prelude.{◌≡◌, ℕ, zero, suc, ◌+◌, Bool, ◌&&◌, ◌==◌, nat_le, if◌then◌else◌, List, [], ◌∷◌, ◌++◌, length, drop, slice_index, Option, Some, None, Result, Ok, Err}
+use Rattle.std.specs.Prelude.{◌≡◌, ℕ, zero, suc, ◌+◌, Bool, true, ◌&&◌, ◌==◌, nat_le, if◌then◌else◌, List, [], ◌∷◌, ◌++◌, length, drop, slice_index, Option, Some, None, Result, Ok, Err}
 use Rattle.std.specs.Option.{option_map, option_and_then}
 use Rattle.std.specs.Int.{Width, w8, w32, w64}
 use Rattle.fc_base.specs.declared.fault.Fault.{Fault}
@@ -10,7 +10,7 @@ use Rattle.verify_state.specs.State.{State as SavedState}
 use Rattle.verify_state.specs.Spelling.{spelling}
 use Rattle.verify_state.specs.Reading.{faults_of, state_in}
 use Rattle.messages.specs.declared.body.Body.{Body}
-use Rattle.messages.specs.declared.body.Body.TheVariants.{Jobs, JobsOk, Start, Started, Trigger, State, NoState, StateAck, Stop, Stopped, Verify, WantState, Saved, NoSaved, Report, Refused}
+use Rattle.messages.specs.declared.body.Body.TheVariants.{Jobs, JobsOk, Start, Started, Trigger, State, NoState, StateAck, Stop, Stopped, Verify, WantState, Saved, NoSaved, Report, Refused, Copy, CopyOk, Fetch, Granted}
 use Rattle.messages.specs.declared.kind.PacketKind.{PacketKind}
 use Rattle.messages.specs.declared.kind.PacketKind.TheVariants as kinds
 use Rattle.messages.specs.Choices.{act_number, act_numbered, asked_number, asked_numbered, reason_number, reason_numbered}
@@ -35,6 +35,10 @@ kind_of (Saved attempt state) = kinds.Saved
 kind_of (NoSaved run attempt job) = kinds.NoSaved
 kind_of (Report run attempt job jobs report) = kinds.Report
 kind_of (Refused refusal) = kinds.Refused
+kind_of (Copy state) = kinds.Copy
+kind_of (CopyOk run server job) = kinds.CopyOk
+kind_of (Fetch generation) = kinds.Fetch
+kind_of (Granted generation) = kinds.Granted
 
 -- How wide the numbers of each kind are.
 abbrev pub layout : PacketKind → List Width
@@ -54,6 +58,10 @@ layout kinds.Saved = w64 ∷ []
 layout kinds.NoSaved = w64 ∷ w64 ∷ w32 ∷ []
 layout kinds.Report = w64 ∷ w64 ∷ w32 ∷ w32 ∷ w8 ∷ w32 ∷ w32 ∷ w32 ∷ w32 ∷ []
 layout kinds.Refused = w8 ∷ w8 ∷ w32 ∷ w32 ∷ w64 ∷ w64 ∷ w64 ∷ []
+layout kinds.Copy = []
+layout kinds.CopyOk = w64 ∷ w32 ∷ w32 ∷ []
+layout kinds.Fetch = w64 ∷ []
+layout kinds.Granted = w64 ∷ []
 
 -- How a check ended: 0 whole, 1 at a fault, 2 at a block that couldn't be read.
 abbrev pub end_number : ReportEnd → ℕ
@@ -94,6 +102,10 @@ numbers_of (Report run attempt job jobs r) =
     run ∷ attempt ∷ job ∷ jobs ∷ end_number r.end ∷ end_at r.end ∷ r.checked ∷ r.faults ∷ length r.first ∷ []
 numbers_of (Refused r) =
     asked_number r.asked ∷ reason_number r.reason ∷ r.job ∷ r.jobs ∷ r.run ∷ r.attempt ∷ r.value ∷ []
+numbers_of (Copy state) = []
+numbers_of (CopyOk run server job) = run ∷ server ∷ job ∷ []
+numbers_of (Fetch generation) = generation ∷ []
+numbers_of (Granted generation) = generation ∷ []
 
 -- The bytes of a verify state.
 unfoldable pub spelled_state : SavedState → List ℕ
@@ -114,6 +126,7 @@ tail_of (State jobs state) = spelled_state state
 tail_of (Verify run attempt text) = text
 tail_of (Saved attempt state) = spelled_state state
 tail_of (Report run attempt job jobs r) = spelled_blocks r.first
+tail_of (Copy state) = spelled_state state
 tail_of _ = []
 
 -- The bytes of a body.
@@ -156,11 +169,16 @@ body_of kinds.Refused ns tail =
       value = slice_index ns 6;
     }))
     (reason_numbered (slice_index ns 1))) (asked_numbered (slice_index ns 0))
+body_of kinds.Copy ns tail = option_map Copy (state_said tail)
+body_of kinds.CopyOk ns tail = Some (CopyOk (slice_index ns 0) (slice_index ns 1) (slice_index ns 2))
+body_of kinds.Fetch ns tail = Some (Fetch (slice_index ns 0))
+body_of kinds.Granted ns tail = Some (Granted (slice_index ns 0))
 
 -- A body takes all of so many bytes. A verify state, of either layout, tells itself where it ends.
 abbrev pub takes_all : Body → ℕ → Bool
 takes_all (State jobs state) len = nat_le 4 len
 takes_all (Saved attempt state) len = nat_le 8 len
+takes_all (Copy state) len = true
 takes_all b len = length_of b == len
 
 -- A body that takes all of the bytes, and keeps its ranges.
@@ -199,3 +217,7 @@ length_limit kinds.Saved = 144
 length_limit kinds.NoSaved = 20
 length_limit kinds.Report = 169
 length_limit kinds.Refused = 34
+length_limit kinds.Copy = 136
+length_limit kinds.CopyOk = 16
+length_limit kinds.Fetch = 8
+length_limit kinds.Granted = 8

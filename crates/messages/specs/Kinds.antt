@@ -1,9 +1,9 @@
 -- The kinds of packets: the number that a frame has for each, the name that is printed, and who sends it.
-use Rattle.std.specs.Prelude.{ℕ, Bool, true, false, not, ◌==◌, List, [], ◌∷◌, Option, find, codes}
+use Rattle.std.specs.Prelude.{ℕ, Bool, true, false, ◌==◌, List, [], ◌∷◌, Option, find, codes}
 use Rattle.messages.specs.declared.kind.PacketKind.{PacketKind}
-use Rattle.messages.specs.declared.kind.PacketKind.TheVariants.{Jobs, JobsOk, Start, Started, Trigger, State, NoState, StateAck, Stop, Stopped, Verify, WantState, Saved, NoSaved, Report, Refused}
+use Rattle.messages.specs.declared.kind.PacketKind.TheVariants.{Jobs, JobsOk, Start, Started, Trigger, State, NoState, StateAck, Stop, Stopped, Verify, WantState, Saved, NoSaved, Report, Refused, Copy, CopyOk, Fetch, Granted}
 
--- The number of a kind.
+-- The number of a kind: 17 is that of a piece.
 abbrev pub number_of : PacketKind → ℕ
 number_of Jobs = 1
 number_of JobsOk = 2
@@ -21,6 +21,10 @@ number_of Saved = 13
 number_of NoSaved = 14
 number_of Report = 15
 number_of Refused = 16
+number_of Copy = 18
+number_of CopyOk = 19
+number_of Fetch = 20
+number_of Granted = 21
 
 -- The name of a kind.
 abbrev pub name_of : PacketKind → List ℕ
@@ -40,10 +44,14 @@ name_of Saved = codes "Saved"
 name_of NoSaved = codes "NoSaved"
 name_of Report = codes "Report"
 name_of Refused = codes "Refused"
+name_of Copy = codes "Copy"
+name_of CopyOk = codes "CopyOk"
+name_of Fetch = codes "Fetch"
+name_of Granted = codes "Granted"
 
 -- Every kind.
 abbrev pub kinds : List PacketKind
-kinds = Jobs ∷ JobsOk ∷ Start ∷ Started ∷ Trigger ∷ State ∷ NoState ∷ StateAck ∷ Stop ∷ Stopped ∷ Verify ∷ WantState ∷ Saved ∷ NoSaved ∷ Report ∷ Refused ∷ []
+kinds = Jobs ∷ JobsOk ∷ Start ∷ Started ∷ Trigger ∷ State ∷ NoState ∷ StateAck ∷ Stop ∷ Stopped ∷ Verify ∷ WantState ∷ Saved ∷ NoSaved ∷ Report ∷ Refused ∷ Copy ∷ CopyOk ∷ Fetch ∷ Granted ∷ []
 
 -- The kind with this number.
 unfoldable pub kind_numbered : ℕ → Option PacketKind
@@ -59,8 +67,25 @@ is_of_client Stop = true
 is_of_client Verify = true
 is_of_client Saved = true
 is_of_client NoSaved = true
+is_of_client Copy = true
+is_of_client Fetch = true
 is_of_client _ = false
 
--- The kinds that servers send are the others.
+-- The kinds that servers send.
 abbrev pub is_of_server : PacketKind → Bool
-is_of_server kind = not (is_of_client kind)
+is_of_server JobsOk = true
+is_of_server Started = true
+is_of_server State = true
+is_of_server NoState = true
+is_of_server Stopped = true
+is_of_server WantState = true
+is_of_server Report = true
+is_of_server Refused = true
+is_of_server _ = false
+
+-- The kinds that the mirror sends.
+abbrev pub is_of_mirror : PacketKind → Bool
+is_of_mirror Copy = true
+is_of_mirror CopyOk = true
+is_of_mirror Granted = true
+is_of_mirror _ = false

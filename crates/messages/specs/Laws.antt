@@ -16,12 +16,13 @@ pub record IsPacket (p : PacketParts) : Type 0 where
 abbrev pub IsBytes : List ℕ → Type 0
 IsBytes bytes = (i : ℕ) → slice_index bytes i < 256
 
--- The bytes hold a verify state in layout 1, which stands behind four numbers in a State and eight in
--- a Saved.
+-- The bytes hold a verify state in layout 1, which stands behind four numbers in a State, eight in
+-- a Saved, and none in a Copy.
 abbrev pub holds_layout_1 : List ℕ → Bool
 holds_layout_1 bytes =
     ((header_at 3 bytes == 6) && is_layout_1 (drop 20 bytes))
-    || ((header_at 3 bytes == 13) && is_layout_1 (drop 24 bytes))
+    || (((header_at 3 bytes == 13) && is_layout_1 (drop 24 bytes))
+    || ((header_at 3 bytes == 18) && is_layout_1 (drop 16 bytes)))
 
 -- The bytes say this packet, and are its spelling but where they hold a state in layout 1.
 pub record Says (bytes : List ℕ) (p : PacketParts) : Type 0 where

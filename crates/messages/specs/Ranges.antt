@@ -1,10 +1,10 @@
 -- The ranges of what a body says.
-use Rattle.std.specs.Prelude.{ℕ, ◌^◌, Bool, ◌&&◌, ◌==◌, nat_le, nat_lt, List, length}
+use Rattle.std.specs.Prelude.{ℕ, ◌^◌, Bool, true, ◌&&◌, ◌==◌, nat_le, nat_lt, List, length}
 use Rattle.fc_base.specs.Report.{is_report}
-use Rattle.fc_base.specs.declared.limits.TheConstants.{MAX_JOBS, MAX_TEXT}
+use Rattle.fc_base.specs.declared.limits.TheConstants.{MAX_GENERATION, MAX_JOBS, MAX_SERVERS, MAX_TEXT}
 use Rattle.verify_state.specs.State.{IsState}
 use Rattle.messages.specs.declared.body.Body.{Body}
-use Rattle.messages.specs.declared.body.Body.TheVariants.{Jobs, JobsOk, Start, Started, Trigger, State, NoState, StateAck, Stop, Stopped, Verify, WantState, Saved, NoSaved, Report, Refused}
+use Rattle.messages.specs.declared.body.Body.TheVariants.{Jobs, JobsOk, Start, Started, Trigger, State, NoState, StateAck, Stop, Stopped, Verify, WantState, Saved, NoSaved, Report, Refused, Copy, CopyOk, Fetch, Granted}
 use Rattle.messages.specs.declared.refusal.Asked.{Asked}
 use Rattle.messages.specs.declared.refusal.Asked.TheVariants as asks
 use Rattle.messages.specs.declared.refusal.Refusal.{Refusal}
@@ -34,6 +34,14 @@ is_job n = nat_lt n MAX_JOBS
 -- A job is one of so many.
 abbrev pub is_job_of : ℕ → ℕ → Bool
 is_job_of job jobs = is_jobs jobs && nat_lt job jobs
+
+-- A server's number is below 8.
+abbrev pub is_server_no : ℕ → Bool
+is_server_no n = nat_lt n MAX_SERVERS
+
+-- Generations count from 1, and fit four bytes.
+abbrev pub is_generation : ℕ → Bool
+is_generation n = nat_le 1 n && nat_le n MAX_GENERATION
 
 -- A job file has at most 16,384 bytes.
 abbrev pub is_text : List ℕ → Bool
@@ -73,9 +81,14 @@ is_body (Saved attempt state) = is_attempt attempt
 is_body (NoSaved run attempt job) = is_run run && is_attempt attempt && is_job job
 is_body (Report run attempt job jobs report) = is_run run && is_attempt attempt && is_job_of job jobs && is_report report
 is_body (Refused r) = is_refusal r
+is_body (Copy state) = true
+is_body (CopyOk run server job) = is_run run && is_server_no server && is_job job
+is_body (Fetch generation) = is_generation generation
+is_body (Granted generation) = is_generation generation
 
 -- What a verify state keeps, where a body has one.
 abbrev pub KeepsState : Body → Type 0
 KeepsState (State jobs state) = IsState state
 KeepsState (Saved attempt state) = IsState state
+KeepsState (Copy state) = IsState state
 KeepsState _ = Unit {0}

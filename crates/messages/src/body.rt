@@ -4,10 +4,12 @@ ghost use Rattle.std.specs.Prelude.{◌≡◌, Some, None, if◌then◌else◌};
 
 use crate::kind::PacketKind;
 use crate::piece::Tag;
-use crate::ranges::{is_attempt, is_job, is_job_of, is_jobs, is_refusal, is_run};
+use crate::ranges::{
+    is_attempt, is_generation, is_job, is_job_of, is_jobs, is_refusal, is_run, is_server_no,
+};
 use crate::refusal::{Act, Refusal};
 use crate::text::Text;
-use fc_base::{Attempt, CheckReport, JobNo, Key, MAX_TEXT, RunNo, ServerNo};
+use fc_base::{Attempt, CheckReport, Generation, JobNo, Key, MAX_TEXT, RunNo, ServerNo};
 use verify_state::VerifyState;
 
 /// What a packet says, by kind, before its ranges are checked: a packet's own body keeps them. Runs
@@ -95,6 +97,24 @@ pub enum Body {
     },
     /// A server: it refuses.
     Refused(Refusal),
+    /// The client or the mirror: keep this state, which I keep.
+    Copy {
+        state: VerifyState,
+    },
+    /// The mirror: the state with this key is kept.
+    CopyOk {
+        run: RunNo,
+        server: ServerNo,
+        job: JobNo,
+    },
+    /// The client: grant me this generation, and send every state that you keep.
+    Fetch {
+        generation: Generation,
+    },
+    /// The mirror: it has no higher generation, and the states follow.
+    Granted {
+        generation: Generation,
+    },
 }
 
 /// The key of what has a run alone.
@@ -134,6 +154,10 @@ impl Body {
             Body::NoSaved { .. } => PacketKind::NoSaved,
             Body::Report { .. } => PacketKind::Report,
             Body::Refused(_) => PacketKind::Refused,
+            Body::Copy { .. } => PacketKind::Copy,
+            Body::CopyOk { .. } => PacketKind::CopyOk,
+            Body::Fetch { .. } => PacketKind::Fetch,
+            Body::Granted { .. } => PacketKind::Granted,
         }
     }
 
@@ -172,6 +196,11 @@ impl Body {
                     && report.parts().is_report()
             }
             Body::Refused(refusal) => is_refusal(refusal),
+            Body::Copy { .. } => true,
+            Body::CopyOk { run, server, job } => {
+                is_run(*run) && is_server_no(*server) && is_job(*job)
+            }
+            Body::Fetch { generation } | Body::Granted { generation } => is_generation(*generation),
         }
     }
 
@@ -200,7 +229,7 @@ impl Body {
     pub(crate) fn keeps_its_state(&self)
         ensures { KeepsState self.now }
     {
-        if let Body::State { state, .. } | Body::Saved { state, .. } = self {
+        if let Body::State { state, .. } | Body::Saved { state, .. } | Body::Copy { state } = self {
             state.keeps_its_ranges();
         }
     }

@@ -1,10 +1,10 @@
 //! The kinds of packets, the number that a frame has for each, and who sends it.
 
 ghost use Rattle.std.specs.Prelude.{◌≡◌};
-ghost use Rattle.messages.specs.Kinds.{number_of, name_of, kind_numbered, is_of_client, is_of_server};
+ghost use Rattle.messages.specs.Kinds.{number_of, name_of, kind_numbered, is_of_client, is_of_server, is_of_mirror};
 
-/// What a packet says. The discriminants are the numbers in frames; [`PacketKind::is_of_client`] says who
-/// sends which.
+/// What a packet says. The discriminants are the numbers in frames, of which 17 is that of a piece;
+/// [`PacketKind::is_of_client`], `is_of_server` and `is_of_mirror` say who sends which.
 #[derive(Clone, Copy, Debug, PartialEq, Eq, Hash)]
 pub enum PacketKind {
     Jobs = 1,
@@ -23,10 +23,14 @@ pub enum PacketKind {
     NoSaved = 14,
     Report = 15,
     Refused = 16,
+    Copy = 18,
+    CopyOk = 19,
+    Fetch = 20,
+    Granted = 21,
 }
 
 /// Every kind, in the order of the numbers.
-const KINDS: [PacketKind; 16] = [
+const KINDS: [PacketKind; 20] = [
     PacketKind::Jobs,
     PacketKind::JobsOk,
     PacketKind::Start,
@@ -43,6 +47,10 @@ const KINDS: [PacketKind; 16] = [
     PacketKind::NoSaved,
     PacketKind::Report,
     PacketKind::Refused,
+    PacketKind::Copy,
+    PacketKind::CopyOk,
+    PacketKind::Fetch,
+    PacketKind::Granted,
 ];
 
 impl PacketKind {
@@ -75,14 +83,37 @@ impl PacketKind {
                 | PacketKind::Verify
                 | PacketKind::Saved
                 | PacketKind::NoSaved
+                | PacketKind::Copy
+                | PacketKind::Fetch
         )
     }
 
-    /// Whether servers send packets of this kind. No kind is sent by both.
+    /// Whether servers send packets of this kind.
     pub fn is_of_server(self) -> bool
         ensures { result ≡ is_of_server self }
     {
-        !self.is_of_client()
+        matches!(
+            self,
+            PacketKind::JobsOk
+                | PacketKind::Started
+                | PacketKind::State
+                | PacketKind::NoState
+                | PacketKind::Stopped
+                | PacketKind::WantState
+                | PacketKind::Report
+                | PacketKind::Refused
+        )
+    }
+
+    /// Whether the mirror sends packets of this kind. A copy of a state goes both ways between it and
+    /// the client; every other kind is sent by one of the three alone.
+    pub fn is_of_mirror(self) -> bool
+        ensures { result ≡ is_of_mirror self }
+    {
+        matches!(
+            self,
+            PacketKind::Copy | PacketKind::CopyOk | PacketKind::Granted
+        )
     }
 
     /// The kind's name, as it is printed.
@@ -106,6 +137,10 @@ impl PacketKind {
             PacketKind::NoSaved => "NoSaved",
             PacketKind::Report => "Report",
             PacketKind::Refused => "Refused",
+            PacketKind::Copy => "Copy",
+            PacketKind::CopyOk => "CopyOk",
+            PacketKind::Fetch => "Fetch",
+            PacketKind::Granted => "Granted",
         }
     }
 }

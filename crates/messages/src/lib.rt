@@ -1,4 +1,4 @@
-//! What the client and the servers say to each other, and its bytes: packets and their frames.
+//! What the client, the servers and the mirror say to each other, and its bytes: packets and their frames.
 #![tactic(auto)]
 
 mod assembly;

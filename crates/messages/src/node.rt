@@ -1,19 +1,24 @@
 //! Who sends a packet, and to whom.
 
 ghost use Rattle.std.specs.Prelude.{◌≡◌};
-ghost use Rattle.messages.specs.Nodes.{node_number, node_numbered, is_node, is_client, is_server};
+ghost use Rattle.messages.specs.Nodes.{node_number, node_numbered, is_node, is_client, is_mirror, is_server};
 
 use fc_base::ServerNo;
 
-/// One end of a packet's way. Frames name a server by its number, 0 to 7, and the client by 8.
+/// One end of a packet's way. Frames name a server by its number, 0 to 7, the client by 8, and the
+/// mirror by 9.
 #[derive(Clone, Copy, Debug, PartialEq, Eq)]
 pub enum Node {
     Server(ServerNo),
     Client,
+    Mirror,
 }
 
 /// The client's number.
 const CLIENT: u32 = 8;
+
+/// The mirror's number.
+const MIRROR: u32 = 9;
 
 impl Node {
     /// The node's number in a frame.
@@ -23,10 +28,11 @@ impl Node {
         match self {
             Node::Server(server) => server.0,
             Node::Client => CLIENT,
+            Node::Mirror => MIRROR,
         }
     }
 
-    /// The node with this number in a frame, `None` above 8.
+    /// The node with this number in a frame, `None` above 9.
     pub fn numbered(number: u32) -> Option<Node>
         ensures { result ≡ node_numbered number }
     {
@@ -34,6 +40,8 @@ impl Node {
             Some(Node::Server(ServerNo(number)))
         } else if number == CLIENT {
             Some(Node::Client)
+        } else if number == MIRROR {
+            Some(Node::Mirror)
         } else {
             None
         }
@@ -45,7 +53,7 @@ impl Node {
     {
         match self {
             Node::Server(server) => server.0 < CLIENT,
-            Node::Client => true,
+            Node::Client | Node::Mirror => true,
         }
     }
 
@@ -56,13 +64,20 @@ impl Node {
         matches!(self, Node::Client)
     }
 
+    /// Whether this is the mirror.
+    pub fn is_mirror(self) -> bool
+        ensures { result ≡ is_mirror self }
+    {
+        matches!(self, Node::Mirror)
+    }
+
     /// Whether this is the server of that number.
     pub fn is_server(self, server: ServerNo) -> bool
         ensures { result ≡ is_server server self }
     {
         match self {
             Node::Server(own) => own.0 == server.0,
-            Node::Client => false,
+            Node::Client | Node::Mirror => false,
         }
     }
 }

@@ -1,10 +1,10 @@
 //! The ranges of the numbers in a body.
 
 ghost use Rattle.std.specs.Prelude.{◌≡◌};
-ghost use Rattle.messages.specs.Ranges.{is_word, is_run, is_attempt, is_jobs, is_job, is_job_of, is_job_refused, is_attempt_refused, is_refusal};
+ghost use Rattle.messages.specs.Ranges.{is_word, is_run, is_attempt, is_jobs, is_job, is_job_of, is_server_no, is_generation, is_job_refused, is_attempt_refused, is_refusal};
 
 use crate::refusal::{Asked, Reason, Refusal};
-use fc_base::{Attempt, JobNo, MAX_JOBS, RunNo};
+use fc_base::{Attempt, Generation, JobNo, MAX_GENERATION, MAX_JOBS, MAX_SERVERS, RunNo, ServerNo};
 
 /// Every number of eight bytes may go with a reason.
 fn is_value(value: u64) -> bool
@@ -41,6 +41,18 @@ pub(crate) fn is_job_of(job: JobNo, jobs: u32) -> bool
     ensures { result ≡ is_job_of job jobs }
 {
     is_jobs(jobs) && job.0 < jobs
+}
+
+pub(crate) fn is_server_no(server: ServerNo) -> bool
+    ensures { result ≡ is_server_no server }
+{
+    server.0 < MAX_SERVERS
+}
+
+pub(crate) fn is_generation(generation: Generation) -> bool
+    ensures { result ≡ is_generation generation }
+{
+    1 <= generation.0 && generation.0 <= MAX_GENERATION
 }
 
 fn is_job_refused(reason: Reason, job: JobNo, jobs: u32) -> bool

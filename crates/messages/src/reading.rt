@@ -33,7 +33,7 @@ const BODY_LIMIT: u32 = 16_400;
 /// The packet that a frame says, all of the bytes.
 ///
 /// The refusals, in this order: `FrameShort` for fewer than 16 bytes; `FrameBadMagic` where they
-/// don't begin with FC and version 1; `BadKind`; `FrameBadField` for a node above 8; `FrameTooLong`
+/// don't begin with FC and version 1; `BadKind`; `FrameBadField` for a node above 9; `FrameTooLong`
 /// for a body of more than 16,400 bytes; `FrameShort` and `FrameTrailing` where fewer or more bytes
 /// follow than the header says; `FrameBadField` for a body that isn't of its kind or has a number out
 /// of its range. `FrameNoMemory` is answered only of bytes that have none of these: memory is asked
@@ -172,6 +172,10 @@ pub(crate) fn body_of(alloc: Global, kind: PacketKind, bytes: &[u8]) -> Result<B
         PacketKind::NoSaved => in_place(plain::no_saved(bytes)),
         PacketKind::Report => in_place(report::report(bytes)),
         PacketKind::Refused => in_place(plain::refused(bytes)),
+        PacketKind::Copy => in_place(states::copy(bytes)),
+        PacketKind::CopyOk => in_place(plain::copy_ok(bytes)),
+        PacketKind::Fetch => in_place(plain::fetch(bytes)),
+        PacketKind::Granted => in_place(plain::granted(bytes)),
     }
 }
 

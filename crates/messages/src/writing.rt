@@ -3,7 +3,7 @@
 ghost use Rattle.std.specs.Prelude.{◌≡◌, ℕ, ◌+◌, ◌≤◌, ◌∷◌, [], ◌++◌, IsTrue, length, take, drop, OnOk, IfOk};
 ghost use Rattle.std.specs.Int.{w8, w32};
 ghost use Rattle.fc_base.specs.Report.{is_report};
-ghost use Rattle.messages.specs.declared.body.Body.TheVariants.{Jobs, State, Verify, Saved, Report, Refused};
+ghost use Rattle.messages.specs.declared.body.Body.TheVariants.{Jobs, State, Verify, Saved, Report, Refused, Copy};
 ghost use Rattle.fc_base.specs.Layouts.{bytes_of, spelled, spelled_blocks};
 ghost use Rattle.messages.specs.Kinds.{number_of};
 ghost use Rattle.messages.specs.Nodes.{node_number};
@@ -120,6 +120,13 @@ fn put_body(out: &mut Vec<u8>, body: &Body) -> Result<(), AllocError>
             report,
         } => put_report(out, *run, *attempt, *job, *jobs, &report.parts()),
         Body::Refused(refusal) => put_refused(out, refusal),
+        Body::Copy { state } => put_copy(out, state),
+        Body::CopyOk { run, server, job } => {
+            put_u64(out, run.0)?;
+            put_u32(out, server.0)?;
+            put_u32(out, job.0)
+        }
+        Body::Fetch { generation } | Body::Granted { generation } => put_u64(out, generation.0),
     }
 }
 
@@ -143,6 +150,13 @@ fn put_saved(out: &mut Vec<u8>, attempt: Attempt, state: &VerifyState) -> Result
     ensures { OnOk result (out.new.items ≡ out.old.items ++ spelled_body (Saved attempt state.now)) }
 {
     put_u64(out, attempt.0)?;
+    state.push_to(out)
+}
+
+#[tactic(auto, unfolding(crate::specs::Bodies::spelled_state))]
+fn put_copy(out: &mut Vec<u8>, state: &VerifyState) -> Result<(), AllocError>
+    ensures { OnOk result (out.new.items ≡ out.old.items ++ spelled_body (Copy state.now)) }
+{
     state.push_to(out)
 }
 

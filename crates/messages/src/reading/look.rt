@@ -20,7 +20,7 @@ pub struct FrameLook {
 /// What the header of a frame says, without a look at what is behind it: it takes no memory.
 ///
 /// `None` is answered of fewer than 16 bytes, of bytes that don't begin with FC and version 1, and
-/// where the kind isn't known or a node is above 8. Whether the bytes are a frame isn't asked.
+/// where the kind isn't known or a node is above 9. Whether the bytes are a frame isn't asked.
 pub fn look_at(bytes: &[u8]) -> Option<FrameLook>
     ensures value { result ≡ look_at bytes.now }
     ensures frames { LooksAtFrames bytes.now result }

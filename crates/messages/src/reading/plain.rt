@@ -2,13 +2,13 @@
 //! bytes and in their ranges.
 
 ghost use Rattle.std.specs.Prelude.{◌≡◌};
-ghost use Rattle.messages.specs.declared.kind.PacketKind.TheVariants.{JobsOk, Start, Started, Trigger, NoState, StateAck, Stop, Stopped, WantState, NoSaved, Refused};
+ghost use Rattle.messages.specs.declared.kind.PacketKind.TheVariants.{JobsOk, Start, Started, Trigger, NoState, StateAck, Stop, Stopped, WantState, NoSaved, Refused, CopyOk, Fetch, Granted};
 ghost use Rattle.messages.specs.Bodies.{body_at};
 
 use crate::body::Body;
 use crate::reading::in_range;
 use crate::refusal::{Act, Asked, Reason, Refusal};
-use fc_base::{Attempt, JobNo, RunNo, split_u8, split_u32, split_u64};
+use fc_base::{Attempt, Generation, JobNo, RunNo, ServerNo, split_u8, split_u32, split_u64};
 
 pub(super) fn jobs_ok(bytes: &[u8]) -> Option<Body>
     ensures { result ≡ body_at JobsOk bytes.now }
@@ -165,4 +165,44 @@ pub(super) fn refused(bytes: &[u8]) -> Option<Body>
         attempt: Attempt(attempt),
         value,
     }))
+}
+
+pub(super) fn copy_ok(bytes: &[u8]) -> Option<Body>
+    ensures { result ≡ body_at CopyOk bytes.now }
+{
+    if bytes.len() != 16 {
+        return None;
+    }
+    let (run, rest) = split_u64(bytes);
+    let (server, rest) = split_u32(rest);
+    let (job, _) = split_u32(rest);
+    in_range(Body::CopyOk {
+        run: RunNo(run),
+        server: ServerNo(server),
+        job: JobNo(job),
+    })
+}
+
+pub(super) fn fetch(bytes: &[u8]) -> Option<Body>
+    ensures { result ≡ body_at Fetch bytes.now }
+{
+    if bytes.len() != 8 {
+        return None;
+    }
+    let (generation, _) = split_u64(bytes);
+    in_range(Body::Fetch {
+        generation: Generation(generation),
+    })
+}
+
+pub(super) fn granted(bytes: &[u8]) -> Option<Body>
+    ensures { result ≡ body_at Granted bytes.now }
+{
+    if bytes.len() != 8 {
+        return None;
+    }
+    let (generation, _) = split_u64(bytes);
+    in_range(Body::Granted {
+        generation: Generation(generation),
+    })
 }

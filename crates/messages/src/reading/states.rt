@@ -1,7 +1,7 @@
 //! Reading bodies that carry a verify state, of either layout.
 
 ghost use Rattle.std.specs.Prelude.{◌≡◌};
-ghost use Rattle.messages.specs.declared.kind.PacketKind.TheVariants.{State, Saved};
+ghost use Rattle.messages.specs.declared.kind.PacketKind.TheVariants.{State, Saved, Copy};
 ghost use Rattle.messages.specs.Bodies.{body_at, state_said};
 
 use crate::body::Body;
@@ -32,6 +32,13 @@ pub(super) fn saved(bytes: &[u8]) -> Option<Body>
         attempt: Attempt(attempt),
         state,
     })
+}
+
+pub(super) fn copy(bytes: &[u8]) -> Option<Body>
+    ensures { result ≡ body_at Copy bytes.now }
+{
+    let state = state_of(bytes)?;
+    in_range(Body::Copy { state })
 }
 
 /// The state that all of these bytes are.
