@@ -6,6 +6,7 @@ mod changed_pieces;
 mod frames;
 mod limits;
 mod looks;
+mod mirrored;
 mod pieces;
 mod refusals;
 mod refused;

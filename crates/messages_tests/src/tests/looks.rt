@@ -18,10 +18,14 @@ const LOOKED: &[(&[u8], &str)] = &[
         b"FC\x01\x10\0\0\0\0\0\0\0\x01\xff\xff\xff\xff",
         "Server(ServerNo(0)) Server(ServerNo(1)) Refused",
     ),
+    (
+        b"FC\x01\x15\0\0\0\x09\0\0\0\x08\0\0\0\x08",
+        "Mirror Client Granted",
+    ),
 ];
 
 /// Bytes that have no header of a frame: too few, another letter, another version, a kind that isn't
-/// known, and a node above 8.
+/// known, and a node above 9.
 const STRANGE: &[&[u8]] = &[
     b"",
     b"FC\x01\x08\0\0\0\x08\0\0\0\x03\0\0\0",
@@ -29,8 +33,8 @@ const STRANGE: &[&[u8]] = &[
     b"Fc\x01\x08\0\0\0\x08\0\0\0\x03\0\0\0\x0c",
     b"FC\x02\x08\0\0\0\x08\0\0\0\x03\0\0\0\x0c",
     b"FC\x01\x00\0\0\0\x08\0\0\0\x03\0\0\0\x0c",
-    b"FC\x01\x12\0\0\0\x08\0\0\0\x03\0\0\0\x0c",
-    b"FC\x01\x08\0\0\0\x09\0\0\0\x03\0\0\0\x0c",
+    b"FC\x01\x16\0\0\0\x08\0\0\0\x03\0\0\0\x0c",
+    b"FC\x01\x08\0\0\0\x0a\0\0\0\x03\0\0\0\x0c",
     b"FC\x01\x08\0\0\0\x08\x01\0\0\x03\0\0\0\x0c",
 ];
 
