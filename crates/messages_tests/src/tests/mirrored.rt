@@ -1,8 +1,10 @@
 //! Frames of what the client and the mirror say to each other.
 
+use super::pieces::old_state;
 use super::vectors::MIRRORED;
 use super::*;
-use fc_base::Generation;
+use fc_base::{Fault, Generation};
+use messages::decode_frame;
 
 fn to_mirror(body: Body) -> PacketParts {
     PacketParts {
@@ -49,4 +51,24 @@ fn frames_of_a_mirror(rt: HostRuntime) -> Result<(), Fail> {
     copies(rt.alloc(), &mut packets)?;
     grants(&mut packets)?;
     are_frames_of(&rt, &MIRRORED, packets)
+}
+
+/// A Copy of a state in layout 1, in 1,028 bytes.
+fn long_copy(alloc: Global) -> Result<Vec<u8>, Fail> {
+    let state = old_state(alloc)?;
+    let bytes = state.get(4..).ok_or("behind the number of jobs")?;
+    let mut frame = Vec::new(alloc);
+    frame.extend_from_slice(b"FC\x01\x12\0\0\0\x09\0\0\0\x08\0\0\x04\x04")?;
+    frame.extend_from_slice(bytes)?;
+    Ok(frame)
+}
+
+#[test]
+fn a_copy_goes_whole(rt: HostRuntime) -> Result<(), Fail> {
+    let frame = long_copy(rt.alloc())?;
+    let packet = read(rt.alloc(), &frame)?;
+    assert!(rt; written(rt.alloc(), &packet)?.len() == 152);
+    let refused = decode_frame(rt.alloc(), &frame).err();
+    assert!(rt; refused == Some(Fault::FrameBadField));
+    Ok(())
 }

@@ -48,7 +48,7 @@ pub(super) fn piece_in(alloc: Global, bytes: &[u8]) -> Result<Piece, Fail> {
 }
 
 /// A verify state in layout 1 with the writes 0 to 115 done, behind the number of jobs.
-fn old_state(alloc: Global) -> Result<Vec<u8>, Fail> {
+pub(super) fn old_state(alloc: Global) -> Result<Vec<u8>, Fail> {
     let mut bytes = Vec::new(alloc);
     bytes.extend_from_slice(b"\0\0\0\x01FCV1\0\0\0\0\0\0\0\x01\0\0\0\0\0\0\0\0\0\0\0\0")?;
     bytes.extend_from_slice(b"\0\0\x02\0\0\0\0\x02\0\0\0\0\0\0\0\xc8\0\0\0\0\0\0\0\x01")?;
