@@ -98,6 +98,10 @@ deliver_body origin stopped h (bodies.Saved a s) = refl
 deliver_body origin stopped h (bodies.NoSaved r a j) = refl
 deliver_body origin stopped h (bodies.Report r a j n report) = refl
 deliver_body origin stopped h (bodies.Refused refusal) = refl
+deliver_body origin stopped h (bodies.Copy s) = refl
+deliver_body origin stopped h (bodies.CopyOk r s j) = refl
+deliver_body origin stopped h (bodies.Fetch g) = refl
+deliver_body origin stopped h (bodies.Granted g) = refl
 
 deliver_by : (origin : Origin) (stopped t : Bool) (h : List window.Event) (b : Body) → with_request origin stopped (if t then asked_by b else ToNobody) h ≡ h
 deliver_by origin stopped true h b = deliver_body origin stopped h b

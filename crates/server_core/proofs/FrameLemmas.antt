@@ -176,6 +176,10 @@ by_halt w act before (bodies.Saved a s) h = tt
 by_halt w act before (bodies.NoSaved r a j) h = tt
 by_halt w act before (bodies.Report r a j n report) h = tt
 by_halt w act before (bodies.Refused refusal) h = tt
+by_halt w act before (bodies.Copy s) h = tt
+by_halt w act before (bodies.CopyOk r s j) h = tt
+by_halt w act before (bodies.Fetch g) h = tt
+by_halt w act before (bodies.Granted g) h = tt
 
 halt_frames : (w : Work) (last : ℕ) (halt : Option Halt) (new : Option Halt)
     → ((b : Body) → Of (IsFrameOf w w.since) b → Of (IsFrameBy w new) b) → Each (IsFrameBy w (option_or halt new)) (reply_to_halt w last halt)

@@ -39,10 +39,12 @@ IsSaid me older _ = Unit {0}
 from_client : (n : Node) → is_client n ≡ true → n ≡ nodes.Client
 from_client (nodes.Server s) h = cc
 from_client nodes.Client h = refl
+from_client nodes.Mirror h = cc
 
 to_server : (me : ℕ) (n : Node) → is_server me n ≡ true → n ≡ nodes.Server me
 to_server me (nodes.Server s) h = ap nodes.Server (eqb-true s me h)
 to_server me nodes.Client h = cc
+to_server me nodes.Mirror h = cc
 
 same_packet : (f g t u : Node) (b c : Body) → f ≡ g → t ≡ u → b ≡ c → ◌≡◌ {A = PacketParts} (record { from = f; to = t; body = b }) (record { from = g; to = u; body = c })
 same_packet f g t u b c x y z = cc
@@ -67,6 +69,10 @@ body_said me p older (bodies.WantState r x j) from_is to_is e = tt
 body_said me p older (bodies.NoSaved r x j) from_is to_is e = tt
 body_said me p older (bodies.Report r x j n report) from_is to_is e = tt
 body_said me p older (bodies.Refused refusal) from_is to_is e = tt
+body_said me p older (bodies.Copy s) from_is to_is e = tt
+body_said me p older (bodies.CopyOk r s j) from_is to_is e = tt
+body_said me p older (bodies.Fetch g) from_is to_is e = tt
+body_said me p older (bodies.Granted g) from_is to_is e = tt
 
 packet_said : (me : ℕ) (p : PacketParts) (older : List PacketParts) (t : Bool) → (is_client p.from && is_server me p.to) ≡ t → IsSaid me (p ∷ older) (if t then asked_by p.body else ToNobody)
 packet_said me p older true e =

@@ -40,6 +40,10 @@ short_kind kinds.Saved h = cc
 short_kind kinds.NoSaved h = cc
 short_kind kinds.Report h = omega arith
 short_kind kinds.Refused h = omega arith
+short_kind kinds.Copy h = cc
+short_kind kinds.CopyOk h = cc
+short_kind kinds.Fetch h = cc
+short_kind kinds.Granted h = cc
 
 one_if : (p : PacketParts) (cut : Bool) → cut ≡ false → length (map frame_spelling (if cut then map Piece (pieces_of p) else Whole p ∷ [])) ≡ 1
 one_if p true e = cc

@@ -42,6 +42,10 @@ start_is_short kinds.Saved l = refl
 start_is_short kinds.NoSaved l = refl
 start_is_short kinds.Report l = refl
 start_is_short kinds.Refused l = refl
+start_is_short kinds.Copy l = refl
+start_is_short kinds.CopyOk l = refl
+start_is_short kinds.Fetch l = refl
+start_is_short kinds.Granted l = refl
 
 not_both : (b : Bool) → b ≡ false → b ≡ true → ⊥
 not_both true f t = cc
@@ -71,6 +75,10 @@ undue_body on last s w (bodies.Saved attempt state) kind l e = refl
 undue_body on last s w (bodies.NoSaved run attempt job) kind l e = refl
 undue_body on last s w (bodies.Report run attempt job jobs report) kind l e = refl
 undue_body on last s w (bodies.Refused refusal) kind l e = refl
+undue_body on last s w (bodies.Copy state) kind l e = refl
+undue_body on last s w (bodies.CopyOk run server job) kind l e = refl
+undue_body on last s w (bodies.Fetch generation) kind l e = refl
+undue_body on last s w (bodies.Granted generation) kind l e = refl
 
 undue_packet : (on : Bool) (last : ℕ) (s : Option Staged) (w : Option Work) (b : Body) (mine : Bool) → is_due on last s w (asked_by b) ≡ None → is_due on last s w (if mine then asked_by b else ToNobody) ≡ None
 undue_packet on last s w b true h = h

@@ -26,7 +26,7 @@ pub data Request : Type 0 where
   ToReport : ℕ → ℕ → ℕ → ReportParts → Request  -- in this boot and attempt, of this job
   ToNobody : Request  -- it is not for this server
 
--- What a packet of the client asks. The kinds that servers send ask nothing of one.
+-- What a packet of the client asks. The kinds that servers send, and those for a mirror, ask nothing of one.
 abbrev pub asked_by : Body → Request
 asked_by (bodies.Jobs run text) = ToStage run text
 asked_by (bodies.Start run) = ToStart run
