@@ -84,7 +84,7 @@ all_empty f (v ∷ vs) n e each =
     rw (← e, each 0 v (omega (arith, e))) (ap (λ (xs : List (List ℕ)). [] ∷ xs) (all_empty f vs (length vs) refl (λ i d h. each (suc i) d (omega (arith, e, h)))))
 
 -- What a node took is out of its list.
-pub take_items : {V : Type 0} (f : V → List ℕ) (vs : List V) (lists : List (List ℕ)) (node : Node) (taken : Option ℕ) (n place : ℕ) (v d : V) → map f vs ≡ lists → length vs ≡ 9 → taken ≡ Some n
+pub take_items : {V : Type 0} (f : V → List ℕ) (vs : List V) (lists : List (List ℕ)) (node : Node) (taken : Option ℕ) (n place : ℕ) (v d : V) → map f vs ≡ lists → length vs ≡ 10 → taken ≡ Some n
     → Some place ≡ (if is_node node then Some (node_number node) else None) → f v ≡ filter (λ k. not (n == k)) (f (get_or vs place d)) → map f (slice_set vs place v) ≡ without lists node taken
 take_items f vs lists node taken n place v d lists_are long taken_is place_is v_is =
     let at = placed node place (node_number node) (is_node node) place_is in

@@ -139,6 +139,10 @@ cut_well law (bodies.Saved attempt state) h k c = not_long (bodies.Saved attempt
 cut_well law (bodies.NoSaved run attempt job) h k c = not_long (bodies.NoSaved run attempt job) 20 (law (bodies.NoSaved run attempt job) h k) (omega arith) c
 cut_well law (bodies.Report run attempt job jobs r) h k c = not_long (bodies.Report run attempt job jobs r) 169 (law (bodies.Report run attempt job jobs r) h k) (omega arith) c
 cut_well law (bodies.Refused r) h k c = not_long (bodies.Refused r) 34 (law (bodies.Refused r) h k) (omega arith) c
+cut_well law (bodies.Copy state) h k c = not_long (bodies.Copy state) 136 (law (bodies.Copy state) h k) (omega arith) c
+cut_well law (bodies.CopyOk run server job) h k c = not_long (bodies.CopyOk run server job) 16 (law (bodies.CopyOk run server job) h k) (omega arith) c
+cut_well law (bodies.Fetch generation) h k c = not_long (bodies.Fetch generation) 8 (law (bodies.Fetch generation) h k) (omega arith) c
+cut_well law (bodies.Granted generation) h k c = not_long (bodies.Granted generation) 8 (law (bodies.Granted generation) h k) (omega arith) c
 
 -- ---- a piece, and the frames
 

@@ -24,7 +24,7 @@ abbrev pub least : ℕ → List ℕ → ℕ
 least most [] = most
 least most (n ∷ ns) = min n (least most ns)
 
--- The list of a node, which is empty where the node is none of the nine.
+-- The list of a node, which is empty where the node is none of the ten.
 abbrev pub list_of : List (List ℕ) → Node → List ℕ
 list_of lists node = if is_node node then slice_index_or lists (node_number node) [] else []
 
@@ -45,7 +45,7 @@ IsTakenBelow n l = ForSome l.taken (λ i. i < n)
 pub record IsKept (net : Network) (lists : List (List ℕ)) : Type 0 where
   pub spelled : All IsSpelled net.frames
   pub taken : All (IsTakenBelow (length net.frames)) net.journal
-  pub long : length lists ≡ 9
+  pub long : length lists ≡ 10
   pub waiting : (node : Node) → list_of lists node ≡ waiting net node
 
 -- With these frames more, whatever the journal was, the network is kept as it was before.

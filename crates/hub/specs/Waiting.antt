@@ -4,7 +4,7 @@ use Rattle.std.specs.Option.{option_map, option_map_or}
 use Rattle.std.specs.List.{list_any}
 use Rattle.fc_base.specs.Counted.{numbers_below}
 use Rattle.messages.specs.declared.node.Node.{Node}
-use Rattle.messages.specs.declared.node.Node.TheVariants.{Server, Client}
+use Rattle.messages.specs.declared.node.Node.TheVariants.{Server, Client, Mirror}
 use Rattle.messages.specs.FrameBytes.{frame_at}
 use Rattle.messages.specs.Looks.{look_of}
 use Rattle.hub.specs.declared.line.Line.{Line}
@@ -14,6 +14,7 @@ use Rattle.hub.specs.Network.{Network}
 abbrev pub is_same_node : Node → Node → Bool
 is_same_node (Server s) (Server r) = s == r
 is_same_node Client Client = true
+is_same_node Mirror Mirror = true
 is_same_node _ _ = false
 
 -- The node that a frame is for.

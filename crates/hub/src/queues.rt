@@ -12,8 +12,8 @@ use std::alloc::{AllocError, Global};
 use std::array;
 use std::marker::Model;
 
-/// How many nodes there are: eight servers, and the client.
-const NODES: usize = 9;
+/// How many nodes there are: eight servers, the client and the mirror.
+const NODES: usize = 10;
 
 /// A list of numbers for each node.
 #[derive(Debug, Drop)]
@@ -32,20 +32,20 @@ impl Model for Queues {
       more = least (2 ^ 64) (map (λ v. vec_capacity v - vec_len v) q.lists);
     } };
 
-    ghost invariant = { λ q. length q.lists ≡ 9 };
+    ghost invariant = { λ q. length q.lists ≡ 10 };
 }
 
 impl Queues {
     /// Empty lists.
     pub fn new(alloc: Global) -> Queues
-        ensures { result.lists ≡ replicate 9 [] }
+        ensures { result.lists ≡ replicate 10 [] }
     {
         Queues {
             lists: array::from_fn(|_| Vec::new(alloc)),
         }
     }
 
-    /// The list of a node, which is empty where the node is none of the nine.
+    /// The list of a node, which is empty where the node is none of the ten.
     pub fn of(&self, node: Node) -> &[u64]
         ensures { result.now ≡ list_of self.now.lists node }
     {
@@ -100,6 +100,7 @@ fn place_of(node: Node) -> Option<usize>
         Node::Server(server) if server.0 < MAX_SERVERS => Some(server.0 as usize),
         Node::Server(_) => None,
         Node::Client => Some(MAX_SERVERS as usize),
+        Node::Mirror => Some(MAX_SERVERS as usize + 1),
     }
 }
 

@@ -4,5 +4,5 @@ use Rattle.hub.proofs.queues.Queues.reserve.Given as goal
 
 abbrev pub invariant-loop-list : goal.invariant-loop-list
 invariant-loop-list l =
-    (map (λ v. v.items) l.list-items ≡ l.fn.self.lists) × (length l.list-items ≡ 9)
+    (map (λ v. v.items) l.list-items ≡ l.fn.self.lists) × (length l.list-items ≡ 10)
     × All (λ v. l.more ≤ vec_capacity v - vec_len v) (take l.list-index l.list-items)
