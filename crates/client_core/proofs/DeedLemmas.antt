@@ -142,6 +142,10 @@ begin_other run (bodies.WantState r a job) b n = refl
 begin_other run (bodies.Saved a state) b n = refl
 begin_other run (bodies.NoSaved r a job) b n = refl
 begin_other run (bodies.Report r a job jobs report) b n = refl
+begin_other run (bodies.Copy state) b n = refl
+begin_other run (bodies.CopyOk r server job) b n = refl
+begin_other run (bodies.Fetch generation) b n = refl
+begin_other run (bodies.Granted generation) b n = refl
 
 trigger_other : (run : ℕ) (body : Body) (q : Request) → (run_told body == run) ≡ false → trigger_heard run body q ≡ q
 trigger_other run (bodies.State jobs state) q n = if_false _ _ _ n
@@ -160,6 +164,10 @@ trigger_other run (bodies.WantState r a job) q n = refl
 trigger_other run (bodies.Saved a state) q n = refl
 trigger_other run (bodies.NoSaved r a job) q n = refl
 trigger_other run (bodies.Report r a job jobs report) q n = refl
+trigger_other run (bodies.Copy state) q n = refl
+trigger_other run (bodies.CopyOk r server job) q n = refl
+trigger_other run (bodies.Fetch generation) q n = refl
+trigger_other run (bodies.Granted generation) q n = refl
 
 stop_other : (run : ℕ) (body : Body) (q : Request) → (run_told body == run) ≡ false → stop_heard run body q ≡ q
 stop_other run (bodies.Stopped r) q n = if_false _ _ _ n
@@ -178,6 +186,10 @@ stop_other run (bodies.WantState r a job) q n = refl
 stop_other run (bodies.Saved a state) q n = refl
 stop_other run (bodies.NoSaved r a job) q n = refl
 stop_other run (bodies.Report r a job jobs report) q n = refl
+stop_other run (bodies.Copy state) q n = refl
+stop_other run (bodies.CopyOk r server job) q n = refl
+stop_other run (bodies.Fetch generation) q n = refl
+stop_other run (bodies.Granted generation) q n = refl
 
 if_same : {A : Type 0} (b : Bool) (x y : A) → x ≡ y → (if b then x else y) ≡ y
 if_same true x y e = e
@@ -213,6 +225,10 @@ verify_other run attempt (bodies.Verify r a text) q n = refl
 verify_other run attempt (bodies.WantState r a job) q n = refl
 verify_other run attempt (bodies.Saved a state) q n = refl
 verify_other run attempt (bodies.NoSaved r a job) q n = refl
+verify_other run attempt (bodies.Copy state) q n = refl
+verify_other run attempt (bodies.CopyOk r server job) q n = refl
+verify_other run attempt (bodies.Fetch generation) q n = refl
+verify_other run attempt (bodies.Granted generation) q n = refl
 
 pub hears_other_attempt : (attempt server : ℕ) (body : Body) (deeds : List Deed) → (attempt_told body == attempt) ≡ false → SameAttempt attempt (Hears server body) deeds
 hears_other_attempt attempt server body deeds n = record {

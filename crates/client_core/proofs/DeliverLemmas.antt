@@ -53,6 +53,10 @@ adds_new n (bodies.Saved a state) s e free = cc
 adds_new n (bodies.NoSaved r a job) s e free = cc
 adds_new n (bodies.Report r a job jobs report) s e free = cc
 adds_new n (bodies.Refused r) s e free = cc
+adds_new n (bodies.Copy state) s e free = cc
+adds_new n (bodies.CopyOk r server job) s e free = cc
+adds_new n (bodies.Fetch generation) s e free = cc
+adds_new n (bodies.Granted generation) s e free = cc
 
 -- What is replied to a body is what is replied to its packet.
 pub replied_to : (n : Noted) (deeds : List Deed) (p : PacketParts) (server : ℕ) (body : Body) → p.body ≡ body → node_number p.from ≡ server → replies n deeds server body ≡ replies n deeds (node_number p.from) p.body

@@ -88,6 +88,10 @@ limited kinds.Saved = omega arith
 limited kinds.NoSaved = omega arith
 limited kinds.Report = omega arith
 limited kinds.Refused = omega arith
+limited kinds.Copy = omega arith
+limited kinds.CopyOk = omega arith
+limited kinds.Fetch = omega arith
+limited kinds.Granted = omega arith
 
 -- So many packets are as many times the frames of one.
 all_short : FramesAreFew → LengthsAreBounded → (ps : List PacketParts) → AllByRecursion IsPacket ps → AreShort (length ps) (framed ps)

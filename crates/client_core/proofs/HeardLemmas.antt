@@ -39,6 +39,9 @@ from_own servers (nodes.Server f) nodes.Client body h = refl
 from_own servers (nodes.Server f) (nodes.Server t) body h = cc
 from_own servers nodes.Client (nodes.Server t) body h = cc
 from_own servers nodes.Client nodes.Client body h = cc
+from_own servers nodes.Mirror nodes.Client body h = cc
+from_own servers nodes.Mirror (nodes.Server t) body h = cc
+from_own servers _ nodes.Mirror body h = cc
 
 pub own_state : (servers : ℕ) (from to : Node) (jobs : ℕ) (s : State) → is_for_client servers (record { from = from; to = to; body = bodies.State jobs s }) ≡ true → s.key.server ≡ node_number from
 unfolding is_for_client
@@ -48,6 +51,9 @@ own_state servers (nodes.Server f) nodes.Client jobs s h =
 own_state servers (nodes.Server f) (nodes.Server t) jobs s h = cc
 own_state servers nodes.Client (nodes.Server t) jobs s h = cc
 own_state servers nodes.Client nodes.Client jobs s h = cc
+own_state servers nodes.Mirror nodes.Client jobs s h = cc
+own_state servers nodes.Mirror (nodes.Server t) jobs s h = cc
+own_state servers _ nodes.Mirror jobs s h = cc
 
 pub sender_below : (servers : ℕ) (from to : Node) (body : Body) → is_for_client servers (record { from = from; to = to; body = body }) ≡ true → node_number from < servers
 unfolding is_for_client
@@ -57,6 +63,9 @@ sender_below servers (nodes.Server f) nodes.Client body h =
 sender_below servers (nodes.Server f) (nodes.Server t) body h = cc
 sender_below servers nodes.Client (nodes.Server t) body h = cc
 sender_below servers nodes.Client nodes.Client body h = cc
+sender_below servers nodes.Mirror nodes.Client body h = cc
+sender_below servers nodes.Mirror (nodes.Server t) body h = cc
+sender_below servers _ nodes.Mirror body h = cc
 
 pub one : {X : Type 0} (p x : X) → p ≡ x → Contains (p ∷ []) x
 one p x e = (0, omega arith, e)

@@ -71,3 +71,7 @@ no_report_heard server (bodies.WantState r a job) deeds reports n = refl
 no_report_heard server (bodies.Saved a state) deeds reports n = refl
 no_report_heard server (bodies.NoSaved r a job) deeds reports n = refl
 no_report_heard server (bodies.Refused r) deeds reports n = refl
+no_report_heard server (bodies.Copy state) deeds reports n = refl
+no_report_heard server (bodies.CopyOk r s job) deeds reports n = refl
+no_report_heard server (bodies.Fetch generation) deeds reports n = refl
+no_report_heard server (bodies.Granted generation) deeds reports n = refl

@@ -76,6 +76,10 @@ body_refusals n (bodies.Saved a state) = tt
 body_refusals n (bodies.NoSaved r a job) = tt
 body_refusals n (bodies.Report r a job jobs report) = tt
 body_refusals n (bodies.Refused r) = tt
+body_refusals n (bodies.Copy state) = tt
+body_refusals n (bodies.CopyOk r server job) = tt
+body_refusals n (bodies.Fetch generation) = tt
+body_refusals n (bodies.Granted generation) = tt
 
 call_refusals : (servers : ℕ) (n : Noted) (c : Call) → AllByRecursion IsRefusal (faults_of servers n c)
 call_refusals servers n (Begin text) = let spent = not (has_next n.runs) in more_refusals (not (is_text text)) JobTooLong (when spent NumbersSpent) refl (one_refusal spent NumbersSpent refl)

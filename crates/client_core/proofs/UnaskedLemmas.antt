@@ -106,6 +106,10 @@ begin_unasked run (bodies.Saved a state) = refl
 begin_unasked run (bodies.NoSaved r a job) = refl
 begin_unasked run (bodies.Report r a job jobs report) = refl
 begin_unasked run (bodies.Refused r) = if_both _ _ _ (begin_not_refused r.asked r.reason)
+begin_unasked run (bodies.Copy state) = refl
+begin_unasked run (bodies.CopyOk r server job) = refl
+begin_unasked run (bodies.Fetch generation) = refl
+begin_unasked run (bodies.Granted generation) = refl
 
 pub trigger_unasked : (run : ℕ) (body : Body) → trigger_heard run body Unasked ≡ Unasked
 trigger_unasked run (bodies.Jobs r text) = refl
@@ -124,6 +128,10 @@ trigger_unasked run (bodies.Saved a state) = refl
 trigger_unasked run (bodies.NoSaved r a job) = refl
 trigger_unasked run (bodies.Report r a job jobs report) = refl
 trigger_unasked run (bodies.Refused r) = if_both _ _ _ (trigger_not_refused r.asked r.reason)
+trigger_unasked run (bodies.Copy state) = refl
+trigger_unasked run (bodies.CopyOk r server job) = refl
+trigger_unasked run (bodies.Fetch generation) = refl
+trigger_unasked run (bodies.Granted generation) = refl
 
 pub stop_unasked : (run : ℕ) (body : Body) → stop_heard run body Unasked ≡ Unasked
 stop_unasked run (bodies.Jobs r text) = refl
@@ -142,6 +150,10 @@ stop_unasked run (bodies.Saved a state) = refl
 stop_unasked run (bodies.NoSaved r a job) = refl
 stop_unasked run (bodies.Report r a job jobs report) = refl
 stop_unasked run (bodies.Refused r) = if_both _ _ _ (stop_not_refused r.asked r.reason)
+stop_unasked run (bodies.Copy state) = refl
+stop_unasked run (bodies.CopyOk r server job) = refl
+stop_unasked run (bodies.Fetch generation) = refl
+stop_unasked run (bodies.Granted generation) = refl
 
 pub verify_unasked : (run attempt : ℕ) (body : Body) → verify_heard run attempt body Unasked ≡ Unasked
 verify_unasked run attempt (bodies.Jobs r text) = refl
@@ -160,6 +172,10 @@ verify_unasked run attempt (bodies.Saved a state) = refl
 verify_unasked run attempt (bodies.NoSaved r a job) = refl
 verify_unasked run attempt (bodies.Report r a job jobs report) = if_both _ _ _ refl
 verify_unasked run attempt (bodies.Refused r) = if_both _ _ _ (verify_not_refused r.asked (record { job = r.job; jobs = r.jobs; misfit = true }) r.reason)
+verify_unasked run attempt (bodies.Copy state) = refl
+verify_unasked run attempt (bodies.CopyOk r server job) = refl
+verify_unasked run attempt (bodies.Fetch generation) = refl
+verify_unasked run attempt (bodies.Granted generation) = refl
 
 pub unnamed_hears : (run server : ℕ) (body : Body) (deeds : List Deed) → Unnamed run deeds → Unnamed run (Hears server body ∷ deeds)
 unnamed_hears run server body deeds h = record {

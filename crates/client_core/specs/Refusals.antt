@@ -23,6 +23,7 @@ use Rattle.client_core.specs.declared.noted.Noted.{Noted}
 abbrev pub is_server_of : ℕ → Node → Bool
 is_server_of servers (nodes.Server s) = nat_lt s servers
 is_server_of servers nodes.Client = false
+is_server_of servers nodes.Mirror = false
 
 -- A server sends no states but its own.
 abbrev pub is_own : ℕ → Body → Bool

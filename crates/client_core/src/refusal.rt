@@ -28,7 +28,7 @@ pub(crate) fn is_server_of(servers: u32, node: Node) -> bool
 {
     match node {
         Node::Server(server) => server.0 < servers,
-        Node::Client => false,
+        Node::Client | Node::Mirror => false,
     }
 }
 

@@ -1,0 +1,4 @@
+pub mod Counted
+pub mod Kept
+pub mod Reading
+pub mod Table
