@@ -1,11 +1,12 @@
--- The states of a note are read as its bytes say.
-use Rattle.std.proofs.Common.{◌≡◌, refl, sym, ◌∙◌, ap, subst, inl, inr, ℕ, zero, suc, ◌+◌, ◌-◌, ◌<◌, ◌≤◌, arith, Bool, true, false, List, [], ◌∷◌, ◌++◌, length, Option, None, Some, length-append, take, drop, get_or}
+-- States are read as their bytes say.
+use Rattle.std.proofs.Common.{◌≡◌, refl, sym, ◌∙◌, ap, subst, ℕ, zero, suc, ◌+◌, ◌-◌, ◌<◌, ◌≤◌, arith, Bool, true, false, List, [], ◌∷◌, ◌++◌, length, Option, None, Some, length-append, take, drop, get_or}
 use Rattle.std.specs.Prelude.{if◌then◌else◌, is_none, is_some, nat_lt, ◌^◌, slice_get}
 use Rattle.std.specs.List.{AllByRecursion, flat_map}
 use Rattle.std.specs.Int.{w32, from_be_bytes}
-use Rattle.std.proofs.lemmas.Bool.{and_parts, cases_lt}
+use Rattle.std.proofs.lemmas.Bool.{and_parts}
 use Rattle.std.proofs.lemmas.Bool.Decides.{nat_tests}
-use Rattle.std.proofs.lemmas.List.{append_assoc, take-append-drop, get_or-drop, get_or-take, get_or_past, length-take-le}
+use Rattle.std.proofs.lemmas.List.{append_assoc, take-append-drop, length-take-le}
+use Rattle.std.proofs.lemmas.List.Elements.{All-from_recursion, recursion_from_All, All-take, All-drop}
 use Rattle.std.proofs.Math.Seq.{take-append_seam, drop-append_seam}
 use Rattle.std.proofs.lemmas.Nat.{from_be_bytes-to_be_bytes_4, be_bytes_4}
 use Rattle.fc_base.specs.declared.numbers.Key.{Key}
@@ -15,6 +16,7 @@ use Rattle.fc_base.specs.Layouts.{bytes_of, number_in}
 use Rattle.verify_state.specs.State.{State, IsState}
 use Rattle.state_table.specs.Kept.{kept_of, has_distinct_keys}
 use Rattle.state_table.specs.Counted.{counted_bytes, SaysState, SayStates}
+use Rattle.state_table.specs.Laws.{SpelledAreRead, AreSpelled, ReadWereSpelled}
 use Rattle.state_table.specs.Reading.{unless_faulty, state_behind, first_state, states_at}
 use Rattle.verify_state.specs.Reading.{faults_of, state_in}
 use Rattle.std.specs.Option.{option_map, option_and_then}
@@ -42,7 +44,7 @@ first_read b rest s h =
     let l : nat_lt (length (counted_bytes b ++ rest)) 4 ≡ false = short_of (bytes_of w32 (length b)) (b ++ rest) in
     rw l (state_first b rest (from_be_bytes w32 (bytes_of w32 (length b))) s (from_be_bytes-to_be_bytes_4 (length b) h.short) h.sound h.said)
 
-pub states_read : (parts : List (List ℕ)) (states : List State) → SayStates parts states → states_at (length parts) (flat_map counted_bytes parts) ≡ Some states
+states_read : (parts : List (List ℕ)) (states : List State) → SayStates parts states → states_at (length parts) (flat_map counted_bytes parts) ≡ Some states
 states_read [] [] h = refl
 states_read [] (s ∷ states) h = absurd h
 states_read (b ∷ parts) [] h = absurd h
@@ -51,39 +53,43 @@ states_read (b ∷ parts) (s ∷ states) h =
     let r : states_at (length parts) (flat_map counted_bytes parts) ≡ Some states = states_read parts states h.1 in
     rw (f, r) refl
 
-pub as_many : (parts : List (List ℕ)) (states : List State) → SayStates parts states → length parts ≡ length states
+as_many : (parts : List (List ℕ)) (states : List State) → SayStates parts states → length parts ≡ length states
 as_many [] [] h = refl
 as_many [] (s ∷ states) h = absurd h
 as_many (b ∷ parts) [] h = absurd h
 as_many (b ∷ parts) (s ∷ states) h = let e : length parts ≡ length states = as_many parts states h.1 in omega arith
 
+pub spelled_are_read : SpelledAreRead
+spelled_are_read parts states h = (as_many parts states h, states_read parts states h)
+
 -- ---- what is read was spelled
 
-abbrev pub AreBytes : List ℕ → Type 0
-AreBytes bytes = (i : ℕ) → get_or bytes i 0 < 256
+abbrev IsByte : ℕ → Type 0
+IsByte byte = byte < 256
 
-pub dropped : (n : ℕ) (bytes : List ℕ) → AreBytes bytes → AreBytes (drop n bytes)
-dropped n bytes h = λ i. subst (λ x. x < 256) (sym (get_or-drop n bytes i 0)) (h (n + i))
+abbrev AreBytes : List ℕ → Type 0
+AreBytes bytes = AllByRecursion IsByte bytes
 
-pub taken : (n : ℕ) (bytes : List ℕ) → length (take n bytes) ≤ n → AreBytes bytes → AreBytes (take n bytes)
-taken n bytes few h = λ i. elim (cases_lt i n) [
-  | inl a ↦ subst (λ x. x < 256) (sym (get_or-take n bytes i 0 a)) (h i)
-  | inr b ↦ subst (λ x. x < 256) (sym (get_or_past (take n bytes) i 0 (omega arith))) (omega arith)
-]
+dropped : (n : ℕ) (bytes : List ℕ) → AreBytes bytes → AreBytes (drop n bytes)
+dropped n bytes h = recursion_from_All IsByte (drop n bytes) (All-drop IsByte n bytes (All-from_recursion IsByte bytes h))
 
-each_byte : (bytes : List ℕ) → AreBytes bytes → AllByRecursion (λ byte. byte < 256) bytes
-each_byte [] h = tt
-each_byte (b ∷ bytes) h = (h 0, each_byte bytes (λ i. h (suc i)))
+taken : (n : ℕ) (bytes : List ℕ) → AreBytes bytes → AreBytes (take n bytes)
+taken n bytes h = recursion_from_All IsByte (take n bytes) (All-take IsByte n bytes (All-from_recursion IsByte bytes h))
 
-below_word : (bytes : List ℕ) → AreBytes bytes → from_be_bytes w32 bytes < 2 ^ 32
+byte_at : (bytes : List ℕ) → AreBytes bytes → (i : ℕ) → get_or bytes i 0 < 256
+byte_at [] h i = omega arith
+byte_at (b ∷ bytes) h zero = h.0
+byte_at (b ∷ bytes) h (suc i) = byte_at bytes h.1 i
+
+below_word : (bytes : List ℕ) → ((i : ℕ) → get_or bytes i 0 < 256) → from_be_bytes w32 bytes < 2 ^ 32
 below_word bytes h = omega (arith, h 0, h 1, h 2, h 3)
 
 -- a state that is read: its bytes stand there, behind their number
-pub record IsFirst (bytes : List ℕ) (s : State) (rest : List ℕ) : Type 0 where
-  pub part : List ℕ
-  pub spelled : bytes ≡ counted_bytes part ++ rest
-  pub says : SaysState part s
-  pub ranges : IsState s
+record IsFirst (bytes : List ℕ) (s : State) (rest : List ℕ) : Type 0 where
+  part : List ℕ
+  spelled : bytes ≡ counted_bytes part ++ rest
+  says : SaysState part s
+  ranges : IsState s
 
 faultless : (fs : List Fault) (s t : State) → unless_faulty fs s ≡ Some t → (fs ≡ []) × (s ≡ t)
 faultless [] s t h = (refl, cc)
@@ -108,7 +114,7 @@ behind_is ranges n bytes rest s false e low h g =
     let l : n ≤ length bytes = grind (arith, nat_tests) in
     let m : length (take n bytes) ≡ n = length-take-le n bytes l in
     let whole : bytes ≡ take n bytes ++ rest = sym (take-append-drop n bytes) ∙ ap (λ r. take n bytes ++ r) p.1 in
-    let r : IsState (state_in (take n bytes)) = ranges (take n bytes) (each_byte (take n bytes) (taken n bytes (omega arith) h)) q.0 in
+    let r : IsState (state_in (take n bytes)) = ranges (take n bytes) (taken n bytes h) q.0 in
     (take n bytes, whole, m, record { short = omega arith; sound = q.0; said = q.1 }, subst IsState q.1 r)
 
 first_is : SaysAState → (bytes rest : List ℕ) (s : State) (b : Bool) → nat_lt (length bytes) 4 ≡ b → AreBytes bytes
@@ -119,7 +125,7 @@ first_is ranges bytes rest s false e h g =
     let n = number_in w32 bytes in
     let l : 4 ≤ length bytes = grind (arith, nat_tests) in
     let m : length (take 4 bytes) ≡ 4 = length-take-le 4 bytes l in
-    let four = taken 4 bytes (omega arith) h in
+    let four = byte_at (take 4 bytes) (taken 4 bytes h) in
     let p = behind_is ranges n (drop 4 bytes) rest s (nat_lt (length (drop 4 bytes)) n) refl (below_word (take 4 bytes) four) (dropped 4 bytes h) g in
     let number : bytes_of w32 n ≡ take 4 bytes = be_bytes_4 (take 4 bytes) n m four refl in
     let counted : bytes_of w32 (length p.0) ≡ take 4 bytes = ap (bytes_of w32) p.2 ∙ number in
@@ -130,17 +136,9 @@ first_is ranges bytes rest s false e h g =
       ranges = p.4;
     }
 
-pub first_sound : SaysAState → (bytes rest : List ℕ) (s : State) → AreBytes bytes → first_state bytes ≡ Some (s, rest) → IsFirst bytes s rest
+first_sound : SaysAState → (bytes rest : List ℕ) (s : State) → AreBytes bytes → first_state bytes ≡ Some (s, rest) → IsFirst bytes s rest
 unfolding first_state
 first_sound ranges bytes rest s h g = first_is ranges bytes rest s (nat_lt (length bytes) 4) refl h g
-
--- so many states that are read
-pub record AreStates (n : ℕ) (bytes : List ℕ) (states : List State) : Type 0 where
-  pub parts : List (List ℕ)
-  pub count : length parts ≡ n
-  pub spelled : bytes ≡ flat_map counted_bytes parts
-  pub says : SayStates parts states
-  pub ranges : AllByRecursion IsState states
 
 rest_bytes : (front rest : List ℕ) → AreBytes (front ++ rest) → AreBytes rest
 rest_bytes front rest h = subst AreBytes (drop-append_seam front rest) (dropped (length front) (front ++ rest) h)
@@ -154,8 +152,8 @@ one_more : (x : Option (List State)) (s : State) (states : List State) → optio
 one_more None s states h = cc
 one_more (Some ss) s states h = (ss, refl, cc)
 
-found : SaysAState → (n : ℕ) (bytes : List ℕ) (states : List State) → AreBytes bytes → ((rest : List ℕ) (ss : List State) → AreBytes rest → states_at n rest ≡ Some ss → AreStates n rest ss)
-    → (s : State) (rest : List ℕ) → first_state bytes ≡ Some (s, rest) → option_map (λ ss. s ∷ ss) (states_at n rest) ≡ Some states → AreStates (suc n) bytes states
+found : SaysAState → (n : ℕ) (bytes : List ℕ) (states : List State) → AreBytes bytes → ((rest : List ℕ) (ss : List State) → AreBytes rest → states_at n rest ≡ Some ss → AreSpelled n rest ss)
+    → (s : State) (rest : List ℕ) → first_state bytes ≡ Some (s, rest) → option_map (λ ss. s ∷ ss) (states_at n rest) ≡ Some states → AreSpelled (suc n) bytes states
 found ranges n bytes states h ih s rest e k =
     let f = first_sound ranges bytes rest s h e in
     let m = one_more (states_at n rest) s states k in
@@ -168,16 +166,16 @@ found ranges n bytes states h ih s rest e k =
       ranges = subst (AllByRecursion IsState) (sym m.2) (f.ranges, a.ranges);
     }
 
-one_by_one : SaysAState → (n : ℕ) (bytes : List ℕ) (states : List State) → AreBytes bytes → ((rest : List ℕ) (ss : List State) → AreBytes rest → states_at n rest ≡ Some ss → AreStates n rest ss)
-    → (x : Option (State × List ℕ)) → first_state bytes ≡ x → option_and_then (λ first. option_map (λ states. first.0 ∷ states) (states_at n first.1)) x ≡ Some states → AreStates (suc n) bytes states
+one_by_one : SaysAState → (n : ℕ) (bytes : List ℕ) (states : List State) → AreBytes bytes → ((rest : List ℕ) (ss : List State) → AreBytes rest → states_at n rest ≡ Some ss → AreSpelled n rest ss)
+    → (x : Option (State × List ℕ)) → first_state bytes ≡ x → option_and_then (λ first. option_map (λ states. first.0 ∷ states) (states_at n first.1)) x ≡ Some states → AreSpelled (suc n) bytes states
 one_by_one ranges n bytes states h ih None e k = cc
 one_by_one ranges n bytes states h ih (Some x) e k = found ranges n bytes states h ih x.0 x.1 e k
 
-pub states_sound : SaysAState → (n : ℕ) (bytes : List ℕ) (states : List State) → AreBytes bytes → states_at n bytes ≡ Some states → AreStates n bytes states
-states_sound ranges zero bytes states h g =
+pub read_were_spelled : SaysAState → ReadWereSpelled
+read_were_spelled ranges zero bytes states h g =
     let p = none_left bytes states g in
     record { parts = []; count = refl; spelled = p.0; says = subst (SayStates []) (sym p.1) tt; ranges = subst (AllByRecursion IsState) (sym p.1) tt }
-states_sound ranges (suc n) bytes states h g = one_by_one ranges n bytes states h (λ rest ss k e. states_sound ranges n rest ss k e) (first_state bytes) refl g
+read_were_spelled ranges (suc n) bytes states h g = one_by_one ranges n bytes states h (λ rest ss k e. read_were_spelled ranges n rest ss k e) (first_state bytes) refl g
 
 -- ---- where nothing is read
 
@@ -213,7 +211,7 @@ joined kept s (Some ss) = ap Some (sym (append_assoc kept (s ∷ []) ss))
 abbrev With : List State → ℕ → List ℕ → Option (List State)
 With kept n rest = option_map (λ ss. kept ++ ss) (states_at n rest)
 
-pub one_read : (x : Option (List State)) (kept : List State) (count counter : ℕ) (rest after : List ℕ) (s : State) → counter < count → x ≡ option_map (λ ss. kept ++ ss) (states_at (count - counter) rest) → first_state rest ≡ Some (s, after)
+one_read : (x : Option (List State)) (kept : List State) (count counter : ℕ) (rest after : List ℕ) (s : State) → counter < count → x ≡ option_map (λ ss. kept ++ ss) (states_at (count - counter) rest) → first_state rest ≡ Some (s, after)
     → x ≡ option_map (λ ss. (kept ++ s ∷ []) ++ ss) (states_at (count - (counter + 1)) after)
 one_read x kept count counter rest after s l h e =
     let n : count - counter ≡ suc (count - (counter + 1)) = omega arith in

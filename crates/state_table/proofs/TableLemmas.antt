@@ -7,6 +7,7 @@ use Rattle.fc_base.specs.declared.numbers.Key.{Key}
 use Rattle.fc_base.specs.Keys.{is_same_key}
 use Rattle.verify_state.specs.State.{State}
 use Rattle.state_table.specs.Kept.{kept_of, has_distinct_keys}
+use Rattle.state_table.specs.Laws.{FoundStays, FoundHasItsKey, LastIsFound, FoundOrLast, KeysStayApart}
 
 pub same_key : (a b : Key) → is_same_key a b ≡ true → a ≡ b
 same_key a b h =
@@ -22,7 +23,7 @@ found_on true here rest more s f h = h
 found_on false here rest more s f h = f h
 
 -- what is found is found in a longer table
-pub stays_found : (key : Key) (kept extra : List State) (s : State) → kept_of key kept ≡ Some s → kept_of key (kept ++ extra) ≡ Some s
+pub stays_found : FoundStays
 stays_found key [] extra s h = cc
 stays_found key (k ∷ kept) extra s h = found_on (is_same_key key k.key) k (kept_of key kept) (kept_of key (kept ++ extra)) s (λ e. stays_found key kept extra s e) h
 
@@ -35,17 +36,19 @@ last_found : (b : Bool) (here s : State) → (if b then Some here else None) ≡
 last_found true here s h = (cc, refl)
 last_found false here s h = cc
 
-pub found_in_push : (key : Key) (kept : List State) (state s : State) → kept_of key (kept ++ state ∷ []) ≡ Some s → (kept_of key kept ≡ Some s) ⊎ ((state ≡ s) × (is_same_key key state.key ≡ true))
-found_in_push key [] state s h = inr (last_found (is_same_key key state.key) state s h)
+pub found_in_push : FoundOrLast
+found_in_push key [] state s h =
+    let p = last_found (is_same_key key state.key) state s h in
+    inr (p.0, sym (same_key key state.key p.1))
 found_in_push key (k ∷ kept) state s h =
-    found_here (is_same_key key k.key) k s (kept_of key kept) (kept_of key (kept ++ state ∷ [])) ((state ≡ s) × (is_same_key key state.key ≡ true)) (λ e. found_in_push key kept state s e) h
+    found_here (is_same_key key k.key) k s (kept_of key kept) (kept_of key (kept ++ state ∷ [])) ((state ≡ s) × (state.key ≡ key)) (λ e. found_in_push key kept state s e) h
 
 -- the state that is found of a key has it
 key_here : (b : Bool) (here s : State) (rest : Option State) (key : Key) → (b ≡ true → here.key ≡ key) → (rest ≡ Some s → s.key ≡ key) → (if b then Some here else rest) ≡ Some s → s.key ≡ key
 key_here true here s rest key f g h = let e : here ≡ s = cc in sym (ap (λ (x : State). x.key) e) ∙ f refl
 key_here false here s rest key f g h = g h
 
-pub key_of_found : (key : Key) (kept : List State) (s : State) → kept_of key kept ≡ Some s → s.key ≡ key
+pub key_of_found : FoundHasItsKey
 key_of_found key [] s h = cc
 key_of_found key (k ∷ kept) s h = key_here (is_same_key key k.key) k s (kept_of key kept) key (λ e. sym (same_key key k.key e)) (λ e. key_of_found key kept s e) h
 
@@ -62,10 +65,13 @@ absent_here true found state rest more h f = cc
 absent_here false found state rest more h f = f h
 
 -- a state that is added is found, where none of its key was there
-pub found_last : (key : Key) (kept : List State) (state : State) → is_same_key key state.key ≡ true → kept_of key kept ≡ None → kept_of key (kept ++ state ∷ []) ≡ Some state
+found_last : (key : Key) (kept : List State) (state : State) → is_same_key key state.key ≡ true → kept_of key kept ≡ None → kept_of key (kept ++ state ∷ []) ≡ Some state
 found_last key [] state own h = rw own refl
 found_last key (k ∷ kept) state own h =
     absent_here (is_same_key key k.key) k state (kept_of key kept) (kept_of key (kept ++ state ∷ [])) h (λ e. found_last key kept state own e)
+
+pub last_is_found : LastIsFound
+last_is_found kept state h = found_last state.key kept state (own_key state.key) h
 
 -- keys are compared both ways alike
 pub turned : (a b : Key) → is_same_key a b ≡ is_same_key b a
@@ -91,7 +97,7 @@ still_absent key (k ∷ kept) s h e =
     let n : is_same_key key k.key ≡ false = p.0 in
     rw n (still_absent key kept s h p.1)
 
-pub distinct_push : (kept : List State) (s : State) → kept_of s.key kept ≡ None → has_distinct_keys kept ≡ true → has_distinct_keys (kept ++ s ∷ []) ≡ true
+pub distinct_push : KeysStayApart
 distinct_push [] s e h = refl
 distinct_push (k ∷ kept) s e h =
     let p = not_here (is_same_key s.key k.key) k (kept_of s.key kept) e in

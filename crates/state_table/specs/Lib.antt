@@ -1,4 +1,5 @@
 pub mod Counted
 pub mod Kept
+pub mod Laws
 pub mod Reading
 pub mod Table
