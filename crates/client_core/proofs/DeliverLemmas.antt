@@ -12,7 +12,7 @@ use Rattle.messages.specs.Packets.{is_packet}
 use Rattle.messages.specs.Ranges.{is_body}
 use Rattle.client_core.specs.declared.call.Call.TheVariants.{Deliver}
 use Rattle.client_core.specs.declared.noted.Noted.{Noted}
-use Rattle.client_core.specs.Kept.{kept_of}
+use Rattle.state_table.specs.Kept.{kept_of}
 use Rattle.client_core.specs.Life.{Deed}
 use Rattle.client_core.specs.Packets.{replies}
 use Rattle.client_core.specs.Refusals.{faults_of_body, refusal_by}

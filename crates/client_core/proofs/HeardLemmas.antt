@@ -16,12 +16,12 @@ use Rattle.disk_model.specs.declared.left.Left.{Left}
 use Rattle.disk_model.specs.declared.left.Left.TheVariants.{NoSave, Saved, LostNew, LostOld}
 use Rattle.disk_model.specs.Left.{has_new}
 use Rattle.client_core.specs.declared.call.Call.TheVariants.{Deliver}
-use Rattle.client_core.specs.Kept.{kept_of}
+use Rattle.state_table.specs.Kept.{kept_of}
+use Rattle.state_table.specs.Laws.{LastIsFound}
 use Rattle.client_core.specs.declared.noted.Noted.{Noted}
 use Rattle.client_core.specs.Refusals.{is_for_client, faults_of_body, refusal_by}
 use Rattle.client_core.specs.Saves.{unless_kept, noted_after, is_answer}
 use Rattle.client_core.specs.Laws.{from_server}
-use Rattle.client_core.proofs.TableLemmas.{found_last, own_key}
 
 no_fault : (on ours : Bool) (more : List Fault) → slice_get (when (not on) Down ++ (when (not ours) Misdirected ++ more)) 0 ≡ None → (on ≡ true) × (ours ≡ true) × (more ≡ [])
 no_fault true true [] h = (refl, refl, refl)
@@ -75,10 +75,10 @@ none_or None b h = refl
 none_or (Some f) b h = cc
 
 -- after a state that was answered its key has a state
-pub has_one : (n : Noted) (left : Left) (x : Option State) (state : State) → kept_of state.key n.kept ≡ x → is_answer (unless_kept x state) left ≡ true
+pub has_one : LastIsFound → (n : Noted) (left : Left) (x : Option State) (state : State) → kept_of state.key n.kept ≡ x → is_answer (unless_kept x state) left ≡ true
     → (s : State) × (kept_of state.key (noted_after (has_new left) (unless_kept x state) n).kept ≡ Some s)
-has_one n left (Some k) state h a = (k, h)
-has_one n NoSave None state h a = cc
-has_one n Saved None state h a = (state, found_last state.key n.kept state (own_key state.key) h)
-has_one n LostNew None state h a = cc
-has_one n LostOld None state h a = cc
+has_one last n left (Some k) state h a = (k, h)
+has_one last n NoSave None state h a = cc
+has_one last n Saved None state h a = (state, last n.kept state h)
+has_one last n LostNew None state h a = cc
+has_one last n LostOld None state h a = cc

@@ -5,7 +5,6 @@ mod ClientLemmas
 mod DeedLemmas
 mod DeliverLemmas
 mod EndLemmas
-mod EntryLemmas
 mod ExampleLemmas
 mod FewLemmas
 mod FrameEndLemmas
@@ -22,14 +21,12 @@ mod NoteLemmas
 mod NotedLemmas
 mod PlaceLemmas
 mod RangeLemmas
-mod ReadingLemmas
 mod ReasonLemmas
 mod RefusalLemmas
 mod ReportLemmas
 mod RisingLemmas
 mod SentLemmas
 mod StandingLemmas
-mod TableLemmas
 mod TextLemmas
 mod TickLemmas
 mod TriggerLemmas

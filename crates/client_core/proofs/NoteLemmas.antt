@@ -1,22 +1,24 @@
 -- What the bytes of a note say.
-use Rattle.std.proofs.Common.{◌≡◌, refl, sym, ◌∙◌, ap, subst, ◌⊎◌, inl, inr, ℕ, ◌-◌, ◌<◌, ◌≤◌, arith, true, false, ◌==◌, List, [], ◌∷◌, ◌++◌, length, None, Some, take, drop}
+use Rattle.std.proofs.Common.{◌≡◌, refl, sym, ◌∙◌, ap, subst, ◌⊎◌, inl, inr, ℕ, ◌+◌, ◌-◌, ◌<◌, ◌≤◌, arith, true, false, ◌==◌, List, [], ◌∷◌, ◌++◌, length, None, Some, take, drop, get_or}
 use Rattle.std.specs.Prelude.{◌^◌, map, bytes_eq, codes}
 use Rattle.std.specs.List.{AllByRecursion, flat_map}
 use Rattle.std.specs.Int.{w32, w64}
-use Rattle.std.proofs.lemmas.List.{length-map, take-append-drop, length-take-le, length-drop}
+use Rattle.std.proofs.lemmas.Bool.{cases_lt}
+use Rattle.std.proofs.lemmas.List.{length-map, take-append-drop, length-take-le, length-drop, get_or-drop, get_or-take, get_or_past}
+use Rattle.std.proofs.lemmas.List.Elements.{All-from_get_or, recursion_from_All}
 use Rattle.std.proofs.lemmas.Nat.{from_be_bytes-to_be_bytes_4, from_be_bytes-to_be_bytes_8, be_bytes_8, be_bytes_4}
 use Rattle.std.proofs.lemmas.Slice.Eq.{bytes_eq-Decides}
 use Rattle.fc_base.specs.Layouts.{bytes_of, number_in}
 use Rattle.verify_state.specs.State.{State, IsState}
-use Rattle.client_core.specs.Kept.{has_distinct_keys}
+use Rattle.state_table.specs.Counted.{counted_bytes, SayStates}
+use Rattle.state_table.specs.Kept.{has_distinct_keys}
+use Rattle.state_table.specs.Laws.{SpelledAreRead, ReadWereSpelled}
+use Rattle.state_table.specs.Reading.{states_at, ReadsStates}
 use Rattle.client_core.specs.declared.noted.Noted.{Noted}
-use Rattle.client_core.specs.Note.{blank, counted_bytes, note_of, spelling, IsNoted, SayStates, Spells, Says, SaysOneThing, SaysWhatIsWritten}
-use Rattle.client_core.specs.Reading.{states_at, ReadsStates}
-use Rattle.client_core.specs.Words.{kept}
+use Rattle.client_core.specs.Note.{blank, note_of, spelling, IsNoted, Spells, Says, SaysOneThing, SaysWhatIsWritten}
 use Rattle.std.proofs.lemmas.List.Folds.{flat_map-map}
 use Rattle.verify_state.specs.Spelling.{spelling as state_bytes}
-use Rattle.verify_state.specs.Laws.{SaysAState, ReadsBack}
-use Rattle.client_core.proofs.ReadingLemmas.{AreBytes, as_many, dropped, states_read, states_sound, taken}
+use Rattle.verify_state.specs.Laws.{ReadsBack}
 
 -- what stands behind the mark, the runs, the attempts and the number of states
 abbrev pub after_magic : List ℕ → List ℕ
@@ -37,10 +39,11 @@ pub record IsRead (bytes : List ℕ) (n : Noted) : Type 0 where
   pub count : number_in w32 (after_attempts bytes) ≡ length n.kept
   pub states : states_at (length n.kept) (drop 4 (after_attempts bytes)) ≡ Some n.kept
 
-spelled_read : (n : Noted) (parts : List (List ℕ)) → IsNoted n → SayStates parts n.kept → IsRead (note_of n.runs n.attempts parts) n
+spelled_read : SpelledAreRead → (n : Noted) (parts : List (List ℕ)) → IsNoted n → SayStates parts n.kept → IsRead (note_of n.runs n.attempts parts) n
 unfolding note_of bytes_of number_in
-spelled_read n parts k h =
-    let l : length parts ≡ length n.kept = as_many parts n.kept h in
+spelled_read reads n parts k h =
+    let r = reads parts n.kept h in
+    let l : length parts ≡ length n.kept = r.0 in
     let few : length n.kept ≤ 1024 = k.count in
     let small : length parts < 2 ^ 32 = omega arith in
     record {
@@ -49,14 +52,14 @@ spelled_read n parts k h =
       runs = from_be_bytes-to_be_bytes_8 n.runs k.runs;
       attempts = from_be_bytes-to_be_bytes_8 n.attempts k.attempts;
       count = from_be_bytes-to_be_bytes_4 (length parts) small ∙ l;
-      states = subst (λ m. states_at m (flat_map counted_bytes parts) ≡ Some n.kept) l (states_read parts n.kept h);
+      states = subst (λ m. states_at m (flat_map counted_bytes parts) ≡ Some n.kept) l r.1;
     }
 
-pub says_read : (bytes : List ℕ) (n : Noted) → Says bytes n → (bytes ≡ [] → ⊥) → IsRead bytes n
-says_read bytes n s some = by s.spelled
+says_read : SpelledAreRead → (bytes : List ℕ) (n : Noted) → Says bytes n → (bytes ≡ [] → ⊥) → IsRead bytes n
+says_read reads bytes n s some = by s.spelled
   where
     by : Spells bytes n ⊎ ((bytes ≡ []) × (n ≡ blank)) → IsRead bytes n
-    by (inl a) = subst (λ l. IsRead l n) (sym a.spelled) (spelled_read n a.parts s.note a.states)
+    by (inl a) = subst (λ l. IsRead l n) (sym a.spelled) (spelled_read reads n a.parts s.note a.states)
     by (inr a) = absurd (some a.0)
 
 -- no note but the blank one is empty
@@ -80,9 +83,9 @@ same_noted bytes n m a b =
     let k : n.kept ≡ m.kept = cc in
     λ i. record { runs = r i; attempts = t i; kept = k i }
 
-pub one_note : SaysOneThing
-one_note [] n m s t = says_blank n s ∙ sym (says_blank m t)
-one_note (b ∷ bytes) n m s t = same_noted (b ∷ bytes) n m (says_read (b ∷ bytes) n s (λ e. cc)) (says_read (b ∷ bytes) m t (λ e. cc))
+pub one_note : SpelledAreRead → SaysOneThing
+one_note reads [] n m s t = says_blank n s ∙ sym (says_blank m t)
+one_note reads (b ∷ bytes) n m s t = same_noted (b ∷ bytes) n m (says_read reads (b ∷ bytes) n s (λ e. cc)) (says_read reads (b ∷ bytes) m t (λ e. cc))
 
 -- what is written says what it was written of
 written : ReadsBack → (states : List State) → AllByRecursion IsState states → SayStates (map state_bytes states) states
@@ -98,17 +101,34 @@ says_what_is_written back n k = record {
   spelled = inl (record { parts = map state_bytes n.kept; spelled = refl; states = written back n.kept k.states });
 }
 
+-- the bytes of a part are bytes
+abbrev AreBytes : List ℕ → Type 0
+AreBytes bytes = (i : ℕ) → get_or bytes i 0 < 256
+
+dropped : (n : ℕ) (bytes : List ℕ) → AreBytes bytes → AreBytes (drop n bytes)
+dropped n bytes h = λ i. subst (λ x. x < 256) (sym (get_or-drop n bytes i 0)) (h (n + i))
+
+taken : (n : ℕ) (bytes : List ℕ) → length (take n bytes) ≤ n → AreBytes bytes → AreBytes (take n bytes)
+taken n bytes few h = λ i. elim (cases_lt i n) [
+  | inl a ↦ subst (λ x. x < 256) (sym (get_or-take n bytes i 0 a)) (h i)
+  | inr b ↦ subst (λ x. x < 256) (sym (get_or_past (take n bytes) i 0 (omega arith))) (omega arith)
+]
+
+each_byte : (bytes : List ℕ) → AreBytes bytes → AllByRecursion (λ byte. byte < 256) bytes
+each_byte bytes h = recursion_from_All (λ byte. byte < 256) bytes (All-from_get_or (λ byte. byte < 256) bytes 0 (λ i l. h i))
+
 -- what is read says the note
-pub read_says : SaysAState → (bytes : List ℕ) (runs attempts count : ℕ) (kept : List State) → AreBytes bytes → take 4 bytes ≡ codes "FCC1" → 24 ≤ length bytes
+pub read_says : SpelledAreRead → ReadWereSpelled → (bytes : List ℕ) (runs attempts count : ℕ) (kept : List State) → AreBytes bytes → take 4 bytes ≡ codes "FCC1" → 24 ≤ length bytes
     → runs ≡ number_in w64 (after_magic bytes) → attempts ≡ number_in w64 (after_runs bytes) → count ≡ number_in w32 (after_attempts bytes)
     → runs < 2 ^ 64 → attempts < 2 ^ 64 → count ≤ 1024 → states_at count (drop 4 (after_attempts bytes)) ≡ Some kept → has_distinct_keys kept ≡ true → Says bytes (record { runs = runs; attempts = attempts; kept = kept })
 unfolding note_of bytes_of number_in
-read_says ranges bytes runs attempts count kept h mark long r a c low_runs low_attempts few states keys =
+read_says reads spelled bytes runs attempts count kept h mark long r a c low_runs low_attempts few states keys =
     let one = dropped 4 bytes h in
     let two = dropped 8 (after_magic bytes) one in
     let three = dropped 8 (after_runs bytes) two in
-    let s = states_sound ranges count (drop 4 (after_attempts bytes)) kept (dropped 4 (after_attempts bytes) three) states in
-    let many : length s.parts ≡ length kept = as_many s.parts kept s.says in
+    let behind = drop 4 (after_attempts bytes) in
+    let s = spelled count behind kept (each_byte behind (dropped 4 (after_attempts bytes) three)) states in
+    let many : length s.parts ≡ length kept = (reads s.parts kept s.says).0 in
     let counts : length s.parts ≡ count = s.count in
     let left : length (after_magic bytes) ≡ length bytes - 4 = length-drop 4 bytes in
     let less : length (after_runs bytes) ≡ length (after_magic bytes) - 8 = length-drop 8 (after_magic bytes) in
@@ -149,23 +169,23 @@ pub some_bytes : (bytes : List ℕ) → false ≡ (length bytes == 0) → bytes 
 some_bytes [] h e = cc
 some_bytes (b ∷ bytes) h e = cc
 
-pub no_magic : (bytes : List ℕ) (n : Noted) → (bytes ≡ [] → ⊥) → bytes_eq (take 4 bytes) (codes "FCC1") ≡ false → Says bytes n → ⊥
-no_magic bytes n some h s =
-    let m : bytes_eq (take 4 bytes) (codes "FCC1") ≡ true = (bytes_eq-Decides (take 4 bytes) (codes "FCC1")).1 (says_read bytes n s some).mark in
+pub no_magic : SpelledAreRead → (bytes : List ℕ) (n : Noted) → (bytes ≡ [] → ⊥) → bytes_eq (take 4 bytes) (codes "FCC1") ≡ false → Says bytes n → ⊥
+no_magic reads bytes n some h s =
+    let m : bytes_eq (take 4 bytes) (codes "FCC1") ≡ true = (bytes_eq-Decides (take 4 bytes) (codes "FCC1")).1 (says_read reads bytes n s some).mark in
     let e : true ≡ false = sym m ∙ h in
     cc
 
-pub too_short : (bytes : List ℕ) (n : Noted) → (bytes ≡ [] → ⊥) → length bytes < 24 → Says bytes n → ⊥
-too_short bytes n some h s = let l : 24 ≤ length bytes = (says_read bytes n s some).long in absurd (omega arith)
+pub too_short : SpelledAreRead → (bytes : List ℕ) (n : Noted) → (bytes ≡ [] → ⊥) → length bytes < 24 → Says bytes n → ⊥
+too_short reads bytes n some h s = let l : 24 ≤ length bytes = (says_read reads bytes n s some).long in absurd (omega arith)
 
-pub too_many : (bytes : List ℕ) (n : Noted) (count : ℕ) → (bytes ≡ [] → ⊥) → count ≡ number_in w32 (after_attempts bytes) → 1024 < count → Says bytes n → ⊥
-too_many bytes n count some c h s =
-    let e : count ≡ length n.kept = c ∙ (says_read bytes n s some).count in
+pub too_many : SpelledAreRead → (bytes : List ℕ) (n : Noted) (count : ℕ) → (bytes ≡ [] → ⊥) → count ≡ number_in w32 (after_attempts bytes) → 1024 < count → Says bytes n → ⊥
+too_many reads bytes n count some c h s =
+    let e : count ≡ length n.kept = c ∙ (says_read reads bytes n s some).count in
     let few : length n.kept ≤ 1024 = s.note.count in
     absurd (omega arith)
 
-pub no_states : (bytes : List ℕ) (n : Noted) (count : ℕ) → (bytes ≡ [] → ⊥) → count ≡ number_in w32 (after_attempts bytes) → ReadsStates count (drop 4 (after_attempts bytes)) None → Says bytes n → ⊥
-no_states bytes n count some c h s =
-    let r = says_read bytes n s some in
+pub no_states : SpelledAreRead → (bytes : List ℕ) (n : Noted) (count : ℕ) → (bytes ≡ [] → ⊥) → count ≡ number_in w32 (after_attempts bytes) → ReadsStates count (drop 4 (after_attempts bytes)) None → Says bytes n → ⊥
+no_states reads bytes n count some c h s =
+    let r = says_read reads bytes n s some in
     let e : length n.kept ≡ count = sym r.count ∙ sym c in
     h n.kept (subst (λ k. states_at k (drop 4 (after_attempts bytes)) ≡ Some n.kept) e r.states) s.note.keys

@@ -16,7 +16,8 @@ use Rattle.disk_model.specs.declared.left.Left.{Left}
 use Rattle.disk_model.specs.Left.{has_new}
 use Rattle.client_core.specs.declared.call.Call.{Call}
 use Rattle.client_core.specs.declared.call.Call.TheVariants.{Begin, Trigger, Stop, Verify, Deliver, Tick}
-use Rattle.client_core.specs.Kept.{kept_of}
+use Rattle.state_table.specs.Kept.{kept_of}
+use Rattle.state_table.specs.Laws.{KeysStayApart}
 use Rattle.client_core.specs.declared.noted.Noted.{Noted}
 use Rattle.client_core.specs.Note.{IsNoted}
 use Rattle.client_core.specs.History.{Entry, Met, Cut, Restart}
@@ -27,7 +28,6 @@ use Rattle.client_core.specs.Ranges.{packet_in, came}
 use Rattle.client_core.specs.Laws.{NotesKeepRanges}
 use Rattle.client_core.proofs.HeardLemmas.{taken_in}
 use Rattle.client_core.proofs.ListLemmas.{all_append}
-use Rattle.client_core.proofs.TableLemmas.{distinct_push}
 
 pub next_left : (used : ℕ) → has_next used ≡ true → used + 1 < 2 ^ 64
 unfolding has_next
@@ -65,41 +65,41 @@ pub one_attempt : (new : Bool) (n : Noted) → n.attempts + 1 < 2 ^ 64 → IsNot
 one_attempt true n h k = record { runs = k.runs; attempts = h; count = k.count; states = k.states; keys = k.keys }
 one_attempt false n h k = k
 
-pub one_state : (new : Bool) (n : Noted) (x : Option State) (s : State) → kept_of s.key n.kept ≡ x → differs s x ≡ false → lacks_room n.kept x ≡ false → IsState s → IsNoted n → IsNoted (noted_after new (unless_kept x s) n)
-one_state new n (Some kept) s e d f h k = k
-one_state true n None s e d f h k = record {
+one_state : KeysStayApart → (new : Bool) (n : Noted) (x : Option State) (s : State) → kept_of s.key n.kept ≡ x → differs s x ≡ false → lacks_room n.kept x ≡ false → IsState s → IsNoted n → IsNoted (noted_after new (unless_kept x s) n)
+one_state apart new n (Some kept) s e d f h k = k
+one_state apart true n None s e d f h k = record {
   runs = k.runs;
   attempts = k.attempts;
   count = more_room n.kept s f;
   states = all_append IsState n.kept (s ∷ []) k.states (h, tt);
-  keys = distinct_push n.kept s e k.keys;
+  keys = apart n.kept s e k.keys;
 }
-one_state false n None s e d f h k = k
+one_state apart false n None s e d f h k = k
 
-pub body_step : (new : Bool) (n : Noted) (body : Body) → faults_of_body n body ≡ [] → KeepsState body → IsNoted n → IsNoted (noted_after new (addition_by n body) n)
-body_step new n (bodies.State jobs s) e h k =
+pub body_step : KeysStayApart → (new : Bool) (n : Noted) (body : Body) → faults_of_body n body ≡ [] → KeepsState body → IsNoted n → IsNoted (noted_after new (addition_by n body) n)
+body_step apart new n (bodies.State jobs s) e h k =
     let x = kept_of s.key n.kept in
     let f = room_fault (differs s x) (lacks_room n.kept x) e in
-    one_state new n x s refl f.0 f.1 h k
-body_step new n _ e h k = k
+    one_state apart new n x s refl f.0 f.1 h k
+body_step apart new n _ e h k = k
 
-step : (on : Bool) (servers : ℕ) (n : Noted) (c : Call) (left : Left) (r : Option Fault) → r ≡ refusal_by on servers n c → AllByRecursion IsPacket (packet_in (Met c left)) → IsNoted n → IsNoted (noted_after (has_new left) (unless_refused r (addition_of n c)) n)
-step on servers n c left (Some f) e h k = k
-step on servers n (Begin text) left None e h k = one_run (has_new left) n (next_left n.runs ((begin_faults on (is_text text) (has_next n.runs) (sym e)).1)) k
-step on servers n (Trigger run act) left None e h k = k
-step on servers n (Stop run) left None e h k = k
-step on servers n (Verify run text) left None e h k = one_attempt (has_new left) n (next_left n.attempts ((verify_faults on (is_begun n run) (is_text text) (has_next n.attempts) (sym e)).2)) k
-step on servers n (Deliver p) left None e h k = body_step (has_new left) n p.body ((taken_in on servers n p (sym e)).2) h.0.state k
-step on servers n Tick left None e h k = k
+step : KeysStayApart → (on : Bool) (servers : ℕ) (n : Noted) (c : Call) (left : Left) (r : Option Fault) → r ≡ refusal_by on servers n c → AllByRecursion IsPacket (packet_in (Met c left)) → IsNoted n → IsNoted (noted_after (has_new left) (unless_refused r (addition_of n c)) n)
+step apart on servers n c left (Some f) e h k = k
+step apart on servers n (Begin text) left None e h k = one_run (has_new left) n (next_left n.runs ((begin_faults on (is_text text) (has_next n.runs) (sym e)).1)) k
+step apart on servers n (Trigger run act) left None e h k = k
+step apart on servers n (Stop run) left None e h k = k
+step apart on servers n (Verify run text) left None e h k = one_attempt (has_new left) n (next_left n.attempts ((verify_faults on (is_begun n run) (is_text text) (has_next n.attempts) (sym e)).2)) k
+step apart on servers n (Deliver p) left None e h k = body_step apart (has_new left) n p.body ((taken_in on servers n p (sym e)).2) h.0.state k
+step apart on servers n Tick left None e h k = k
 
 pub in_entry : (e : Entry) (past : List Entry) → AllByRecursion IsPacket (packet_in e ++ came past) → AllByRecursion IsPacket (packet_in e) × AllByRecursion IsPacket (came past)
 in_entry (Met (Deliver p) left) past h = ((h.0, tt), h.1)
 in_entry _ past h = (tt, h)
 
-pub notes_keep_ranges : NotesKeepRanges
-notes_keep_ranges o [] k h = k
-notes_keep_ranges o (Met c left ∷ past) k h =
+pub notes_keep_ranges : KeysStayApart → NotesKeepRanges
+notes_keep_ranges apart o [] k h = k
+notes_keep_ranges apart o (Met c left ∷ past) k h =
     let p = in_entry (Met c left) past h in
-    step (is_on past) o.servers (noted o past) c left (refusal_by (is_on past) o.servers (noted o past) c) refl p.0 (notes_keep_ranges o past k p.1)
-notes_keep_ranges o (Cut ∷ past) k h = notes_keep_ranges o past k h
-notes_keep_ranges o (Restart ∷ past) k h = notes_keep_ranges o past k h
+    step apart (is_on past) o.servers (noted o past) c left (refusal_by (is_on past) o.servers (noted o past) c) refl p.0 (notes_keep_ranges apart o past k p.1)
+notes_keep_ranges apart o (Cut ∷ past) k h = notes_keep_ranges apart o past k h
+notes_keep_ranges apart o (Restart ∷ past) k h = notes_keep_ranges apart o past k h

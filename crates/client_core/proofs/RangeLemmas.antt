@@ -18,7 +18,7 @@ use Rattle.messages.specs.Laws.{IsPacket}
 use Rattle.disk_model.specs.declared.left.Left.{Left}
 use Rattle.client_core.specs.declared.call.Call.{Call}
 use Rattle.client_core.specs.declared.call.Call.TheVariants.{Begin, Trigger, Stop, Verify, Deliver, Tick}
-use Rattle.client_core.specs.Kept.{kept_of}
+use Rattle.state_table.specs.Kept.{kept_of}
 use Rattle.client_core.specs.declared.noted.Noted.{Noted}
 use Rattle.client_core.specs.Note.{IsNoted}
 use Rattle.client_core.specs.History.{Opening, Entry, Met, Cut, Restart}
@@ -28,12 +28,11 @@ use Rattle.client_core.specs.Words.{is_on, noted, refusal, due, is_answered, kep
 use Rattle.client_core.specs.Life.{Deed, Begins, Triggers, Stops, Verifies, Hears, deeds_of, life, done, text_of}
 use Rattle.client_core.specs.Packets.{to_server, packets}
 use Rattle.client_core.specs.Ranges.{packet_in, CameInRange}
-use Rattle.client_core.specs.Laws.{from_server, PacketsAreInRange}
+use Rattle.client_core.specs.Laws.{from_server, NotesKeepRanges, PacketsAreInRange}
 use Rattle.client_core.proofs.AskedLemmas.{begun_was}
 use Rattle.client_core.proofs.HeardLemmas.{none_or}
 use Rattle.client_core.proofs.ListLemmas.{all_append, all_weaker, each_of}
-use Rattle.client_core.proofs.NotedLemmas.{begin_faults, in_entry, next_left, notes_keep_ranges, verify_faults}
-use Rattle.client_core.proofs.ReadingLemmas.{taken}
+use Rattle.client_core.proofs.NotedLemmas.{begin_faults, in_entry, next_left, verify_faults}
 use Rattle.client_core.proofs.ReasonLemmas.{IsSaid, IsSent, Why, all_sent}
 use Rattle.client_core.proofs.TextLemmas.{life_was_done, why_carries}
 
@@ -84,15 +83,15 @@ more_done : (b : Bool) (deeds before : List Deed) → (b ≡ true → AllByRecur
 more_done true deeds before f k = all_append InRange deeds before (f refl) k
 more_done false deeds before f k = k
 
-done_in_range : (o : Opening) (past : List Entry) → IsNoted o.noted → CameInRange past → AllByRecursion InRange (done o past)
-done_in_range o [] k h = tt
-done_in_range o (Met c left ∷ past) k h =
+done_in_range : NotesKeepRanges → (o : Opening) (past : List Entry) → IsNoted o.noted → CameInRange past → AllByRecursion InRange (done o past)
+done_in_range ranges o [] k h = tt
+done_in_range ranges o (Met c left ∷ past) k h =
     let p = in_entry (Met c left) past h in
     more_done (is_answered o past c left) (deeds_of (noted o past) c) (done o past)
-    (λ a. deeds_in_range (is_on past) o.servers (noted o past) c (none_or (refusal o past c) (is_answer (due o past c) left) a) (notes_keep_ranges o past k p.1))
-    (done_in_range o past k p.1)
-done_in_range o (Cut ∷ past) k h = done_in_range o past k h
-done_in_range o (Restart ∷ past) k h = done_in_range o past k h
+    (λ a. deeds_in_range (is_on past) o.servers (noted o past) c (none_or (refusal o past c) (is_answer (due o past c) left) a) (ranges o past k p.1))
+    (done_in_range ranges o past k p.1)
+done_in_range ranges o (Cut ∷ past) k h = done_in_range ranges o past k h
+done_in_range ranges o (Restart ∷ past) k h = done_in_range ranges o past k h
 
 -- what a body keeps
 abbrev Fits : Body → Type 0
@@ -190,8 +189,8 @@ to_one p s l e f =
     let k : IsPacket (to_server p.body s) = record { in_range = rw (t, b) refl; state = f.1 } in
     subst IsPacket (sym e) k
 
-pub packets_are_in_range : PacketsAreInRange
-packets_are_in_range o past (Met c left) opens h =
+pub packets_are_in_range : NotesKeepRanges → PacketsAreInRange
+packets_are_in_range ranges o past (Met c left) opens h =
     let came = in_entry (Met c left) past h in
     all_weaker (IsSent o past c left) IsPacket (packets o past (Met c left))
     (λ p x.
@@ -200,13 +199,13 @@ packets_are_in_range o past (Met c left) opens h =
     let few : o.servers ≤ 8 = opens.servers in
     let l : w.0 < 8 = omega arith in
     to_one p w.0 l w.2 (fits o past c left w.0 p.body (record {
-      note = notes_keep_ranges o past opens.note came.1;
+      note = ranges o past opens.note came.1;
       entry = came.0;
-      before = done_in_range o past opens.note came.1;
-      after = done_in_range o (Met c left ∷ past) opens.note h;
+      before = done_in_range ranges o past opens.note came.1;
+      after = done_in_range ranges o (Met c left ∷ past) opens.note h;
       answers = x.answers;
       taken = x.taken;
     }) w.3))
     (all_sent o past c left)
-packets_are_in_range o past Cut opens h = tt
-packets_are_in_range o past Restart opens h = tt
+packets_are_in_range ranges o past Cut opens h = tt
+packets_are_in_range ranges o past Restart opens h = tt

@@ -16,7 +16,7 @@ use Rattle.client_core.specs.declared.call.Call.TheVariants.{Begin, Trigger, Sto
 use Rattle.client_core.specs.declared.packet_client.PacketClient.{PacketClient}
 use Rattle.client_core.specs.declared.noted.Noted.{Noted}
 use Rattle.client_core.specs.History.{Opening, Entry}
-use Rattle.client_core.specs.Kept.{kept_of}
+use Rattle.state_table.specs.Kept.{kept_of}
 use Rattle.client_core.specs.Refusals.{is_for_client, is_begun, has_next, differs, lacks_room, faults_of, faults_of_body, refusal_by}
 use Rattle.client_core.specs.Words.{is_on, noted, refusal}
 use Rattle.client_core.specs.Stands.{StandsFor}

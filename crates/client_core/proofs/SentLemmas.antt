@@ -14,7 +14,8 @@ use Rattle.disk_model.specs.declared.left.Left.{Left}
 use Rattle.disk_model.specs.Left.{has_new}
 use Rattle.client_core.specs.declared.call.Call.{Call}
 use Rattle.client_core.specs.declared.call.Call.TheVariants.{Deliver}
-use Rattle.client_core.specs.Kept.{kept_of}
+use Rattle.state_table.specs.Kept.{kept_of}
+use Rattle.state_table.specs.Laws.{FoundHasItsKey, LastIsFound}
 use Rattle.client_core.specs.declared.noted.Noted.{Noted}
 use Rattle.client_core.specs.History.{Opening, Entry, Met, Cut, Restart}
 use Rattle.client_core.specs.Saves.{unless_kept, unless_refused, noted_after, is_answer}
@@ -26,7 +27,6 @@ use Rattle.client_core.specs.Laws.{from_server, SavedIsKept, AcksAreFor, Packets
 use Rattle.client_core.proofs.HeardLemmas.{has_one, own_state, taken_in}
 use Rattle.client_core.proofs.ListLemmas.{first_of, none_in}
 use Rattle.client_core.proofs.ReasonLemmas.{IsSaid, Why, sent_why}
-use Rattle.client_core.proofs.TableLemmas.{key_of_found}
 
 client_kind : (n : Noted) (deeds : List Deed) (c : Call) (s : ℕ) (body : Body) → Why n deeds c s body → is_of_client (kind_of body) ≡ true
 client_kind n deeds c s (bodies.Jobs run text) w = refl
@@ -46,56 +46,56 @@ packets_go_to_servers o past (Met c left) p h =
 packets_go_to_servers o past Cut p h = absurd (none_in p h)
 packets_go_to_servers o past Restart p h = absurd (none_in p h)
 
-pub saved_is_kept : SavedIsKept
-saved_is_kept o past (Met c left) p attempt state h e =
+pub saved_is_kept : FoundHasItsKey → SavedIsKept
+saved_is_kept has o past (Met c left) p attempt state h e =
     let w = (sent_why o past c left p h).why in
     let v : Why (noted o past) (life o past) c w.0 (bodies.Saved attempt state) = subst (Why (noted o past) (life o past) c w.0) e w.3 in
     let key : Key = record { run = v.0; server = w.0; job = v.1 } in
-    let own : state.key ≡ key = key_of_found key (noted o past).kept state v.3 in
+    let own : state.key ≡ key = has key (noted o past).kept state v.3 in
     subst (λ (k : Key). kept_of k (noted o past).kept ≡ Some state) (sym own) v.3
-saved_is_kept o past Cut p attempt state h e = absurd (none_in p h)
-saved_is_kept o past Restart p attempt state h e = absurd (none_in p h)
+saved_is_kept has o past Cut p attempt state h e = absurd (none_in p h)
+saved_is_kept has o past Restart p attempt state h e = absurd (none_in p h)
 
 -- a state that was answered is kept under its server's key
-answered_one : (n : Noted) (left : Left) (state : State) (r : Option Fault) → (is_none r && is_answer (unless_refused r (unless_kept (kept_of state.key n.kept) state)) left) ≡ true
+answered_one : LastIsFound → (n : Noted) (left : Left) (state : State) (r : Option Fault) → (is_none r && is_answer (unless_refused r (unless_kept (kept_of state.key n.kept) state)) left) ≡ true
     → (s : State) × (kept_of state.key (noted_after (has_new left) (unless_refused r (unless_kept (kept_of state.key n.kept) state)) n).kept ≡ Some s)
-answered_one n left state None a = has_one n left (kept_of state.key n.kept) state refl a
-answered_one n left state (Some f) a = cc
+answered_one last n left state None a = has_one last n left (kept_of state.key n.kept) state refl a
+answered_one last n left state (Some f) a = cc
 
-kept_by : (o : Opening) (past : List Entry) (c : Call) (left : Left) (jobs s : ℕ) (state : State) → IsSaid c s (bodies.State jobs state) → is_answered o past c left ≡ true → refusal o past c ≡ None
+kept_by : LastIsFound → (o : Opening) (past : List Entry) (c : Call) (left : Left) (jobs s : ℕ) (state : State) → IsSaid c s (bodies.State jobs state) → is_answered o past c left ≡ true → refusal o past c ≡ None
     → (state.key.server ≡ s) × ((x : State) × (kept_of state.key (noted o (Met c left ∷ past)).kept ≡ Some x))
-kept_by o past c left jobs s state e a r =
+kept_by last o past c left jobs s state e a r =
     let p = from_server (bodies.State jobs state) s in
     let answers : is_answered o past (Deliver p) left ≡ true = subst (λ d. is_answered o past d left ≡ true) e a in
     let taken : refusal o past (Deliver p) ≡ None = subst (λ d. refusal o past d ≡ None) e r in
     let ours = (taken_in (is_on past) o.servers (noted o past) p taken).1 in
     let own : state.key.server ≡ s = own_state o.servers p.from p.to jobs state ours in
-    (own, subst (λ d. (x : State) × (kept_of state.key (noted o (Met d left ∷ past)).kept ≡ Some x)) (sym e) (answered_one (noted o past) left state (refusal o past (Deliver p)) answers))
+    (own, subst (λ d. (x : State) × (kept_of state.key (noted o (Met d left ∷ past)).kept ≡ Some x)) (sym e) (answered_one last (noted o past) left state (refusal o past (Deliver p)) answers))
 
 abbrev AckedFor : Noted → Entry → ℕ → ℕ → ℕ → Type 0
 AckedFor after entry run server job =
     ((state : State) × (kept_of (record { run = run; server = server; job = job }) after.kept ≡ Some state)) ⊎ ((jobs : ℕ) × Contains (packet_in entry) (from_server (bodies.NoState run job jobs) server))
 
-acked : (o : Opening) (past : List Entry) (c : Call) (left : Left) (run server job : ℕ) → is_answered o past c left ≡ true → refusal o past c ≡ None → Why (noted o past) (life o past) c server (bodies.StateAck run job)
+acked : LastIsFound → (o : Opening) (past : List Entry) (c : Call) (left : Left) (run server job : ℕ) → is_answered o past c left ≡ true → refusal o past c ≡ None → Why (noted o past) (life o past) c server (bodies.StateAck run job)
     → AckedFor (noted o (Met c left ∷ past)) (Met c left) run server job
-acked o past c left run server job a r (inl w) =
+acked last o past c left run server job a r (inl w) =
     let state : State = w.1 in
-    let k = kept_by o past c left w.0 server state w.2 a r in
+    let k = kept_by last o past c left w.0 server state w.2 a r in
     let own : state.key.server ≡ server = k.0 in
     let runs : run ≡ state.key.run = w.3 in
     let jobs : job ≡ state.key.job = w.4 in
     let key : state.key ≡ record { run = run; server = server; job = job } = λ i. record { run = sym runs i; server = own i; job = sym jobs i } in
     inl (k.1.0, subst (λ (x : Key). kept_of x (noted o (Met c left ∷ past)).kept ≡ Some k.1.0) key k.1.1)
-acked o past c left run server job a r (inr w) =
+acked last o past c left run server job a r (inr w) =
     let p = from_server (bodies.NoState run job w.0) server in
     inr (w.0, subst (λ d. Contains (packet_in (Met d left)) p) (sym w.1) (first_of p []))
 
-pub acks_are_for : AcksAreFor
-acks_are_for o past (Met c left) run server job h =
+pub acks_are_for : LastIsFound → AcksAreFor
+acks_are_for last o past (Met c left) run server job h =
     let x = sent_why o past c left (to_server (bodies.StateAck run job) server) h in
     let w = x.why in
     let to : nodes.Server server ≡ nodes.Server w.0 = ap (λ (p : PacketParts). p.to) w.2 in
     let s : server ≡ w.0 = cc in
-    acked o past c left run server job x.answers x.taken (subst (λ t. Why (noted o past) (life o past) c t (bodies.StateAck run job)) (sym s) w.3)
-acks_are_for o past Cut run server job h = absurd (none_in (to_server (bodies.StateAck run job) server) h)
-acks_are_for o past Restart run server job h = absurd (none_in (to_server (bodies.StateAck run job) server) h)
+    acked last o past c left run server job x.answers x.taken (subst (λ t. Why (noted o past) (life o past) c t (bodies.StateAck run job)) (sym s) w.3)
+acks_are_for last o past Cut run server job h = absurd (none_in (to_server (bodies.StateAck run job) server) h)
+acks_are_for last o past Restart run server job h = absurd (none_in (to_server (bodies.StateAck run job) server) h)

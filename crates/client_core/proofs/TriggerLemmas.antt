@@ -21,7 +21,8 @@ use Rattle.disk_model.specs.declared.left.Left.{Left}
 use Rattle.disk_model.specs.Left.{has_new}
 use Rattle.client_core.specs.declared.call.Call.{Call}
 use Rattle.client_core.specs.declared.call.Call.TheVariants.{Begin, Trigger, Stop, Verify, Deliver, Tick}
-use Rattle.client_core.specs.Kept.{kept_of}
+use Rattle.state_table.specs.Kept.{kept_of}
+use Rattle.state_table.specs.Laws.{LastIsFound}
 use Rattle.client_core.specs.declared.noted.Noted.{Noted}
 use Rattle.client_core.specs.History.{Opening, Entry, Met, Cut, Restart}
 use Rattle.client_core.specs.Refusals.{is_for_client, refusal_by}
@@ -32,9 +33,8 @@ use Rattle.client_core.specs.Requests.{Telling, Request, jobs_told, tells_of, te
 use Rattle.client_core.specs.Requests as requests
 use Rattle.client_core.specs.Packets.{packets}
 use Rattle.client_core.specs.Ranges.{packet_in, came}
-use Rattle.client_core.specs.Laws.{from_server, HasAnswer, TellsJobs, EndsWell, TriggersEndWell}
+use Rattle.client_core.specs.Laws.{from_server, FirstKeptStays, HasAnswer, TellsJobs, EndsWell, TriggersEndWell}
 use Rattle.client_core.proofs.HeardLemmas.{from_own, has_one, one, own_state, taken_in}
-use Rattle.client_core.proofs.KeptLemmas.{stays_after}
 use Rattle.client_core.proofs.ListLemmas.{all_weaker}
 
 -- what is known of what was told
@@ -140,14 +140,14 @@ either : (n : Noted) (packets : List PacketParts) (run server : ℕ) (b : Bool) 
 either n packets run server true q r f k = f refl
 either n packets run server false q r f k = k
 
-heard : (servers : ℕ) (n : Noted) (run server : ℕ) (from to : Node) (body : Body) (left : Left) (before : List PacketParts) (q : Request)
+heard : LastIsFound → (servers : ℕ) (n : Noted) (run server : ℕ) (from to : Node) (body : Body) (left : Left) (before : List PacketParts) (q : Request)
     → is_for_client servers (record { from = from; to = to; body = body }) ≡ true → is_answer (addition_by n body) left ≡ true → node_number from ≡ server
     → Known (noted_after (has_new left) (addition_by n body) n) (record { from = from; to = to; body = body } ∷ before) run server q
     → Known (noted_after (has_new left) (addition_by n body) n) (record { from = from; to = to; body = body } ∷ before) run server (trigger_heard run body q)
-heard servers n run server from to (bodies.State jobs state) left before q ours a here k =
+heard last servers n run server from to (bodies.State jobs state) left before q ours a here k =
     let m = noted_after (has_new left) (unless_kept (kept_of state.key n.kept) state) n in
     let p : PacketParts = record { from = from; to = to; body = bodies.State jobs state } in
-    let f = has_one n left (kept_of state.key n.kept) state refl a in
+    let f = has_one last n left (kept_of state.key n.kept) state refl a in
     let t : Telling = record { job = state.key.job; jobs = jobs; misfit = false } in
     either m (p ∷ before) run server (state.key.run == run) (told t q) q
     (λ e.
@@ -160,7 +160,7 @@ heard servers n run server from to (bodies.State jobs state) left before q ours 
       inl (state, r, Contains-append_left (p ∷ []) before (from_server (bodies.State jobs state) server) (one p (from_server (bodies.State jobs state) server) whole)),
     ) k)
     k
-heard servers n run server from to (bodies.NoState r job jobs) left before q ours a here k =
+heard last servers n run server from to (bodies.NoState r job jobs) left before q ours a here k =
     let p : PacketParts = record { from = from; to = to; body = bodies.NoState r job jobs } in
     let t : Telling = record { job = job; jobs = jobs; misfit = false } in
     either n (p ∷ before) run server (r == run) (told t q) q
@@ -170,59 +170,59 @@ heard servers n run server from to (bodies.NoState r job jobs) left before q our
     let there : Contains (p ∷ before) (from_server (bodies.NoState run job jobs) server) = Contains-append_left (p ∷ []) before (from_server (bodies.NoState run job jobs) server) (one p (from_server (bodies.NoState run job jobs) server) whole) in
     told_one n (p ∷ before) run server t q (inr (jobs, there), inr (job, there)) k)
     k
-heard servers n run server from to (bodies.Refused r) left before q ours a here k =
+heard last servers n run server from to (bodies.Refused r) left before q ours a here k =
     let more = record { from = from; to = to; body = bodies.Refused r } ∷ before in
     either n more run server (r.run == run) (trigger_refused r.asked r.reason q) q (λ e. denied n more run server r.asked r.reason q k) k
-heard servers n run server from to _ left before q ours a here k = k
+heard last servers n run server from to _ left before q ours a here k = k
 
-called : (on : Bool) (servers : ℕ) (n : Noted) (c : Call) (left : Left) (before : List PacketParts) (run server : ℕ) (deeds : List Deed) (r : Option Fault) → r ≡ refusal_by on servers n c
+called : LastIsFound → (on : Bool) (servers : ℕ) (n : Noted) (c : Call) (left : Left) (before : List PacketParts) (run server : ℕ) (deeds : List Deed) (r : Option Fault) → r ≡ refusal_by on servers n c
     → Known (noted_after (has_new left) (unless_refused r (addition_of n c)) n) (packet_in (Met c left) ++ before) run server (trigger_at run server deeds)
     → Known (noted_after (has_new left) (unless_refused r (addition_of n c)) n) (packet_in (Met c left) ++ before) run server (trigger_at run server (if is_none r && is_answer (unless_refused r (addition_of n c)) left then deeds_of n c ++ deeds else deeds))
-called on servers n c left before run server deeds (Some f) e k = k
-called on servers n (Begin text) left before run server deeds None e k = same (is_answer (addition_of n (Begin text)) left)
+called last on servers n c left before run server deeds (Some f) e k = k
+called last on servers n (Begin text) left before run server deeds None e k = same (is_answer (addition_of n (Begin text)) left)
   where
     same : (b : Bool) → Known (noted_after (has_new left) (addition_of n (Begin text)) n) before run server (trigger_at run server (if b then Begins (n.runs + 1) text ∷ deeds else deeds))
     same true = k
     same false = k
-called on servers n (Trigger r act) left before run server deeds None e k = same (is_answer None left)
+called last on servers n (Trigger r act) left before run server deeds None e k = same (is_answer None left)
   where
     same : (b : Bool) → Known n before run server (trigger_at run server (if b then Triggers r act ∷ deeds else deeds))
     same true = either n before run server (r == run) (requests.Open []) (trigger_at run server deeds) (λ e. tt) k
     same false = k
-called on servers n (Stop r) left before run server deeds None e k = same (is_answer None left)
+called last on servers n (Stop r) left before run server deeds None e k = same (is_answer None left)
   where
     same : (b : Bool) → Known n before run server (trigger_at run server (if b then Stops r ∷ deeds else deeds))
     same true = k
     same false = k
-called on servers n (Verify r text) left before run server deeds None e k = same (is_answer (addition_of n (Verify r text)) left)
+called last on servers n (Verify r text) left before run server deeds None e k = same (is_answer (addition_of n (Verify r text)) left)
   where
     same : (b : Bool) → Known (noted_after (has_new left) (addition_of n (Verify r text)) n) before run server (trigger_at run server (if b then Verifies r (n.attempts + 1) text ∷ deeds else deeds))
     same true = k
     same false = k
-called on servers n (Deliver p) left before run server deeds None e k = same (is_answer (addition_by n p.body) left) refl
+called last on servers n (Deliver p) left before run server deeds None e k = same (is_answer (addition_by n p.body) left) refl
   where
     same : (b : Bool) → is_answer (addition_by n p.body) left ≡ b → Known (noted_after (has_new left) (addition_by n p.body) n) (p ∷ before) run server (trigger_at run server (if b then Hears (node_number p.from) p.body ∷ deeds else deeds))
     same true a =
         either (noted_after (has_new left) (addition_by n p.body) n) (p ∷ before) run server (node_number p.from == server) (trigger_heard run p.body (trigger_at run server deeds)) (trigger_at run server deeds)
-        (λ here. heard servers n run server p.from p.to p.body left before (trigger_at run server deeds) ((taken_in on servers n p (sym e)).1) a (eqb-true (node_number p.from) server here) k) k
+        (λ here. heard last servers n run server p.from p.to p.body left before (trigger_at run server deeds) ((taken_in on servers n p (sym e)).1) a (eqb-true (node_number p.from) server here) k) k
     same false a = k
-called on servers n Tick left before run server deeds None e k = same (is_answer None left)
+called last on servers n Tick left before run server deeds None e k = same (is_answer None left)
   where
     same : (b : Bool) → Known n before run server (trigger_at run server (if b then deeds else deeds))
     same true = k
     same false = k
 
-known : (o : Opening) (past : List Entry) (run server : ℕ) → Known (noted o past) (came past) run server (trigger_at run server (life o past))
-known o [] run server = tt
-known o (Met c left ∷ past) run server =
-    called (is_on past) o.servers (noted o past) c left (came past) run server (life o past) (refusal_by (is_on past) o.servers (noted o past) c) refl
+known : LastIsFound → FirstKeptStays → (o : Opening) (past : List Entry) (run server : ℕ) → Known (noted o past) (came past) run server (trigger_at run server (life o past))
+known last stays o [] run server = tt
+known last stays o (Met c left ∷ past) run server =
+    called last (is_on past) o.servers (noted o past) c left (came past) run server (life o past) (refusal_by (is_on past) o.servers (noted o past) c) refl
     (known_grows (noted o past) (noted o (Met c left ∷ past)) (came past) (came (Met c left ∷ past)) run server (trigger_at run server (life o past))
     (record {
-      kept = λ key s h. stays_after o (Met c left) past key s h;
+      kept = λ key s h. stays o (Met c left ∷ []) past key s h;
       came = λ p h. Contains-append_right (packet_in (Met c left)) (came past) p h;
-    }) (known o past run server))
-known o (Cut ∷ past) run server = tt
-known o (Restart ∷ past) run server = tt
+    }) (known last stays o past run server))
+known last stays o (Cut ∷ past) run server = tt
+known last stays o (Restart ∷ past) run server = tt
 
-pub triggers_end_well : TriggersEndWell
-triggers_end_well o past run server h = subst (λ q. Known (noted o past) (came past) run server q) h (known o past run server)
+pub triggers_end_well : LastIsFound → FirstKeptStays → TriggersEndWell
+triggers_end_well last stays o past run server h = subst (λ q. Known (noted o past) (came past) run server q) h (known last stays o past run server)

@@ -14,7 +14,7 @@ use Rattle.messages.specs.Kinds.{is_of_client}
 use Rattle.messages.specs.Laws.{IsPacket}
 use Rattle.client_core.specs.declared.call.Call.TheVariants.{Tick}
 use Rattle.client_core.specs.declared.received.Received.{Received}
-use Rattle.client_core.specs.Kept.{kept_of}
+use Rattle.state_table.specs.Kept.{kept_of}
 use Rattle.client_core.specs.declared.noted.Noted.{Noted}
 use Rattle.client_core.specs.Note.{IsNoted}
 use Rattle.client_core.specs.History.{Opening, Entry, Met}

@@ -7,7 +7,6 @@ pub mod FrameEnds
 pub mod Framed
 pub mod Hearing
 pub mod History
-pub mod Kept
 pub mod Laws
 pub mod Life
 pub mod Lives
@@ -15,7 +14,6 @@ pub mod Note
 pub mod Outcomes
 pub mod Packets
 pub mod Ranges
-pub mod Reading
 pub mod Refusals
 pub mod Reports
 pub mod Requests
@@ -23,7 +21,6 @@ pub mod Saves
 pub mod Sensing
 pub mod Standing
 pub mod Stands
-pub mod Table
 pub mod Told
 pub mod Words
 pub mod HeardRange

@@ -1,13 +1,13 @@
 -- The durable note of a client: what it says, and its bytes.
-use Rattle.std.specs.Prelude.{◌≡◌, ◌⊎◌, ℕ, Bool, ◌&&◌, ◌==◌, ◌^◌, ◌<◌, ◌≤◌, List, [], ◌∷◌, ◌++◌, length, map, codes, Option, Some, None, IsTrue}
+use Rattle.std.specs.Prelude.{◌≡◌, ◌⊎◌, ℕ, Bool, ◌&&◌, ◌==◌, ◌^◌, ◌<◌, ◌≤◌, List, [], ◌++◌, length, map, codes, Option, Some, None, IsTrue}
 use Rattle.std.specs.List.{flat_map, AllByRecursion}
 use Rattle.std.specs.Int.{w32, w64}
 use Rattle.fc_base.specs.Layouts.{bytes_of}
-use Rattle.verify_state.specs.State.{State, IsState}
+use Rattle.verify_state.specs.State.{IsState}
 use Rattle.verify_state.specs.Spelling.{spelling as state_bytes}
-use Rattle.verify_state.specs.Reading.{faults_of, state_in}
+use Rattle.state_table.specs.Counted.{counted_bytes, SayStates}
+use Rattle.state_table.specs.Kept.{has_distinct_keys}
 use Rattle.client_core.specs.declared.noted.Noted.{Noted}
-use Rattle.client_core.specs.Kept.{has_distinct_keys}
 
 -- What a blank note says.
 abbrev pub blank : Noted
@@ -16,10 +16,6 @@ blank = record { runs = 0; attempts = 0; kept = [] }
 -- The note says that.
 abbrev pub is_blank : Noted → Bool
 is_blank n = (n.runs == 0) && ((n.attempts == 0) && (length n.kept == 0))
-
--- The bytes of a state behind their number.
-abbrev pub counted_bytes : List ℕ → List ℕ
-counted_bytes bytes = bytes_of w32 (length bytes) ++ bytes
 
 -- A note with these bytes of states: the magic, the runs, the attempts, the number of states, and the
 -- states in their order.
@@ -39,18 +35,6 @@ pub record IsNoted (n : Noted) : Type 0 where
   pub count : length n.kept ≤ 1024
   pub states : AllByRecursion IsState n.kept
   pub keys : IsTrue (has_distinct_keys n.kept)
-
--- The bytes say this state, in whichever layout; their number has four bytes.
-pub record SaysState (bytes : List ℕ) (state : State) : Type 0 where
-  pub short : length bytes < 2 ^ 32
-  pub sound : faults_of bytes ≡ []
-  pub said : state_in bytes ≡ state
-
--- Each says the state at its place.
-abbrev pub SayStates : List (List ℕ) → List State → Type 0
-SayStates [] [] = Unit {0}
-SayStates (bytes ∷ more) (state ∷ states) = SaysState bytes state × SayStates more states
-SayStates _ _ = ⊥
 
 -- The bytes are a note, and their states are these.
 pub record Spells (bytes : List ℕ) (n : Noted) : Type 0 where

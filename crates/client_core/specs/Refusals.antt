@@ -16,7 +16,7 @@ use Rattle.messages.specs.Bodies.{kind_of}
 use Rattle.messages.specs.Ranges.{is_text}
 use Rattle.client_core.specs.declared.call.Call.{Call}
 use Rattle.client_core.specs.declared.call.Call.TheVariants.{Begin, Trigger, Stop, Verify, Deliver, Tick}
-use Rattle.client_core.specs.Kept.{kept_of}
+use Rattle.state_table.specs.Kept.{kept_of}
 use Rattle.client_core.specs.declared.noted.Noted.{Noted}
 
 -- The node is one of so many servers.

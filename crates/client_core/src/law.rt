@@ -7,22 +7,30 @@ ghost use Rattle.client_core.specs.Examples.{Begins, WaitsForTheBusy, KeepsTheFi
 /// A kept state is never replaced.
 pub fn first_kept_stays()
     ensures { FirstKeptStays }
-{}
+{
+    state_table::found_states();
+}
 
 /// Each kept state was there at the opening, or came from its server.
 pub fn kept_was_sent()
     ensures { KeptWasSent }
-{}
+{
+    state_table::found_after_a_push();
+}
 
 /// Each state that is sent to a check is the kept one of its key.
 pub fn saved_is_kept()
     ensures { SavedIsKept }
-{}
+{
+    state_table::found_states();
+}
 
 /// A state is acknowledged only where it is kept, or where the server says that there is none.
 pub fn acks_are_for_kept_states()
     ensures { AcksAreFor }
-{}
+{
+    state_table::found_after_a_push();
+}
 
 /// No run and no attempt is given its number twice, whatever was cut and lost.
 pub fn numbers_are_fresh()
@@ -49,13 +57,18 @@ pub fn tick_only_looks()
 /// A note keeps its ranges, where the packets that come keep theirs.
 pub fn notes_keep_ranges()
     ensures { NotesKeepRanges }
-{}
+{
+    state_table::found_after_a_push();
+}
 
 /// A trigger ends well at a server only once it has an answer for each job of the run there: a state
 /// that is kept, or that there is none.
 pub fn triggers_end_well()
     ensures { TriggersEndWell }
-{}
+{
+    first_kept_stays();
+    state_table::found_after_a_push();
+}
 
 /// What a client sends goes to a server that it drives, and is of a kind that clients send.
 pub fn packets_go_to_servers()
@@ -65,7 +78,9 @@ pub fn packets_go_to_servers()
 /// The packets that a client sends are within the ranges of packets, where what came is within its.
 pub fn packets_are_in_range()
     ensures { PacketsAreInRange }
-{}
+{
+    notes_keep_ranges();
+}
 
 /// A call sends at most 8 packets, and a tick one to each server for each request of this life.
 pub fn packets_are_few()

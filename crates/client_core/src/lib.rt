@@ -9,7 +9,6 @@ mod call;
 mod client;
 mod frames;
 mod input;
-mod kept;
 mod law;
 mod life;
 mod noted;
@@ -27,7 +26,6 @@ pub use beginning::Beginning;
 pub use call::Call;
 pub use client::Client;
 pub use input::Input;
-pub use kept::{KEPT_LIMIT, Kept};
 pub use law::{
     acks_are_for_kept_states, examples, first_kept_stays, frames_are_short, kept_was_sent,
     looks_at_all, notes_keep_ranges, numbers_are_fresh, one_text, packets_are_few,

@@ -1,25 +1,18 @@
 //! What outlasts a cut: the bytes of a client's note.
 
-ghost use Rattle.std.specs.Prelude.{◌≡◌, ◌+◌, ◌≤◌, ◌++◌, length, drop, take, map, Some, OnOk, IfOk, IfNone};
-ghost use Rattle.std.specs.List.{flat_map};
-ghost use Rattle.std.specs.Option.{option_map};
-ghost use Rattle.verify_state.specs.Spelling.{spelling as state_bytes};
-ghost use Rattle.client_core.specs.Note.{spelling, blank, is_blank, counted_bytes, Reads, SaysOneThing, SaysWhatIsWritten};
-ghost use Rattle.client_core.specs.Reading.{first_state, ReadsStates};
+ghost use Rattle.std.specs.Prelude.{◌≡◌, IfOk};
+ghost use Rattle.client_core.specs.Note.{spelling, blank, is_blank, Reads, SaysOneThing, SaysWhatIsWritten};
 
-use crate::kept::{KEPT_LIMIT, Kept};
 use fc_base::{put_u32, put_u64, split_u32, split_u64};
+use state_table::{KEPT_LIMIT, Kept, put_states, read_were_spelled, spelled_are_read, states_in};
 use std::alloc::{AllocError, Global};
-use verify_state::{VerifyState, bytes_say_states, one_spelling};
+use verify_state::one_spelling;
 
 /// The bytes with which each note begins.
 const MAGIC: &[u8; 4] = b"FCC1";
 
 /// How many bytes stand behind the magic and before the states.
 const NUMBERS: usize = 20;
-
-/// How many bytes a state is written in.
-const STATE_LENGTH: u32 = 136;
 
 /// What a client's note says. A blank note says that nothing was begun, and keeps no state.
 #[derive(Drop)]
@@ -70,7 +63,8 @@ impl Noted {
     pub fn decode(alloc: Global, bytes: &[u8]) -> Result<Option<Noted>, AllocError>
         ensures { IfOk result (Reads bytes.now) }
     {
-        bytes_say_states();
+        spelled_are_read();
+        read_were_spelled();
         if bytes.is_empty() {
             return Ok(Some(Noted::blank(alloc)));
         }
@@ -97,83 +91,12 @@ impl Noted {
     }
 }
 
-/// Adds the bytes of states, in their order. Where memory runs out, some of them may be there.
-fn put_states(out: &mut Vec<u8>, states: &[VerifyState]) -> Result<(), AllocError>
-    ensures { OnOk result (out.new.items ≡ out.old.items ++ flat_map (λ s. counted_bytes (state_bytes s)) states.now) }
-{
-    for state in states {
-        put_state(out, state)?;
-    }
-    Ok(())
-}
-
-/// Adds the bytes of a state behind their number.
-fn put_state(out: &mut Vec<u8>, state: &VerifyState) -> Result<(), AllocError>
-    ensures { OnOk result (out.new.items ≡ out.old.items ++ counted_bytes (state_bytes state.now)) }
-{
-    state.keeps_its_ranges();
-    one_spelling();
-    put_u32(out, STATE_LENGTH)?;
-    state.push_to(out)
-}
-
-/// So many states and nothing behind them, `None` where the bytes aren't that, or two states are of one
-/// key.
-fn states_in(alloc: Global, count: u32, bytes: &[u8]) -> Result<Option<Kept>, AllocError>
-    requires { count ≤ 1024 }
-    ensures { IfOk result (ReadsStates count bytes.now) }
-{
-    let mut kept = Kept::new(alloc);
-    let mut rest = bytes;
-    for _ in 0..count {
-        let Some(first) = first_state(rest) else {
-            return Ok(None);
-        };
-        if kept.has(first.state.key()) {
-            return Ok(None);
-        }
-        kept.push(first.state)?;
-        rest = first.rest;
-    }
-    kept.keeps_keys_apart();
-    if rest.is_empty() {
-        Ok(Some(kept))
-    } else {
-        Ok(None)
-    }
-}
-
-/// The first state of bytes, and what stands behind it.
-#[derive(Clone, Copy)]
-struct First<'a> {
-    state: VerifyState,
-    rest: &'a [u8],
-}
-
-/// The first state, whose length stands before it.
-#[tactic(auto, unfolding(crate::specs::Reading::first_state))]
-fn first_state(bytes: &[u8]) -> Option<First<'_>>
-    ensures { option_map (λ f. (f.state, f.rest.now)) result ≡ first_state bytes.now }
-{
-    if bytes.len() < 4 {
-        return None;
-    }
-    let (length, rest) = split_u32(bytes);
-    let length = length as usize;
-    if rest.len() < length {
-        return None;
-    }
-    let (state, rest) = rest.split_at(length);
-    match VerifyState::decode(state) {
-        Ok(state) => Some(First { state, rest }),
-        Err(_) => None,
-    }
-}
-
 /// Bytes say one thing at most.
 pub fn one_note()
     ensures { SaysOneThing }
-{}
+{
+    spelled_are_read();
+}
 
 /// What is written is read back.
 pub fn notes_are_read_back()

@@ -6,10 +6,10 @@ ghost use Rattle.messages.specs.Ranges.{is_run, is_text};
 ghost use Rattle.client_core.specs.Refusals.{is_server_of, is_own, is_for_client, is_begun, has_next, faults_of_body};
 ghost use Rattle.client_core.specs.Saves.{Keep, addition_by};
 
-use crate::kept::KEPT_LIMIT;
 use crate::noted::Noted;
 use fc_base::{Fault, MAX_TEXT, RunNo};
 use messages::{Body, Node, Packet};
+use state_table::KEPT_LIMIT;
 use verify_state::VerifyState;
 
 /// Whether the packet is for a client of so many servers, from one of them, of a kind that servers send,

@@ -6,7 +6,7 @@ ghost use Rattle.messages.specs.declared.body.Body.TheVariants.{WantState};
 ghost use Rattle.client_core.specs.Framed.{framed};
 ghost use Rattle.client_core.specs.Lives.{EachLife};
 ghost use Rattle.client_core.specs.Packets.{replies, start_for, jobs_for, state_for};
-ghost use Rattle.client_core.specs.Kept.{kept_of};
+ghost use Rattle.state_table.specs.Kept.{kept_of};
 
 use crate::beginning::Beginning;
 use crate::frames::only;

@@ -17,6 +17,7 @@ use crate::replies::replies;
 use disk_model::Notes;
 use fc_base::Fault;
 use messages::{Body, Frames, Packet, PacketParts};
+use state_table::found_after_a_push;
 
 impl<N: Notes> PacketClient<N> {
     /// Takes a packet, and replies to it. A State of a new key is saved before it is acknowledged.
@@ -50,6 +51,7 @@ impl<N: Notes> PacketClient<N> {
             Ends N.note o past (Deliver p) self.old self.new result }
     {
         notes_are_read_back();
+        found_after_a_push();
         let Ok(frames) = replies(self.alloc, &self.noted, &self.life, server, &body) else {
             return Err(Fault::NoMemory);
         };

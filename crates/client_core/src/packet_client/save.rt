@@ -2,13 +2,13 @@
 
 ghost use Rattle.std.specs.Prelude.{◌≡◌, ◌+◌, ◌<◌, ◌^◌, None, length};
 ghost use Rattle.client_core.specs.Ends.{Stores, Writes};
-ghost use Rattle.client_core.specs.Kept.{kept_of};
+ghost use Rattle.state_table.specs.Kept.{kept_of};
 ghost use Rattle.client_core.specs.Saves.{NextRun, NextAttempt, Keep};
 
 use super::PacketClient;
-use crate::kept::KEPT_LIMIT;
 use disk_model::Notes;
 use fc_base::Fault;
+use state_table::KEPT_LIMIT;
 use verify_state::VerifyState;
 
 impl<N: Notes> PacketClient<N> {

@@ -2,4 +2,4 @@ use Rattle.client_core.proofs.KeptLemmas.{first_kept_stays}
 use Rattle.client_core.proofs.law.first_kept_stays.Goals as goal
 
 pub returns : goal.returns
-returns c = first_kept_stays
+returns c = first_kept_stays c.found_states.ensures.stays

@@ -3,24 +3,24 @@ use Rattle.std.specs.Prelude.{codes}
 use Rattle.std.specs.Int.{w32, w64}
 use Rattle.std.proofs.lemmas.Slice.Eq.{bytes_eq-Decides}
 use Rattle.fc_base.specs.Layouts.{number_in}
-use Rattle.client_core.specs.Reading.{ReadsStates}
+use Rattle.state_table.specs.Reading.{ReadsStates}
 use Rattle.client_core.proofs.NoteLemmas.{some_bytes, no_magic, too_short, too_many, no_states, read_says}
 use Rattle.client_core.proofs.noted.Noted.decode.Goals as goal
 
 pub returns-in_default : goal.returns-in_default
-returns-in_default c = λ n s. no_magic c.args.bytes.now n (some_bytes c.args.bytes.now c.if-is_empty.ensures) c.in_default.ensures.cases s
+returns-in_default c = λ n s. no_magic c.spelled_are_read.ensures c.args.bytes.now n (some_bytes c.args.bytes.now c.if-is_empty.ensures) c.in_default.ensures.cases s
 
 pub returns-then-rest-lt-NUMBERS : goal.returns-then-rest-lt-NUMBERS
 returns-then-rest-lt-NUMBERS c =
     let len = c.in-Some.ensures.cases.2 in
-    λ n s. too_short c.args.bytes.now n (some_bytes c.args.bytes.now c.if-is_empty.ensures) (omega (arith, len, c.if-rest-lt-NUMBERS.true)) s
+    λ n s. too_short c.spelled_are_read.ensures c.args.bytes.now n (some_bytes c.args.bytes.now c.if-is_empty.ensures) (omega (arith, len, c.if-rest-lt-NUMBERS.true)) s
 
 pub returns-then-count-gt-KEPT_LIMIT : goal.returns-then-count-gt-KEPT_LIMIT
 returns-then-count-gt-KEPT_LIMIT c =
     let runs = c.split_u64-runs.ensures.rest ∙ ap (drop 8) c.in-Some.ensures.cases.1 in
     let attempts = c.split_u64-attempts.ensures.rest ∙ ap (drop 8) runs in
     let count = c.split_u32-count.ensures.number ∙ ap (λ l. number_in w32 l) attempts in
-    λ n s. too_many c.args.bytes.now n c.split_u32-count.result.0 (some_bytes c.args.bytes.now c.if-is_empty.ensures) count (omega (arith, c.if-count-gt-KEPT_LIMIT.true)) s
+    λ n s. too_many c.spelled_are_read.ensures c.args.bytes.now n c.split_u32-count.result.0 (some_bytes c.args.bytes.now c.if-is_empty.ensures) count (omega (arith, c.if-count-gt-KEPT_LIMIT.true)) s
 
 pub returns-in-Some-2 : goal.returns-in-Some-2
 returns-in-Some-2 c =
@@ -30,7 +30,7 @@ returns-in-Some-2 c =
     let attempts = c.split_u64-attempts.ensures.rest ∙ ap (drop 8) runs in
     let states = c.split_u32-count.ensures.rest ∙ ap (drop 4) attempts in
     let read = subst (λ (l : List ℕ). ReadsStates c.split_u32-count.result.0 l (Some c.in-Some-2.kept)) states (subst (ReadsStates c.split_u32-count.result.0 c.split_u32-count.result.1.now) c.in-Some-2.is c.in_ok-kept.ensures) in
-    read_says c.bytes_say_states.ensures.says_a_state c.args.bytes.now c.split_u64-runs.result.0 c.split_u64-attempts.result.0 c.split_u32-count.result.0 c.in-Some-2.kept (λ i. omega (arith, c.type_inv.bytes i)) mark
+    read_says c.spelled_are_read.ensures c.read_were_spelled.ensures c.args.bytes.now c.split_u64-runs.result.0 c.split_u64-attempts.result.0 c.split_u32-count.result.0 c.in-Some-2.kept (λ i. omega (arith, c.type_inv.bytes i)) mark
     (omega (arith, c.in-Some.ensures.cases.2, c.if-rest-lt-NUMBERS.false))
     (c.split_u64-runs.ensures.number ∙ ap (λ l. number_in w64 l) after)
     (c.split_u64-attempts.ensures.number ∙ ap (λ l. number_in w64 l) runs)
@@ -44,4 +44,4 @@ returns-in-None c =
     let count = c.split_u32-count.ensures.number ∙ ap (λ l. number_in w32 l) attempts in
     let states = c.split_u32-count.ensures.rest ∙ ap (drop 4) attempts in
     let read = subst (λ (l : List ℕ). ReadsStates c.split_u32-count.result.0 l None) states (subst (ReadsStates c.split_u32-count.result.0 c.split_u32-count.result.1.now) c.in-None.is c.in_ok-kept.ensures) in
-    λ n s. no_states c.args.bytes.now n c.split_u32-count.result.0 (some_bytes c.args.bytes.now c.if-is_empty.ensures) count read s
+    λ n s. no_states c.spelled_are_read.ensures c.args.bytes.now n c.split_u32-count.result.0 (some_bytes c.args.bytes.now c.if-is_empty.ensures) count read s
