@@ -127,6 +127,10 @@ fn layout(kind: &str) -> Option<(u64, &'static [usize])> {
         "NoSaved" => Some((14, &[8, 8])),
         "Report" => Some((15, &[8, 8, 4, 4, 1])),
         "Refused" => Some((16, &[1, 1, 4, 4, 8, 8, 8])),
+        "Copy" => Some((18, &[])),
+        "CopyOk" => Some((19, &[8])),
+        "Fetch" => Some((20, &[8])),
+        "Granted" => Some((21, &[8])),
         _ => None,
     }
 }

@@ -29,6 +29,7 @@ pub const STORIES: [Story; 4] = [
         piece 6 1 0 0 0 1032 0 of State 1 listed_116 =>
         from 1 to 8 piece 6 1 0 0 0 1032 1024 of State 1 listed_116 => 69
         from 8 to 8 piece 6 1 0 0 0 1032 1024 of State 1 listed_116 => 69
+        from 9 to 8 piece 6 1 0 0 0 1032 1024 of State 1 listed_116 => 69
         from 0 to 0 piece 6 1 0 0 0 1032 1024 of State 1 listed_116 => 69
         piece 1 1 0 0 0 1032 0 of State 1 listed_116 => 69
         piece 11 1 1 0 0 1032 0 of State 1 listed_116 => 69

@@ -68,6 +68,17 @@ pub const PACKETS: &str = "
     from 1 to 8 Started 1 => 69
     from 0 to 0 Started 1 => 69
     from 8 to 8 Started 1 => 69
+    Copy first => 69
+    CopyOk 1 0 0 => 69
+    Fetch 1 => 69
+    Granted 1 => 69
+    from 9 to 8 Copy first => 69
+    from 9 to 8 CopyOk 1 0 0 => 69
+    from 9 to 8 Fetch 1 => 69
+    from 9 to 8 Granted 1 => 69
+    from 9 to 8 Started 1 => 69
+    from 8 to 9 Fetch 1 => 69
+    from 0 to 9 Started 1 => 69
 ";
 
 pub const STAGES: [Stage; 16] = [

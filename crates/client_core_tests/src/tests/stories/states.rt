@@ -2,7 +2,7 @@
 
 use super::Story;
 
-pub const STORIES: [Story; 4] = [
+pub const STORIES: [Story; 5] = [
     (
         "the first state of a key stays",
         "
@@ -65,6 +65,25 @@ pub const STORIES: [Story; 4] = [
         restart => 0 0 first~19=1 first
         WantState 1 7 1 => Saved 7 first~19=1
         restart => 0 0 first~19=1 first
+        ",
+    ),
+    (
+        "copies, and what else a mirror says",
+        "
+        restart => -
+        State 1 first => StateAck 1 0
+        would_save Copy first~11=2 => 0
+        would_save from 9 to 8 Copy first~11=2 => 0
+        Copy first~11=2 => 69
+        from 9 to 8 Copy first~11=2 => 69
+        from 9 to 8 CopyOk 1 0 0 => 69
+        from 9 to 8 Granted 1 => 69
+        would_save from 9 to 8 State 1 first~11=2 => 0
+        from 9 to 8 State 1 first~11=2 => 69
+        saved 1 0 0 => first
+        saved 2 0 0 => none
+        tick =>
+        restart => 0 0 first
         ",
     ),
 ];
