@@ -8,7 +8,6 @@ use Rattle.messages.specs.declared.packet.PacketParts.{PacketParts}
 use Rattle.messages.specs.declared.body.Body.{Body}
 use Rattle.messages.specs.declared.body.Body.TheVariants as bodies
 use Rattle.messages.specs.declared.node.Node.TheVariants as nodes
-use Rattle.messages.specs.Kinds.{is_of_client}
 use Rattle.messages.specs.Bodies.{kind_of}
 use Rattle.disk_model.specs.declared.left.Left.{Left}
 use Rattle.disk_model.specs.Left.{has_new}
@@ -23,12 +22,12 @@ use Rattle.client_core.specs.Words.{is_on, noted, refusal, is_answered}
 use Rattle.client_core.specs.Life.{Deed, life}
 use Rattle.client_core.specs.Packets.{to_server}
 use Rattle.client_core.specs.Ranges.{packet_in}
-use Rattle.client_core.specs.Laws.{from_server, SavedIsKept, AcksAreFor, PacketsGoToServers}
+use Rattle.client_core.specs.Laws.{from_server, is_for_server, SavedIsKept, AcksAreFor, PacketsGoToServers}
 use Rattle.client_core.proofs.HeardLemmas.{has_one, own_state, taken_in}
 use Rattle.client_core.proofs.ListLemmas.{first_of, none_in}
 use Rattle.client_core.proofs.ReasonLemmas.{IsSaid, Why, sent_why}
 
-client_kind : (n : Noted) (deeds : List Deed) (c : Call) (s : ℕ) (body : Body) → Why n deeds c s body → is_of_client (kind_of body) ≡ true
+client_kind : (n : Noted) (deeds : List Deed) (c : Call) (s : ℕ) (body : Body) → Why n deeds c s body → is_for_server (kind_of body) ≡ true
 client_kind n deeds c s (bodies.Jobs run text) w = refl
 client_kind n deeds c s (bodies.Start run) w = refl
 client_kind n deeds c s (bodies.Trigger run act) w = refl

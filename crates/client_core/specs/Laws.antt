@@ -1,5 +1,5 @@
 -- What holds of every list of what came to a client.
-use Rattle.std.specs.Prelude.{◌≡◌, ◌⊎◌, ℕ, ◌<◌, ◌≤◌, Bool, true, not, ◌&&◌, List, [], ◌∷◌, ◌++◌, Some, Contains, IsTrue}
+use Rattle.std.specs.Prelude.{◌≡◌, ◌⊎◌, ℕ, ◌<◌, ◌≤◌, Bool, true, false, not, ◌&&◌, List, [], ◌∷◌, ◌++◌, Some, Contains, IsTrue}
 use Rattle.std.specs.List.{AllByRecursion, flat_map}
 use Rattle.fc_base.specs.declared.numbers.Key.{Key}
 use Rattle.fc_base.specs.Counted.{is_distinct}
@@ -10,7 +10,8 @@ use Rattle.messages.specs.declared.body.Body.{Body}
 use Rattle.messages.specs.declared.body.Body.TheVariants as bodies
 use Rattle.messages.specs.declared.node.Node.TheVariants as nodes
 use Rattle.messages.specs.Bodies.{kind_of}
-use Rattle.messages.specs.Kinds.{is_of_client}
+use Rattle.messages.specs.declared.kind.PacketKind.{PacketKind}
+use Rattle.messages.specs.declared.kind.PacketKind.TheVariants as kinds
 use Rattle.messages.specs.Laws.{IsPacket}
 use Rattle.client_core.specs.declared.call.Call.TheVariants.{Tick}
 use Rattle.client_core.specs.declared.received.Received.{Received}
@@ -152,13 +153,25 @@ TriggersEndWell =
     (o : Opening) (past : List Entry) (run server : ℕ) →
     trigger_at run server (life o past) ≡ Served → EndsWell (noted o past) (came past) run server
 
--- A packet of the client to one of so many servers, of a kind that the client sends.
+-- The kinds of packets that are for servers.
+abbrev pub is_for_server : PacketKind → Bool
+is_for_server kinds.Jobs = true
+is_for_server kinds.Start = true
+is_for_server kinds.Trigger = true
+is_for_server kinds.StateAck = true
+is_for_server kinds.Stop = true
+is_for_server kinds.Verify = true
+is_for_server kinds.Saved = true
+is_for_server kinds.NoSaved = true
+is_for_server _ = false
+
+-- A packet of the client to one of so many servers, of a kind that is for servers.
 abbrev pub GoesToServer : ℕ → PacketParts → Type 0
 GoesToServer servers p =
     (server : ℕ) × (server < servers) × (p ≡ to_server p.body server)
-    × IsTrue (is_of_client (kind_of p.body))
+    × IsTrue (is_for_server (kind_of p.body))
 
--- What a client sends goes to a server that it drives, and is of a kind that clients send.
+-- What a client sends goes to a server that it drives, and is of a kind that is for servers.
 abbrev pub PacketsGoToServers : Type 0
 PacketsGoToServers =
     (o : Opening) (past : List Entry) (entry : Entry) (p : PacketParts) →

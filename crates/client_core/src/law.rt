@@ -70,7 +70,7 @@ pub fn triggers_end_well()
     state_table::found_after_a_push();
 }
 
-/// What a client sends goes to a server that it drives, and is of a kind that clients send.
+/// What a client sends goes to a server that it drives, and is of a kind that is for servers.
 pub fn packets_go_to_servers()
     ensures { PacketsGoToServers }
 {}
