@@ -4,12 +4,12 @@ use Rattle.std.proofs.Common.{◌≡◌, ap, ℕ, Bool, true, false, ◌&&◌, �
 use Rattle.std.specs.Prelude.{if◌then◌else◌, slice_get, nat_lt, not, is_some}
 use Rattle.std.specs.Option.{option_or}
 use Rattle.fc_base.specs.declared.fault.Fault.{Fault}
-use Rattle.fc_base.specs.declared.fault.Fault.TheVariants.{Conflict, NoServer, NodeOff, NodeOn, NoWrite, NumbersSpent, JobTooLong, NoSuchRun, Down}
+use Rattle.fc_base.specs.declared.fault.Fault.TheVariants.{Conflict, NoServer, NoMirror, NodeOff, NodeOn, NoWrite, NumbersSpent, JobTooLong, NoSuchRun, Down}
 use Rattle.fc_base.specs.declared.limits.TheConstants.{MAX_JOBS}
 use Rattle.fc_base.specs.Faults.{when}
 use Rattle.messages.specs.declared.frame.Frame.{Frame}
 use Rattle.messages.specs.declared.node.Node.{Node}
-use Rattle.messages.specs.declared.node.Node.TheVariants.{Server, Client}
+use Rattle.messages.specs.declared.node.Node.TheVariants.{Server, Client, Mirror}
 use Rattle.messages.specs.Ranges.{is_text}
 use Rattle.server_core.specs.declared.event.Event.{Event}
 use Rattle.server_core.specs.History as server
@@ -79,11 +79,13 @@ pub fine_off : (n : ℕ) (t : List Step) (node : Node) → Fine (off n t node)
 unfolding Fine
 fine_off n t (Server s) = fine_two (nat_lt s n) (is_on t (Server s)) NoServer NodeOff (λ h. cc) (λ h. cc)
 fine_off n t Client = fine_one (is_on t Client) NodeOff (λ h. cc)
+fine_off n t Mirror = λ h. cc
 
 pub fine_on : (n : ℕ) (t : List Step) (node : Node) → Fine (on n t node)
 unfolding Fine
 fine_on n t (Server s) = fine_two (nat_lt s n) (not (is_on t (Server s))) NoServer NodeOn (λ h. cc) (λ h. cc)
 fine_on n t Client = fine_one (not (is_on t Client)) NodeOn (λ h. cc)
+fine_on n t Mirror = λ h. cc
 
 pub fine_or : (x : Option Fault) (b : Bool) (g : Fault) → Fine x → Fine (Some g) → Fine (option_or x (unless b g))
 unfolding Fine

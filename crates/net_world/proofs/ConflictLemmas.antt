@@ -15,7 +15,7 @@ use Rattle.messages.specs.declared.body.Body.TheVariants as bodies
 use Rattle.messages.specs.declared.node.Node.{Node}
 use Rattle.messages.specs.declared.node.Node.TheVariants.{Server, Client}
 use Rattle.client_core.specs.declared.noted.Noted.{Noted}
-use Rattle.client_core.specs.Kept.{kept_of}
+use Rattle.state_table.specs.Kept.{kept_of}
 use Rattle.client_core.specs.Refusals.{is_for_client, differs, lacks_room, faults_of_body}
 use Rattle.client_core.specs.Words.{is_on, noted, kept}
 use Rattle.net_world.specs.Trace.{Step, AtServer, AtClient, IsTrace, of_client, client_opening, opening_of, of_server, packets_of, sent}
@@ -104,6 +104,10 @@ differing n (bodies.WantState run attempt job) h = absurd cc
 differing n (bodies.NoSaved run attempt job) h = absurd cc
 differing n (bodies.Report run attempt job jobs report) h = absurd cc
 differing n (bodies.Refused refusal) h = absurd cc
+differing n (bodies.Copy state) h = absurd cc
+differing n (bodies.CopyOk run server job) h = absurd cc
+differing n (bodies.Fetch generation) h = absurd cc
+differing n (bodies.Granted generation) h = absurd cc
 
 pub never_conflicts : SentStatesWereTaken → KeptStatesWereSent → OneTaking → NeverConflicts
 never_conflicts taken kept_sent once n t p trace was h =

@@ -5,15 +5,16 @@ use Rattle.std.specs.Option.{option_map}
 use Rattle.std.proofs.lemmas.Option.{slice_get-map, slice_get_past, slice_get_within, get_or_from_slice_get}
 use Rattle.messages.specs.declared.frame.Frame.{Frame}
 use Rattle.messages.specs.FrameBytes.{frame_spelling, frame_at}
+use Rattle.messages.specs.declared.node.Node.TheVariants.{Mirror}
 use Rattle.net_world.specs.declared.world.World.{World}
 use Rattle.fc_base.specs.declared.fault.Fault.{Fault}
-use Rattle.fc_base.specs.declared.fault.Fault.TheVariants.{NoFrame, NoMemory}
+use Rattle.fc_base.specs.declared.fault.Fault.TheVariants.{NoFrame, NoMemory, NoMirror}
 use Rattle.net_world.specs.Happenings.{Happening, Deliver}
-use Rattle.net_world.specs.Barred.{unsent}
+use Rattle.net_world.specs.Barred.{off, unsent}
 use Rattle.net_world.specs.Delivering.{FindsFrame}
 use Rattle.net_world.specs.Ends.{Ends}
 use Rattle.net_world.proofs.EndsLemmas.{refuses, stops}
-use Rattle.net_world.specs.Frames.{frames_sent}
+use Rattle.net_world.specs.Frames.{frames_sent, to_of}
 use Rattle.net_world.specs.Changes.{Change, steps, trace}
 use Rattle.net_world.specs.World.{world}
 use Rattle.net_world.specs.WorldLaws.{SentFramesAreRead}
@@ -49,6 +50,10 @@ frame_found law n events w number bytes f stands at read =
     let in_it : Contains fs h.frame = (number, slice_get_within fs number h.frame h.is, get_or_from_slice_get fs number h.frame h.frame h.is) in
     let again = (law n events h.frame stands.few in_it).1 in
     h.is ∙ sym again ∙ ap frame_at h.bytes_are ∙ read
+
+-- A frame to a mirror is barred.
+pub bars_mirror : (n : ℕ) (past : List Change) (number : ℕ) (f : Frame) → slice_get (frames_sent n (steps past)) number ≡ Some f → to_of f ≡ Mirror → unsent n (trace n past) (slice_get (frames_sent n (steps past)) number) ≡ Some NoMirror
+bars_mirror n past number f found to = ap (unsent n (trace n past)) found ∙ ap (off n (trace n past)) to
 
 -- There is no such frame, or memory has run out.
 pub lost_frame : (n : ℕ) (past : List Change) (w : World) (number : ℕ) (fault : Fault) → StandsFor n past w → FindsFrame n past number (Err fault) → Ends n past (Deliver number) w (Err fault)

@@ -1,6 +1,7 @@
 -- How what comes to a server ends, as an event of a world.
 use Rattle.std.proofs.Common.{◌≡◌, refl, sym, ◌∙◌, ap, subst, inl, inr, ◌⊎◌, ℕ, false, List, ◌∷◌, length, Some, None, Ok, Err}
 use Rattle.fc_base.specs.declared.fault.Fault.{Fault}
+use Rattle.fc_base.specs.declared.fault.Fault.TheVariants.{NoMirror}
 use Rattle.fc_base.specs.declared.fault.FaultSort.{FaultSort}
 use Rattle.fc_base.specs.declared.fault.FaultSort.TheVariants as sorts
 use Rattle.fc_base.specs.Fault.{sort_of}
@@ -65,6 +66,10 @@ refusing n past e fault new is stands = (ap (told_by n past e) is, subst (λ x. 
 -- A fault is a refusal, so that its sort is that.
 pub refuses : (n : ℕ) (past : List Change) (e : Happening) (fault : Fault) (new : World) → sort_of fault ≡ sorts.Refusal → outcome n past e ≡ Refuses fault → StandsFor n past new → Ends n past e new (Err fault)
 refuses n past e fault new sort is stands = subst (λ x. ends.Faults n past e x fault new) (sym sort) (refusing n past e fault new is stands)
+
+-- What is of a mirror is refused: there is none.
+pub no_mirror : (n : ℕ) (past : List Change) (e : Happening) (w : World) → barred n (trace n past) (frames_sent n (steps past)) e ≡ Some NoMirror → StandsFor n past w → Ends n past e w (Err NoMirror)
+no_mirror n past e w bar stands = refuses n past e NoMirror w refl (stops n past e NoMirror bar) stands
 
 -- ---- an event that a server meets
 

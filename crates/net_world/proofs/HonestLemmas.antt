@@ -55,6 +55,10 @@ no_end (bodies.Saved attempt state) ticket end h = cc
 no_end (bodies.NoSaved run attempt job) ticket end h = cc
 no_end (bodies.Report run attempt job jobs report) ticket end h = cc
 no_end (bodies.Refused refusal) ticket end h = cc
+no_end (bodies.Copy state) ticket end h = cc
+no_end (bodies.CopyOk run server job) ticket end h = cc
+no_end (bodies.Fetch generation) ticket end h = cc
+no_end (bodies.Granted generation) ticket end h = cc
 
 no_end_if : (t : Bool) (b : Body) (ticket : Ticket) (end : WriteEnd) → (if t then asked_by b else ToNobody) ≡ ToEnd ticket end → ⊥
 no_end_if true b ticket end h = no_end b ticket end h

@@ -1,14 +1,15 @@
 -- The four passes of a verify state: it is sent as it was taken, kept as it was sent, sent back as it is
--- kept, and checked with as it was sent back.
+-- kept, and checked with as it was sent back. And there is no other.
 use Rattle.std.proofs.Common.{◌≡◌, sym, ◌∙◌, ap, subst, inl, inr, ℕ, List, [], ◌∷◌, Some}
 use Rattle.std.specs.Prelude.{Contains, IsTrue}
 use Rattle.fc_base.specs.declared.numbers.Key.{Key}
 use Rattle.verify_state.specs.State.{State}
+use Rattle.state_table.specs.Laws.{FoundHasItsKey}
 use Rattle.messages.specs.declared.packet.PacketParts.{PacketParts}
 use Rattle.messages.specs.declared.body.Body.{Body}
 use Rattle.messages.specs.declared.body.Body.TheVariants as bodies
 use Rattle.messages.specs.Bodies.{kind_of}
-use Rattle.messages.specs.Kinds.{is_of_client, is_of_server}
+use Rattle.messages.specs.Kinds.{is_of_server}
 use Rattle.server_core.specs.History as server
 use Rattle.server_core.specs.History.{Opening}
 use Rattle.server_core.specs.Words.{last_run}
@@ -17,14 +18,14 @@ use Rattle.server_core.specs.Answers as servers
 use Rattle.server_core.specs.Laws as served
 use Rattle.server_core.specs.Sent.{PacketsGoToClient}
 use Rattle.client_core.specs.History as client
-use Rattle.client_core.specs.Words.{kept}
+use Rattle.client_core.specs.Words.{kept, noted}
 use Rattle.client_core.specs.Packets as clients
 use Rattle.client_core.specs.Laws as asked
+use Rattle.client_core.specs.Laws.{is_for_server}
 use Rattle.net_world.specs.Trace.{Step, AtServer, AtClient, opening_of, client_opening, of_server, of_client, packets_of}
 use Rattle.net_world.specs.Holders.{taken_of}
-use Rattle.net_world.specs.Passes.{SentStatesWereTaken, KeptStatesWereSent, SavedStatesAreKept, CheckedStatesWereSent}
+use Rattle.net_world.specs.Passes.{SentStatesWereTaken, KeptStatesWereSent, SavedStatesAreKept, NoCopyIsSent, CheckedStatesWereSent}
 use Rattle.net_world.proofs.ListLemmas.{first_in}
-use Rattle.net_world.proofs.KeyLemmas.{key_of_kept}
 use Rattle.net_world.proofs.TraceLemmas.{own_step, taken_stays, sent_cases, sent_none, came_was_sent, heard_was_sent}
 
 -- ---- what is sent in a State was taken
@@ -46,7 +47,7 @@ sends_taken s o past e p jobs state h is =
 -- The client sends no State.
 pub no_state : asked.PacketsGoToServers → (o : client.Opening) (past : List client.Entry) (e : client.Entry) (p : PacketParts) (jobs : ℕ) (state : State) → Contains (clients.packets o past e) p → p.body ≡ bodies.State jobs state → ⊥
 no_state goes o past e p jobs state h is =
-    let kind : IsTrue (is_of_client (kind_of (bodies.State jobs state))) = subst (λ (b : Body). IsTrue (is_of_client (kind_of b))) is (goes o past e p h).3 in
+    let kind : IsTrue (is_for_server (kind_of (bodies.State jobs state))) = subst (λ (b : Body). IsTrue (is_for_server (kind_of b))) is (goes o past e p h).3 in
     cc
 
 sent_now : served.SendsTheTaken → asked.PacketsGoToServers → (n : ℕ) (step : Step) (past : List Step) (p : PacketParts) (jobs : ℕ) (state : State) → Contains (packets_of n past step) p → p.body ≡ bodies.State jobs state → Contains (taken_of state.key (step ∷ past)) state
@@ -67,11 +68,11 @@ sent_states_were_taken s goes n (step ∷ past) p jobs state h is =
 
 -- ---- what is kept was sent in a State
 
-pub kept_states_were_sent : asked.KeptWasSent → KeptStatesWereSent
-kept_states_were_sent k n t key state trace h =
+pub kept_states_were_sent : FoundHasItsKey → asked.KeptWasSent → KeptStatesWereSent
+kept_states_were_sent has k n t key state trace h =
     elim (k (client_opening n) (of_client t) key state h) [
       | inl opening ↦ absurd cc
-      | inr in_state ↦ record { key_is = key_of_kept key _ state h; jobs = in_state.0; sent_in = came_was_sent n t _ trace in_state.1 }
+      | inr in_state ↦ record { key_is = has key (noted (client_opening n) (of_client t)).kept state h; jobs = in_state.0; sent_in = came_was_sent n t _ trace in_state.1 }
     ]
 
 -- ---- what is sent in a Saved is kept
@@ -98,6 +99,24 @@ saved_states_are_kept goes k first n (step ∷ past) p attempt state h is =
       | inl before ↦ saved_states_are_kept goes k first n past p attempt state before is
       | inr now ↦ saved_now goes k n step past p attempt state now is
     ])
+
+-- ---- nobody sends a Copy
+
+no_copy_now : PacketsGoToClient → asked.PacketsGoToServers → (n : ℕ) (step : Step) (past : List Step) (p : PacketParts) (state : State) → Contains (packets_of n past step) p → p.body ≡ bodies.Copy state → ⊥
+no_copy_now served asks n (AtServer r e) past p state h is =
+    let kind : IsTrue (is_of_server (kind_of (bodies.Copy state))) = subst (λ (b : Body). IsTrue (is_of_server (kind_of b))) is (served (opening_of r) (of_server r past) e p h).kind in
+    cc
+no_copy_now served asks n (AtClient e) past p state h is =
+    let kind : IsTrue (is_for_server (kind_of (bodies.Copy state))) = subst (λ (b : Body). IsTrue (is_for_server (kind_of b))) is (asks (client_opening n) (of_client past) e p h).3 in
+    cc
+
+pub no_copy_is_sent : PacketsGoToClient → asked.PacketsGoToServers → NoCopyIsSent
+no_copy_is_sent served asks n [] p state h is = absurd (sent_none n p h)
+no_copy_is_sent served asks n (step ∷ past) p state h is =
+    elim (sent_cases n step past p h) [
+      | inl before ↦ no_copy_is_sent served asks n past p state before is
+      | inr now ↦ no_copy_now served asks n step past p state now is
+    ]
 
 -- ---- what a job is checked with was sent in a Saved
 

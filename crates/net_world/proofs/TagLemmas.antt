@@ -44,6 +44,10 @@ long law (bodies.Saved attempt state) h k c = short (bodies.Saved attempt state)
 long law (bodies.NoSaved run attempt job) h k c = short (bodies.NoSaved run attempt job) 20 (law (bodies.NoSaved run attempt job) h k) (omega arith) c
 long law (bodies.Report run attempt job jobs r) h k c = short (bodies.Report run attempt job jobs r) 169 (law (bodies.Report run attempt job jobs r) h k) (omega arith) c
 long law (bodies.Refused r) h k c = short (bodies.Refused r) 34 (law (bodies.Refused r) h k) (omega arith) c
+long law (bodies.Copy state) h k c = short (bodies.Copy state) 136 (law (bodies.Copy state) h k) (omega arith) c
+long law (bodies.CopyOk run server job) h k c = short (bodies.CopyOk run server job) 16 (law (bodies.CopyOk run server job) h k) (omega arith) c
+long law (bodies.Fetch generation) h k c = short (bodies.Fetch generation) 8 (law (bodies.Fetch generation) h k) (omega arith) c
+long law (bodies.Granted generation) h k c = short (bodies.Granted generation) 8 (law (bodies.Granted generation) h k) (omega arith) c
 
 tags_are : (b c x y : Body) → b ≡ x → c ≡ y → tag_of b ≡ tag_of c → tag_of x ≡ tag_of y
 tags_are b c x y h k e = sym (ap tag_of h) ∙ e ∙ ap tag_of k

@@ -1,12 +1,12 @@
 -- What the client has sent is in its own list, so a run has one text, and so has an attempt.
 use Rattle.std.proofs.Common.{◌≡◌, refl, sym, subst, inl, inr, ℕ, Bool, true, false, List, [], ◌∷◌}
-use Rattle.std.specs.Prelude.{Contains, not, IsTrue}
+use Rattle.std.specs.Prelude.{Contains, IsTrue}
 use Rattle.std.proofs.lemmas.List.Elements.{Contains-append_left, Contains-append_right}
 use Rattle.messages.specs.declared.packet.PacketParts.{PacketParts}
 use Rattle.messages.specs.declared.body.Body.{Body}
 use Rattle.messages.specs.declared.body.Body.TheVariants as bodies
 use Rattle.messages.specs.Bodies.{kind_of}
-use Rattle.messages.specs.Kinds.{is_of_client}
+use Rattle.messages.specs.Kinds.{is_of_server}
 use Rattle.server_core.specs.Sent.{PacketsGoToClient}
 use Rattle.client_core.specs.Packets as clients
 use Rattle.client_core.specs.Laws.{OneTextOfARun, OneTextOfAnAttempt}
@@ -22,25 +22,25 @@ unfolding BySelf
 before n (AtServer r e) past p h = h
 before n (AtClient e) past p h = Contains-append_left (clients.sent (client_opening n) (of_client past)) (clients.packets (client_opening n) (of_client past) e) p h
 
-not_both : (b : Bool) → IsTrue (not b) → b ≡ true → ⊥
+not_both : (b : Bool) → IsTrue b → b ≡ false → ⊥
 not_both true h k = absurd cc
 not_both false h k = absurd cc
 
-now : PacketsGoToClient → (n : ℕ) (step : Step) (past : List Step) (p : PacketParts) → is_of_client (kind_of p.body) ≡ true → Contains (packets_of n past step) p → BySelf n (step ∷ past) p
+now : PacketsGoToClient → (n : ℕ) (step : Step) (past : List Step) (p : PacketParts) → is_of_server (kind_of p.body) ≡ false → Contains (packets_of n past step) p → BySelf n (step ∷ past) p
 unfolding BySelf
-now goes n (AtServer r e) past p own h = absurd (not_both (is_of_client (kind_of p.body)) (goes (opening_of r) (of_server r past) e p h).kind own)
+now goes n (AtServer r e) past p own h = absurd (not_both (is_of_server (kind_of p.body)) (goes (opening_of r) (of_server r past) e p h).kind own)
 now goes n (AtClient e) past p own h = Contains-append_right (clients.sent (client_opening n) (of_client past)) (clients.packets (client_opening n) (of_client past) e) p h
 
--- A packet of a kind that the client sends was sent by the client.
-client_sent : PacketsGoToClient → (n : ℕ) (t : List Step) (p : PacketParts) → is_of_client (kind_of p.body) ≡ true → Contains (sent n t) p → BySelf n t p
+-- A packet of a kind that no server sends was sent by the client.
+client_sent : PacketsGoToClient → (n : ℕ) (t : List Step) (p : PacketParts) → is_of_server (kind_of p.body) ≡ false → Contains (sent n t) p → BySelf n t p
 client_sent goes n [] p own h = absurd (sent_none n p h)
 client_sent goes n (step ∷ past) p own h = elim (sent_cases n step past p h) [
   | inl i ↦ before n step past p (client_sent goes n past p own i)
   | inr k ↦ now goes n step past p own k
 ]
 
-of_kind : (b c : Body) → b ≡ c → is_of_client (kind_of c) ≡ true → is_of_client (kind_of b) ≡ true
-of_kind b c is h = subst (λ x. is_of_client (kind_of x) ≡ true) (sym is) h
+of_kind : (b c : Body) → b ≡ c → is_of_server (kind_of c) ≡ false → is_of_server (kind_of b) ≡ false
+of_kind b c is h = subst (λ x. is_of_server (kind_of x) ≡ false) (sym is) h
 
 pub one_text_of_each_run : PacketsGoToClient → OneTextOfARun → OneTextOfEachRun
 unfolding BySelf

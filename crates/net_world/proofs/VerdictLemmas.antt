@@ -19,15 +19,16 @@ use Rattle.client_core.specs.Words.{kept}
 use Rattle.client_core.specs.Packets.{to_server}
 use Rattle.net_world.specs.Trace.{Step, IsTrace, opening_of, client_opening, of_server, of_client, sent}
 use Rattle.net_world.specs.Holders.{taken_of, taken_in_life, carried, Holds, ByTaking, ByCheck, ByClient, ByPacket}
-use Rattle.net_world.specs.Passes.{SentStatesWereTaken, KeptStatesWereSent, SavedStatesAreKept, CheckedStatesWereSent}
+use Rattle.net_world.specs.Passes.{SentStatesWereTaken, KeptStatesWereSent, SavedStatesAreKept, NoCopyIsSent, CheckedStatesWereSent}
 use Rattle.net_world.specs.Verdict.{OneTaking, HeldIsTheTaken, CountsTheCompleted, IsQuiet, QuietUntilTheCheck}
 use Rattle.net_world.proofs.ListLemmas.{none_in, first_or_rest, first_in, later_in, single}
 
--- The four passes.
+-- The four passes, and that there is no fifth.
 pub record Passes : Type 0 where
   pub sent_taken : SentStatesWereTaken
   pub kept_sent : KeptStatesWereSent
   pub saved_kept : SavedStatesAreKept
+  pub no_copy : NoCopyIsSent
   pub checked_sent : CheckedStatesWereSent
 
 -- What is kept was taken.
@@ -72,6 +73,10 @@ carried_was_taken passes n t p state (bodies.WantState run attempt job) is trace
 carried_was_taken passes n t p state (bodies.NoSaved run attempt job) is trace h e = absurd cc
 carried_was_taken passes n t p state (bodies.Report run attempt job jobs report) is trace h e = absurd cc
 carried_was_taken passes n t p state (bodies.Refused refusal) is trace h e = absurd cc
+carried_was_taken passes n t p state (bodies.Copy x) is trace h e = absurd (passes.no_copy n t p x h is)
+carried_was_taken passes n t p state (bodies.CopyOk run server job) is trace h e = absurd cc
+carried_was_taken passes n t p state (bodies.Fetch generation) is trace h e = absurd cc
+carried_was_taken passes n t p state (bodies.Granted generation) is trace h e = absurd cc
 
 -- Whoever holds a state holds one that was taken.
 pub held_was_taken : Passes → (n : ℕ) (t : List Step) (key : Key) (state : State) → IsTrace n t → Holds n t key state → Contains (taken_of key t) state

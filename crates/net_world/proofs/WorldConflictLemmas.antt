@@ -9,7 +9,7 @@ use Rattle.engine.specs.Answers.{ticket_of}
 use Rattle.messages.specs.declared.packet.PacketParts.{PacketParts}
 use Rattle.messages.specs.declared.frame.Frame.{Frame}
 use Rattle.messages.specs.declared.node.Node.{Node}
-use Rattle.messages.specs.declared.node.Node.TheVariants.{Server, Client}
+use Rattle.messages.specs.declared.node.Node.TheVariants.{Server, Client, Mirror}
 use Rattle.messages.specs.PieceLaws.{OnlySentComesTogether}
 use Rattle.messages.specs.Hearing.{Meaning, Says, Waits, Spoils, Strays, heard}
 use Rattle.disk_model.specs.declared.left.Left.TheVariants as lefts
@@ -34,7 +34,7 @@ use Rattle.net_world.specs.Changes.{Change, steps, trace}
 use Rattle.net_world.specs.Writes.{open_at}
 use Rattle.net_world.specs.Checks.{checked}
 use Rattle.net_world.specs.Barred.{barred}
-use Rattle.net_world.specs.Outcomes.{Outcome, Does, Refuses, Drops, met_by_server, met_by_client, comes_to_server, comes_to_client, said_to_server, said_to_client, comes_to, delivered, ended, reported, has_boot, restarted, cut_in, server_frame_cut, client_frame_cut, frame_cut, delivery_cut_in, restart_cut_in, brings, outcome}
+use Rattle.net_world.specs.Outcomes.{Outcome, Does, Refuses, Drops, met_by_server, met_by_client, comes_to_server, comes_to_client, said_to_server, said_to_client, comes_to, delivered, ended, reported, has_boot, cut, restarted, cut_in, server_frame_cut, client_frame_cut, frame_cut, delivery_cut_in, restart_cut_in, brings, outcome}
 use Rattle.net_world.specs.World.{told_by, world}
 use Rattle.net_world.specs.WorldLaws.{EachWorldIsAFrameTrace, NoneIsAConflict}
 use Rattle.net_world.proofs.OnlySentLemmas.{frame_is, keeps, stands, heard_fits, SaysSent}
@@ -78,11 +78,12 @@ fine_to_client n t f Spoils g h = cc
 fine_to_client n t f Strays g h = cc
 
 fine_to : Peace → (n : ℕ) (past : List Change) → IsFrameTrace n (steps past) → FitsFrames n (steps past) → IsTrace n (trace n past) → (node : Node) (f : Frame) → Contains (frames_sent n (steps past)) f → to_of f ≡ node → FineCome (comes_to n past node f)
-unfolding Fine
+unfolding Fine FineCome
 fine_to laws n past steps_are fits t (Server s) f i to = fine_to_server (trace n past) s f (said_to_server (steps past) s f)
 fine_to laws n past steps_are fits t Client f i to =
     fine_to_client n (trace n past) f (said_to_client n (steps past) f)
     (λ p is. laws.never n (trace n past) p t (said_was_sent laws n (steps past) steps_are fits f i to p is))
+fine_to laws n past steps_are fits t Mirror f i to = λ h. cc
 
 sent_at : (fs : List Frame) (i : ℕ) (f : Frame) → slice_get fs i ≡ Some f → Contains fs f
 sent_at fs i f h = (i, slice_get_within fs i f h, get_or_from_slice_get fs i f f h)
@@ -119,11 +120,19 @@ fine_restarted : (t : List Step) (node : Node) → FineStep (restarted t node)
 unfolding Fine FineStep
 fine_restarted t (Server s) h = fine_if_step (has_boot t s) _ NumbersSpent (λ h. cc) h
 fine_restarted t Client h = cc
+fine_restarted t Mirror h = cc
+
+fine_cut : (node : Node) → FineStep (cut node)
+unfolding FineStep
+fine_cut (Server s) h = cc
+fine_cut Client h = cc
+fine_cut Mirror h = cc
 
 fine_restart_cut : (t : List Step) (landed : Bool) (node : Node) → FineStep (restart_cut_in t landed node)
 unfolding Fine FineStep
 fine_restart_cut t landed (Server s) h = fine_if_step (has_boot t s) _ NoSave (λ h. cc) h
 fine_restart_cut t landed Client h = cc
+fine_restart_cut t landed Mirror h = cc
 
 fine_frame_cut : (n : ℕ) (past : List Change) (landed : Bool) (node : Node) (f : Frame) → FineStep (frame_cut n past landed node f)
 unfolding FineStep
@@ -141,6 +150,7 @@ fine_frame_cut n past landed Client f = by (said_to_client n (steps past) f)
     by Waits h = cc
     by Spoils h = cc
     by Strays h = cc
+fine_frame_cut n past landed Mirror f = λ h. cc
 
 fine_delivery_cut : (n : ℕ) (past : List Change) (landed : Bool) (x : Option Frame) → FineStep (delivery_cut_in n past landed x)
 unfolding FineStep
@@ -179,7 +189,7 @@ fine_bring laws n past steps_are fits t (Done s j k) h = fine_step _ (fine_ended
 fine_bring laws n past steps_are fits t (Fail s j k) h = fine_step _ (fine_ended (trace n past) s k ends.Failed (open_at (trace n past) s j k)) h
 fine_bring laws n past steps_are fits t (Rot s j sector bytes) h = cc
 fine_bring laws n past steps_are fits t (happenings.Check s j) h = fine_step _ (fine_reported (trace n past) s (checked n past s j)) h
-fine_bring laws n past steps_are fits t (Cut node) h = cc
+fine_bring laws n past steps_are fits t (Cut node) h = fine_step _ (fine_cut node) h
 fine_bring laws n past steps_are fits t (Restart node) h = fine_step _ (fine_restarted (trace n past) node) h
 fine_bring laws n past steps_are fits t (CutIn landed e) h = fine_step _ (fine_cut_in n past landed e) h
 

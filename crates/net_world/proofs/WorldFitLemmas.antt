@@ -20,7 +20,7 @@ use Rattle.engine.specs.Running.{Origin}
 use Rattle.engine.specs.Answers.{ticket_of}
 use Rattle.messages.specs.declared.frame.Frame.{Frame}
 use Rattle.messages.specs.declared.node.Node.{Node}
-use Rattle.messages.specs.declared.node.Node.TheVariants.{Server, Client}
+use Rattle.messages.specs.declared.node.Node.TheVariants.{Server, Client, Mirror}
 use Rattle.messages.specs.Hearing.{Comes, Happens, Meaning, Says, Waits, Spoils, Strays}
 use Rattle.server_core.specs.declared.event.Event.{Event}
 use Rattle.server_core.specs.declared.event.Event.TheVariants as events
@@ -156,19 +156,23 @@ unfolding FitBe SomeEnd
 fit_reported t s None l r = tt
 fit_reported t s (Some e) l r = fit_server t s e l r
 
-fit_cut : (n : ℕ) (t : List Step) (node : Node) → n ≤ 8 → off n t node ≡ None → FrameStepFits (cut node)
+fit_cut : (n : ℕ) (t : List Step) (node : Node) → n ≤ 8 → off n t node ≡ None → FitBe (cut node)
+unfolding FitBe
 fit_cut n t (Server s) l h = (server_there n t s l h, tt)
 fit_cut n t Client l h = tt
+fit_cut n t Mirror l h = tt
 
 fit_restarted : (n : ℕ) (t : List Step) (node : Node) → n ≤ 8 → on n t node ≡ None → FitBe (restarted t node)
 unfolding FitBe
 fit_restarted n t (Server s) l h = fit_if (has_boot t s) (OfServer s (Happens (server.Restart lefts.Saved))) NumbersSpent (server_off n t s l h, tt)
 fit_restarted n t Client l h = tt
+fit_restarted n t Mirror l h = tt
 
 fit_restart_cut : (n : ℕ) (t : List Step) (landed : Bool) (node : Node) → n ≤ 8 → on n t node ≡ None → FitBe (restart_cut_in t landed node)
 unfolding FitBe
 fit_restart_cut n t landed (Server s) l h = fit_if (has_boot t s) (OfServer s (Happens (server.Restart (lost_by landed)))) NoSave (server_off n t s l h, tt)
 fit_restart_cut n t landed Client l h = tt
+fit_restart_cut n t landed Mirror l h = tt
 
 fit_comes_to_server : (t : List Step) (s : ℕ) (f : Frame) (m : Meaning) → s < 8 → FitCome (comes_to_server t s f m)
 unfolding FitCome FitBe
@@ -185,8 +189,10 @@ fit_comes_to_client n t f Spoils = tt
 fit_comes_to_client n t f Strays = tt
 
 fit_comes_to : (n : ℕ) (past : List Change) (node : Node) (f : Frame) → n ≤ 8 → off n (trace n past) node ≡ None → FitCome (comes_to n past node f)
+unfolding FitCome
 fit_comes_to n past (Server s) f l h = fit_comes_to_server (trace n past) s f (said_to_server (steps past) s f) (server_there n (trace n past) s l h)
 fit_comes_to n past Client f l h = fit_comes_to_client n (trace n past) f (said_to_client n (steps past) f)
+fit_comes_to n past Mirror f l h = tt
 
 fit_delivered : (n : ℕ) (past : List Change) (x : Option Frame) → n ≤ 8 → unsent n (trace n past) x ≡ None → FitCome (delivered n past x)
 unfolding FitCome
@@ -208,8 +214,10 @@ fit_client_frame_cut n t landed f Spoils = tt
 fit_client_frame_cut n t landed f Strays = tt
 
 fit_frame_cut : (n : ℕ) (past : List Change) (landed : Bool) (node : Node) (f : Frame) → n ≤ 8 → off n (trace n past) node ≡ None → FitBe (frame_cut n past landed node f)
+unfolding FitBe
 fit_frame_cut n past landed (Server s) f l h = fit_server_frame_cut (trace n past) s landed f (said_to_server (steps past) s f) (server_there n (trace n past) s l h)
 fit_frame_cut n past landed Client f l h = fit_client_frame_cut n (trace n past) landed f (said_to_client n (steps past) f)
+fit_frame_cut n past landed Mirror f l h = tt
 
 fit_delivery_cut : (n : ℕ) (past : List Change) (landed : Bool) (x : Option Frame) → n ≤ 8 → unsent n (trace n past) x ≡ None → FitBe (delivery_cut_in n past landed x)
 unfolding FitBe
@@ -259,7 +267,7 @@ fit_bring laws n past (happenings.Check s j) l h =
     let list = of_server s (trace n past) in
     fit_step _ (fit_reported (trace n past) s (checked_in (check (opening_of s) list) j (content n past s j)) (server_there n (trace n past) s l h)
     (fit_end laws.fit laws.sets s list j (content n past s j) (check (opening_of s) list) refl))
-fit_bring laws n past (Cut node) l h = fit_cut n (trace n past) node l h
+fit_bring laws n past (Cut node) l h = fit_step _ (fit_cut n (trace n past) node l h)
 fit_bring laws n past (Restart node) l h = fit_step _ (fit_restarted n (trace n past) node l h)
 fit_bring laws n past (CutIn landed e) l h = fit_step _ (fit_cut_in n past landed e l h)
 

@@ -10,7 +10,7 @@ use Rattle.engine.specs.Running.{Origin}
 use Rattle.engine.specs.Answers.{ticket_of}
 use Rattle.messages.specs.declared.frame.Frame.{Frame}
 use Rattle.messages.specs.declared.node.Node.{Node}
-use Rattle.messages.specs.declared.node.Node.TheVariants.{Server, Client}
+use Rattle.messages.specs.declared.node.Node.TheVariants.{Server, Client, Mirror}
 use Rattle.messages.specs.Hearing.{Comes, Happens, Meaning, Says, Waits, Spoils, Strays}
 use Rattle.fc_base.specs.declared.report.ReportParts.{ReportParts}
 use Rattle.server_core.specs.declared.event.Event.{Event}
@@ -97,14 +97,17 @@ unfolding MayBe
 may_check frames t s None j held = tt
 may_check frames t s (Some c) j held = may_report frames t s c j (report_for c j (slice_get c.jobs j) held)
 
-may_cut : (frames : List Frame) (node : Node) → MayHappen frames (cut node)
+may_cut : (frames : List Frame) (node : Node) → MayBe frames (cut node)
+unfolding MayBe
 may_cut frames (Server s) = refl
 may_cut frames Client = refl
+may_cut frames Mirror = tt
 
 may_restart : (frames : List Frame) (t : List Step) (node : Node) → MayBe frames (restarted t node)
 unfolding MayBe
 may_restart frames t (Server s) = may_if frames (has_boot t s) (OfServer s (Happens (server.Restart lefts.Saved))) NumbersSpent refl
 may_restart frames t Client = refl
+may_restart frames t Mirror = tt
 
 may_client_cut : (frames : List Frame) (n : ℕ) (t : List Step) (landed : Bool) (c : Call) → ((left : Left) → packet_in (client.Met c left) ≡ []) → MayBe frames (client_cut_in n t landed c)
 may_client_cut frames n t landed c m = may_save frames (clients.due (client_opening n) (of_client t) c) (OfClient (Happens (client.Met c (lost_by landed)))) (m (lost_by landed))
@@ -113,6 +116,7 @@ may_restart_cut : (frames : List Frame) (t : List Step) (landed : Bool) (node : 
 unfolding MayBe
 may_restart_cut frames t landed (Server s) = may_if frames (has_boot t s) (OfServer s (Happens (server.Restart (lost_by landed)))) NoSave refl
 may_restart_cut frames t landed Client = tt
+may_restart_cut frames t landed Mirror = tt
 
 -- ---- what takes a frame
 
@@ -131,8 +135,10 @@ may_come_to_client frames n t f Spoils i to = (i, to)
 may_come_to_client frames n t f Strays i to = tt
 
 may_come_to : (frames : List Frame) (n : ℕ) (past : List Change) (node : Node) (f : Frame) → Contains frames f → to_of f ≡ node → MayCome frames (comes_to n past node f)
+unfolding MayCome
 may_come_to frames n past (Server s) f i to = may_come_to_server frames (trace n past) s f (said_to_server (steps past) s f) i to
 may_come_to frames n past Client f i to = may_come_to_client frames n (trace n past) f (said_to_client n (steps past) f) i to
+may_come_to frames n past Mirror f i to = tt
 
 sent_at : (frames : List Frame) (i : ℕ) (f : Frame) → slice_get frames i ≡ Some f → Contains frames f
 sent_at frames i f h = (i, slice_get_within frames i f h, get_or_from_slice_get frames i f f h)
@@ -157,8 +163,10 @@ may_client_frame_cut frames n t landed f Spoils i to = tt
 may_client_frame_cut frames n t landed f Strays i to = tt
 
 may_frame_cut : (frames : List Frame) (n : ℕ) (past : List Change) (landed : Bool) (node : Node) (f : Frame) → Contains frames f → to_of f ≡ node → MayBe frames (frame_cut n past landed node f)
+unfolding MayBe
 may_frame_cut frames n past landed (Server s) f i to = may_server_frame_cut frames (trace n past) s landed f (said_to_server (steps past) s f) i to
 may_frame_cut frames n past landed Client f i to = may_client_frame_cut frames n (trace n past) landed f (said_to_client n (steps past) f) i to
+may_frame_cut frames n past landed Mirror f i to = tt
 
 may_delivery_cut : (frames : List Frame) (n : ℕ) (past : List Change) (landed : Bool) (x : Option Frame) → ((f : Frame) → x ≡ Some f → Contains frames f) → MayBe frames (delivery_cut_in n past landed x)
 unfolding MayBe
@@ -199,7 +207,7 @@ may_bring n past (Done s j k) = may_step _ _ (may_end _ (trace n past) s k ends.
 may_bring n past (Fail s j k) = may_step _ _ (may_end _ (trace n past) s k ends.Failed (open_at (trace n past) s j k))
 may_bring n past (Rot s j sector bytes) = tt
 may_bring n past (happenings.Check s j) = may_step _ _ (may_check _ (trace n past) s (check (opening_of s) (of_server s (trace n past))) j (content n past s j))
-may_bring n past (Cut node) = may_cut _ node
+may_bring n past (Cut node) = may_step _ _ (may_cut _ node)
 may_bring n past (Restart node) = may_step _ _ (may_restart _ (trace n past) node)
 may_bring n past (CutIn landed e) = may_step _ _ (may_cut_in n past landed e)
 

@@ -1,12 +1,12 @@
--- What a world refuses before a node is asked: there is no such server, the node is off, the node is on,
--- there is no such frame or no such write.
-use Rattle.std.specs.Prelude.{ℕ, Bool, not, nat_lt, List, Option, Some, None, is_some, slice_get, if◌then◌else◌}
+-- What a world refuses before a node is asked: there is no such server and no mirror, the node is off, the
+-- node is on, there is no such frame or no such write.
+use Rattle.std.specs.Prelude.{ℕ, Bool, false, not, nat_lt, List, Option, Some, None, is_some, slice_get, if◌then◌else◌}
 use Rattle.std.specs.Option.{option_or}
 use Rattle.fc_base.specs.declared.fault.Fault.{Fault}
-use Rattle.fc_base.specs.declared.fault.Fault.TheVariants.{NoServer, NodeOff, NodeOn, NoFrame, NoWrite}
+use Rattle.fc_base.specs.declared.fault.Fault.TheVariants.{NoServer, NoMirror, NodeOff, NodeOn, NoFrame, NoWrite}
 use Rattle.fc_base.specs.declared.limits.TheConstants.{MAX_JOBS}
 use Rattle.messages.specs.declared.node.Node.{Node}
-use Rattle.messages.specs.declared.node.Node.TheVariants.{Server, Client}
+use Rattle.messages.specs.declared.node.Node.TheVariants.{Server, Client, Mirror}
 use Rattle.messages.specs.declared.frame.Frame.{Frame}
 use Rattle.server_core.specs.Words as servers
 use Rattle.client_core.specs.Words as clients
@@ -23,15 +23,17 @@ unless test fault = if test then None else Some fault
 abbrev pub no_server : ℕ → ℕ → Option Fault
 no_server n s = unless (nat_lt s n) NoServer
 
--- It has no such node.
+-- It has no such node: there is no mirror in it.
 abbrev pub no_node : ℕ → Node → Option Fault
 no_node n (Server s) = no_server n s
 no_node n Client = None
+no_node n Mirror = Some NoMirror
 
 -- A node is on.
 abbrev pub is_on : List Step → Node → Bool
 is_on t (Server s) = servers.is_on (of_server s t)
 is_on t Client = clients.is_on (of_client t)
+is_on t Mirror = false
 
 -- The node has to be on.
 abbrev pub off : ℕ → List Step → Node → Option Fault

@@ -31,6 +31,7 @@ taken_in_life o run j (Restart left ∷ past) = []
 abbrev pub carried : Body → Option State
 carried (bodies.State jobs state) = Some state
 carried (bodies.Saved attempt state) = Some state
+carried (bodies.Copy state) = Some state
 carried _ = None
 
 -- Who holds a state of a key: its server, which took it in this life; a server whose open check is made

@@ -1,9 +1,9 @@
 -- What comes of what happens in a world.
 use Rattle.std.specs.Prelude.{ℕ, ◌+◌, ◌^◌, Bool, nat_lt, List, Option, Some, None, slice_get, Result, Ok, Err, if◌then◌else◌}
 use Rattle.fc_base.specs.declared.fault.Fault.{Fault}
-use Rattle.fc_base.specs.declared.fault.Fault.TheVariants.{NumbersSpent, Misdirected, NoSave, NoFrame, NoWrite, NotInFlight}
+use Rattle.fc_base.specs.declared.fault.Fault.TheVariants.{NumbersSpent, Misdirected, NoSave, NoFrame, NoWrite, NotInFlight, NoMirror}
 use Rattle.messages.specs.declared.node.Node.{Node}
-use Rattle.messages.specs.declared.node.Node.TheVariants.{Server, Client}
+use Rattle.messages.specs.declared.node.Node.TheVariants.{Server, Client, Mirror}
 use Rattle.messages.specs.declared.frame.Frame.{Frame}
 use Rattle.messages.specs.Hearing.{Comes, Happens, Meaning, Says, Waits, Spoils, Strays, meaning, heard}
 use Rattle.disk_model.specs.declared.left.Left.{Left}
@@ -107,10 +107,11 @@ said_to_server past s f = meaning (at_server s) (heard (at_server s) (frames.of_
 abbrev pub said_to_client : ℕ → List FrameStep → Frame → Meaning
 said_to_client n past f = meaning (at_client n) (heard (at_client n) (frames.of_client past)) f
 
--- A frame comes to its node.
+-- A frame comes to its node. None comes to a mirror, which isn't there.
 abbrev pub comes_to : ℕ → List Change → Node → Frame → Outcome
 comes_to n past (Server s) f = comes_to_server (trace n past) s f (said_to_server (steps past) s f)
 comes_to n past Client f = comes_to_client n (trace n past) f (said_to_client n (steps past) f)
+comes_to n past Mirror f = Refuses NoMirror
 
 abbrev pub delivered : ℕ → List Change → Option Frame → Outcome
 delivered n past None = Refuses NoFrame
@@ -127,9 +128,10 @@ reported t s None = Err NotInFlight
 reported t s (Some e) = met_by_server t s e
 
 -- A node loses its power.
-abbrev pub cut : Node → FrameStep
-cut (Server s) = OfServer s (Happens server.Cut)
-cut Client = OfClient (Happens client.Cut)
+abbrev pub cut : Node → Result FrameStep Fault
+cut (Server s) = Ok (OfServer s (Happens server.Cut))
+cut Client = Ok (OfClient (Happens client.Cut))
+cut Mirror = Err NoMirror
 
 -- A boot of eight bytes is left above those that were used.
 abbrev pub has_boot : List Step → ℕ → Bool
@@ -140,6 +142,7 @@ abbrev pub restarted : List Step → Node → Result FrameStep Fault
 restarted t (Server s) =
     if has_boot t s then Ok (OfServer s (Happens (server.Restart lefts.Saved))) else Err NumbersSpent
 restarted t Client = Ok (OfClient (Happens client.Restart))
+restarted t Mirror = Err NoMirror
 
 -- The client loses its power within the save that a call is due to make.
 abbrev pub client_cut_in : ℕ → List Step → Bool → Call → Result FrameStep Fault
@@ -166,6 +169,7 @@ frame_cut n past landed (Server s) f =
     server_frame_cut (trace n past) s landed f (said_to_server (steps past) s f)
 frame_cut n past landed Client f =
     client_frame_cut n (trace n past) landed f (said_to_client n (steps past) f)
+frame_cut n past landed Mirror f = Err NoMirror
 
 abbrev pub delivery_cut_in : ℕ → List Change → Bool → Option Frame → Result FrameStep Fault
 delivery_cut_in n past landed None = Err NoFrame
@@ -176,6 +180,7 @@ abbrev pub restart_cut_in : List Step → Bool → Node → Result FrameStep Fau
 restart_cut_in t landed (Server s) =
     if has_boot t s then Ok (OfServer s (Happens (server.Restart (lost_by landed)))) else Err NoSave
 restart_cut_in t landed Client = Err NoSave
+restart_cut_in t landed Mirror = Err NoMirror
 
 -- A node loses its power within the save of what happens. Only these four make one.
 abbrev pub cut_in : ℕ → List Change → Bool → Happening → Result FrameStep Fault
@@ -200,7 +205,7 @@ brings n past (Done s j k) = stepped (ended (trace n past) s k ends.Done (open_a
 brings n past (Fail s j k) = stepped (ended (trace n past) s k ends.Failed (open_at (trace n past) s j k))
 brings n past (Rot s j sector bytes) = Does (Rotted s j sector bytes)
 brings n past (Check s j) = stepped (reported (trace n past) s (checked n past s j))
-brings n past (Cut node) = Does (Met (cut node))
+brings n past (Cut node) = stepped (cut node)
 brings n past (Restart node) = stepped (restarted (trace n past) node)
 brings n past (CutIn landed e) = stepped (cut_in n past landed e)
 

@@ -1,5 +1,5 @@
 -- How a verify state goes round, in four passes: from its server to the client, into the client's
--- table, back in a Saved, and into a check.
+-- table, back in a Saved, and into a check. No other packet carries one.
 use Rattle.std.specs.Prelude.{◌≡◌, ℕ, List, Some, Contains}
 use Rattle.fc_base.specs.declared.numbers.Key.{Key}
 use Rattle.verify_state.specs.State.{State}
@@ -36,6 +36,12 @@ SavedStatesAreKept =
     (n : ℕ) (t : List Step) (p : PacketParts) (attempt : ℕ) (state : State) →
     Contains (sent n t) p → p.body ≡ bodies.Saved attempt state
     → kept (client_opening n) (of_client t) state.key ≡ Some state
+
+-- No state is sent in a Copy: there is no mirror.
+abbrev pub NoCopyIsSent : Type 0
+NoCopyIsSent =
+    (n : ℕ) (t : List Step) (p : PacketParts) (state : State) →
+    Contains (sent n t) p → p.body ≡ bodies.Copy state → ⊥
 
 -- Each state that a job is checked with was sent to its server.
 abbrev pub CheckedStatesWereSent : Type 0

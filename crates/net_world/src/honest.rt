@@ -3,7 +3,8 @@
 ghost use Rattle.net_world.specs.Honest.{FaultsFew, FaultsNone};
 
 use crate::passes::{
-    checked_states_were_sent, kept_states_were_sent, saved_states_are_kept, sent_states_were_taken,
+    checked_states_were_sent, kept_states_were_sent, no_copy_is_sent, saved_states_are_kept,
+    sent_states_were_taken,
 };
 use crate::world_law::each_world_is_a_trace;
 use disk_model::block_law;
@@ -23,6 +24,7 @@ pub fn honest_disks()
     sent_states_were_taken();
     kept_states_were_sent();
     saved_states_are_kept();
+    no_copy_is_sent();
     checked_states_were_sent();
     counts_the_done();
     with_was_heard();

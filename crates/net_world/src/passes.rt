@@ -1,7 +1,7 @@
 //! How a verify state goes round, as laws of every trace: it is taken by a server, sent, kept by the
 //! client, sent back, and held by a check. The functions have nothing to run.
 
-ghost use Rattle.net_world.specs.Passes.{SentStatesWereTaken, KeptStatesWereSent, SavedStatesAreKept, CheckedStatesWereSent};
+ghost use Rattle.net_world.specs.Passes.{SentStatesWereTaken, KeptStatesWereSent, SavedStatesAreKept, NoCopyIsSent, CheckedStatesWereSent};
 
 use client_core::{first_kept_stays, kept_was_sent, packets_go_to_servers, saved_is_kept};
 use server_core::{packets_go_to_client, the_taken, with_was_heard};
@@ -18,6 +18,7 @@ pub fn sent_states_were_taken()
 pub fn kept_states_were_sent()
     ensures { KeptStatesWereSent }
 {
+    state_table::found_states();
     kept_was_sent();
 }
 
@@ -27,6 +28,14 @@ pub fn saved_states_are_kept()
 {
     saved_is_kept();
     first_kept_stays();
+    packets_go_to_client();
+}
+
+/// No state is sent in a Copy.
+pub fn no_copy_is_sent()
+    ensures { NoCopyIsSent }
+{
+    packets_go_to_servers();
     packets_go_to_client();
 }
 

@@ -3,7 +3,8 @@
 ghost use Rattle.net_world.specs.Verdict.{OneTaking, HeldIsTheTaken, CountsTheCompleted, QuietUntilTheCheck};
 
 use crate::passes::{
-    checked_states_were_sent, kept_states_were_sent, saved_states_are_kept, sent_states_were_taken,
+    checked_states_were_sent, kept_states_were_sent, no_copy_is_sent, saved_states_are_kept,
+    sent_states_were_taken,
 };
 use server_core::{counts_the_done, one_taking, quiet, with_was_heard};
 
@@ -20,6 +21,7 @@ pub fn one_state_of_each_job()
     sent_states_were_taken();
     kept_states_were_sent();
     saved_states_are_kept();
+    no_copy_is_sent();
     checked_states_were_sent();
     counts_the_done();
     with_was_heard();

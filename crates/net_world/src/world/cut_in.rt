@@ -21,7 +21,7 @@ use messages::{Frame, Node};
 impl World {
     /// A node loses its power within the save that this would make.
     ///
-    /// `NoSave`: it would make none.
+    /// `NoSave`: it would make none; `NoMirror`: it is of a mirror, and there is none.
     pub(super) fn cut_in(&mut self, landed: bool, event: &PlainEvent) -> Result<Told, Fault>
         ensures { (n : ℕ) (events : List Happening) → StandsFor n (world n events) self.old →
             Ends n (world n events) (CutIn landed (plainly event.now)) self.new result }
@@ -61,6 +61,7 @@ impl World {
         match node {
             Node::Server(server) => no_save(self.server_off(server)),
             Node::Client => no_save(self.client_off()),
+            Node::Mirror => Err(Fault::NoMirror),
         }
     }
 
@@ -76,6 +77,7 @@ impl World {
         match to_of(&frame) {
             Node::Server(server) => self.cut_in_at_server(landed, server, frame),
             Node::Client => self.cut_in_client_delivery(landed, frame),
+            Node::Mirror => Err(Fault::NoMirror),
         }
     }
 
@@ -87,6 +89,7 @@ impl World {
         match node {
             Node::Server(server) => self.cut_in_server_restart(landed, server),
             Node::Client => self.cut_in_client_restart(),
+            Node::Mirror => Err(Fault::NoMirror),
         }
     }
 

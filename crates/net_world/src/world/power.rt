@@ -13,7 +13,7 @@ use fc_base::{Fault, MAX_SERVERS, ServerNo};
 use messages::Node;
 
 impl World {
-    /// A node loses its power.
+    /// A node loses its power. `NoMirror`: there is none.
     pub(super) fn cut(&mut self, node: Node) -> Result<Told, Fault>
         ensures { (n : ℕ) (past : List Change) → StandsFor n past self.old →
             Ends n past (Cut node) self.new result }
@@ -21,10 +21,11 @@ impl World {
         match node {
             Node::Server(server) => self.cut_server(server),
             Node::Client => self.cut_client(),
+            Node::Mirror => Err(Fault::NoMirror),
         }
     }
 
-    /// A node is started again.
+    /// A node is started again. `NoMirror`: there is none.
     pub(super) fn restart(&mut self, node: Node) -> Result<Told, Fault>
         ensures { (n : ℕ) (past : List Change) → StandsFor n past self.old →
             Ends n past (Restart node) self.new result }
@@ -32,6 +33,7 @@ impl World {
         match node {
             Node::Server(server) => self.restart_server(server),
             Node::Client => self.restart_client(),
+            Node::Mirror => Err(Fault::NoMirror),
         }
     }
 

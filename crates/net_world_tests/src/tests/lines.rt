@@ -130,6 +130,7 @@ impl fmt::Display for NodeWord {
     fn fmt<W: fmt::Write>(&self, f: &mut fmt::Formatter<W>) -> fmt::Result {
         match self.0 {
             Node::Client => write!(f, "client"),
+            Node::Mirror => write!(f, "mirror"),
             Node::Server(server) => write!(f, "{}", server.0),
         }
     }

@@ -48,6 +48,9 @@ pub fn node(words: &mut SplitWhitespace) -> Result<Node, Trouble> {
     if word == "client" {
         return Ok(Node::Client);
     }
+    if word == "mirror" {
+        return Ok(Node::Mirror);
+    }
     let server = word.parse::<u32>().ok().ok_or(Trouble::BadRow)?;
     Ok(Node::Server(ServerNo(server)))
 }

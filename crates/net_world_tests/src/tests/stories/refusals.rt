@@ -26,6 +26,9 @@ restart client => refused 82 NodeOn
 check 1 0 => refused 85 NoServer
 cutnew restart 0 => ok
 status 0 => off
+cut mirror => refused 89 NoMirror
+restart mirror => refused 89 NoMirror
+cutold restart mirror => refused 89 NoMirror
 ",
     ),
     (

@@ -1,5 +1,8 @@
 use Rattle.std.proofs.Common.{sym, ◌∙◌}
 use Rattle.net_world.specs.World.{world}
+use Rattle.net_world.specs.Happenings.{Deliver, CutIn}
+use Rattle.net_world.proofs.DeliverLemmas.{bars_mirror}
+use Rattle.net_world.proofs.EndsLemmas.{no_mirror}
 use Rattle.net_world.proofs.NoSaveLemmas.{lost_cut}
 use Rattle.net_world.proofs.world.World.cut_in_delivery.Goals as goal
 
@@ -13,3 +16,7 @@ returns-in-Server c n events stands =
 pub returns-in-Client : goal.returns-in-Client
 returns-in-Client c n events stands =
     c.cut_in_client_delivery.ensures n (world n events) c.args.number stands (c.in-Ok.ensures n events stands) (sym c.to_of.ensures ∙ c.in-Client.is)
+
+pub returns-in-Mirror : goal.returns-in-Mirror
+returns-in-Mirror c n events stands =
+    no_mirror n (world n events) (CutIn c.args.landed (Deliver c.args.number)) c.args.self.now (bars_mirror n (world n events) c.args.number c.in-Ok.frame (c.in-Ok.ensures n events stands) (sym c.to_of.ensures ∙ c.in-Mirror.is)) stands

@@ -1,6 +1,8 @@
 use Rattle.std.proofs.Common.{sym, ◌∙◌}
 use Rattle.net_world.specs.World.{world}
-use Rattle.net_world.proofs.DeliverLemmas.{lost_frame}
+use Rattle.net_world.specs.Happenings.{Deliver}
+use Rattle.net_world.proofs.DeliverLemmas.{bars_mirror, lost_frame}
+use Rattle.net_world.proofs.EndsLemmas.{no_mirror}
 use Rattle.net_world.proofs.world.World.deliver.Goals as goal
 
 pub returns-in-Err : goal.returns-in-Err
@@ -13,3 +15,7 @@ returns-in-Server c n events stands =
 pub returns-in-Client : goal.returns-in-Client
 returns-in-Client c n events stands =
     c.deliver_to_client.ensures n (world n events) c.args.number stands (c.in-Ok.ensures n events stands) (sym c.to_of.ensures ∙ c.in-Client.is)
+
+pub returns-in-Mirror : goal.returns-in-Mirror
+returns-in-Mirror c n events stands =
+    no_mirror n (world n events) (Deliver c.args.number) c.args.self.now (bars_mirror n (world n events) c.args.number c.in-Ok.frame (c.in-Ok.ensures n events stands) (sym c.to_of.ensures ∙ c.in-Mirror.is)) stands

@@ -1,7 +1,10 @@
-use Rattle.std.proofs.Common.{sym, subst}
+use Rattle.std.proofs.Common.{refl, sym, subst, Err}
+use Rattle.fc_base.specs.declared.fault.Fault.TheVariants.{NoMirror}
 use Rattle.messages.specs.declared.node.Node.{Node}
+use Rattle.messages.specs.declared.node.Node.TheVariants.{Mirror}
 use Rattle.net_world.specs.Happenings.{Restart}
 use Rattle.net_world.specs.Ends.{Ends}
+use Rattle.net_world.proofs.EndsLemmas.{no_mirror}
 use Rattle.net_world.proofs.world.World.restart.Goals as goal
 
 pub returns-in-Server : goal.returns-in-Server
@@ -11,3 +14,7 @@ returns-in-Server c n past stands =
 pub returns-in-Client : goal.returns-in-Client
 returns-in-Client c n past stands =
     subst (λ (node : Node). Ends n past (Restart node) c.restart_client.new.self c.restart_client.result) (sym c.in-Client.is) (c.restart_client.ensures n past stands)
+
+pub returns-in-Mirror : goal.returns-in-Mirror
+returns-in-Mirror c n past stands =
+    subst (λ (node : Node). Ends n past (Restart node) c.args.self.now (Err NoMirror)) (sym c.in-Mirror.is) (no_mirror n past (Restart Mirror) c.args.self.now refl stands)
