@@ -10,7 +10,7 @@ use Rattle.fc_base.specs.declared.report.ReportParts.{ReportParts}
 use Rattle.engine.specs.declared.issue.Issue.{Issue}
 use Rattle.engine.specs.declared.issue.Issue.TheVariants.{Write, Full, Held, Overlap, Finished, Stopped}
 use Rattle.messages.specs.declared.node.Node.{Node}
-use Rattle.messages.specs.declared.node.Node.TheVariants.{Server, Client}
+use Rattle.messages.specs.declared.node.Node.TheVariants.{Server, Client, Mirror}
 use Rattle.messages.specs.declared.frame.Frame.{Frame}
 use Rattle.messages.specs.declared.refusal.Act.{Act}
 use Rattle.messages.specs.declared.refusal.Act.TheVariants as acts
@@ -88,6 +88,7 @@ bad_line number = spaced (codes "bad" ∷ codes "line" ∷ decimal number ∷ []
 abbrev pub node_word : Node → List ℕ
 node_word (Server s) = decimal s
 node_word Client = codes "client"
+node_word Mirror = codes "mirror"
 
 -- The line of a frame that was sent: its number, the nodes, its kind and its length.
 abbrev pub frame_line : ℕ → FrameLook → ℕ → List ℕ

@@ -48,6 +48,7 @@ impl fmt::Display for NodeWord {
         match self.0 {
             Node::Server(server) => write!(f, "{}", server.0),
             Node::Client => write!(f, "client"),
+            Node::Mirror => write!(f, "mirror"),
         }
     }
 }
