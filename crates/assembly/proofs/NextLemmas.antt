@@ -6,7 +6,7 @@ use Rattle.std.proofs.lemmas.Bool.Decides.{nat_tests}
 use Rattle.std.proofs.lemmas.List.{length-set, get_or-set_same, get_or-set_other, get_or-replicate}
 use Rattle.std.proofs.lemmas.Option.{slice_get_past}
 use Rattle.messages.specs.declared.node.Node.{Node}
-use Rattle.messages.specs.declared.node.Node.TheVariants.{Server, Client}
+use Rattle.messages.specs.declared.node.Node.TheVariants.{Server, Client, Mirror}
 use Rattle.messages.specs.Nodes.{node_number, is_node}
 use Rattle.hub.specs.Waiting.{is_same_node}
 use Rattle.node_history.specs.declared.logged.Logged.{Logged}
@@ -15,29 +15,42 @@ use Rattle.assembly.specs.Order.{next_of, with_next}
 
 -- ---- nodes
 
-pub number_below : (node : Node) → is_node node ≡ true → node_number node < 9
+pub number_below : (node : Node) → is_node node ≡ true → node_number node < 10
 number_below (Server s) h = let lt : s < 8 = grind (arith, nat_tests) in omega arith
 number_below Client h = omega arith
+number_below Mirror h = omega arith
 
 pub same_node : (a b : Node) → is_same_node a b ≡ true → a ≡ b
 same_node (Server s) (Server r) e = let eq : s ≡ r = grind (arith, nat_tests) in ap Server eq
 same_node (Server s) Client e = cc
 same_node Client (Server r) e = cc
 same_node Client Client e = refl
+same_node Mirror Mirror e = refl
+same_node (Server s) Mirror e = cc
+same_node Client Mirror e = cc
+same_node Mirror (Server r) e = cc
+same_node Mirror Client e = cc
 
 pub is_same_as_itself : (a : Node) → is_same_node a a ≡ true
 is_same_as_itself (Server s) = grind (arith, nat_tests)
 is_same_as_itself Client = refl
+is_same_as_itself Mirror = refl
 
 other_number : (a b : Node) → is_node a ≡ true → is_node b ≡ true → is_same_node a b ≡ false → node_number b ≢ node_number a
 other_number (Server s) (Server r) ha hb e = grind (arith, nat_tests)
 other_number (Server s) Client ha hb e = let lt : s < 8 = grind (arith, nat_tests) in omega arith
 other_number Client (Server r) ha hb e = let lt : r < 8 = grind (arith, nat_tests) in omega arith
 other_number Client Client ha hb e = cc
+other_number (Server s) Mirror ha hb e = let lt : s < 8 = grind (arith, nat_tests) in omega arith
+other_number Client Mirror ha hb e = omega arith
+other_number Mirror (Server r) ha hb e = let lt : r < 8 = grind (arith, nat_tests) in omega arith
+other_number Mirror Client ha hb e = omega arith
+other_number Mirror Mirror ha hb e = cc
 
--- A node that has a history is one of the nine.
+-- A node that has a history is one of the ten.
 pub has_place : (r : Ran) (node : Node) (at : ℕ) → length r.servers ≤ 8 → at < length (history_of r node) → is_node node ≡ true
 has_place r Client at few h = refl
+has_place r Mirror at few h = refl
 has_place r (Server s) at few h = by (nat_lt s 8) refl
   where
     by : (b : Bool) → nat_lt s 8 ≡ b → b ≡ true
@@ -56,7 +69,7 @@ long_with next node at = elim (is_node node) as (λ b. length (if b then slice_s
 ]
 
 -- The place that was put there.
-pub next_same : (next : List ℕ) (node : Node) (at : ℕ) → length next ≡ 9 → is_node node ≡ true → next_of (with_next next node at) node ≡ at
+pub next_same : (next : List ℕ) (node : Node) (at : ℕ) → length next ≡ 10 → is_node node ≡ true → next_of (with_next next node at) node ≡ at
 next_same next node at long e =
     let below : node_number node < length next = omega (arith, long, number_below node e) in
     rw e (get_or-set_same next (node_number node) at 0 below)
@@ -72,9 +85,9 @@ by_range next node other at true true ea eb differ =
 pub next_other : (next : List ℕ) (node other : Node) (at : ℕ) → is_same_node node other ≡ false → next_of (with_next next node at) other ≡ next_of next other
 next_other next node other at differ = by_range next node other at (is_node node) (is_node other) refl refl differ
 
-none_by : (node : Node) (b : Bool) → is_node node ≡ b → next_of (replicate 9 0) node ≡ 0
-none_by node true e = rw e (get_or-replicate 9 (node_number node) 0 0 (number_below node e))
+none_by : (node : Node) (b : Bool) → is_node node ≡ b → next_of (replicate 10 0) node ≡ 0
+none_by node true e = rw e (get_or-replicate 10 (node_number node) 0 0 (number_below node e))
 none_by node false e = rw e refl
 
-pub next_none : (node : Node) → next_of (replicate 9 0) node ≡ 0
+pub next_none : (node : Node) → next_of (replicate 10 0) node ≡ 0
 next_none node = none_by node (is_node node) refl

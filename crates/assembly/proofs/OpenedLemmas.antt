@@ -5,7 +5,7 @@ use Rattle.std.specs.Option.{ForSome, option_map_or}
 use Rattle.std.proofs.lemmas.Bool.Decides.{nat_tests}
 use Rattle.std.proofs.lemmas.Option.{slice_get_within, slice_get-get_or, get_or_from_slice_get}
 use Rattle.messages.specs.declared.node.Node.{Node}
-use Rattle.messages.specs.declared.node.Node.TheVariants.{Server, Client}
+use Rattle.messages.specs.declared.node.Node.TheVariants.{Server, Client, Mirror}
 use Rattle.node_history.specs.declared.logged.Logged.{Logged}
 use Rattle.node_history.specs.Seated.{Seated}
 use Rattle.node_history.specs.Seats.{times}
@@ -62,6 +62,7 @@ opened_more servers n cell opened is e s low = by (s == n) refl
 pub all_opened : (client : ClientLog) (servers : List ServerLog) (n : ℕ) → client.is_blank ≡ true → client.servers ≡ length servers → length servers ≤ 8 → length servers ≤ n → AreOpened servers n
     → (node : Node) → IsOpened (ran client servers) node
 all_opened client servers n blank drives few all opened Client = (blank, drives, few)
+all_opened client servers n blank drives few all opened Mirror = tt
 all_opened client servers n blank drives few all opened (Server s) = λ cell is. opened s (omega (arith, all, slice_get_within servers s cell is)) cell is
 
 -- One isn't.

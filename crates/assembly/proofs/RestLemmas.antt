@@ -6,7 +6,7 @@ use Rattle.std.proofs.lemmas.Bool.Decides.{nat_tests}
 use Rattle.std.proofs.lemmas.List.{append_assoc, length-reverse, reverse-append}
 use Rattle.std.proofs.lemmas.Option.{slice_get_past, slice_get_read}
 use Rattle.messages.specs.declared.node.Node.{Node}
-use Rattle.messages.specs.declared.node.Node.TheVariants.{Server, Client}
+use Rattle.messages.specs.declared.node.Node.TheVariants.{Server, Client, Mirror}
 use Rattle.hub.specs.Network.{Network}
 use Rattle.server_cell.specs.Cells.{ServerLog}
 use Rattle.node_history.specs.declared.logged.Logged.{Logged}
@@ -52,9 +52,9 @@ none_of : (h : List Logged) (n : ℕ) → h ≡ [] → marks_of h ≡ marks_befo
 none_of h n e = rw e refl
 
 -- So the journal tells nothing of it.
-pub none_marked : (r : Ran) (net : Network) (s : ℕ) (start : Followed) → IsFollowed r net net.journal start → length r.servers ≤ s → IsMarked r net (Server s)
-none_marked r net s start followed far =
-    none_of (history_of r (Server s)) (next_place (Server s) net.journal) (no_cell r s far) ∙ followed.marked (Server s)
+pub none_marked : (r : Ran) (net : Network) (node : Node) (start : Followed) → IsFollowed r net net.journal start → history_of r node ≡ [] → IsMarked r net node
+none_marked r net node start followed none =
+    none_of (history_of r node) (next_place node net.journal) none ∙ followed.marked node
 
 -- A mark that is left of a node isn't in the journal.
 pub differs_behind : (r : Ran) (net : Network) (node : Node) (start : Followed) (to : ℕ) (fault : AssembleFault) → IsFollowed r net net.journal start
@@ -126,11 +126,12 @@ all_marked : HistoriesRise → (r : Ran) (net : Network) (start : Followed) (n :
     → length r.servers ≤ n → list ≡ reverse (history_of r Client) → IsPassed Client (history_of r Client) (next_of now.next Client) (length list) now.places new → (node : Node) → IsMarked r net node
 all_marked rise r net start n now new list followed added all e passed Client =
     marked_to_end rise r net Client start now.places new followed (rest_passed r Client start now.next list now.places new added.2 e passed)
+all_marked rise r net start n now new list followed added all e passed Mirror = none_marked r net Mirror start followed refl
 all_marked rise r net start n now new list followed added all e passed (Server s) = by (nat_lt s n) refl
   where
     by : (b : Bool) → nat_lt s n ≡ b → IsMarked r net (Server s)
     by true low = added.0 s (grind (arith, nat_tests))
-    by false far = none_marked r net s start followed (grind (arith, nat_tests))
+    by false far = none_marked r net (Server s) start followed (no_cell r s (grind (arith, nat_tests)))
 
 pub ok_marked : HistoriesRise → (r : Ran) (net : Network) (start : Followed) (n : ℕ) (now : Followed) (new : List Place) (list : List Logged) (result : Result (Unit {0}) AssembleFault) → IsFollowed r net net.journal start
     → AreAdded r net start n now → length r.servers ≤ n → list ≡ reverse (history_of r Client)

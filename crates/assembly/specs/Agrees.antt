@@ -2,7 +2,7 @@
 use Rattle.std.specs.Prelude.{◌≡◌, ◌≤◌, true, List, length, slice_get, All}
 use Rattle.std.specs.Option.{ForSome}
 use Rattle.messages.specs.declared.node.Node.{Node}
-use Rattle.messages.specs.declared.node.Node.TheVariants.{Server, Client}
+use Rattle.messages.specs.declared.node.Node.TheVariants.{Server, Client, Mirror}
 use Rattle.hub.specs.Network.{Network}
 use Rattle.node_history.specs.Seated.{Seated}
 use Rattle.node_history.specs.Seats.{times}
@@ -11,9 +11,11 @@ use Rattle.node_traces.specs.Marks.{marks_in, marks_of}
 use Rattle.assembly.specs.Ran.{Ran, history_of}
 
 -- The client was opened over a blank note, and drives just the servers that ran, eight at most; the cell
--- at each place is the server of that number, opened over a note that says of no boot and no run.
+-- at each place is the server of that number, opened over a note that says of no boot and no run. There is
+-- no mirror to be opened.
 abbrev pub IsOpened : Ran → Node → Type 0
 IsOpened r Client = (r.client.is_blank ≡ true) × (r.client.servers ≡ length r.servers) × (length r.servers ≤ 8)
+IsOpened r Mirror = Unit {0}
 IsOpened r (Server s) = ForSome (slice_get r.servers s) (λ cell. cell.opening ≡ opening_of s)
 
 -- A seat of a node has applied as many events as the node's history has of it.

@@ -67,11 +67,11 @@ pub record IsOther (h : List Logged) (from : ℕ) (entry : Mark) (at : ℕ) : Ty
 
 -- Nothing was followed yet.
 abbrev pub nothing_followed : Followed
-nothing_followed = record { places = []; next = replicate 9 0 }
+nothing_followed = record { places = []; next = replicate 10 0 }
 
 -- Each node was followed up to its last entry in a journal, which has the marks of its history so far.
 pub record IsFollowed (r : Ran) (net : Network) (journal : List Line) (order : Followed) : Type 0 where
-  pub long : length order.next ≡ 9
+  pub long : length order.next ≡ 10
   pub places : order.places ≡ reverse (up_to_last (history_of r) journal)
   pub next : (node : Node) → next_of order.next node ≡ next_place node journal
   pub within : (node : Node) → next_place node journal ≤ length (history_of r node)

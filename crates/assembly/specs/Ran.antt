@@ -2,7 +2,7 @@
 use Rattle.std.specs.Prelude.{List, [], slice_get}
 use Rattle.std.specs.Option.{option_map_or}
 use Rattle.messages.specs.declared.node.Node.{Node}
-use Rattle.messages.specs.declared.node.Node.TheVariants.{Server, Client}
+use Rattle.messages.specs.declared.node.Node.TheVariants.{Server, Client, Mirror}
 use Rattle.node_history.specs.declared.logged.Logged.{Logged}
 use Rattle.server_cell.specs.Cells.{ServerLog}
 use Rattle.client_cell.specs.Cells.{ClientLog}
@@ -18,4 +18,5 @@ ran client servers = record { client = client; servers = servers }
 -- The history of a node, which is empty where it has no cell.
 abbrev pub history_of : Ran → Node → List Logged
 history_of r Client = r.client.history
+history_of r Mirror = []
 history_of r (Server s) = option_map_or (λ cell. cell.history) (slice_get r.servers s) []

@@ -16,8 +16,8 @@ use node_traces::{Place, histories_rise};
 use std::alloc::Global;
 use std::marker::Model;
 
-/// How many nodes there are: eight servers, and the client.
-const NODES: usize = 9;
+/// How many nodes have a number: eight servers, the client, and the mirror, which never has a history.
+const NODES: usize = 10;
 
 /// The events so far, the oldest first, and for each node the place from which it is to be followed.
 #[derive(Drop)]
@@ -35,7 +35,7 @@ impl Model for Order {
 
     ghost view = { λ o. record { places = o.places.items; next = o.next } };
 
-    ghost invariant = { λ o. length o.next ≡ 9 };
+    ghost invariant = { λ o. length o.next ≡ 10 };
 }
 
 impl Order {
@@ -137,7 +137,7 @@ impl Order {
         Ok(())
     }
 
-    /// The place from which a node is to be followed; 0 where it is none of the nine.
+    /// The place from which a node is to be followed; 0 where it is none of the ten.
     fn next_of(&self, node: &Node) -> u64
         ensures { result ≡ next_of self.now.next node.now }
     {
@@ -148,7 +148,7 @@ impl Order {
         }
     }
 
-    /// From now on a node that is one of the nine is to be followed from this place.
+    /// From now on a node that is one of the ten is to be followed from this place.
     fn set_next(&mut self, node: &Node, at: u64)
         ensures places { self.new.places ≡ self.old.places }
         ensures next { self.new.next ≡ with_next self.old.next node.now at }

@@ -99,6 +99,7 @@ fn history_of<'a, N: Notes + Drop>(
 {
     match node {
         Node::Client => client.history(),
+        Node::Mirror => &[],
         Node::Server(number) => match servers.get(number.0 as usize) {
             Some(cell) => cell.history(),
             None => &[],

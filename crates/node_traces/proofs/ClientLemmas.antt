@@ -15,7 +15,7 @@ use Rattle.disk_model.specs.Left.{is_lost}
 use Rattle.messages.specs.declared.frame.Frame.{Frame}
 use Rattle.messages.specs.declared.frame.Frame.TheVariants.{Whole, Piece}
 use Rattle.messages.specs.declared.node.Node.{Node}
-use Rattle.messages.specs.declared.node.Node.TheVariants.{Server, Client}
+use Rattle.messages.specs.declared.node.Node.TheVariants.{Server, Client, Mirror}
 use Rattle.messages.specs.declared.packet.PacketParts.{PacketParts}
 use Rattle.messages.specs.declared.piece.PieceParts.{PieceParts}
 use Rattle.messages.specs.FrameBytes.{frame_at, frame_spelling}
@@ -56,6 +56,7 @@ use Rattle.node_traces.proofs.RefusalLemmas.{CameOf, IsFor, MayNot, MayPass, dro
 to_client : (to : Node) → is_client to ≡ true → to ≡ Client
 to_client (Server s) h = cc
 to_client Client h = refl
+to_client Mirror h = cc
 
 both_true : (a b c : Bool) → ((a && b) && c) ≡ true → a ≡ true
 both_true true b c h = refl

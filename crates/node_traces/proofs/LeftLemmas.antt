@@ -3,7 +3,7 @@ use Rattle.std.proofs.Common.{◌≡◌, refl, sym, ◌∙◌, ap, subst, ◌⊎
 use Rattle.std.specs.Prelude.{map, if◌then◌else◌}
 use Rattle.std.proofs.lemmas.Bool.Decides.{nat_tests}
 use Rattle.messages.specs.declared.node.Node.{Node}
-use Rattle.messages.specs.declared.node.Node.TheVariants.{Server, Client}
+use Rattle.messages.specs.declared.node.Node.TheVariants.{Server, Client, Mirror}
 use Rattle.hub.specs.declared.line.Line.{Line}
 use Rattle.hub.specs.Waiting.{is_same_node}
 use Rattle.node_history.specs.declared.logged.Logged.{Logged}
@@ -19,29 +19,33 @@ use Rattle.node_traces.proofs.NodeLemmas.{IsBelow, with_history}
 -- ---- the histories
 
 -- A node with an event is one of those that ran.
+none_stands : (h : List Logged) (at : ℕ) (rest : List ℕ) → h ≡ [] → standing h ≡ at ∷ rest → ⊥
+none_stands h at rest e is = never (sym (ap standing e) ∙ is)
+  where
+    never : [] ≡ at ∷ rest → ⊥
+    never h = cc
+
 pub node_below : (n : ℕ) (ran : Node → List Logged) (node : Node) (at : ℕ) (rest : List ℕ) → EndAt n ran → standing (ran node) ≡ at ∷ rest → IsBelow n node
 node_below n ran Client at rest ends is = tt
+node_below n ran Mirror at rest ends is = none_stands (ran Mirror) at rest ends.mirror is
 node_below n ran (Server s) at rest ends is = by_number (below_or_not s n)
   where
-    none : ran (Server s) ≡ [] → ⊥
-    none e = never (sym (ap standing e) ∙ is)
-      where
-        never : [] ≡ at ∷ rest → ⊥
-        never h = cc
-
     by_number : (s < n) ⊎ (n ≤ s) → s < n
     by_number (inl h) = h
-    by_number (inr h) = absurd (none (ends s h))
+    by_number (inr h) = absurd (none_stands (ran (Server s)) at rest (ends.servers s h) is)
 
 pub few_below : (n : ℕ) (node : Node) → n ≤ 8 → IsBelow n node → IsBelow 8 node
 few_below n (Server s) l h = omega (arith, l, h)
 few_below n Client l h = tt
+few_below n Mirror l h = h
 
 pub ends_with : (n : ℕ) (node : Node) (h : List Logged) (ran : Node → List Logged) → IsBelow n node → EndAt n ran → EndAt n (with_history node h ran)
-ends_with n Client h ran b ends s l = ends s l
-ends_with n (Server r) h ran b ends s l =
-    let apart : (r == s) ≡ false = differ r s (omega (arith, b, l)) in
-    ap (λ (t : Bool). if t then h else ran (Server s)) apart ∙ ends s l
+ends_with n Client h ran b ends = record { servers = ends.servers; mirror = ends.mirror }
+ends_with n Mirror h ran b ends = absurd b
+ends_with n (Server r) h ran b ends = record {
+  servers = λ s l. ap (λ (t : Bool). if t then h else ran (Server s)) (differ r s (omega (arith, b, l))) ∙ ends.servers s l;
+  mirror = ends.mirror;
+}
   where
     differ : (a b : ℕ) → a < b → (a == b) ≡ false
     differ a b h = grind (arith, nat_tests, h)

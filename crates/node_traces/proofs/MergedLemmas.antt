@@ -5,7 +5,7 @@ use Rattle.std.proofs.lemmas.List.{append_assoc}
 use Rattle.std.proofs.lemmas.Bool.{eqb-true}
 use Rattle.std.proofs.lemmas.Bool.Decides.{nat_tests}
 use Rattle.messages.specs.declared.node.Node.{Node}
-use Rattle.messages.specs.declared.node.Node.TheVariants.{Server, Client}
+use Rattle.messages.specs.declared.node.Node.TheVariants.{Server, Client, Mirror}
 use Rattle.hub.specs.declared.line.Line.{Line}
 use Rattle.hub.specs.Network.{Network}
 use Rattle.hub.specs.Waiting.{is_same_node}
@@ -110,12 +110,13 @@ once_left ran journal s (suc k) order h =
         let less : s < k = grind (arith, nat_tests, h, e) in
         other_places (Server k) (Server s) (rest k) (left_below ran journal k ++ order) e ∙ later less
 
-client_left : (ran : Node → List Logged) (journal : List Line) (k : ℕ) (order : List Place) → places_of Client (left_below ran journal k ++ order) ≡ places_of Client order
-client_left ran journal zero order = refl
-client_left ran journal (suc k) order =
-    ap (places_of Client) (append_assoc (left_of ran journal (Server k)) (left_below ran journal k) order)
-    ∙ (other_places (Server k) Client (span (next_place (Server k) journal) (length (ran (Server k))) (standing (ran (Server k)))) (left_below ran journal k ++ order) refl
-    ∙ client_left ran journal k order)
+-- What is left of servers is of no other node.
+others_left : (ran : Node → List Logged) (journal : List Line) (node : Node) → ((s : ℕ) → is_same_node (Server s) node ≡ false) → (k : ℕ) (order : List Place) → places_of node (left_below ran journal k ++ order) ≡ places_of node order
+others_left ran journal node other zero order = refl
+others_left ran journal node other (suc k) order =
+    ap (places_of node) (append_assoc (left_of ran journal (Server k)) (left_below ran journal k) order)
+    ∙ (other_places (Server k) node (span (next_place (Server k) journal) (length (ran (Server k))) (standing (ran (Server k)))) (left_below ran journal k ++ order) (other k)
+    ∙ others_left ran journal node other k order)
 
 -- ---- the whole
 
@@ -132,8 +133,14 @@ each_stands : (n : ℕ) (net : Network) (ran : Node → List Logged) → Agree n
 each_stands n net ran agree Client =
     let order = up_to_last ran net.journal in
     own_places Client Client (span (next_place Client net.journal) (length (ran Client)) (standing (ran Client))) (left_below ran net.journal n ++ order) refl
-    ∙ (ap (λ ys. span (next_place Client net.journal) (length (ran Client)) (standing (ran Client)) ++ ys) (client_left ran net.journal n order ∙ up_to ran net.journal (are_noted n net ran agree) Client)
+    ∙ (ap (λ ys. span (next_place Client net.journal) (length (ran Client)) (standing (ran Client)) ++ ys) (others_left ran net.journal Client (λ s. refl) n order ∙ up_to ran net.journal (are_noted n net ran agree) Client)
     ∙ all_of ran net.journal Client (noted_fall n net ran agree Client))
+each_stands n net ran agree Mirror =
+    let order = up_to_last ran net.journal in
+    other_places Client Mirror (span (next_place Client net.journal) (length (ran Client)) (standing (ran Client))) (left_below ran net.journal n ++ order) refl
+    ∙ (others_left ran net.journal Mirror (λ s. refl) n order
+    ∙ (up_to ran net.journal (are_noted n net ran agree) Mirror
+    ∙ subst (λ (list : List Logged). below (next_place Mirror net.journal) (standing list) ≡ standing list) (sym agree.ends.mirror) refl))
 each_stands n net ran agree (Server s) =
     other_places Client (Server s) (span (next_place Client net.journal) (length (ran Client)) (standing (ran Client))) (left_below ran net.journal n ++ up_to_last ran net.journal) refl
     ∙ by_number (below_or_not s n)
@@ -148,7 +155,7 @@ each_stands n net ran agree (Server s) =
         ∙ all_of ran net.journal (Server s) (noted_fall n net ran agree (Server s)))
     by_number (inr h) =
         none_left ran net.journal s n (up_to_last ran net.journal) h
-        ∙ (up ∙ subst (λ (list : List Logged). below (next_place (Server s) net.journal) (standing list) ≡ standing list) (sym (agree.ends s h)) refl)
+        ∙ (up ∙ subst (λ (list : List Logged). below (next_place (Server s) net.journal) (standing list) ≡ standing list) (sym (agree.ends.servers s h)) refl)
 
 pub merged_orders_are_merges : MergedOrdersAreMerges
 merged_orders_are_merges n net ran agree = record {

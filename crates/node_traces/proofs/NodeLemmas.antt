@@ -1,12 +1,14 @@
 -- Both kinds of node in one form: their entries, their rules, and their steps in a trace.
-use Rattle.std.proofs.Common.{◌≡◌, refl, ◌∙◌, ap, subst, ℕ, ◌<◌, arith, Bool, true, false, ◌==◌, List, [], ◌∷◌, Option, Some, None}
+use Rattle.std.proofs.Common.{◌≡◌, refl, sym, ◌∙◌, ap, subst, ℕ, ◌<◌, arith, Bool, true, false, ◌==◌, List, [], ◌∷◌, Option, Some, None}
 use Rattle.std.specs.Prelude.{map, if◌then◌else◌}
 use Rattle.std.proofs.lemmas.Bool.{eqb-true}
 use Rattle.std.proofs.lemmas.Bool.Decides.{nat_tests}
+use Rattle.fc_base.specs.declared.fault.Fault.TheVariants.{Misdirected}
 use Rattle.disk_model.specs.declared.left.Left.{Left}
 use Rattle.messages.specs.declared.node.Node.{Node}
-use Rattle.messages.specs.declared.node.Node.TheVariants.{Server, Client}
+use Rattle.messages.specs.declared.node.Node.TheVariants.{Server, Client, Mirror}
 use Rattle.messages.specs.declared.frame.Frame.{Frame}
+use Rattle.messages.specs.declared.refusal.Act.TheVariants as acts
 use Rattle.messages.specs.FrameBytes.{frame_spelling}
 use Rattle.messages.specs.Hearing.{Coming, entry_of, heard}
 use Rattle.hub.specs.Waiting.{is_same_node}
@@ -20,10 +22,11 @@ use Rattle.client_core.specs.Packets.{packets as client_packets}
 use Rattle.client_core.specs.declared.input.Input.{Input as ClientInput}
 use Rattle.client_core.specs.Hearing.{FrameEntry as ClientEntry, coming as client_coming}
 use Rattle.client_core.specs.FrameAnswers as client_answers
+use Rattle.node_history.specs.declared.answer.Answer.TheVariants.{Plain}
 use Rattle.node_history.specs.declared.logged.Logged.{Logged}
 use Rattle.node_history.specs.AtHub.{is_left_out}
 use Rattle.node_history.specs.Replay.{Ends, Makes}
-use Rattle.node_history.specs.Rules.{Rules}
+use Rattle.node_history.specs.Rules.{Rules, Nothing}
 use Rattle.node_history.specs.ServerRules.{rules as server_rules}
 use Rattle.node_history.specs.ClientRules.{rules as client_rules}
 use Rattle.net_world.specs.Trace.{opening_of, client_opening}
@@ -38,56 +41,84 @@ use Rattle.node_traces.proofs.ClientLemmas as of_clients
 abbrev pub EntryOf : Node → Type 0
 EntryOf (Server s) = ServerEntry
 EntryOf Client = ClientEntry
+EntryOf Mirror = ⊥
 
 abbrev pub InputOf : Node → Type 0
 InputOf (Server s) = ServerInput
 InputOf Client = ClientInput
+InputOf Mirror = ⊥
 
 abbrev pub ComingTo : Node → Type 0
 ComingTo (Server s) = Coming server.Entry Left
 ComingTo Client = Coming client.Entry Left
+ComingTo Mirror = ⊥
+
+-- The rules of a node that isn't there: nothing is asked of it.
+abbrev pub no_rules : Rules ⊥ ⊥
+no_rules = record {
+  opened = [];
+  asked = λ came. Nothing;
+  refusal = λ past ask. Some Misdirected;
+  loads = λ past ask. false;
+  said = λ past ask. record { answer = Plain; act = acts.None };
+  added = λ past ask. None;
+  passed = λ past ask fault. past;
+  lost = λ past ask landed. None;
+  frames = λ past entry. [];
+}
 
 abbrev pub rules_of : (n : ℕ) (node : Node) → Rules (InputOf node) (EntryOf node)
 rules_of n (Server s) = server_rules (opening_of s)
 rules_of n Client = client_rules (client_opening n)
+rules_of n Mirror = no_rules
 
 abbrev pub coming_to : (node : Node) → EntryOf node → ComingTo node
 coming_to (Server s) e = server_coming e
 coming_to Client e = client_coming e
+coming_to Mirror e = e
 
 -- What has happened to a node in a trace.
 abbrev pub happened_to : (node : Node) → List FrameStep → List (ComingTo node)
 happened_to (Server s) t = of_server s t
 happened_to Client t = of_client t
+happened_to Mirror t = []
 
 abbrev pub step_at : (node : Node) → ComingTo node → FrameStep
 step_at (Server s) c = OfServer s c
 step_at Client c = OfClient c
+step_at Mirror c = absurd c
 
--- A server's number is below the number of servers.
+-- A server's number is below the number of servers; and there is no mirror.
 abbrev pub IsBelow : ℕ → Node → Type 0
 IsBelow n (Server s) = s < n
 IsBelow n Client = Unit {0}
+IsBelow n Mirror = ⊥
 
 -- ---- the steps of a node
 
 pub own_step : (node : Node) (c : ComingTo node) (t : List FrameStep) → happened_to node (step_at node c ∷ t) ≡ c ∷ happened_to node t
 own_step (Server s) c t = let same : (s == s) ≡ true = grind (arith, nat_tests) in rw same refl
 own_step Client c t = refl
+own_step Mirror c t = absurd c
 
 pub other_step : (node other : Node) (c : ComingTo node) (t : List FrameStep) → is_same_node node other ≡ false → happened_to other (step_at node c ∷ t) ≡ happened_to other t
 other_step (Server s) (Server r) c t h = rw h refl
 other_step (Server s) Client c t h = refl
 other_step Client (Server r) c t h = refl
 other_step Client Client c t h = cc
+other_step (Server s) Mirror c t h = refl
+other_step Client Mirror c t h = refl
+other_step Mirror other c t h = absurd c
 
 pub node_at : (node : Node) (c : ComingTo node) → node_of (step_at node c) ≡ node
 node_at (Server s) c = refl
 node_at Client c = refl
+node_at Mirror c = absurd c
 
 pub opens : (n : ℕ) (node : Node) → happened_to node [] ≡ map (coming_to node) (rules_of n node).opened
 opens n (Server s) = refl
 opens n Client = refl
+opens n Mirror = refl
 
 server_frames : (s : ℕ) (list : List server.Entry) (x : Option server.Entry) → frames_by (server_packets (opening_of s)) list x ≡ server_answers.frames_by (opening_of s) list x
 server_frames s list None = refl
@@ -105,6 +136,7 @@ frames_at n (Server s) t past e h =
 frames_at n Client t past e h =
     ap (λ (list : List (Coming client.Entry Left)). frames_by (client_packets (client_opening n)) (heard (at_client n) list).entries (entry_of (at_client n) (heard (at_client n) list) (client_coming e))) h
     ∙ client_frames n (heard (at_client n) (map client_coming past)).entries (entry_of (at_client n) (heard (at_client n) (map client_coming past)) (client_coming e))
+frames_at n Mirror t past e h = absurd e
 
 -- ---- the events of a node
 
@@ -136,10 +168,17 @@ goes n Client frames past after l few came stands ends =
       may = of_clients.client_happens frames l.came a.entry came a.is_asked;
       fits = tt;
     }
+goes n Mirror frames past after l few came stands ends = absurd few
+
+-- Nothing has happened to a node that isn't there.
+nothing : (past : List ⊥) → past ≡ []
+nothing [] = refl
+nothing (e ∷ past) = absurd e
 
 pub stays : (n : ℕ) (node : Node) (past after : List (EntryOf node)) (l : Logged) → is_left_out l.answer ≡ true → Ends (rules_of n node) past ((rules_of n node).asked l.came) l.answer l.sent after → after ≡ past
 stays n (Server s) past after l out ends = of_servers.stays (opening_of s) past _ l.answer l.sent after out ends
 stays n Client past after l out ends = of_clients.stays (client_opening n) past _ l.answer l.sent after out ends
+stays n Mirror past after l out ends = nothing after ∙ sym (nothing past)
 
 -- ---- one node's history and list in place of another
 
@@ -151,6 +190,11 @@ with_list (Server s) list past (Server r) = if s == r then list else past (Serve
 with_list (Server s) list past Client = past Client
 with_list Client list past (Server r) = past (Server r)
 with_list Client list past Client = list
+with_list (Server s) list past Mirror = past Mirror
+with_list Client list past Mirror = past Mirror
+with_list Mirror list past (Server r) = past (Server r)
+with_list Mirror list past Client = past Client
+with_list Mirror list past Mirror = list
 
 -- The histories make these lists.
 abbrev pub AreMade : ℕ → (Node → List Logged) → ((node : Node) → List (EntryOf node)) → Type 0
@@ -167,13 +211,24 @@ made_with n (Server s) h list made ran past all (Server r) = made_at s r (s == r
 made_with n (Server s) h list made ran past all Client = all Client
 made_with n Client h list made ran past all (Server r) = all (Server r)
 made_with n Client h list made ran past all Client = made
+made_with n (Server s) h list made ran past all Mirror = all Mirror
+made_with n Client h list made ran past all Mirror = all Mirror
+made_with n Mirror h list made ran past all (Server r) = all (Server r)
+made_with n Mirror h list made ran past all Client = all Client
+made_with n Mirror h list made ran past all Mirror = made
 
 pub own_list : (node : Node) (list : List (EntryOf node)) (past : (other : Node) → List (EntryOf other)) → with_list node list past node ≡ list
 own_list (Server s) list past = let same : (s == s) ≡ true = grind (arith, nat_tests) in rw same refl
 own_list Client list past = refl
+own_list Mirror list past = refl
 
 pub other_list : (node other : Node) (list : List (EntryOf node)) (past : (other : Node) → List (EntryOf other)) → is_same_node node other ≡ false → with_list node list past other ≡ past other
 other_list (Server s) (Server r) list past h = rw h refl
 other_list (Server s) Client list past h = refl
 other_list Client (Server r) list past h = refl
 other_list Client Client list past h = cc
+other_list (Server s) Mirror list past h = refl
+other_list Client Mirror list past h = refl
+other_list Mirror (Server r) list past h = refl
+other_list Mirror Client list past h = refl
+other_list Mirror Mirror list past h = cc

@@ -4,7 +4,7 @@ use Rattle.std.specs.Prelude.{map, filter, if◌then◌else◌, nat_le, nat_lt}
 use Rattle.std.proofs.lemmas.Bool.{eqb-true}
 use Rattle.std.proofs.lemmas.Bool.Decides.{nat_tests}
 use Rattle.messages.specs.declared.node.Node.{Node}
-use Rattle.messages.specs.declared.node.Node.TheVariants.{Server, Client}
+use Rattle.messages.specs.declared.node.Node.TheVariants.{Server, Client, Mirror}
 use Rattle.hub.specs.declared.line.Line.{Line}
 use Rattle.hub.specs.Waiting.{is_same_node}
 use Rattle.node_history.specs.declared.logged.Logged.{Logged}
@@ -19,10 +19,16 @@ same_node (Server s) (Server r) h = ap (λ i. Server i) (eqb-true s r h)
 same_node (Server s) Client h = absurd cc
 same_node Client (Server r) h = absurd cc
 same_node Client Client h = refl
+same_node Mirror Mirror h = refl
+same_node (Server s) Mirror h = absurd cc
+same_node Client Mirror h = absurd cc
+same_node Mirror (Server r) h = absurd cc
+same_node Mirror Client h = absurd cc
 
 pub itself : (a : Node) → is_same_node a a ≡ true
 itself (Server s) = grind (arith, nat_tests)
 itself Client = refl
+itself Mirror = refl
 
 -- ---- lists within others
 

@@ -18,7 +18,7 @@ use Rattle.messages.specs.declared.body.Body.{Body}
 use Rattle.messages.specs.declared.frame.Frame.{Frame}
 use Rattle.messages.specs.declared.frame.Frame.TheVariants.{Whole, Piece}
 use Rattle.messages.specs.declared.node.Node.{Node}
-use Rattle.messages.specs.declared.node.Node.TheVariants.{Server, Client}
+use Rattle.messages.specs.declared.node.Node.TheVariants.{Server, Client, Mirror}
 use Rattle.messages.specs.declared.piece.PieceParts.{PieceParts}
 use Rattle.messages.specs.FrameBytes.{frame_at, frame_spelling}
 use Rattle.messages.specs.Hearing.{Meaning, Says, Waits, Spoils, Strays, meaning, heard_by, said_by}
@@ -57,6 +57,7 @@ use Rattle.node_traces.proofs.RefusalLemmas.{CameOf, IsFor, MayNot, MayPass, dro
 to_server : (me : ℕ) (to : Node) → is_server me to ≡ true → to ≡ Server me
 to_server me (Server s) h = ap (λ i. Server i) (eqb-true s me h)
 to_server me Client h = cc
+to_server me Mirror h = cc
 
 whole_to : (now : Now) (on a b : Bool) (body : Body) → MayPass (if on then refusal_of now (if a && b then asked_by body else ToNobody) else Some Down) → b ≡ true
 whole_to now true true true body h = refl

@@ -4,7 +4,7 @@ use Rattle.std.specs.Prelude.{map, if◌then◌else◌}
 use Rattle.std.proofs.Math.Seq.{take-add}
 use Rattle.std.proofs.lemmas.List.{append-nil, take_all}
 use Rattle.messages.specs.declared.node.Node.{Node}
-use Rattle.messages.specs.declared.node.Node.TheVariants.{Server, Client}
+use Rattle.messages.specs.declared.node.Node.TheVariants.{Server, Client, Mirror}
 use Rattle.hub.specs.declared.line.Line.{Line}
 use Rattle.hub.specs.Waiting.{is_same_node}
 use Rattle.node_history.specs.declared.logged.Logged.{Logged}
@@ -197,16 +197,18 @@ tell laws n few frames (p ∷ order) journal ran lists made ends sent marked pla
 list_of : (n : ℕ) (ran : Node → List Logged) → Lists n ran → (node : Node) → List (EntryOf node)
 list_of n ran lists (Server s) = lists.servers s
 list_of n ran lists Client = lists.client
+list_of n ran lists Mirror = []
 
-made_of : (n : ℕ) (ran : Node → List Logged) (lists : Lists n ran) → AreMade n ran (list_of n ran lists)
+made_of : (n : ℕ) (ran : Node → List Logged) (lists : Lists n ran) → EndAt n ran → AreMade n ran (list_of n ran lists)
 unfolding list_of
-made_of n ran lists (Server s) = lists.servers_made s
-made_of n ran lists Client = lists.client_made
+made_of n ran lists ends (Server s) = lists.servers_made s
+made_of n ran lists ends Client = lists.client_made
+made_of n ran lists ends Mirror = subst (λ (h : List Logged). Makes (rules_of n Mirror) h []) (sym ends.mirror) refl
 
 pub merges_name_a_trace : Laws → MergesNameATrace
 unfolding list_of
 merges_name_a_trace laws n net ran order agree merge lists =
-    let told = tell laws n agree.few net.frames order net.journal ran (list_of n ran lists) (made_of n ran lists) agree.ends agree.legal.sent_before agree.marked merge.each_stands merge.as_noted in
+    let told = tell laws n agree.few net.frames order net.journal ran (list_of n ran lists) (made_of n ran lists agree.ends) agree.ends agree.legal.sent_before agree.marked merge.each_stands merge.as_noted in
     let all : take (count_sent net.journal) net.frames ≡ net.frames = take_all (count_sent net.journal) net.frames (omega (arith, agree.legal.all_sent)) in (
       told.0,
       record {

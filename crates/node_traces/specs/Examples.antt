@@ -3,7 +3,7 @@ use Rattle.std.specs.Prelude.{◌≡◌, ℕ, zero, suc, List, [], ◌∷◌, So
 use Rattle.fc_base.specs.declared.fault.Fault.{Fault}
 use Rattle.fc_base.specs.declared.fault.Fault.TheVariants.{NodeOff}
 use Rattle.messages.specs.declared.node.Node.{Node}
-use Rattle.messages.specs.declared.node.Node.TheVariants.{Server, Client}
+use Rattle.messages.specs.declared.node.Node.TheVariants.{Server, Client, Mirror}
 use Rattle.messages.specs.declared.refusal.Act.TheVariants as acts
 use Rattle.hub.specs.Network.{Network}
 use Rattle.node_history.specs.declared.answer.Answer.TheVariants.{Plain}
@@ -39,6 +39,7 @@ ran (Server zero) =
     event came.Cut good [] ∷ event (came.Issue 0) (Err NodeOff) []
     ∷ event (came.Frame asking) good (answering ∷ []) ∷ event (came.Issue 0) good [] ∷ []
 ran (Server (suc s)) = []
+ran Mirror = []
 
 -- The journal tells of three of these events.
 abbrev pub net : Network

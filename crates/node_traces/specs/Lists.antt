@@ -1,7 +1,8 @@
--- What nodes ran, and the lists that their histories make. All lists are newest first.
+-- What nodes ran, and the lists that their histories make. There is no mirror among them. All lists are
+-- newest first.
 use Rattle.std.specs.Prelude.{◌≡◌, ◌≤◌, ℕ, List, []}
 use Rattle.messages.specs.declared.node.Node.{Node}
-use Rattle.messages.specs.declared.node.Node.TheVariants.{Server, Client}
+use Rattle.messages.specs.declared.node.Node.TheVariants.{Server, Client, Mirror}
 use Rattle.server_core.specs.Hearing.{FrameEntry as ServerEntry}
 use Rattle.client_core.specs.Hearing.{FrameEntry as ClientEntry}
 use Rattle.node_history.specs.declared.logged.Logged.{Logged}
@@ -10,9 +11,10 @@ use Rattle.node_history.specs.ServerRules.{rules as server_rules}
 use Rattle.node_history.specs.ClientRules.{rules as client_rules}
 use Rattle.net_world.specs.Trace.{opening_of, client_opening}
 
--- No server ran from this number on.
-abbrev pub EndAt : ℕ → (Node → List Logged) → Type 0
-EndAt n ran = (s : ℕ) → n ≤ s → ran (Server s) ≡ []
+-- No server ran from this number on, and no mirror.
+pub record EndAt (n : ℕ) (ran : Node → List Logged) : Type 0 where
+  pub servers : (s : ℕ) → n ≤ s → ran (Server s) ≡ []
+  pub mirror : ran Mirror ≡ []
 
 -- Lists that the histories make, of n servers and their client, each opened over a blank note.
 pub record Lists (n : ℕ) (ran : Node → List Logged) : Type 0 where
