@@ -18,6 +18,8 @@ const LAST: u32 = 7;
 
 const CLIENT: u32 = 8;
 
+const MIRROR: u32 = 9;
+
 const NONE: u32 = 9;
 
 /// An event of a node: the number of the frame that it takes, to whom it sends one each, and the numbers
@@ -29,7 +31,7 @@ struct Row {
     picks: &'static [(u32, u64, Option<u64>)],
 }
 
-const ROWS: [Row; 7] = [
+const ROWS: [Row; 9] = [
     // Frames 0 to 3.
     Row {
         node: CLIENT,
@@ -88,26 +90,40 @@ const ROWS: [Row; 7] = [
         to: &[],
         picks: &[(LAST, 0, Some(5)), (FIRST, 7, Some(3))],
     },
+    Row {
+        node: CLIENT,
+        taken: None,
+        to: &[MIRROR],
+        picks: &[(MIRROR, 0, Some(6)), (LAST, 0, Some(5))],
+    },
+    Row {
+        node: MIRROR,
+        taken: Some(6),
+        to: &[CLIENT],
+        picks: &[(MIRROR, 0, None), (CLIENT, 2, Some(7))],
+    },
 ];
 
 /// To whom the frames of all rows went, and the entries of the journal: the node, the row, the frame that it took, and
 /// how many it sent.
-const TO: [u32; 6] = [FIRST, LAST, FIRST, FIRST, CLIENT, LAST];
+const TO: [u32; 8] = [FIRST, LAST, FIRST, FIRST, CLIENT, LAST, MIRROR, CLIENT];
 
-const LINES: [(u32, u64, Option<u64>, u64); 6] = [
+const LINES: [(u32, u64, Option<u64>, u64); 8] = [
     (CLIENT, 0, None, 4),
     (FIRST, 1, Some(2), 1),
     (FIRST, 2, Some(2), 0),
     (LAST, 3, Some(0), 0),
     (CLIENT, 5, Some(4), 1),
     (LAST, 6, Some(1), 0),
+    (CLIENT, 7, None, 1),
+    (MIRROR, 8, Some(6), 1),
 ];
 
 fn node(number: u32) -> Node {
-    if number == CLIENT {
-        Node::Client
-    } else {
-        Node::Server(ServerNo(number))
+    match number {
+        CLIENT => Node::Client,
+        MIRROR => Node::Mirror,
+        _ => Node::Server(ServerNo(number)),
     }
 }
 
