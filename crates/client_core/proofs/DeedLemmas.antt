@@ -129,67 +129,18 @@ begin_other : (run : ℕ) (body : Body) (b : Beginning) → (run_told body == ru
 begin_other run (bodies.JobsOk r jobs) b n = if_false _ _ _ n
 begin_other run (bodies.Started r) b n = if_false _ _ _ n
 begin_other run (bodies.Refused r) b n = if_false _ _ _ n
-begin_other run (bodies.Jobs r text) b n = refl
-begin_other run (bodies.Start r) b n = refl
-begin_other run (bodies.Trigger r act) b n = refl
-begin_other run (bodies.State jobs state) b n = refl
-begin_other run (bodies.NoState r job jobs) b n = refl
-begin_other run (bodies.StateAck r job) b n = refl
-begin_other run (bodies.Stop r) b n = refl
-begin_other run (bodies.Stopped r) b n = refl
-begin_other run (bodies.Verify r a text) b n = refl
-begin_other run (bodies.WantState r a job) b n = refl
-begin_other run (bodies.Saved a state) b n = refl
-begin_other run (bodies.NoSaved r a job) b n = refl
-begin_other run (bodies.Report r a job jobs report) b n = refl
-begin_other run (bodies.Copy state) b n = refl
-begin_other run (bodies.CopyOk r server job) b n = refl
-begin_other run (bodies.Fetch generation) b n = refl
-begin_other run (bodies.Granted generation) b n = refl
+begin_other run _ b n = refl
 
 trigger_other : (run : ℕ) (body : Body) (q : Request) → (run_told body == run) ≡ false → trigger_heard run body q ≡ q
 trigger_other run (bodies.State jobs state) q n = if_false _ _ _ n
 trigger_other run (bodies.NoState r job jobs) q n = if_false _ _ _ n
 trigger_other run (bodies.Refused r) q n = if_false _ _ _ n
-trigger_other run (bodies.JobsOk r jobs) q n = refl
-trigger_other run (bodies.Started r) q n = refl
-trigger_other run (bodies.Jobs r text) q n = refl
-trigger_other run (bodies.Start r) q n = refl
-trigger_other run (bodies.Trigger r act) q n = refl
-trigger_other run (bodies.StateAck r job) q n = refl
-trigger_other run (bodies.Stop r) q n = refl
-trigger_other run (bodies.Stopped r) q n = refl
-trigger_other run (bodies.Verify r a text) q n = refl
-trigger_other run (bodies.WantState r a job) q n = refl
-trigger_other run (bodies.Saved a state) q n = refl
-trigger_other run (bodies.NoSaved r a job) q n = refl
-trigger_other run (bodies.Report r a job jobs report) q n = refl
-trigger_other run (bodies.Copy state) q n = refl
-trigger_other run (bodies.CopyOk r server job) q n = refl
-trigger_other run (bodies.Fetch generation) q n = refl
-trigger_other run (bodies.Granted generation) q n = refl
+trigger_other run _ q n = refl
 
 stop_other : (run : ℕ) (body : Body) (q : Request) → (run_told body == run) ≡ false → stop_heard run body q ≡ q
 stop_other run (bodies.Stopped r) q n = if_false _ _ _ n
 stop_other run (bodies.Refused r) q n = if_false _ _ _ n
-stop_other run (bodies.State jobs state) q n = refl
-stop_other run (bodies.NoState r job jobs) q n = refl
-stop_other run (bodies.JobsOk r jobs) q n = refl
-stop_other run (bodies.Started r) q n = refl
-stop_other run (bodies.Jobs r text) q n = refl
-stop_other run (bodies.Start r) q n = refl
-stop_other run (bodies.Trigger r act) q n = refl
-stop_other run (bodies.StateAck r job) q n = refl
-stop_other run (bodies.Stop r) q n = refl
-stop_other run (bodies.Verify r a text) q n = refl
-stop_other run (bodies.WantState r a job) q n = refl
-stop_other run (bodies.Saved a state) q n = refl
-stop_other run (bodies.NoSaved r a job) q n = refl
-stop_other run (bodies.Report r a job jobs report) q n = refl
-stop_other run (bodies.Copy state) q n = refl
-stop_other run (bodies.CopyOk r server job) q n = refl
-stop_other run (bodies.Fetch generation) q n = refl
-stop_other run (bodies.Granted generation) q n = refl
+stop_other run _ q n = refl
 
 if_same : {A : Type 0} (b : Bool) (x y : A) → x ≡ y → (if b then x else y) ≡ y
 if_same true x y e = e
@@ -211,24 +162,7 @@ both_or false b x y e = refl
 verify_other : (run attempt : ℕ) (body : Body) (q : Request) → (attempt_told body == attempt) ≡ false → verify_heard run attempt body q ≡ q
 verify_other run attempt (bodies.Report r a job jobs report) q n = both_or _ _ _ _ n
 verify_other run attempt (bodies.Refused r) q n = both_or _ _ _ _ n
-verify_other run attempt (bodies.State jobs state) q n = refl
-verify_other run attempt (bodies.NoState r job jobs) q n = refl
-verify_other run attempt (bodies.JobsOk r jobs) q n = refl
-verify_other run attempt (bodies.Started r) q n = refl
-verify_other run attempt (bodies.Jobs r text) q n = refl
-verify_other run attempt (bodies.Start r) q n = refl
-verify_other run attempt (bodies.Trigger r act) q n = refl
-verify_other run attempt (bodies.StateAck r job) q n = refl
-verify_other run attempt (bodies.Stop r) q n = refl
-verify_other run attempt (bodies.Stopped r) q n = refl
-verify_other run attempt (bodies.Verify r a text) q n = refl
-verify_other run attempt (bodies.WantState r a job) q n = refl
-verify_other run attempt (bodies.Saved a state) q n = refl
-verify_other run attempt (bodies.NoSaved r a job) q n = refl
-verify_other run attempt (bodies.Copy state) q n = refl
-verify_other run attempt (bodies.CopyOk r server job) q n = refl
-verify_other run attempt (bodies.Fetch generation) q n = refl
-verify_other run attempt (bodies.Granted generation) q n = refl
+verify_other run attempt _ q n = refl
 
 pub hears_other_attempt : (attempt server : ℕ) (body : Body) (deeds : List Deed) → (attempt_told body == attempt) ≡ false → SameAttempt attempt (Hears server body) deeds
 hears_other_attempt attempt server body deeds n = record {

@@ -38,25 +38,7 @@ state_new n jobs state s None is e free =
 
 pub adds_new : (n : Noted) (body : Body) (s : State) → addition_by n body ≡ Some (Keep s) → faults_of_body n body ≡ [] → IsNew n body s
 adds_new n (bodies.State jobs state) s e free = state_new n jobs state s (kept_of state.key n.kept) refl e free
-adds_new n (bodies.Jobs r text) s e free = cc
-adds_new n (bodies.JobsOk r jobs) s e free = cc
-adds_new n (bodies.Start r) s e free = cc
-adds_new n (bodies.Started r) s e free = cc
-adds_new n (bodies.Trigger r act) s e free = cc
-adds_new n (bodies.NoState r job jobs) s e free = cc
-adds_new n (bodies.StateAck r job) s e free = cc
-adds_new n (bodies.Stop r) s e free = cc
-adds_new n (bodies.Stopped r) s e free = cc
-adds_new n (bodies.Verify r a text) s e free = cc
-adds_new n (bodies.WantState r a job) s e free = cc
-adds_new n (bodies.Saved a state) s e free = cc
-adds_new n (bodies.NoSaved r a job) s e free = cc
-adds_new n (bodies.Report r a job jobs report) s e free = cc
-adds_new n (bodies.Refused r) s e free = cc
-adds_new n (bodies.Copy state) s e free = cc
-adds_new n (bodies.CopyOk r server job) s e free = cc
-adds_new n (bodies.Fetch generation) s e free = cc
-adds_new n (bodies.Granted generation) s e free = cc
+adds_new n _ s e free = cc
 
 -- What is replied to a body is what is replied to its packet.
 pub replied_to : (n : Noted) (deeds : List Deed) (p : PacketParts) (server : ℕ) (body : Body) → p.body ≡ body → node_number p.from ≡ server → replies n deeds server body ≡ replies n deeds (node_number p.from) p.body

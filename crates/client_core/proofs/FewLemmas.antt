@@ -73,25 +73,7 @@ packets_are_few o past c left l = where_so (is_answered o past c left) (most_pac
 
 limited : (kind : PacketKind) → length_limit kind ≤ 16400
 limited kinds.Jobs = omega arith
-limited kinds.JobsOk = omega arith
-limited kinds.Start = omega arith
-limited kinds.Started = omega arith
-limited kinds.Trigger = omega arith
-limited kinds.State = omega arith
-limited kinds.NoState = omega arith
-limited kinds.StateAck = omega arith
-limited kinds.Stop = omega arith
-limited kinds.Stopped = omega arith
-limited kinds.Verify = omega arith
-limited kinds.WantState = omega arith
-limited kinds.Saved = omega arith
-limited kinds.NoSaved = omega arith
-limited kinds.Report = omega arith
-limited kinds.Refused = omega arith
-limited kinds.Copy = omega arith
-limited kinds.CopyOk = omega arith
-limited kinds.Fetch = omega arith
-limited kinds.Granted = omega arith
+limited _ = omega arith
 
 -- So many packets are as many times the frames of one.
 all_short : FramesAreFew → LengthsAreBounded → (ps : List PacketParts) → AllByRecursion IsPacket ps → AreShort (length ps) (framed ps)

@@ -56,22 +56,4 @@ none_at_key m j k P Q is none here there h q = by_same (k == q) refl
 -- What is no report leaves the reports.
 pub no_report_heard : (server : ℕ) (body : Body) (deeds : List Deed) (reports : List Received) → IsNoReport body → reports_heard deeds server body reports ≡ reports
 no_report_heard server (bodies.Report r a job jobs report) deeds reports n = absurd n
-no_report_heard server (bodies.Jobs r text) deeds reports n = refl
-no_report_heard server (bodies.JobsOk r jobs) deeds reports n = refl
-no_report_heard server (bodies.Start r) deeds reports n = refl
-no_report_heard server (bodies.Started r) deeds reports n = refl
-no_report_heard server (bodies.Trigger r act) deeds reports n = refl
-no_report_heard server (bodies.State jobs state) deeds reports n = refl
-no_report_heard server (bodies.NoState r job jobs) deeds reports n = refl
-no_report_heard server (bodies.StateAck r job) deeds reports n = refl
-no_report_heard server (bodies.Stop r) deeds reports n = refl
-no_report_heard server (bodies.Stopped r) deeds reports n = refl
-no_report_heard server (bodies.Verify r a text) deeds reports n = refl
-no_report_heard server (bodies.WantState r a job) deeds reports n = refl
-no_report_heard server (bodies.Saved a state) deeds reports n = refl
-no_report_heard server (bodies.NoSaved r a job) deeds reports n = refl
-no_report_heard server (bodies.Refused r) deeds reports n = refl
-no_report_heard server (bodies.Copy state) deeds reports n = refl
-no_report_heard server (bodies.CopyOk r s job) deeds reports n = refl
-no_report_heard server (bodies.Fetch generation) deeds reports n = refl
-no_report_heard server (bodies.Granted generation) deeds reports n = refl
+no_report_heard server _ deeds reports n = refl

@@ -61,25 +61,7 @@ body_refusals : (n : Noted) (body : Body) → AllByRecursion IsRefusal (faults_o
 body_refusals n (bodies.State jobs state) =
     let full = lacks_room n.kept (kept_of state.key n.kept) in
     more_refusals (differs state (kept_of state.key n.kept)) Conflict (when full TableFull) refl (one_refusal full TableFull refl)
-body_refusals n (bodies.Jobs r text) = tt
-body_refusals n (bodies.JobsOk r jobs) = tt
-body_refusals n (bodies.Start r) = tt
-body_refusals n (bodies.Started r) = tt
-body_refusals n (bodies.Trigger r act) = tt
-body_refusals n (bodies.NoState r job jobs) = tt
-body_refusals n (bodies.StateAck r job) = tt
-body_refusals n (bodies.Stop r) = tt
-body_refusals n (bodies.Stopped r) = tt
-body_refusals n (bodies.Verify r a text) = tt
-body_refusals n (bodies.WantState r a job) = tt
-body_refusals n (bodies.Saved a state) = tt
-body_refusals n (bodies.NoSaved r a job) = tt
-body_refusals n (bodies.Report r a job jobs report) = tt
-body_refusals n (bodies.Refused r) = tt
-body_refusals n (bodies.Copy state) = tt
-body_refusals n (bodies.CopyOk r server job) = tt
-body_refusals n (bodies.Fetch generation) = tt
-body_refusals n (bodies.Granted generation) = tt
+body_refusals n _ = tt
 
 call_refusals : (servers : ℕ) (n : Noted) (c : Call) → AllByRecursion IsRefusal (faults_of servers n c)
 call_refusals servers n (Begin text) = let spent = not (has_next n.runs) in more_refusals (not (is_text text)) JobTooLong (when spent NumbersSpent) refl (one_refusal spent NumbersSpent refl)

@@ -90,92 +90,26 @@ verify_not_refused asks.Stop t reason = refl
 verify_not_refused asks.Verify t reason = not_checked t reason
 
 pub begin_unasked : (run : ℕ) (body : Body) → begin_heard run body Unbegun ≡ Unbegun
-begin_unasked run (bodies.Jobs r text) = refl
 begin_unasked run (bodies.JobsOk r jobs) = if_both _ _ _ refl
-begin_unasked run (bodies.Start r) = refl
 begin_unasked run (bodies.Started r) = if_both _ _ _ refl
-begin_unasked run (bodies.Trigger r act) = refl
-begin_unasked run (bodies.State jobs state) = refl
-begin_unasked run (bodies.NoState r job jobs) = refl
-begin_unasked run (bodies.StateAck r job) = refl
-begin_unasked run (bodies.Stop r) = refl
-begin_unasked run (bodies.Stopped r) = refl
-begin_unasked run (bodies.Verify r a text) = refl
-begin_unasked run (bodies.WantState r a job) = refl
-begin_unasked run (bodies.Saved a state) = refl
-begin_unasked run (bodies.NoSaved r a job) = refl
-begin_unasked run (bodies.Report r a job jobs report) = refl
 begin_unasked run (bodies.Refused r) = if_both _ _ _ (begin_not_refused r.asked r.reason)
-begin_unasked run (bodies.Copy state) = refl
-begin_unasked run (bodies.CopyOk r server job) = refl
-begin_unasked run (bodies.Fetch generation) = refl
-begin_unasked run (bodies.Granted generation) = refl
+begin_unasked run _ = refl
 
 pub trigger_unasked : (run : ℕ) (body : Body) → trigger_heard run body Unasked ≡ Unasked
-trigger_unasked run (bodies.Jobs r text) = refl
-trigger_unasked run (bodies.JobsOk r jobs) = refl
-trigger_unasked run (bodies.Start r) = refl
-trigger_unasked run (bodies.Started r) = refl
-trigger_unasked run (bodies.Trigger r act) = refl
 trigger_unasked run (bodies.State jobs state) = if_both _ _ _ refl
 trigger_unasked run (bodies.NoState r job jobs) = if_both _ _ _ refl
-trigger_unasked run (bodies.StateAck r job) = refl
-trigger_unasked run (bodies.Stop r) = refl
-trigger_unasked run (bodies.Stopped r) = refl
-trigger_unasked run (bodies.Verify r a text) = refl
-trigger_unasked run (bodies.WantState r a job) = refl
-trigger_unasked run (bodies.Saved a state) = refl
-trigger_unasked run (bodies.NoSaved r a job) = refl
-trigger_unasked run (bodies.Report r a job jobs report) = refl
 trigger_unasked run (bodies.Refused r) = if_both _ _ _ (trigger_not_refused r.asked r.reason)
-trigger_unasked run (bodies.Copy state) = refl
-trigger_unasked run (bodies.CopyOk r server job) = refl
-trigger_unasked run (bodies.Fetch generation) = refl
-trigger_unasked run (bodies.Granted generation) = refl
+trigger_unasked run _ = refl
 
 pub stop_unasked : (run : ℕ) (body : Body) → stop_heard run body Unasked ≡ Unasked
-stop_unasked run (bodies.Jobs r text) = refl
-stop_unasked run (bodies.JobsOk r jobs) = refl
-stop_unasked run (bodies.Start r) = refl
-stop_unasked run (bodies.Started r) = refl
-stop_unasked run (bodies.Trigger r act) = refl
-stop_unasked run (bodies.State jobs state) = refl
-stop_unasked run (bodies.NoState r job jobs) = refl
-stop_unasked run (bodies.StateAck r job) = refl
-stop_unasked run (bodies.Stop r) = refl
 stop_unasked run (bodies.Stopped r) = if_both _ _ _ refl
-stop_unasked run (bodies.Verify r a text) = refl
-stop_unasked run (bodies.WantState r a job) = refl
-stop_unasked run (bodies.Saved a state) = refl
-stop_unasked run (bodies.NoSaved r a job) = refl
-stop_unasked run (bodies.Report r a job jobs report) = refl
 stop_unasked run (bodies.Refused r) = if_both _ _ _ (stop_not_refused r.asked r.reason)
-stop_unasked run (bodies.Copy state) = refl
-stop_unasked run (bodies.CopyOk r server job) = refl
-stop_unasked run (bodies.Fetch generation) = refl
-stop_unasked run (bodies.Granted generation) = refl
+stop_unasked run _ = refl
 
 pub verify_unasked : (run attempt : ℕ) (body : Body) → verify_heard run attempt body Unasked ≡ Unasked
-verify_unasked run attempt (bodies.Jobs r text) = refl
-verify_unasked run attempt (bodies.JobsOk r jobs) = refl
-verify_unasked run attempt (bodies.Start r) = refl
-verify_unasked run attempt (bodies.Started r) = refl
-verify_unasked run attempt (bodies.Trigger r act) = refl
-verify_unasked run attempt (bodies.State jobs state) = refl
-verify_unasked run attempt (bodies.NoState r job jobs) = refl
-verify_unasked run attempt (bodies.StateAck r job) = refl
-verify_unasked run attempt (bodies.Stop r) = refl
-verify_unasked run attempt (bodies.Stopped r) = refl
-verify_unasked run attempt (bodies.Verify r a text) = refl
-verify_unasked run attempt (bodies.WantState r a job) = refl
-verify_unasked run attempt (bodies.Saved a state) = refl
-verify_unasked run attempt (bodies.NoSaved r a job) = refl
 verify_unasked run attempt (bodies.Report r a job jobs report) = if_both _ _ _ refl
 verify_unasked run attempt (bodies.Refused r) = if_both _ _ _ (verify_not_refused r.asked (record { job = r.job; jobs = r.jobs; misfit = true }) r.reason)
-verify_unasked run attempt (bodies.Copy state) = refl
-verify_unasked run attempt (bodies.CopyOk r server job) = refl
-verify_unasked run attempt (bodies.Fetch generation) = refl
-verify_unasked run attempt (bodies.Granted generation) = refl
+verify_unasked run attempt _ = refl
 
 pub unnamed_hears : (run server : ℕ) (body : Body) (deeds : List Deed) → Unnamed run deeds → Unnamed run (Hears server body ∷ deeds)
 unnamed_hears run server body deeds h = record {

@@ -13,7 +13,7 @@ use Rattle.messages.specs.declared.body.Body.{Body}
 use Rattle.messages.specs.declared.body.Body.TheVariants as bodies
 use Rattle.messages.specs.Nodes.{is_node}
 use Rattle.messages.specs.Ranges.{is_body, is_run, is_attempt, is_text, KeepsState}
-use Rattle.messages.specs.Bodies.{length_of, spelled_body}
+use Rattle.messages.specs.Bodies.{kind_of, length_limit, length_of, spelled_body}
 use Rattle.messages.specs.Laws.{IsPacket, LengthsAreBounded}
 use Rattle.messages.specs.FrameBytes.{frame_spelling}
 use Rattle.messages.specs.Pieces.{is_cut, tag_of, places_from, places, bytes_at, piece_at, pieces_of, frames_of}
@@ -125,24 +125,7 @@ not_long b limit l m c = absurd (below (length_of b) limit l m c)
 cut_well : LengthsAreBounded → (b : Body) → IsTrue (is_body b) → KeepsState b → is_cut b ≡ true → IsCutWell b
 cut_well law (bodies.Jobs run text) h k c = cut_jobs run text h c
 cut_well law (bodies.Verify run attempt text) h k c = cut_verify run attempt text h c
-cut_well law (bodies.JobsOk run jobs) h k c = not_long (bodies.JobsOk run jobs) 12 (law (bodies.JobsOk run jobs) h k) (omega arith) c
-cut_well law (bodies.Start run) h k c = not_long (bodies.Start run) 8 (law (bodies.Start run) h k) (omega arith) c
-cut_well law (bodies.Started run) h k c = not_long (bodies.Started run) 8 (law (bodies.Started run) h k) (omega arith) c
-cut_well law (bodies.Trigger run act) h k c = not_long (bodies.Trigger run act) 9 (law (bodies.Trigger run act) h k) (omega arith) c
-cut_well law (bodies.State jobs state) h k c = not_long (bodies.State jobs state) 140 (law (bodies.State jobs state) h k) (omega arith) c
-cut_well law (bodies.NoState run job jobs) h k c = not_long (bodies.NoState run job jobs) 16 (law (bodies.NoState run job jobs) h k) (omega arith) c
-cut_well law (bodies.StateAck run job) h k c = not_long (bodies.StateAck run job) 12 (law (bodies.StateAck run job) h k) (omega arith) c
-cut_well law (bodies.Stop run) h k c = not_long (bodies.Stop run) 8 (law (bodies.Stop run) h k) (omega arith) c
-cut_well law (bodies.Stopped run) h k c = not_long (bodies.Stopped run) 8 (law (bodies.Stopped run) h k) (omega arith) c
-cut_well law (bodies.WantState run attempt job) h k c = not_long (bodies.WantState run attempt job) 20 (law (bodies.WantState run attempt job) h k) (omega arith) c
-cut_well law (bodies.Saved attempt state) h k c = not_long (bodies.Saved attempt state) 144 (law (bodies.Saved attempt state) h k) (omega arith) c
-cut_well law (bodies.NoSaved run attempt job) h k c = not_long (bodies.NoSaved run attempt job) 20 (law (bodies.NoSaved run attempt job) h k) (omega arith) c
-cut_well law (bodies.Report run attempt job jobs r) h k c = not_long (bodies.Report run attempt job jobs r) 169 (law (bodies.Report run attempt job jobs r) h k) (omega arith) c
-cut_well law (bodies.Refused r) h k c = not_long (bodies.Refused r) 34 (law (bodies.Refused r) h k) (omega arith) c
-cut_well law (bodies.Copy state) h k c = not_long (bodies.Copy state) 136 (law (bodies.Copy state) h k) (omega arith) c
-cut_well law (bodies.CopyOk run server job) h k c = not_long (bodies.CopyOk run server job) 16 (law (bodies.CopyOk run server job) h k) (omega arith) c
-cut_well law (bodies.Fetch generation) h k c = not_long (bodies.Fetch generation) 8 (law (bodies.Fetch generation) h k) (omega arith) c
-cut_well law (bodies.Granted generation) h k c = not_long (bodies.Granted generation) 8 (law (bodies.Granted generation) h k) (omega arith) c
+cut_well law b h k c = not_long b (length_limit (kind_of b)) (law b h k) (omega arith) c
 
 -- ---- a piece, and the frames
 

@@ -89,25 +89,7 @@ differing : (n : Noted) (b : Body) → slice_get (faults_of_body n b) 0 ≡ Some
 differing n (bodies.State jobs x) h =
     let k = kept_differs x (kept_of x.key n.kept) (conflict_differs (differs x (kept_of x.key n.kept)) (lacks_room n.kept (kept_of x.key n.kept)) h) in
     record { jobs = jobs; new = x; old = k.0; is = refl; found = k.1; other = k.2 }
-differing n (bodies.Saved attempt x) h = absurd cc
-differing n (bodies.Jobs run text) h = absurd cc
-differing n (bodies.JobsOk run jobs) h = absurd cc
-differing n (bodies.Start run) h = absurd cc
-differing n (bodies.Started run) h = absurd cc
-differing n (bodies.Trigger run act) h = absurd cc
-differing n (bodies.NoState run job jobs) h = absurd cc
-differing n (bodies.StateAck run job) h = absurd cc
-differing n (bodies.Stop run) h = absurd cc
-differing n (bodies.Stopped run) h = absurd cc
-differing n (bodies.Verify run attempt text) h = absurd cc
-differing n (bodies.WantState run attempt job) h = absurd cc
-differing n (bodies.NoSaved run attempt job) h = absurd cc
-differing n (bodies.Report run attempt job jobs report) h = absurd cc
-differing n (bodies.Refused refusal) h = absurd cc
-differing n (bodies.Copy state) h = absurd cc
-differing n (bodies.CopyOk run server job) h = absurd cc
-differing n (bodies.Fetch generation) h = absurd cc
-differing n (bodies.Granted generation) h = absurd cc
+differing n _ h = absurd cc
 
 pub never_conflicts : SentStatesWereTaken → KeptStatesWereSent → OneTaking → NeverConflicts
 never_conflicts taken kept_sent once n t p trace was h =

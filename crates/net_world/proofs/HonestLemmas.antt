@@ -40,25 +40,7 @@ use Rattle.net_world.proofs.LandingLemmas.{Lands, Same, One, kept_landed}
 -- No packet tells that a write is done.
 no_end : (b : Body) (ticket : Ticket) (end : WriteEnd) → asked_by b ≡ ToEnd ticket end → ⊥
 no_end (bodies.Jobs run text) ticket end h = cc
-no_end (bodies.JobsOk run jobs) ticket end h = cc
-no_end (bodies.Start run) ticket end h = cc
-no_end (bodies.Started run) ticket end h = cc
-no_end (bodies.Trigger run act) ticket end h = cc
-no_end (bodies.State jobs state) ticket end h = cc
-no_end (bodies.NoState run job jobs) ticket end h = cc
-no_end (bodies.StateAck run job) ticket end h = cc
-no_end (bodies.Stop run) ticket end h = cc
-no_end (bodies.Stopped run) ticket end h = cc
-no_end (bodies.Verify run attempt text) ticket end h = cc
-no_end (bodies.WantState run attempt job) ticket end h = cc
-no_end (bodies.Saved attempt state) ticket end h = cc
-no_end (bodies.NoSaved run attempt job) ticket end h = cc
-no_end (bodies.Report run attempt job jobs report) ticket end h = cc
-no_end (bodies.Refused refusal) ticket end h = cc
-no_end (bodies.Copy state) ticket end h = cc
-no_end (bodies.CopyOk run server job) ticket end h = cc
-no_end (bodies.Fetch generation) ticket end h = cc
-no_end (bodies.Granted generation) ticket end h = cc
+no_end _ ticket end h = cc
 
 no_end_if : (t : Bool) (b : Body) (ticket : Ticket) (end : WriteEnd) → (if t then asked_by b else ToNobody) ≡ ToEnd ticket end → ⊥
 no_end_if true b ticket end h = no_end b ticket end h

@@ -9,7 +9,7 @@ use Rattle.messages.specs.declared.body.Body.TheVariants as bodies
 use Rattle.messages.specs.declared.piece.Tag.{Tag}
 use Rattle.messages.specs.Nodes.{is_node}
 use Rattle.messages.specs.Ranges.{is_body, KeepsState}
-use Rattle.messages.specs.Bodies.{length_of}
+use Rattle.messages.specs.Bodies.{kind_of, length_limit, length_of}
 use Rattle.messages.specs.Laws.{IsPacket, LengthsAreBounded}
 use Rattle.messages.specs.Pieces.{is_cut, tag_of}
 use Rattle.net_world.specs.Trace.{Step, sent}
@@ -30,24 +30,7 @@ short b limit l m c = absurd (below (length_of b) limit l m c)
 pub long : LengthsAreBounded → (b : Body) → IsTrue (is_body b) → KeepsState b → is_cut b ≡ true → Long b
 long law (bodies.Jobs run text) h k c = OfJobs run text refl
 long law (bodies.Verify run attempt text) h k c = OfVerify run attempt text refl
-long law (bodies.JobsOk run jobs) h k c = short (bodies.JobsOk run jobs) 12 (law (bodies.JobsOk run jobs) h k) (omega arith) c
-long law (bodies.Start run) h k c = short (bodies.Start run) 8 (law (bodies.Start run) h k) (omega arith) c
-long law (bodies.Started run) h k c = short (bodies.Started run) 8 (law (bodies.Started run) h k) (omega arith) c
-long law (bodies.Trigger run act) h k c = short (bodies.Trigger run act) 9 (law (bodies.Trigger run act) h k) (omega arith) c
-long law (bodies.State jobs state) h k c = short (bodies.State jobs state) 140 (law (bodies.State jobs state) h k) (omega arith) c
-long law (bodies.NoState run job jobs) h k c = short (bodies.NoState run job jobs) 16 (law (bodies.NoState run job jobs) h k) (omega arith) c
-long law (bodies.StateAck run job) h k c = short (bodies.StateAck run job) 12 (law (bodies.StateAck run job) h k) (omega arith) c
-long law (bodies.Stop run) h k c = short (bodies.Stop run) 8 (law (bodies.Stop run) h k) (omega arith) c
-long law (bodies.Stopped run) h k c = short (bodies.Stopped run) 8 (law (bodies.Stopped run) h k) (omega arith) c
-long law (bodies.WantState run attempt job) h k c = short (bodies.WantState run attempt job) 20 (law (bodies.WantState run attempt job) h k) (omega arith) c
-long law (bodies.Saved attempt state) h k c = short (bodies.Saved attempt state) 144 (law (bodies.Saved attempt state) h k) (omega arith) c
-long law (bodies.NoSaved run attempt job) h k c = short (bodies.NoSaved run attempt job) 20 (law (bodies.NoSaved run attempt job) h k) (omega arith) c
-long law (bodies.Report run attempt job jobs r) h k c = short (bodies.Report run attempt job jobs r) 169 (law (bodies.Report run attempt job jobs r) h k) (omega arith) c
-long law (bodies.Refused r) h k c = short (bodies.Refused r) 34 (law (bodies.Refused r) h k) (omega arith) c
-long law (bodies.Copy state) h k c = short (bodies.Copy state) 136 (law (bodies.Copy state) h k) (omega arith) c
-long law (bodies.CopyOk run server job) h k c = short (bodies.CopyOk run server job) 16 (law (bodies.CopyOk run server job) h k) (omega arith) c
-long law (bodies.Fetch generation) h k c = short (bodies.Fetch generation) 8 (law (bodies.Fetch generation) h k) (omega arith) c
-long law (bodies.Granted generation) h k c = short (bodies.Granted generation) 8 (law (bodies.Granted generation) h k) (omega arith) c
+long law b h k c = short b (length_limit (kind_of b)) (law b h k) (omega arith) c
 
 tags_are : (b c x y : Body) → b ≡ x → c ≡ y → tag_of b ≡ tag_of c → tag_of x ≡ tag_of y
 tags_are b c x y h k e = sym (ap tag_of h) ∙ e ∙ ap tag_of k

@@ -59,24 +59,8 @@ taken_in_life_was_taken o run j (Restart left ∷ past) state h = absurd (none_i
 carried_was_taken : Passes → (n : ℕ) (t : List Step) (p : PacketParts) (state : State) (b : Body) → p.body ≡ b → IsTrace n t → Contains (sent n t) p → carried b ≡ Some state → Contains (taken_of state.key t) state
 carried_was_taken passes n t p state (bodies.State jobs x) is trace h e = let same : x ≡ state = cc in passes.sent_taken n t p jobs state h (is ∙ ap (bodies.State jobs) same)
 carried_was_taken passes n t p state (bodies.Saved attempt x) is trace h e = let same : x ≡ state = cc in saved_was_taken passes n t p attempt state trace h (is ∙ ap (bodies.Saved attempt) same)
-carried_was_taken passes n t p state (bodies.Jobs run text) is trace h e = absurd cc
-carried_was_taken passes n t p state (bodies.JobsOk run jobs) is trace h e = absurd cc
-carried_was_taken passes n t p state (bodies.Start run) is trace h e = absurd cc
-carried_was_taken passes n t p state (bodies.Started run) is trace h e = absurd cc
-carried_was_taken passes n t p state (bodies.Trigger run act) is trace h e = absurd cc
-carried_was_taken passes n t p state (bodies.NoState run job jobs) is trace h e = absurd cc
-carried_was_taken passes n t p state (bodies.StateAck run job) is trace h e = absurd cc
-carried_was_taken passes n t p state (bodies.Stop run) is trace h e = absurd cc
-carried_was_taken passes n t p state (bodies.Stopped run) is trace h e = absurd cc
-carried_was_taken passes n t p state (bodies.Verify run attempt text) is trace h e = absurd cc
-carried_was_taken passes n t p state (bodies.WantState run attempt job) is trace h e = absurd cc
-carried_was_taken passes n t p state (bodies.NoSaved run attempt job) is trace h e = absurd cc
-carried_was_taken passes n t p state (bodies.Report run attempt job jobs report) is trace h e = absurd cc
-carried_was_taken passes n t p state (bodies.Refused refusal) is trace h e = absurd cc
 carried_was_taken passes n t p state (bodies.Copy x) is trace h e = absurd (passes.no_copy n t p x h is)
-carried_was_taken passes n t p state (bodies.CopyOk run server job) is trace h e = absurd cc
-carried_was_taken passes n t p state (bodies.Fetch generation) is trace h e = absurd cc
-carried_was_taken passes n t p state (bodies.Granted generation) is trace h e = absurd cc
+carried_was_taken passes n t p state _ is trace h e = absurd cc
 
 -- Whoever holds a state holds one that was taken.
 pub held_was_taken : Passes → (n : ℕ) (t : List Step) (key : Key) (state : State) → IsTrace n t → Holds n t key state → Contains (taken_of key t) state

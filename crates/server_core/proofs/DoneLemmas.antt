@@ -83,25 +83,7 @@ works_on o past w h = subst (λ v. OnWith (is_on past) v) h (on_of o past)
 
 deliver_body : (origin : Origin) (stopped : Bool) (h : List window.Event) (b : Body) → with_request origin stopped (asked_by b) h ≡ h
 deliver_body origin stopped h (bodies.Jobs r t) = refl
-deliver_body origin stopped h (bodies.JobsOk r n) = refl
-deliver_body origin stopped h (bodies.Start r) = refl
-deliver_body origin stopped h (bodies.Started r) = refl
-deliver_body origin stopped h (bodies.Trigger r act) = refl
-deliver_body origin stopped h (bodies.State n t) = refl
-deliver_body origin stopped h (bodies.NoState r j n) = refl
-deliver_body origin stopped h (bodies.StateAck r j) = refl
-deliver_body origin stopped h (bodies.Stop r) = refl
-deliver_body origin stopped h (bodies.Stopped r) = refl
-deliver_body origin stopped h (bodies.Verify r a t) = refl
-deliver_body origin stopped h (bodies.WantState r a j) = refl
-deliver_body origin stopped h (bodies.Saved a s) = refl
-deliver_body origin stopped h (bodies.NoSaved r a j) = refl
-deliver_body origin stopped h (bodies.Report r a j n report) = refl
-deliver_body origin stopped h (bodies.Refused refusal) = refl
-deliver_body origin stopped h (bodies.Copy s) = refl
-deliver_body origin stopped h (bodies.CopyOk r s j) = refl
-deliver_body origin stopped h (bodies.Fetch g) = refl
-deliver_body origin stopped h (bodies.Granted g) = refl
+deliver_body origin stopped h _ = refl
 
 deliver_by : (origin : Origin) (stopped t : Bool) (h : List window.Event) (b : Body) → with_request origin stopped (if t then asked_by b else ToNobody) h ≡ h
 deliver_by origin stopped true h b = deliver_body origin stopped h b

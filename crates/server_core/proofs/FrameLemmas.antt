@@ -162,24 +162,7 @@ IsFrameBy w halt _ = Unit {0}
 by_halt : (w : Work) (act : Act) (before : List Request) (b : Body) → Of (IsFrameOf w before) b → Of (IsFrameBy w (Some (Triggered act before))) b
 by_halt w act before (bodies.State jobs s) h = h
 by_halt w act before (bodies.NoState r j jobs) h = (h.0, h.1, h.2, refl)
-by_halt w act before (bodies.Jobs r t) h = tt
-by_halt w act before (bodies.JobsOk r n) h = tt
-by_halt w act before (bodies.Start r) h = tt
-by_halt w act before (bodies.Started r) h = tt
-by_halt w act before (bodies.Trigger r a) h = tt
-by_halt w act before (bodies.StateAck r j) h = tt
-by_halt w act before (bodies.Stop r) h = tt
-by_halt w act before (bodies.Stopped r) h = tt
-by_halt w act before (bodies.Verify r a t) h = tt
-by_halt w act before (bodies.WantState r a j) h = tt
-by_halt w act before (bodies.Saved a s) h = tt
-by_halt w act before (bodies.NoSaved r a j) h = tt
-by_halt w act before (bodies.Report r a j n report) h = tt
-by_halt w act before (bodies.Refused refusal) h = tt
-by_halt w act before (bodies.Copy s) h = tt
-by_halt w act before (bodies.CopyOk r s j) h = tt
-by_halt w act before (bodies.Fetch g) h = tt
-by_halt w act before (bodies.Granted g) h = tt
+by_halt w act before _ h = tt
 
 halt_frames : (w : Work) (last : ℕ) (halt : Option Halt) (new : Option Halt)
     → ((b : Body) → Of (IsFrameOf w w.since) b → Of (IsFrameBy w new) b) → Each (IsFrameBy w (option_or halt new)) (reply_to_halt w last halt)

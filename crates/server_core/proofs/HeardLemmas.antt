@@ -55,24 +55,7 @@ here me p older b f t e = subst (λ q. Contains (p ∷ older) q) (same_packet p.
 body_said : (me : ℕ) (p : PacketParts) (older : List PacketParts) (b : Body) → p.from ≡ nodes.Client → p.to ≡ nodes.Server me → p.body ≡ b → IsSaid me (p ∷ older) (asked_by b)
 body_said me p older (bodies.Saved a s) from_is to_is e = here me p older (bodies.Saved a s) from_is to_is e
 body_said me p older (bodies.StateAck r j) from_is to_is e = here me p older (bodies.StateAck r j) from_is to_is e
-body_said me p older (bodies.Jobs r t) from_is to_is e = tt
-body_said me p older (bodies.JobsOk r n) from_is to_is e = tt
-body_said me p older (bodies.Start r) from_is to_is e = tt
-body_said me p older (bodies.Started r) from_is to_is e = tt
-body_said me p older (bodies.Trigger r act) from_is to_is e = tt
-body_said me p older (bodies.State n t) from_is to_is e = tt
-body_said me p older (bodies.NoState r j n) from_is to_is e = tt
-body_said me p older (bodies.Stop r) from_is to_is e = tt
-body_said me p older (bodies.Stopped r) from_is to_is e = tt
-body_said me p older (bodies.Verify r x t) from_is to_is e = tt
-body_said me p older (bodies.WantState r x j) from_is to_is e = tt
-body_said me p older (bodies.NoSaved r x j) from_is to_is e = tt
-body_said me p older (bodies.Report r x j n report) from_is to_is e = tt
-body_said me p older (bodies.Refused refusal) from_is to_is e = tt
-body_said me p older (bodies.Copy s) from_is to_is e = tt
-body_said me p older (bodies.CopyOk r s j) from_is to_is e = tt
-body_said me p older (bodies.Fetch g) from_is to_is e = tt
-body_said me p older (bodies.Granted g) from_is to_is e = tt
+body_said me p older _ from_is to_is e = tt
 
 packet_said : (me : ℕ) (p : PacketParts) (older : List PacketParts) (t : Bool) → (is_client p.from && is_server me p.to) ≡ t → IsSaid me (p ∷ older) (if t then asked_by p.body else ToNobody)
 packet_said me p older true e =

@@ -24,26 +24,15 @@ use Rattle.server_core.proofs.ListLemmas.{first_of}
 use Rattle.server_core.proofs.BodyParts.{body_in_range}
 
 short_kind : (kind : PacketKind) → is_of_server kind ≡ true → length_limit kind ≤ 1024
-short_kind kinds.Jobs h = cc
 short_kind kinds.JobsOk h = omega arith
-short_kind kinds.Start h = cc
 short_kind kinds.Started h = omega arith
-short_kind kinds.Trigger h = cc
 short_kind kinds.State h = omega arith
 short_kind kinds.NoState h = omega arith
-short_kind kinds.StateAck h = cc
-short_kind kinds.Stop h = cc
 short_kind kinds.Stopped h = omega arith
-short_kind kinds.Verify h = cc
 short_kind kinds.WantState h = omega arith
-short_kind kinds.Saved h = cc
-short_kind kinds.NoSaved h = cc
 short_kind kinds.Report h = omega arith
 short_kind kinds.Refused h = omega arith
-short_kind kinds.Copy h = cc
-short_kind kinds.CopyOk h = cc
-short_kind kinds.Fetch h = cc
-short_kind kinds.Granted h = cc
+short_kind _ h = cc
 
 one_if : (p : PacketParts) (cut : Bool) → cut ≡ false → length (map frame_spelling (if cut then map Piece (pieces_of p) else Whole p ∷ [])) ≡ 1
 one_if p true e = cc

@@ -26,26 +26,8 @@ use Rattle.server_core.specs.Hearing.{FrameEntry, is_piece_for, packets_heard, a
 use Rattle.server_core.specs.FrameAnswers.{sense_of, due_in, would_save}
 
 start_is_short : (kind : PacketKind) → is_long_kind kind ≡ true → (3 == number_of kind) ≡ false
-start_is_short kinds.Jobs l = refl
-start_is_short kinds.JobsOk l = refl
 start_is_short kinds.Start l = cc
-start_is_short kinds.Started l = refl
-start_is_short kinds.Trigger l = refl
-start_is_short kinds.State l = refl
-start_is_short kinds.NoState l = refl
-start_is_short kinds.StateAck l = refl
-start_is_short kinds.Stop l = refl
-start_is_short kinds.Stopped l = refl
-start_is_short kinds.Verify l = refl
-start_is_short kinds.WantState l = refl
-start_is_short kinds.Saved l = refl
-start_is_short kinds.NoSaved l = refl
-start_is_short kinds.Report l = refl
-start_is_short kinds.Refused l = refl
-start_is_short kinds.Copy l = refl
-start_is_short kinds.CopyOk l = refl
-start_is_short kinds.Fetch l = refl
-start_is_short kinds.Granted l = refl
+start_is_short _ l = refl
 
 not_both : (b : Bool) → b ≡ false → b ≡ true → ⊥
 not_both true f t = cc
@@ -60,25 +42,7 @@ kinds_are a b h = first_of _ _ (first_of _ _ (first_of _ _ (first_of _ _ (first_
 -- What a long packet asks is not due.
 undue_body : (on : Bool) (last : ℕ) (s : Option Staged) (w : Option Work) (b : Body) (kind : PacketKind) → is_long_kind kind ≡ true → (number_of (kind_of b) == number_of kind) ≡ true → is_due on last s w (asked_by b) ≡ None
 undue_body on last s w (bodies.Start run) kind l e = absurd (not_both (3 == number_of kind) (start_is_short kind l) e)
-undue_body on last s w (bodies.Jobs run text) kind l e = refl
-undue_body on last s w (bodies.JobsOk run jobs) kind l e = refl
-undue_body on last s w (bodies.Started run) kind l e = refl
-undue_body on last s w (bodies.Trigger run act) kind l e = refl
-undue_body on last s w (bodies.State jobs state) kind l e = refl
-undue_body on last s w (bodies.NoState run job jobs) kind l e = refl
-undue_body on last s w (bodies.StateAck run job) kind l e = refl
-undue_body on last s w (bodies.Stop run) kind l e = refl
-undue_body on last s w (bodies.Stopped run) kind l e = refl
-undue_body on last s w (bodies.Verify run attempt text) kind l e = refl
-undue_body on last s w (bodies.WantState run attempt job) kind l e = refl
-undue_body on last s w (bodies.Saved attempt state) kind l e = refl
-undue_body on last s w (bodies.NoSaved run attempt job) kind l e = refl
-undue_body on last s w (bodies.Report run attempt job jobs report) kind l e = refl
-undue_body on last s w (bodies.Refused refusal) kind l e = refl
-undue_body on last s w (bodies.Copy state) kind l e = refl
-undue_body on last s w (bodies.CopyOk run server job) kind l e = refl
-undue_body on last s w (bodies.Fetch generation) kind l e = refl
-undue_body on last s w (bodies.Granted generation) kind l e = refl
+undue_body on last s w _ kind l e = refl
 
 undue_packet : (on : Bool) (last : ℕ) (s : Option Staged) (w : Option Work) (b : Body) (mine : Bool) → is_due on last s w (asked_by b) ≡ None → is_due on last s w (if mine then asked_by b else ToNobody) ≡ None
 undue_packet on last s w b true h = h
