@@ -60,3 +60,23 @@ fn each_byte_of_a_piece_changed(rt: HostRuntime) -> Result<(), Fail> {
     }
     Ok(())
 }
+
+/// Whether a piece is refused as a bad field where it says that it is of a whole of this kind.
+fn is_of_no_whole(alloc: Global, piece: &[u8], kind: u8) -> Result<bool, Fail> {
+    let mut bytes = Vec::from_slice(alloc, piece)?;
+    *bytes.get_mut(16).ok_or("the whole's kind")? = kind;
+    Ok(outcome(alloc, &bytes)? == 43)
+}
+
+#[test]
+fn what_a_mirror_says_goes_in_no_pieces(rt: HostRuntime) -> Result<(), Fail> {
+    let frames = frames_of_letters(rt.alloc(), 1, 2_000)?;
+    for index in 0..2 {
+        let piece = frames.get(index).ok_or("a frame")?;
+        for kind in [18, 19, 20, 21] {
+            let agree = is_of_no_whole(rt.alloc(), piece, kind)?;
+            assert!(rt; agree, "at {index}, {kind}");
+        }
+    }
+    Ok(())
+}
