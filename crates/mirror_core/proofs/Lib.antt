@@ -1,0 +1,11 @@
+mod EndLemmas
+mod ExampleLemmas
+mod FrameLemmas
+mod KeptLemmas
+mod ListLemmas
+mod Looked
+mod NoteLemmas
+mod NotedLemmas
+mod RangeLemmas
+mod RequestLemmas
+mod SentLemmas

@@ -1,0 +1,21 @@
+use Rattle.std.proofs.Common.{refl, sym, ◌∙◌, subst, List, ℕ}
+use Rattle.disk_model.specs.Notes.{Note}
+use Rattle.mirror_core.specs.Note.{Says, Reads}
+use Rattle.mirror_core.specs.Words.{noted}
+use Rattle.mirror_core.proofs.mirror.Mirror.restart.Goals as goal
+
+pub returns-in-Ok-Some : goal.returns-in-Ok-Some
+returns-in-Ok-Some g c =
+    let loaded = c.in-Ok.ensures in
+    let old = g.N.Notes.note c.args.notes in
+    let says = subst (λ (l : List ℕ). Says l c.in-Ok-Some.noted) (c.deref.ensures.value ∙ loaded.1) (subst (Reads c.deref.result.now) c.in-Ok-Some.field-0-is c.in-Ok-Some.ensures) in
+    record {
+      same = loaded.0;
+      said = c.in-Ok-Some.noted;
+      says = says;
+      stands = λ o past said. record {
+        on = refl;
+        durable = subst (λ (n : Note). Says n.bytes (noted o past)) (sym loaded.0) said;
+        knows = c.one_note.ensures old.bytes c.in-Ok-Some.noted (noted o past) says said;
+      };
+    }

@@ -1,0 +1,136 @@
+-- What a mirror answers in a list that can be followed by hand.
+use Rattle.std.specs.Prelude.{◌≡◌, ℕ, false, List, [], ◌∷◌, map, Some, None}
+use Rattle.fc_base.specs.declared.fault.Fault.TheVariants.{Old, Down, Misdirected, Conflict}
+use Rattle.fc_base.specs.declared.record.Kind.TheVariants.{Sequential}
+use Rattle.fc_base.specs.declared.record.Verify.TheVariants.{Stamp}
+use Rattle.disk_model.specs.declared.left.Left.{Left}
+use Rattle.disk_model.specs.declared.left.Left.TheVariants.{LostNew, LostOld}
+use Rattle.verify_state.specs.State.{State}
+use Rattle.messages.specs.declared.body.Body.{Body}
+use Rattle.messages.specs.declared.body.Body.TheVariants as bodies
+use Rattle.messages.specs.declared.frame.Frame.{Frame}
+use Rattle.messages.specs.declared.frame.Frame.TheVariants.{Whole, Piece}
+use Rattle.messages.specs.declared.kind.PacketKind.TheVariants as kinds
+use Rattle.messages.specs.declared.node.Node.TheVariants as nodes
+use Rattle.mirror_core.specs.Note.{blank}
+use Rattle.mirror_core.specs.History.{Entry, Met, Cut, Restart}
+use Rattle.mirror_core.specs.Saves.{Grant, Keep, left_by}
+use Rattle.mirror_core.specs.Words.{is_on, refusal, due, generation, kept, looked}
+use Rattle.mirror_core.specs.Packets.{packets}
+
+-- The client says this to the mirror.
+abbrev pub said : Body → Frame
+said body = Whole (record { from = nodes.Client; to = nodes.Mirror; body = body })
+
+-- A frame that is answered: it saves where it has something to save.
+abbrev pub met : List Entry → Frame → Entry
+met past f = Met f (left_by (due blank past f))
+
+-- The list of these frames, the newest first, behind these entries.
+abbrev pub behind : List Entry → List Frame → List Entry
+behind past [] = past
+behind past (f ∷ frames) = met (behind past frames) f ∷ behind past frames
+
+-- What is sent in answer to a frame.
+abbrev pub sent : List Entry → Frame → List Body
+sent past f = map (λ p. p.body) (packets blank past (met past f))
+
+-- The state of job 1 of run 1 at server 0, which has issued so many of its two writes.
+abbrev pub state : ℕ → State
+state issued = record {
+  key = record { run = 1; server = 0; job = 1 };
+  job = record {
+    kind = Sequential;
+    verify = Stamp;
+    pattern = 0;
+    bs = 512;
+    blocks = 2;
+    total = 2;
+    seed = 1;
+    depth = 2;
+    window = 2;
+  };
+  issued = issued;
+  place = 1 ∷ 2 ∷ 3 ∷ 4 ∷ [];
+  counted = 0 ∷ [];
+}
+
+-- A mirror over a blank note.
+abbrev pub opened : List Entry
+opened = Restart ∷ []
+
+-- The first client asks for its generation.
+abbrev pub granted : List Entry
+granted = behind opened (said (bodies.Fetch 1) ∷ [])
+
+-- It sends a copy.
+abbrev pub kept_one : List Entry
+kept_one = behind granted (said (bodies.Copy (state 2)) ∷ [])
+
+-- The next client asks for its own.
+abbrev pub granted_next : List Entry
+granted_next = behind kept_one (said (bodies.Fetch 2) ∷ [])
+
+-- A generation is saved before it is granted, and is granted again without a save; the kept states follow;
+-- an older one is refused.
+pub record Grants : Type 0 where
+  pub saves : due blank opened (said (bodies.Fetch 1)) ≡ Some (Grant 1)
+  pub first : sent opened (said (bodies.Fetch 1)) ≡ bodies.Granted 1 ∷ []
+  pub saved_once : due blank kept_one (said (bodies.Fetch 1)) ≡ None
+  pub again :
+      sent kept_one (said (bodies.Fetch 1)) ≡ bodies.Granted 1 ∷ (bodies.Copy (state 2) ∷ [])
+  pub saves_next : due blank kept_one (said (bodies.Fetch 2)) ≡ Some (Grant 2)
+  pub next :
+      sent kept_one (said (bodies.Fetch 2)) ≡ bodies.Granted 2 ∷ (bodies.Copy (state 2) ∷ [])
+  pub old : refusal blank granted_next (said (bodies.Fetch 1)) ≡ Some Old
+
+-- A state is saved and then reported as kept, and again without a save; another state of its key is
+-- refused.
+pub record KeepsTheFirst : Type 0 where
+  pub saves : due blank granted (said (bodies.Copy (state 2))) ≡ Some (Keep (state 2))
+  pub told : sent granted (said (bodies.Copy (state 2))) ≡ bodies.CopyOk 1 0 1 ∷ []
+  pub kept : kept blank kept_one (record { run = 1; server = 0; job = 1 }) ≡ Some (state 2)
+  pub saved_once : due blank kept_one (said (bodies.Copy (state 2))) ≡ None
+  pub again : sent kept_one (said (bodies.Copy (state 2))) ≡ bodies.CopyOk 1 0 1 ∷ []
+  pub conflict : refusal blank kept_one (said (bodies.Copy (state 1))) ≡ Some Conflict
+
+-- What isn't the client's, isn't the mirror's, is of another kind, or is a piece is misdirected.
+pub record TakesItsOwn : Type 0 where
+  pub from_a_server :
+      refusal blank granted (Whole (record { from = nodes.Server 0; to = nodes.Mirror; body = bodies.Fetch 1 }))
+      ≡ Some Misdirected
+  pub to_the_client :
+      refusal blank granted (Whole (record { from = nodes.Client; to = nodes.Client; body = bodies.Fetch 1 }))
+      ≡ Some Misdirected
+  pub of_another_kind : refusal blank granted (said (bodies.Granted 1)) ≡ Some Misdirected
+  pub in_pieces :
+      refusal blank granted (Piece (record {
+        from = nodes.Client;
+        to = nodes.Mirror;
+        tag = record { whole = kinds.Copy; run = 1; number = 0; server = 0; job = 1; length = 136 };
+        at = 0;
+        bytes = [];
+      })) ≡ Some Misdirected
+
+-- A copy whose save failed.
+abbrev pub lost : Left → List Entry
+lost left = Met (said (bodies.Copy (state 2))) left ∷ granted
+
+-- A mirror whose save failed sends nothing and is down until it is restarted; it then keeps the state where
+-- the note has the new bytes. What only looks answers as before.
+pub record GoesDown : Type 0 where
+  pub sends_nothing : packets blank granted (Met (said (bodies.Copy (state 2))) LostNew) ≡ []
+  pub off : is_on (lost LostNew) ≡ false
+  pub down : refusal blank (lost LostNew) (said (bodies.Fetch 1)) ≡ Some Down
+  pub looks : looked (lost LostNew) ≡ granted
+  pub has_new : due blank (Restart ∷ lost LostNew) (said (bodies.Copy (state 2))) ≡ None
+  pub has_old :
+      due blank (Restart ∷ lost LostOld) (said (bodies.Copy (state 2))) ≡ Some (Keep (state 2))
+
+-- A cut loses neither the generation nor a state.
+pub record ForgetsNothing : Type 0 where
+  pub off : refusal blank (Cut ∷ granted_next) (said (bodies.Fetch 2)) ≡ Some Down
+  pub generation : generation blank (Restart ∷ (Cut ∷ granted_next)) ≡ 2
+  pub states :
+      sent (Restart ∷ (Cut ∷ granted_next)) (said (bodies.Fetch 3))
+      ≡ bodies.Granted 3 ∷ (bodies.Copy (state 2) ∷ [])

@@ -1,0 +1,12 @@
+pub mod Bounds
+pub mod Ends
+pub mod Examples
+pub mod History
+pub mod Laws
+pub mod Note
+pub mod Packets
+pub mod Refusals
+pub mod Requests
+pub mod Saves
+pub mod Stands
+pub mod Words

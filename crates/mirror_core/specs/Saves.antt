@@ -1,0 +1,64 @@
+-- What a frame adds to the note.
+use Rattle.std.specs.Prelude.{ℕ, Bool, true, false, if◌then◌else◌, nat_lt, [], ◌∷◌, ◌++◌, Option, Some, None}
+use Rattle.fc_base.specs.declared.fault.Fault.{Fault}
+use Rattle.disk_model.specs.declared.left.Left.{Left}
+use Rattle.disk_model.specs.declared.left.Left.TheVariants.{NoSave, Saved}
+use Rattle.verify_state.specs.State.{State}
+use Rattle.messages.specs.declared.frame.Frame.{Frame}
+use Rattle.state_table.specs.Kept.{kept_of}
+use Rattle.mirror_core.specs.declared.noted.Noted.{Noted}
+use Rattle.mirror_core.specs.declared.request.Request.{Request}
+use Rattle.mirror_core.specs.declared.request.Request.TheVariants.{Copy, Fetch}
+use Rattle.mirror_core.specs.Requests.{request_in}
+use Rattle.mirror_core.specs.Refusals.{refusal_by}
+
+-- A greater generation, or one more state.
+pub data Addition : Type 0 where
+  Grant : ℕ → Addition
+  Keep : State → Addition
+
+-- The note with the addition.
+abbrev pub with_addition : Addition → Noted → Noted
+with_addition (Grant generation) n = record { generation = generation; kept = n.kept }
+with_addition (Keep state) n = record { generation = n.generation; kept = n.kept ++ state ∷ [] }
+
+-- A state is added where none of its key is kept.
+abbrev pub unless_kept : Option State → State → Option Addition
+unless_kept None state = Some (Keep state)
+unless_kept (Some kept) state = None
+
+-- What is added for what is asked for: a state of a key of which none is kept, or a generation that is
+-- greater than the note's.
+abbrev pub addition_by : Noted → Request → Option Addition
+addition_by n (Copy state) = unless_kept (kept_of state.key n.kept) state
+addition_by n (Fetch generation) = if nat_lt n.generation generation then Some (Grant generation) else None
+
+-- What is added for a frame that isn't refused.
+abbrev pub addition_of : Noted → Option Request → Option Addition
+addition_of n None = None
+addition_of n (Some request) = addition_by n request
+
+-- Nothing is added for a frame that is refused.
+abbrev pub unless_refused : Option Fault → Option Addition → Option Addition
+unless_refused None addition = addition
+unless_refused (Some fault) addition = None
+
+-- What a frame is due to add to the note.
+abbrev pub due_by : Bool → Noted → Frame → Option Addition
+due_by on n f = unless_refused (refusal_by on n f) (addition_of n (request_in f))
+
+-- An addition counts where the new bytes are there.
+abbrev pub noted_after : Bool → Option Addition → Noted → Noted
+noted_after new None n = n
+noted_after new (Some addition) n = if new then with_addition addition n else n
+
+-- What an answered frame leaves: it saves where it adds something.
+abbrev pub left_by : Option Addition → Left
+left_by None = NoSave
+left_by (Some addition) = Saved
+
+-- The frame left what an answered frame leaves.
+abbrev pub is_answer : Option Addition → Left → Bool
+is_answer None NoSave = true
+is_answer (Some addition) Saved = true
+is_answer _ _ = false

@@ -1,0 +1,62 @@
+-- The words of a mirror, each read from the list: whether it is on, what its note says, which frames it
+-- refuses, and what they are due to save.
+use Rattle.std.specs.Prelude.{ℕ, Bool, false, true, not, ◌&&◌, is_none, is_some, List, [], ◌∷◌, Option, if◌then◌else◌}
+use Rattle.fc_base.specs.declared.numbers.Key.{Key}
+use Rattle.fc_base.specs.declared.fault.Fault.{Fault}
+use Rattle.disk_model.specs.declared.left.Left.{Left}
+use Rattle.disk_model.specs.Left.{has_new, is_lost}
+use Rattle.verify_state.specs.State.{State}
+use Rattle.messages.specs.declared.frame.Frame.{Frame}
+use Rattle.state_table.specs.Kept.{kept_of}
+use Rattle.mirror_core.specs.declared.noted.Noted.{Noted}
+use Rattle.mirror_core.specs.History.{Entry, Met, Cut, Restart}
+use Rattle.mirror_core.specs.Refusals.{refusal_by}
+use Rattle.mirror_core.specs.Saves.{Addition, due_by, noted_after, is_answer}
+
+-- The mirror is on: it was restarted, and since then came no cut and no failed save.
+abbrev pub is_on : List Entry → Bool
+is_on [] = false
+is_on (Met f left ∷ past) = is_on past && not (is_lost left)
+is_on (Cut ∷ past) = false
+is_on (Restart ∷ past) = true
+
+-- What the note says: what it said at the opening, and what was added by each save that left the new
+-- bytes.
+abbrev pub noted : Noted → List Entry → Noted
+noted o [] = o
+noted o (Met f left ∷ past) =
+    noted_after (has_new left) (due_by (is_on past) (noted o past) f) (noted o past)
+noted o (Cut ∷ past) = noted o past
+noted o (Restart ∷ past) = noted o past
+
+-- Why a frame is refused.
+abbrev pub refusal : Noted → List Entry → Frame → Option Fault
+refusal o past f = refusal_by (is_on past) (noted o past) f
+
+-- What a frame is due to add to the note.
+abbrev pub due : Noted → List Entry → Frame → Option Addition
+due o past f = due_by (is_on past) (noted o past) f
+
+-- A frame makes a save where it is due to add something.
+abbrev pub would_save : Noted → List Entry → Frame → Bool
+would_save o past f = is_some (due o past f)
+
+-- The frame is answered: it isn't refused, and its save, where it makes one, answered Ok.
+abbrev pub is_answered : Noted → List Entry → Frame → Left → Bool
+is_answered o past f left = is_none (refusal o past f) && is_answer (due o past f) left
+
+-- The generation that the mirror has granted.
+abbrev pub generation : Noted → List Entry → ℕ
+generation o past = (noted o past).generation
+
+-- The kept state of a key: that of the opening, else the first that came and was saved.
+abbrev pub kept : Noted → List Entry → Key → Option State
+kept o past key = kept_of key (noted o past).kept
+
+-- What the calls that only look answer from: all that came, but for what came from a failed save on.
+abbrev pub looked : List Entry → List Entry
+looked [] = []
+looked (Met f left ∷ past) =
+    if is_on past then (if is_lost left then past else Met f left ∷ past) else looked past
+looked (Cut ∷ past) = []
+looked (Restart ∷ past) = Restart ∷ past

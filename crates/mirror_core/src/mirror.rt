@@ -1,0 +1,124 @@
+//! A mirror over its durable note.
+
+ghost use Rattle.std.specs.Prelude.{◌≡◌, List, not, IfOk};
+ghost use Rattle.std.specs.Option.{option_copied};
+ghost use Rattle.mirror_core.specs.declared.noted.Noted.{Noted as Opening};
+ghost use Rattle.mirror_core.specs.History.{Entry};
+ghost use Rattle.mirror_core.specs.Note.{Says};
+ghost use Rattle.mirror_core.specs.Refusals.{IsAdmitted};
+ghost use Rattle.mirror_core.specs.Requests.{IsRequest};
+ghost use Rattle.mirror_core.specs.Words.{is_on, noted, generation, kept, looked, would_save};
+
+mod deliver;
+mod save;
+
+use crate::noted::{Noted, one_note};
+use crate::request::{Request, request_in};
+use disk_model::Notes;
+use fc_base::{Fault, Key};
+use messages::Frame;
+use std::alloc::Global;
+use verify_state::VerifyState;
+
+/// A mirror: its durable note, and what it knows of it. It is down once a save has failed, until it is
+/// restarted.
+#[derive(Drop)]
+pub struct Mirror<N> {
+    alloc: Global,
+    notes: N,
+    noted: Noted,
+    down: bool,
+}
+
+impl<N: Notes> Mirror<N> {
+    ghost use Rattle.mirror_core.specs.Stands.{StandsFor, Restarts};
+
+    /// Opens a mirror over its note, and saves nothing. The notes come back where it can't:
+    /// [`Fault::LoadFault`], the device failed; [`Fault::BadNote`], the bytes are no note;
+    /// [`Fault::NoMemory`].
+    pub fn restart(alloc: Global, notes: N) -> Result<Mirror<N>, (N, Fault)>
+        ensures { Restarts N.note (N.note notes) result }
+    {
+        one_note();
+        let mut notes = notes;
+        let bytes = match notes.load() {
+            Ok(bytes) => bytes,
+            Err(fault) => return Err((notes, fault)),
+        };
+        match Noted::decode(alloc, &bytes) {
+            Ok(Some(noted)) => Ok(Mirror {
+                alloc,
+                notes,
+                noted,
+                down: false,
+            }),
+            Ok(None) => Err((notes, Fault::BadNote)),
+            Err(_) => Err((notes, Fault::NoMemory)),
+        }
+    }
+
+    /// The notes of a mirror that is taken off.
+    pub fn off(self) -> N
+        ensures { (o : Opening) (past : List Entry) → StandsFor N.note self o past → Says (N.note result).bytes (noted o past) }
+    {
+        let Mirror {
+            alloc: _,
+            notes,
+            noted: _,
+            down: _,
+        } = self;
+        notes
+    }
+
+    /// Whether it is on: a mirror whose save failed is down until it is restarted.
+    pub fn on(&self) -> bool
+        ensures { (o : Opening) (past : List Entry) → StandsFor N.note self.now o past → result ≡ is_on past }
+    {
+        !self.down
+    }
+
+    /// The greatest generation that was asked for, 0 where none was. Where a save has failed, up to it.
+    pub fn generation(&self) -> u64
+        ensures { (o : Opening) (past : List Entry) → StandsFor N.note self.now o past →
+            result ≡ generation o (looked past) }
+    {
+        self.noted.generation
+    }
+
+    /// The kept state of a key. Where a save has failed, up to it.
+    pub fn kept(&self, key: Key) -> Option<&VerifyState>
+        ensures { (o : Opening) (past : List Entry) → StandsFor N.note self.now o past →
+            option_copied result ≡ kept o (looked past) key }
+    {
+        self.noted.kept.get(key)
+    }
+
+    /// Whether the delivery of this frame would make a save: it isn't refused, and is a Copy of a key of
+    /// which no state is kept, or a Fetch of a generation that is greater than all before.
+    pub fn would_save(&self, frame: &Frame) -> bool
+        ensures { (o : Opening) (past : List Entry) → StandsFor N.note self.now o past →
+            result ≡ would_save o past frame.now }
+    {
+        match self.admit(frame) {
+            Ok(request) => self.noted.lacks(&request),
+            Err(_) => false,
+        }
+    }
+
+    /// What a frame asks for, or why it is refused.
+    fn admit(&self, frame: &Frame) -> Result<Request, Fault>
+        ensures value { IsAdmitted (not self.now.down) self.now.noted frame.now result }
+        ensures range { IfOk result IsRequest }
+    {
+        if self.down {
+            return Err(Fault::Down);
+        }
+        let Some(request) = request_in(frame) else {
+            return Err(Fault::Misdirected);
+        };
+        match self.noted.fault_of(&request) {
+            Some(fault) => Err(fault),
+            None => Ok(request),
+        }
+    }
+}
