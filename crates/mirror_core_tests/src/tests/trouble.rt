@@ -1,0 +1,23 @@
+//! Why a story doesn't go on.
+
+use std::alloc::AllocError;
+
+#[derive(Clone, Copy, Debug, PartialEq, Eq)]
+pub enum Trouble {
+    /// Memory ran out, twice.
+    NoMemory,
+    /// The frame of a row is refused by this number.
+    BadFrame(u8),
+    /// The row is none.
+    BadRow,
+    /// The mirror is off, or is on.
+    NoMirror,
+    /// A refused frame has changed the mirror, or a note isn't written as it was read.
+    Changed,
+}
+
+impl From<AllocError> for Trouble {
+    fn from(_error: AllocError) -> Trouble {
+        Trouble::NoMemory
+    }
+}
