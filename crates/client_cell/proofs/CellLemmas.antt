@@ -30,29 +30,34 @@ use Rattle.client_cell.specs.Tasks.{came_by}
 -- ---- a new cell
 
 abbrev pub first : List FrameEntry
-first = Restart ∷ []
+first = Restart false ∷ []
 
 abbrev pub opening_by : ℕ → Noted → Opening
 opening_by servers said = record { servers = servers; noted = said }
 
-pub opened_once : {T : Type 0} (note : T → Note) (servers : ℕ) (notes : T) (client : Client T) (h : Opens note servers (note notes) client) → StandsFor note client (opening_by servers h.said) first
+pub opened_once : {T : Type 0} (note : T → Note) (servers : ℕ) (notes : T) (client : Client T) (h : Opens note servers false (note notes) client) → StandsFor note client (opening_by servers h.said) first
 opened_once note servers notes client h = h.stands (opening_by servers h.said) [] refl h.says
 
 is_empty : {X : Type 0} (xs : List X) → length xs ≡ 0 → xs ≡ []
 is_empty [] h = refl
 is_empty (x ∷ xs) h = absurd (omega (arith, h))
 
-noted_of : (n : Noted) → n.runs ≡ 0 → n.attempts ≡ 0 → n.kept ≡ [] → n ≡ blank
-noted_of n r a k = ap (λ x. record n { runs = x }) r ∙ ap (λ x. record n { runs = 0; attempts = x }) a ∙ ap (λ x. record n { runs = 0; attempts = 0; kept = x }) k
+noted_of : (n : Noted) → n.generation ≡ 0 → n.runs ≡ 0 → n.attempts ≡ 0 → n.kept ≡ [] → n ≡ blank
+noted_of n g r a k =
+    ap (λ x. record n { generation = x }) g
+    ∙ ap (λ x. record n { generation = 0; runs = x }) r
+    ∙ ap (λ x. record n { generation = 0; runs = 0; attempts = x }) a
+    ∙ ap (λ x. record n { generation = 0; runs = 0; attempts = 0; kept = x }) k
 
 -- A note that says nothing says what a blank one says.
 pub says_nothing : (n : Noted) → is_blank n ≡ true → n ≡ blank
 says_nothing n h =
-    let parts = and_parts (n.runs == 0) ((n.attempts == 0) && (length n.kept == 0)) h in
+    let whole = and_parts (n.generation == 0) ((n.runs == 0) && ((n.attempts == 0) && (length n.kept == 0))) h in
+    let parts = and_parts (n.runs == 0) ((n.attempts == 0) && (length n.kept == 0)) whole.1 in
     let rest = and_parts (n.attempts == 0) (length n.kept == 0) parts.1 in
-    noted_of n (eqb-true n.runs 0 parts.0) (eqb-true n.attempts 0 rest.0) (is_empty n.kept (eqb-true (length n.kept) 0 rest.1))
+    noted_of n (eqb-true n.generation 0 whole.0) (eqb-true n.runs 0 parts.0) (eqb-true n.attempts 0 rest.0) (is_empty n.kept (eqb-true (length n.kept) 0 rest.1))
 
-pub new_cell : {T : Type 0} (note : T → Note) (servers : ℕ) (notes : T) (client : Client T) (h : Opens note servers (note notes) client) (nothing : Bool) (history : List Logged) → 1 ≤ servers → servers ≤ 8 → nothing ≡ is_blank h.said → history ≡ []
+pub new_cell : {T : Type 0} (note : T → Note) (servers : ℕ) (notes : T) (client : Client T) (h : Opens note servers false (note notes) client) (nothing : Bool) (history : List Logged) → 1 ≤ servers → servers ≤ 8 → nothing ≡ is_blank h.said → history ≡ []
     → IsCell note (record { servers = servers; is_blank = nothing; history = reverse history }) (On client)
 new_cell note servers notes client h nothing history some few is none = rw none (record {
   o = opening_by servers h.said;

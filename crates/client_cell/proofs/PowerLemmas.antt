@@ -17,12 +17,13 @@ use Rattle.messages.specs.Hearing.{Meaning, Says as Speaks, Waits, Spoils, Stray
 use Rattle.client_core.specs.declared.client.Client.{Client}
 use Rattle.client_core.specs.declared.input.Input.{Input}
 use Rattle.client_core.specs.declared.input.Input.TheVariants as inputs
+use Rattle.client_core.specs.declared.noted.Noted.{Noted}
 use Rattle.client_core.specs.History as packets
 use Rattle.client_core.specs.History.{Opening}
 use Rattle.client_core.specs.Note.{Says}
 use Rattle.client_core.specs.Ranges.{CameInRange}
 use Rattle.client_core.specs.Words.{noted}
-use Rattle.client_core.specs.Stands.{NotOpened}
+use Rattle.client_core.specs.Stands.{IsBadNote, NotOpened}
 use Rattle.client_core.specs.Hearing.{FrameEntry, Met, Cut, Restart, packets_heard, heard_at, rules as hearing}
 use Rattle.client_core.specs.FrameAnswers as answers
 use Rattle.client_core.specs.FrameAnswers.{Sense, Hears, Keeps, Drops, Misses, sense, sense_of, is_drop}
@@ -64,9 +65,9 @@ up : (b : Bool) (x : Option Fault) (y : Option Fault) → b ≡ true → (if b t
 up true x y h = refl
 up false x y h = cc
 
-answers_step : {T : Type 0} (note : T → Note) (o : Opening) (past : List FrameEntry) (e : Input) (client : Client T) (outs : Outs) → is_up o past ≡ true
-    → outs.answer ≡ answer_to o past e → ends.Answers note o past e client outs.frames → SenseInRange (sense o past e) → Answers note o past e (On client) outs
-answers_step note o past e client outs on said a h = record {
+answers_step : {T : Type 0} (note : T → Note) (o : Opening) (past : List FrameEntry) (e : Input) (old client : Client T) (outs : Outs) → is_up o past ≡ true
+    → outs.answer ≡ answer_to o past e → ends.Answers note o past e old client outs.frames → SenseInRange (sense o past e) → Answers note o past e (On client) outs
+answers_step note o past e old client outs on said a h = record {
   moves = record {
     after = answers.answered o past e ∷ past;
     ends = record {
@@ -167,7 +168,7 @@ off_ends note o past e power off s = record {
 -- A client that is on takes a frame.
 pub deliver_ends : {T : Type 0} (note : T → Note) (o : Opening) (past : List FrameEntry) (frame : _) (old client : Client T) (sent : Result (List (List ℕ)) Fault) → is_up o past ≡ true
     → ends.Ends note o past (inputs.Deliver frame) old client sent → HearsInRange o past (inputs.Deliver frame) sent → StepEnds note o past (inputs.Deliver frame) (On client) (outs_of sent)
-deliver_ends note o past frame old client (Ok sent) on a h = answers_step note o past (inputs.Deliver frame) client (record { answer = Plain; frames = sent }) on refl a h
+deliver_ends note o past frame old client (Ok sent) on a h = answers_step note o past (inputs.Deliver frame) old client (record { answer = Plain; frames = sent }) on refl a h
 deliver_ends note o past frame old client (Err fault) on f h = faults_step note o past (inputs.Deliver frame) old client fault on (sort_of fault) f h refl
 
 -- What its caller asks brings no packet.
@@ -184,18 +185,18 @@ not_answered note o past e old client fault on h f = faults_step note o past e o
 -- A call that has no number.
 pub plain_ends : {T : Type 0} (note : T → Note) (o : Opening) (past : List FrameEntry) (e : Input) (old client : Client T) (sent : Result (List (List ℕ)) Fault) → is_up o past ≡ true
     → SenseInRange (sense o past e) → Plain ≡ answer_to o past e → ends.Ends note o past e old client sent → StepEnds note o past e (On client) (outs_of sent)
-plain_ends note o past e old client (Ok sent) on h said a = answers_step note o past e client (record { answer = Plain; frames = sent }) on said a h
+plain_ends note o past e old client (Ok sent) on h said a = answers_step note o past e old client (record { answer = Plain; frames = sent }) on said a h
 plain_ends note o past e old client (Err fault) on h said f = not_answered note o past e old client fault on h f
 
 -- A call that gives a number.
 pub begin_ends : {T : Type 0} (note : T → Note) (o : Opening) (past : List FrameEntry) (text : List ℕ) (old client : Client T) (given : Result (ℕ × List (List ℕ)) Fault) → is_up o past ≡ true
     → ends.Gives note o past (inputs.Begin text) (noted o (packets_heard o past)).runs old client given → StepEnds note o past (inputs.Begin text) (On client) (outs_of_run given)
-begin_ends note o past text old client (Ok given) on a = answers_step note o past (inputs.Begin text) client (record { answer = Run given.0; frames = given.1 }) on (ap Run a.0) a.1 tt
+begin_ends note o past text old client (Ok given) on a = answers_step note o past (inputs.Begin text) old client (record { answer = Run given.0; frames = given.1 }) on (ap Run a.0) a.1 tt
 begin_ends note o past text old client (Err fault) on f = not_answered note o past (inputs.Begin text) old client fault on tt f
 
 pub verify_ends : {T : Type 0} (note : T → Note) (o : Opening) (past : List FrameEntry) (run : ℕ) (text : List ℕ) (old client : Client T) (given : Result (ℕ × List (List ℕ)) Fault) → is_up o past ≡ true
     → ends.Gives note o past (inputs.Verify run text) (noted o (packets_heard o past)).attempts old client given → StepEnds note o past (inputs.Verify run text) (On client) (outs_of_attempt given)
-verify_ends note o past run text old client (Ok given) on a = answers_step note o past (inputs.Verify run text) client (record { answer = Attempt given.0; frames = given.1 }) on (ap Attempt a.0) a.1 tt
+verify_ends note o past run text old client (Ok given) on a = answers_step note o past (inputs.Verify run text) old client (record { answer = Attempt given.0; frames = given.1 }) on (ap Attempt a.0) a.1 tt
 verify_ends note o past run text old client (Err fault) on f = not_answered note o past (inputs.Verify run text) old client fault on tt f
 
 -- ---- a cut
@@ -227,16 +228,21 @@ on_refuses note o past power on s = record {
   ranges = λ h. h;
 }
 
-pub started : {T : Type 0} (note : T → Note) (o : Opening) (past : List FrameEntry) (servers : ℕ) (notes : T) (client : Client T) → o.servers ≡ servers → is_up o past ≡ false → Says (note notes).bytes (noted o (packets_heard o past)) → ends.Opens note servers (note notes) client
+pub started : {T : Type 0} (note : T → Note) (o : Opening) (past : List FrameEntry) (servers : ℕ) (notes : T) (client : Client T) → o.servers ≡ servers → is_up o past ≡ false → Says (note notes).bytes (noted o (packets_heard o past)) → ends.Opens note servers false (note notes) client
     → TaskEnds note o past tasks.Restart (On client) (Ok plain)
 started note o past servers notes client is off says h = record {
-  after = Restart ∷ past;
-  ends = record { free = ap (λ b. if b then Some NodeOn else None) off; said_is = refl; entry = Restart; entry_is = refl; sent_are = refl; after_is = refl };
+  after = Restart false ∷ past;
+  ends = record { free = ap (λ b. if b then Some NodeOn else None) off; said_is = refl; entry = Restart false; entry_is = refl; sent_are = refl; after_is = refl };
   stands = h.stands o past is says;
   ranges = λ h. h;
 }
 
-pub unstarted : {T : Type 0} (note : T → Note) (o : Opening) (past : List FrameEntry) (notes back : T) (fault : Fault) → is_up o past ≡ false → Says (note notes).bytes (noted o (packets_heard o past)) → NotOpened (note notes) (note back) fault
+-- Without a mirror a bad note says nothing.
+no_note : (bytes : List ℕ) → IsBadNote false bytes → (said : Noted) → Says bytes said → ⊥
+no_note bytes (inl bad) said says = bad said says
+no_note bytes (inr empty) said says = cc
+
+pub unstarted : {T : Type 0} (note : T → Note) (o : Opening) (past : List FrameEntry) (notes back : T) (fault : Fault) → is_up o past ≡ false → Says (note notes).bytes (noted o (packets_heard o past)) → NotOpened false (note notes) (note back) fault
     → TaskEnds note o past tasks.Restart (Off back) (Err fault)
 unstarted note o past notes back LoadFault off says h = record {
   after = past;
@@ -244,7 +250,7 @@ unstarted note o past notes back LoadFault off says h = record {
   stands = (subst (λ bytes. Says bytes (noted o (packets_heard o past))) (sym h.1) says, off);
   ranges = λ h. h;
 }
-unstarted note o past notes back BadNote off says h = absurd (h.1 (noted o (packets_heard o past)) says)
+unstarted note o past notes back BadNote off says h = absurd (no_note (note notes).bytes h.1 (noted o (packets_heard o past)) says)
 unstarted note o past notes back NoMemory off says h = (refl, (subst (λ (n : Note). Says n.bytes (noted o (packets_heard o past))) (sym h) says, off))
 unstarted note o past notes back _ off says h = absurd h
 

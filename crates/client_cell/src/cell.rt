@@ -46,8 +46,8 @@ impl<N: Notes + Drop> ClientCell<N> {
     ghost use Rattle.client_core.specs.FrameEnds.{StandsFor};
     ghost use Rattle.client_cell.specs.Cells.{IsReplay};
 
-    /// Opens a client of so many servers over its note, as `Client::restart` does. Where it isn't opened,
-    /// the notes come back.
+    /// Opens a client of so many servers over its note, as `Client::restart` does without a mirror. Where
+    /// it isn't opened, the notes come back.
     ///
     /// `LoadFault`, `BadNote`, `NoMemory`: the notes hold what they held.
     pub fn new(alloc: Global, servers: u32, notes: N) -> Result<ClientCell<N>, (N, Fault)>
@@ -55,9 +55,9 @@ impl<N: Notes + Drop> ClientCell<N> {
         requires few { servers ≤ 8 }
         ensures opened { IfOk result (λ cell. (said : Noted) × Says (N.note notes).bytes said
             × (cell ≡ record { servers = servers; is_blank = is_blank said; history = [] })) }
-        ensures refused { IfErr result (λ back. NotOpened (N.note notes) (N.note back.0) back.1) }
+        ensures refused { IfErr result (λ back. NotOpened false (N.note notes) (N.note back.0) back.1) }
     {
-        let client = Client::restart(alloc, servers, notes)?;
+        let client = Client::restart(alloc, servers, false, notes)?;
         let is_blank = client.is_blank();
         Ok(ClientCell {
             alloc,

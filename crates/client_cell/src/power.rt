@@ -97,7 +97,7 @@ impl<N: Notes + Drop> Power<N> {
         }
     }
 
-    /// Starts a client over these notes.
+    /// Starts a client over these notes. It has no mirror.
     fn start(&mut self, alloc: Global, servers: u32, notes: N) -> Result<Said, Fault>
         requires some { 1 ≤ servers }
         requires few { servers ≤ 8 }
@@ -105,7 +105,7 @@ impl<N: Notes + Drop> Power<N> {
             Says (N.note notes).bytes (noted o (packets_heard o past)) →
             TaskEnds N.note o past tasks.Restart self.new result }
     {
-        match Client::restart(alloc, servers, notes) {
+        match Client::restart(alloc, servers, false, notes) {
             Ok(client) => {
                 *self = Power::On(client);
                 Ok(plain())

@@ -83,7 +83,7 @@ fn cuts_and_restarts(rt: HostRuntime) {
 
 #[test]
 fn what_is_no_note(rt: HostRuntime) {
-    let opened = open(rt.alloc(), b"FCC2");
+    let opened = open(rt.alloc(), b"FCC3");
     assert!(rt; matches!(opened, Err(Fault::BadNote)));
 }
 

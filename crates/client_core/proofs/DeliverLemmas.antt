@@ -1,24 +1,29 @@
 -- A packet that is delivered.
 use Rattle.std.proofs.Common.{◌≡◌, refl, sym, ap, subst, ◌∙◌, ℕ, ◌<◌, ◌≤◌, arith, Bool, true, false, ◌&&◌, List, [], length, Option, None, Some}
-use Rattle.std.specs.Prelude.{nat_le, not}
+use Rattle.std.specs.Prelude.{if◌then◌else◌, nat_le, not}
 use Rattle.std.proofs.lemmas.Bool.{and_parts}
 use Rattle.std.proofs.lemmas.Bool.Decides.{nat_tests}
 use Rattle.verify_state.specs.State.{State}
 use Rattle.messages.specs.declared.packet.PacketParts.{PacketParts}
 use Rattle.messages.specs.declared.body.Body.{Body}
 use Rattle.messages.specs.declared.body.Body.TheVariants as bodies
-use Rattle.messages.specs.Nodes.{node_number, is_node}
+use Rattle.messages.specs.Nodes.{node_number, is_client, is_mirror, is_node}
 use Rattle.messages.specs.Packets.{is_packet}
 use Rattle.messages.specs.Ranges.{is_body}
 use Rattle.client_core.specs.declared.call.Call.TheVariants.{Deliver}
+use Rattle.messages.specs.Bodies.{kind_of}
+use Rattle.messages.specs.Kinds.{is_of_mirror}
 use Rattle.client_core.specs.declared.noted.Noted.{Noted}
+use Rattle.client_core.specs.declared.peers.Peers.{Peers}
 use Rattle.state_table.specs.Kept.{kept_of}
 use Rattle.client_core.specs.Life.{Deed}
-use Rattle.client_core.specs.Packets.{replies}
-use Rattle.client_core.specs.Refusals.{faults_of_body, refusal_by}
+use Rattle.client_core.specs.Packets.{replies, says_kept}
+use Rattle.client_core.specs.Refusals.{is_for_client, faults_of_body, refusal_by}
 use Rattle.client_core.specs.Saves.{Keep, unless_kept, addition_by}
 use Rattle.client_core.specs.Told.{IsNoReport}
-use Rattle.client_core.proofs.HeardLemmas.{taken_in, sender_below}
+use Rattle.client_core.specs.Words.{granted_in, granted_by}
+use Rattle.fc_base.specs.declared.numbers.Key.{Key}
+use Rattle.client_core.proofs.HeardLemmas.{taken_in, server_below, mirror_parts}
 use Rattle.client_core.proofs.NotedLemmas.{room_fault}
 
 -- A state that is added is of a key of which none is kept, and there is room for it.
@@ -36,24 +41,69 @@ state_new n jobs state s None is e free =
     below : nat_le 1024 (length n.kept) ≡ false → length n.kept < 1024
     below h = grind (arith, nat_tests)
 
+copy_new : (n : Noted) (state s : State) (x : Option State) → kept_of state.key n.kept ≡ x → unless_kept x state ≡ Some (Keep s) → faults_of_body n (bodies.Copy state) ≡ [] → IsNew n (bodies.Copy state) s
+copy_new n state s (Some kept) is e free = cc
+copy_new n state s None is e free =
+    let same : state ≡ s = cc in
+    subst (IsNew n (bodies.Copy state)) same (record { new = is; room = below (room_fault false (nat_le 1024 (length n.kept)) (rw is at free)).1; no_report = tt })
+  where
+    below : nat_le 1024 (length n.kept) ≡ false → length n.kept < 1024
+    below h = grind (arith, nat_tests)
+
 pub adds_new : (n : Noted) (body : Body) (s : State) → addition_by n body ≡ Some (Keep s) → faults_of_body n body ≡ [] → IsNew n body s
 adds_new n (bodies.State jobs state) s e free = state_new n jobs state s (kept_of state.key n.kept) refl e free
+adds_new n (bodies.Copy state) s e free = copy_new n state s (kept_of state.key n.kept) refl e free
 adds_new n _ s e free = cc
 
 -- What is replied to a body is what is replied to its packet.
-pub replied_to : (n : Noted) (deeds : List Deed) (p : PacketParts) (server : ℕ) (body : Body) → p.body ≡ body → node_number p.from ≡ server → replies n deeds server body ≡ replies n deeds (node_number p.from) p.body
-replied_to n deeds p server body e f = ap (λ s. replies n deeds s body) (sym f) ∙ ap (replies n deeds (node_number p.from)) (sym e)
+pub replied_to : (mirror : Bool) (n : Noted) (deeds : List Deed) (p : PacketParts) (server : ℕ) (body : Body) → p.body ≡ body → node_number p.from ≡ server → replies mirror n deeds server body ≡ replies mirror n deeds (node_number p.from) p.body
+replied_to mirror n deeds p server body e f = ap (λ s. replies mirror n deeds s body) (sym f) ∙ ap (replies mirror n deeds (node_number p.from)) (sym e)
 
 pub body_of_packet : (p : PacketParts) → is_packet p ≡ true → is_body p.body ≡ true
 body_of_packet p h = (and_parts (is_node p.from && is_node p.to) (is_body p.body) h).1
 
--- A packet that isn't refused comes from a server, to a client that is up.
-pub deliver_free : (down : Bool) (servers : ℕ) (n : Noted) (p : PacketParts) → servers ≤ 8 → refusal_by (not down) servers n (Deliver p) ≡ None → (down ≡ false) × (node_number p.from < 8) × (faults_of_body n p.body ≡ [])
-deliver_free down servers n p few r =
-    let t = taken_in (not down) servers n p r in
-    let below : node_number p.from < servers = sender_below servers p.from p.to p.body t.1 in
-    (is_up down t.0, omega (arith, below, few), t.2)
+-- A packet that isn't refused comes to a client that is up, and of whose note it has no fault.
+pub deliver_free : (down : Bool) (peers : Peers) (n : Noted) (p : PacketParts) → refusal_by (not down) peers n (Deliver p) ≡ None → (down ≡ false) × (is_for_client peers p ≡ true) × (faults_of_body n p.body ≡ [])
+deliver_free down peers n p r =
+    let t = taken_in (not down) peers n p r in
+    (is_up down t.0, t.1, t.2)
   where
     is_up : (b : Bool) → not b ≡ true → b ≡ false
     is_up true e = cc
     is_up false e = refl
+
+-- What isn't from the mirror is from a server.
+pub from_a_server : (peers : Peers) (p : PacketParts) → peers.servers ≤ 8 → is_mirror p.from ≡ false → is_for_client peers p ≡ true → node_number p.from < 8
+from_a_server peers p few other h = below_eight (node_number p.from) peers.servers (server_below peers p.from p.to p.body other h) few
+  where
+    below_eight : (s servers : ℕ) → s < servers → servers ≤ 8 → s < 8
+    below_eight s servers l few = omega arith
+
+-- What is from the mirror comes to a client that has one, and is of its kinds.
+pub from_the_mirror : (peers : Peers) (p : PacketParts) → is_mirror p.from ≡ true → is_for_client peers p ≡ true → (peers.mirror ≡ true) × (is_of_mirror (kind_of p.body) ≡ true) × (is_client p.to ≡ true)
+from_the_mirror peers p from h = mirror_parts peers p.from p.to p.body from h
+
+-- Nothing is replied to the mirror.
+pub no_reply : (mirror : Bool) (n : Noted) (deeds : List Deed) (server : ℕ) (body : Body) → is_of_mirror (kind_of body) ≡ true → replies mirror n deeds server body ≡ []
+no_reply mirror n deeds server (bodies.Copy state) h = refl
+no_reply mirror n deeds server (bodies.CopyOk r node job) h = refl
+no_reply mirror n deeds server (bodies.Granted generation) h = refl
+no_reply mirror n deeds server _ h = cc
+
+-- What of the mirror's adds a state grants nothing, and tells of no copy.
+pub record IsCopy (p : PacketParts) : Type 0 where
+  pub grants : granted_by (Deliver p) ≡ []
+  pub tells : (key : Key) → says_kept key p.body ≡ false
+
+pub adds_copy : (n : Noted) (p : PacketParts) (body : Body) (s : State) → p.body ≡ body → is_of_mirror (kind_of body) ≡ true → addition_by n body ≡ Some (Keep s) → IsCopy p
+adds_copy n p (bodies.Copy state) s e h adds = record {
+  grants = either (is_client p.to && is_mirror p.from) (granted_in p.body) (ap granted_in e);
+  tells = λ key. ap (says_kept key) e;
+}
+  where
+    either : (b : Bool) (gs : List ℕ) → gs ≡ [] → (if b then gs else []) ≡ []
+    either true gs e = e
+    either false gs e = refl
+adds_copy n p (bodies.CopyOk r node job) s e h adds = cc
+adds_copy n p (bodies.Granted generation) s e h adds = cc
+adds_copy n p _ s e h adds = cc

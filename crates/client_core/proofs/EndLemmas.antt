@@ -21,11 +21,13 @@ use Rattle.client_core.specs.Life.{life, deeds_of}
 use Rattle.client_core.specs.Lives.{LifeIs, EachLife}
 use Rattle.client_core.specs.Refusals.{refusal_by}
 use Rattle.client_core.specs.Saves.{Addition, with_addition, addition_of, unless_refused, noted_after, left_by, is_answer}
-use Rattle.client_core.specs.Words.{is_on, noted, looked, refusal, due, is_answered}
+use Rattle.client_core.specs.declared.peers.Peers.{Peers}
+use Rattle.client_core.specs.Words.{is_on, granted_by, noted, looked, refusal, due, is_answered, peers}
 use Rattle.client_core.specs.Packets.{packets, packets_for}
 use Rattle.client_core.specs.Stands.{StandsFor}
-use Rattle.client_core.specs.Ends.{answered, Fails, Faults, Unsaved, Stores}
+use Rattle.client_core.specs.Ends.{answered, LeavesNote, lost_bytes, Fails, Faults, Unsaved, Stores}
 use Rattle.client_core.proofs.Looked.{looks_at_all}
+use Rattle.client_core.proofs.PeersLemmas.{peers_stay, refused_peers}
 use Rattle.client_core.proofs.RefusalLemmas.{refusal_is, refusal_sort}
 
 -- ---- what a client that is up keeps
@@ -37,6 +39,7 @@ is_up false e = cc
 -- What a client that is up keeps is what its list says.
 pub record Knows {T : Type 0} (note : T → Note) (client : PacketClient T) (o : Opening) (past : List Entry) : Type 0 where
   pub on : is_on past ≡ true
+  pub peers : client.peers ≡ peers o past
   pub knows : client.noted ≡ noted o past
   pub lives : LifeIs client.life (life o past)
 
@@ -45,6 +48,7 @@ knows_now note client o past up s =
     let on = is_up (is_on past) (sym up ∙ s.on) in
     record {
       on = on;
+      peers = s.peers ∙ ap (peers o) (looks_at_all past on);
       knows = s.knows ∙ ap (noted o) (looks_at_all past on);
       lives = subst (λ p. LifeIs client.life (life o p)) (looks_at_all past on) s.lives;
     }
@@ -68,7 +72,7 @@ not_answered (Some g) fault b e = refl
 pub refused_stands : {T : Type 0} (note : T → Note) (client : PacketClient T) (o : Opening) (past : List Entry) (c : Call) (fault : Fault) → refusal o past c ≡ Some fault → StandsFor note client o past → StandsFor note client o (Met c NoSave ∷ past)
 refused_stands note client o past c fault r s = record {
   on = s.on ∙ ap not (sym (and_true (is_on past)));
-  servers = s.servers;
+  peers = s.peers ∙ sym (by_on (is_on past) (peers o) (looked past) (λ on. refused_peers o past c NoSave fault r ∙ ap (peers o) (sym (looks_at_all past on))));
   few = s.few;
   durable = subst (λ n. Says (note client.notes).bytes n) (sym same_noted) s.durable;
   knows = s.knows ∙ sym (by_on (is_on past) (noted o) (looked past) (λ on. same_noted ∙ ap (noted o) (sym (looks_at_all past on))));
@@ -100,20 +104,20 @@ pub due_now : (o : Opening) (past : List Entry) (c : Call) → refusal o past c 
 due_now o past c free = ap (λ r. unless_refused r (addition_of (noted o past) c)) free
 
 -- What an answered call sends.
-pub sends_now : (o : Opening) (past : List Entry) (c : Call) → refusal o past c ≡ None → framed (packets_for o.servers (noted o past) (life o past) c) ≡ framed (packets o past (answered o past c))
-sends_now o past c free = ap (λ b. framed (if b then packets_for o.servers (noted o past) (life o past) c else [])) (sym (is_answered_now o past c free))
+pub sends_now : (o : Opening) (past : List Entry) (c : Call) → refusal o past c ≡ None → framed (packets_for (peers o past) (noted o past) (life o past) c) ≡ framed (packets o past (answered o past c))
+sends_now o past c free = ap (λ b. framed (if b then packets_for (peers o past) (noted o past) (life o past) c else [])) (sym (is_answered_now o past c free))
 
 new_noted : (d : Option Addition) (n : Noted) → noted_after (has_new (left_by d)) d n ≡ noted_after true d n
 new_noted None n = refl
 new_noted (Some a) n = refl
 
 -- An answered call is added, where what is kept and noted is what it leaves.
-pub answered_stands : {T : Type 0} (note : T → Note) (client : PacketClient T) (o : Opening) (past : List Entry) (c : Call) → refusal o past c ≡ None → is_on past ≡ true → client.down ≡ false → client.servers ≡ o.servers → o.servers ≤ 8
+pub answered_stands : {T : Type 0} (note : T → Note) (client : PacketClient T) (o : Opening) (past : List Entry) (c : Call) → refusal o past c ≡ None → is_on past ≡ true → client.down ≡ false → client.peers ≡ peers o (answered o past c ∷ past) → o.servers ≤ 8
     → Says (note client.notes).bytes (noted_after true (addition_of (noted o past) c) (noted o past)) → client.noted ≡ noted_after true (addition_of (noted o past) c) (noted o past) → LifeIs client.life (deeds_of (noted o past) c ++ life o past)
     → StandsFor note client o (answered o past c ∷ past)
-answered_stands note client o past c free on up servers few says knows lives = record {
+answered_stands note client o past c free on up with few says knows lives = record {
   on = up ∙ sym (ap not (ap (λ b. b && not (is_lost (left_by (due o past c)))) on ∙ ap not (not_lost (due o past c))));
-  servers = servers;
+  peers = with ∙ sym (ap (peers o) look);
   few = few;
   durable = subst (Says (note client.notes).bytes) (sym noted_is) says;
   knows = knows ∙ sym (ap (noted o) look ∙ noted_is);
@@ -132,15 +136,15 @@ answered_stands note client o past c free on up servers few says knows lives = r
 
 -- ---- calls that aren't answered
 
-pub refuses : {T : Type 0} (note : T → Note) (client : PacketClient T) (o : Opening) (past : List Entry) (c : Call) (fault : Fault) → refusal_by (not client.down) client.servers client.noted c ≡ Some fault → StandsFor note client o past
+pub refuses : {T : Type 0} (note : T → Note) (client : PacketClient T) (o : Opening) (past : List Entry) (c : Call) (fault : Fault) → refusal_by (not client.down) client.peers client.noted c ≡ Some fault → StandsFor note client o past
     → Faults note o past c (sort_of fault) fault client client
 refuses note client o past c fault r s =
     let why = sym (refusal_is note client o past c s) ∙ r in
-    subst (λ t. Faults note o past c t fault client client) (sym (refusal_sort (not client.down) client.servers client.noted c fault r))
+    subst (λ t. Faults note o past c t fault client client) (sym (refusal_sort (not client.down) client.peers client.noted c fault r))
     (record { why = why; same_note = refl; unchanged = s; stands = refused_stands note client o past c fault why s })
 
 pub with_life : {T : Type 0} (note : T → Note) (client : PacketClient T) (kept : Life) (o : Opening) (past : List Entry) → EachLife client.life (LifeIs kept) → StandsFor note client o past → StandsFor note (record client { life = kept }) o past
-with_life note client kept o past same s = record { on = s.on; servers = s.servers; few = s.few; durable = s.durable; knows = s.knows; lives = same (life o (looked past)) s.lives }
+with_life note client kept o past same s = record { on = s.on; peers = s.peers; few = s.few; durable = s.durable; knows = s.knows; lives = same (life o (looked past)) s.lives }
 
 pub lacks : {T : Type 0} (note : T → Note) (client : PacketClient T) (kept : Life) (o : Opening) (past : List Entry) (c : Call) → EachLife client.life (LifeIs kept) → StandsFor note client o past
     → Faults note o past c sorts.Memory NoMemory client (record client { life = kept })
@@ -157,7 +161,7 @@ lost_stands : {T : Type 0} (note : T → Note) (client : PacketClient T) (notes 
     → Says (note notes).bytes (noted_after (has_new left) (due o past c) (noted o past)) → StandsFor note (record client { notes = notes; down = true }) o (Met c left ∷ past)
 lost_stands note client notes o past c left on lost s says = record {
   on = lost_off (is_on past) left lost;
-  servers = s.servers;
+  peers = s.peers ∙ ap (peers o) (looks_at_all past on ∙ sym look);
   few = s.few;
   durable = says;
   knows = s.knows ∙ ap (noted o) (looks_at_all past on ∙ sym look);
@@ -174,7 +178,7 @@ unsaved note old new kept a fault o past c read up s free adds fits same sorts.M
   why = u.0;
   same_note = u.1;
   unchanged = subst (λ k. StandsFor note k o past) (sym u.2)
-      (record { on = s.on; servers = s.servers; few = s.few; durable = subst (λ (n : Note). Says n.bytes (noted o past)) (sym u.1) s.durable; knows = s.knows; lives = same (life o (looked past)) s.lives });
+      (record { on = s.on; peers = s.peers; few = s.few; durable = subst (λ (n : Note). Says n.bytes (noted o past)) (sym u.1) s.durable; knows = s.knows; lives = same (life o (looked past)) s.lives });
 }
 unsaved note old new kept a fault o past c read up s free adds fits same sorts.Refusal u = absurd u
 unsaved note old new kept a fault o past c read up s free adds fits same sorts.Save u = by_bytes u.1
@@ -185,41 +189,64 @@ unsaved note old new kept a fault o past c read up s free adds fits same sorts.S
     makes_one : due o past c ≡ Some a
     makes_one = due_now o past c free ∙ adds
 
-    failed : (left : Left) → is_lost left ≡ true → Says (note new.notes).bytes (noted_after (has_new left) (Some a) (noted o past)) → Fails note o past c old new
-    failed left lost says = record {
+    failed : (left : Left) → is_lost left ≡ true → (note new.notes).bytes ≡ lost_bytes left (noted_after (has_new left) (Some a) (noted o past)) (note old.notes).bytes → Says (note new.notes).bytes (noted_after (has_new left) (Some a) (noted o past)) → Fails note o past c old new
+    failed left lost bytes says = record {
       cause = u.0;
       free = free;
       addition = a;
       makes_one = makes_one;
       left = left;
       lost = lost;
+      bytes_are = subst (λ d. (note new.notes).bytes ≡ lost_bytes left (noted_after (has_new left) d (noted o past)) (note old.notes).bytes) (sym makes_one) bytes;
       stands = subst (λ x. StandsFor note x o (Met c left ∷ past)) (sym u.2)
           (lost_stands note (record old { life = kept }) new.notes o past c left k.on lost (with_life note old kept o past same s)
           (subst (λ d. Says (note new.notes).bytes (noted_after (has_new left) d (noted o past))) (sym makes_one) says));
     }
 
     by_bytes : ((note new.notes).bytes ≡ (note old.notes).bytes) ⊎ ((note new.notes).bytes ≡ spelling (with_addition a old.noted)) → Fails note o past c old new
-    by_bytes (inl e) = failed LostOld refl (subst (λ bytes. Says bytes (noted o past)) (sym e) s.durable)
-    by_bytes (inr e) = failed LostNew refl (subst (λ bytes. Says bytes (with_addition a (noted o past))) (sym (e ∙ ap (λ n. spelling (with_addition a n)) k.knows)) (read (with_addition a (noted o past)) fits))
+    by_bytes (inl e) = failed LostOld refl e (subst (λ bytes. Says bytes (noted o past)) (sym e) s.durable)
+    by_bytes (inr e) =
+        let is : (note new.notes).bytes ≡ spelling (with_addition a (noted o past)) = e ∙ ap (λ n. spelling (with_addition a n)) k.knows in
+        failed LostNew refl is (subst (λ bytes. Says bytes (with_addition a (noted o past))) (sym is) (read (with_addition a (noted o past)) fits))
+
+-- What a call leaves of the note.
+leaves_none : (d : Option Addition) (after : Noted) (old : Note) → d ≡ None → LeavesNote d after old old
+leaves_none None after old e = refl
+leaves_none (Some a) after old e = cc
+
+leaves_some : (d : Option Addition) (a : Addition) (after : Noted) (old new : Note) → d ≡ Some a → new ≡ record old { bytes = spelling after } → LeavesNote d after old new
+leaves_some None a after old new e h = cc
+leaves_some (Some b) a after old new e h = h
+
+pub leaves_plain : {T : Type 0} (note : T → Note) (notes : T) (o : Opening) (past : List Entry) (c : Call) → refusal o past c ≡ None → addition_of (noted o past) c ≡ None
+    → LeavesNote (due o past c) (noted o (answered o past c ∷ past)) (note notes) (note notes)
+leaves_plain note notes o past c free adds = leaves_none (due o past c) (noted o (answered o past c ∷ past)) (note notes) (due_now o past c free ∙ adds)
+
+pub leaves_stored : {T : Type 0} (note : T → Note) (old new : PacketClient T) (kept : Life) (a : Addition) (o : Opening) (past : List Entry) (c : Call) → old.noted ≡ noted o past → refusal o past c ≡ None → addition_of (noted o past) c ≡ Some a
+    → (r : Unit {0}) → Stores note a (record old { life = kept }) new (Ok r) → LeavesNote (due o past c) (noted o (answered o past c ∷ past)) (note old.notes) (note new.notes)
+leaves_stored note old new kept a o past c knows free adds r stored =
+    let makes_one : due o past c ≡ Some a = due_now o past c free ∙ adds in
+    let after : noted o (answered o past c ∷ past) ≡ with_addition a old.noted = ap (λ d. noted_after (has_new (left_by d)) d (noted o past)) makes_one ∙ ap (with_addition a) (sym knows) in
+    leaves_some (due o past c) a (noted o (answered o past c ∷ past)) (note old.notes) (note new.notes) makes_one (stored.0 ∙ ap (λ n. record (note old.notes) { bytes = spelling n }) (sym after))
 
 -- A call that is answered with a save.
 pub stored_stands : {T : Type 0} (note : T → Note) (old new : PacketClient T) (kept after : Life) (a : Addition) (o : Opening) (past : List Entry) (c : Call) → SaysWhatIsWritten → old.down ≡ false → StandsFor note old o past → refusal o past c ≡ None
     → addition_of (noted o past) c ≡ Some a → IsNoted (with_addition a (noted o past)) → (r : Unit {0}) → Stores note a (record old { life = kept }) new (Ok r)
-    → LifeIs after (deeds_of (noted o past) c ++ life o past) → StandsFor note (record new { life = after }) o (answered o past c ∷ past)
-stored_stands note old new kept after a o past c read up s free adds fits r stored lives =
+    → LifeIs after (deeds_of (noted o past) c ++ life o past) → granted_by c ≡ [] → StandsFor note (record new { life = after }) o (answered o past c ∷ past)
+stored_stands note old new kept after a o past c read up s free adds fits r stored lives plain =
     let k = knows_now note old o past up s in
     let is : with_addition a old.noted ≡ with_addition a (noted o past) = ap (with_addition a) k.knows in
     let grown : with_addition a (noted o past) ≡ noted_after true (addition_of (noted o past) c) (noted o past) = ap (λ d. noted_after true d (noted o past)) (sym adds) in
     answered_stands note (record new { life = after }) o past c free k.on
-    (ap (λ (m : PacketClient _). m.down) stored.1 ∙ up) (ap (λ (m : PacketClient _). m.servers) stored.1 ∙ s.servers) s.few
+    (ap (λ (m : PacketClient _). m.down) stored.1 ∙ up) (ap (λ (m : PacketClient _). m.peers) stored.1 ∙ (k.peers ∙ sym (peers_stay o past c (left_by (due o past c)) plain))) s.few
     (subst (λ bytes. Says bytes (noted_after true (addition_of (noted o past) c) (noted o past))) (sym (ap (λ (n : Note). n.bytes) stored.0 ∙ ap spelling is))
     (subst (Says (spelling (with_addition a (noted o past)))) grown (read (with_addition a (noted o past)) fits)))
     (ap (λ (m : PacketClient _). m.noted) stored.1 ∙ is ∙ grown) lives
 
 -- A call that is answered without a save.
 pub plain_stands : {T : Type 0} (note : T → Note) (old : PacketClient T) (after : Life) (o : Opening) (past : List Entry) (c : Call) → old.down ≡ false → StandsFor note old o past → refusal o past c ≡ None → addition_of (noted o past) c ≡ None
-    → LifeIs after (deeds_of (noted o past) c ++ life o past) → StandsFor note (record old { life = after }) o (answered o past c ∷ past)
-plain_stands note old after o past c up s free adds lives =
+    → LifeIs after (deeds_of (noted o past) c ++ life o past) → (with : Peers) → with ≡ peers o (answered o past c ∷ past) → StandsFor note (record old { life = after; peers = with }) o (answered o past c ∷ past)
+plain_stands note old after o past c up s free adds lives with is =
     let k = knows_now note old o past up s in
     let same : noted o past ≡ noted_after true (addition_of (noted o past) c) (noted o past) = ap (λ d. noted_after true d (noted o past)) (sym adds) in
-    answered_stands note (record old { life = after }) o past c free k.on up s.servers s.few (subst (Says (note old.notes).bytes) same s.durable) (k.knows ∙ same) lives
+    answered_stands note (record old { life = after; peers = with }) o past c free k.on up is s.few (subst (Says (note old.notes).bytes) same s.durable) (k.knows ∙ same) lives

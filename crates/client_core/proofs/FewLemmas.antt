@@ -1,6 +1,6 @@
 -- A call sends few packets, in few and short frames.
-use Rattle.std.proofs.Common.{◌≡◌, refl, ℕ, zero, suc, ◌+◌, ◌≤◌, arith, Bool, true, false, List, [], ◌∷◌, length, length-append}
-use Rattle.std.specs.Prelude.{if◌then◌else◌}
+use Rattle.std.proofs.Common.{◌≡◌, refl, ℕ, zero, suc, ◌+◌, ◌≤◌, arith, Bool, true, false, ◌&&◌, List, [], ◌∷◌, ◌++◌, Option, None, Some, length, length-append}
+use Rattle.std.specs.Prelude.{if◌then◌else◌, not, nat_lt, ◌*◌, flat_map}
 use Rattle.std.specs.List.{AllByRecursion}
 use Rattle.std.proofs.lemmas.List.{length-map}
 use Rattle.std.proofs.lemmas.List.Sums.{sum_by-append}
@@ -18,18 +18,20 @@ use Rattle.messages.specs.Nodes.{node_number}
 use Rattle.client_core.specs.declared.call.Call.{Call}
 use Rattle.client_core.specs.declared.call.Call.TheVariants.{Begin, Trigger, Stop, Verify, Deliver, Tick}
 use Rattle.client_core.specs.declared.noted.Noted.{Noted}
-use Rattle.client_core.specs.Words.{noted, is_answered}
+use Rattle.client_core.specs.Words.{noted, peers, has_mirror, is_answered}
+use Rattle.state_table.specs.Kept.{kept_of}
+use Rattle.verify_state.specs.State.{State}
 use Rattle.client_core.specs.Life.{Deed, life, text_of}
 use Rattle.client_core.specs.declared.beginning.Beginning.{Beginning}
 use Rattle.client_core.specs.Begins.{begin_at}
 use Rattle.client_core.specs.declared.beginning.Beginning.TheVariants as begins
-use Rattle.client_core.specs.Packets.{to_server, to_all, start_for, jobs_for, lacks_jobs, replies, packets_for, packets}
-use Rattle.client_core.specs.Bounds.{most_packets, AreShort, PacketsAreFew, FramesAreShort}
+use Rattle.client_core.specs.Packets.{to_mirror, copy_for, requests_again, fetch_again, is_copied, copy_again, copies_again, to_server, to_all, start_for, jobs_for, lacks_jobs, replies, packets_for, packets}
+use Rattle.client_core.specs.Bounds.{requests, most_copies, most_packets, AreShort, PacketsAreFew, FramesAreShort}
 use Rattle.client_core.specs.Framed.{framed}
 use Rattle.client_core.specs.History.{Opening, Entry, Met}
 use Rattle.client_core.specs.Laws.{PacketsAreInRange}
 use Rattle.client_core.proofs.DeliverLemmas.{body_of_packet}
-use Rattle.client_core.proofs.TickLemmas.{all_again_few}
+use Rattle.client_core.proofs.TickLemmas.{requests_again_few}
 
 pub length_below : (n : ℕ) → length (numbers_below n) ≡ n
 length_below zero = refl
@@ -50,24 +52,53 @@ where_so : (b : Bool) (most : ℕ) (ps : List PacketParts) → length ps ≤ mos
 where_so true most ps h = h
 where_so false most ps h = omega arith
 
-replied : (n : Noted) (deeds : List Deed) (s : ℕ) (body : Body) → length (replies n deeds s body) ≤ 8
-replied n deeds s (bodies.JobsOk run jobs) = start_one run s (begin_at run s deeds)
-replied n deeds s (bodies.State jobs state) = omega arith
-replied n deeds s (bodies.NoState run job jobs) = omega arith
-replied n deeds s (bodies.WantState run attempt job) = omega arith
-replied n deeds s (bodies.Refused r) = where_so (lacks_jobs r.asked r.reason) 8 (jobs_for r.run (text_of r.run deeds) s (begin_at r.run s deeds)) (jobs_one r.run (text_of r.run deeds) s (begin_at r.run s deeds))
-replied n deeds s _ = omega arith
+copy_one : (mirror : Bool) (state : State) (x : Option State) → length (copy_for mirror state x) ≤ 1
+copy_one true state None = omega arith
+copy_one true state (Some k) = omega arith
+copy_one false state x = omega arith
 
-called : (o : Opening) (past : List Entry) (c : Call) → o.servers ≤ 8 → length (packets_for o.servers (noted o past) (life o past) c) ≤ most_packets o past c
+one_more : (p : PacketParts) (ps : List PacketParts) → length ps ≤ 1 → length (p ∷ ps) ≤ 8
+one_more p ps h = omega arith
+
+replied : (mirror : Bool) (n : Noted) (deeds : List Deed) (s : ℕ) (body : Body) → length (replies mirror n deeds s body) ≤ 8
+replied mirror n deeds s (bodies.JobsOk run jobs) = start_one run s (begin_at run s deeds)
+replied mirror n deeds s (bodies.State jobs state) = one_more (to_server (bodies.StateAck state.key.run state.key.job) s) (copy_for mirror state (kept_of state.key n.kept)) (copy_one mirror state (kept_of state.key n.kept))
+replied mirror n deeds s (bodies.NoState run job jobs) = omega arith
+replied mirror n deeds s (bodies.WantState run attempt job) = omega arith
+replied mirror n deeds s (bodies.Refused r) = where_so (lacks_jobs r.asked r.reason) 8 (jobs_for r.run (text_of r.run deeds) s (begin_at r.run s deeds)) (jobs_one r.run (text_of r.run deeds) s (begin_at r.run s deeds))
+replied mirror n deeds s _ = omega arith
+
+-- what goes to the mirror is at most one packet and one for each state
+copy_few : (deeds : List Deed) (states : List State) → length (flat_map (copy_again deeds) states) ≤ length states
+copy_few deeds [] = omega arith
+copy_few deeds (s ∷ states) = at_most (is_copied s.key deeds) (to_mirror (bodies.Copy s)) (flat_map (copy_again deeds) states) (length states) (copy_few deeds states)
+  where
+    at_most : (b : Bool) (p : PacketParts) (ps : List PacketParts) (n : ℕ) → length ps ≤ n → length ((if b then [] else p ∷ []) ++ ps) ≤ suc n
+    at_most true p ps n h = omega arith
+    at_most false p ps n h = omega arith
+
+mirror_few : (m b : Bool) (g : ℕ) (states : List State) (deeds : List Deed) → length (if m && b then to_mirror (bodies.Fetch g) ∷ [] else []) + length (copies_again m states deeds) ≤ (if m then 1 + length states else 0)
+mirror_few true true g states deeds = omega (arith, copy_few deeds states)
+mirror_few true false g states deeds = omega (arith, copy_few deeds states)
+mirror_few false b g states deeds = omega arith
+
+together : (f r c : List PacketParts) (a b : ℕ) → length r ≤ a → length f + length c ≤ b → length (f ++ (r ++ c)) ≤ a + b
+together f r c a b h k = omega (arith, length-append f (r ++ c), length-append r c)
+
+called : (o : Opening) (past : List Entry) (c : Call) → o.servers ≤ 8 → length (packets_for (peers o past) (noted o past) (life o past) c) ≤ most_packets o past c
 called o past (Begin text) l = each_server o.servers (bodies.Jobs ((noted o past).runs + 1) text) l
 called o past (Trigger run act) l = each_server o.servers (bodies.Trigger run act) l
 called o past (Stop run) l = each_server o.servers (bodies.Stop run) l
 called o past (Verify run text) l = each_server o.servers (bodies.Verify run ((noted o past).attempts + 1) text) l
-called o past (Deliver p) l = replied (noted o past) (life o past) (node_number p.from) p.body
-called o past Tick l = all_again_few o.servers (noted o past) (life o past)
+called o past (Deliver p) l = replied (has_mirror past) (noted o past) (life o past) (node_number p.from) p.body
+called o past Tick l =
+    let f = fetch_again (peers o past) (noted o past).generation in
+    let r = requests_again o.servers (life o past) in
+    let c = copies_again (has_mirror past) (noted o past).kept (life o past) in
+    together f r c (o.servers * requests o past) (most_copies o past) (requests_again_few o.servers (life o past)) (mirror_few (has_mirror past) (nat_lt 0 (noted o past).generation && not (peers o past).granted) (noted o past).generation (noted o past).kept (life o past))
 
 pub packets_are_few : PacketsAreFew
-packets_are_few o past c left l = where_so (is_answered o past c left) (most_packets o past c) (packets_for o.servers (noted o past) (life o past) c) (called o past c l)
+packets_are_few o past c left l = where_so (is_answered o past c left) (most_packets o past c) (packets_for (peers o past) (noted o past) (life o past) c) (called o past c l)
 
 -- ---- the frames of packets
 

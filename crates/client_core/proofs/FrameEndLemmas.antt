@@ -35,6 +35,7 @@ use Rattle.client_core.specs.Packets.{packets}
 use Rattle.client_core.specs.Ranges.{CameInRange}
 use Rattle.client_core.specs.Saves.{left_by}
 use Rattle.client_core.specs.Stands as whole
+use Rattle.client_core.specs.Ends.{LeavesNote, lost_bytes}
 use Rattle.client_core.specs.Ends as ends
 use Rattle.client_core.specs.Bounds.{AreShort, FramesAreShort}
 use Rattle.client_core.specs.Bounds as bounds
@@ -107,9 +108,9 @@ heard_stands note o past e c left new is h k = record {
   pieces = k;
 }
 
-heard_answers : {T : Type 0} (note : T → Note) (o : Opening) (past : List FrameEntry) (e : Input) (c : Call) (new : Client T) (sent : List (List ℕ)) → FramesAreShort → BringsInRange c → sense o past e ≡ Hears c
-    → ends.Answers note o (packets_heard o past) c new.core sent → (words.is_on (packets_heard o past) ≡ true → new.pieces ≡ rows_after o past e NoSave) → Answers note o past e new sent
-heard_answers note o past e c new sent short brings is a k =
+heard_answers : {T : Type 0} (note : T → Note) (o : Opening) (past : List FrameEntry) (e : Input) (c : Call) (old new : Client T) (sent : List (List ℕ)) → FramesAreShort → BringsInRange c → sense o past e ≡ Hears c
+    → ends.Answers note o (packets_heard o past) c old.core new.core sent → (words.is_on (packets_heard o past) ≡ true → new.pieces ≡ rows_after o past e NoSave) → Answers note o past e old new sent
+heard_answers note o past e c old new sent short brings is a k =
     let list = packets_heard o past in
     let left = left_by (words.due o list c) in
     let same_entry : answered o past e ≡ Met e left = ap (λ y. Met e (left_by (due_in o list y))) is in
@@ -119,6 +120,8 @@ heard_answers note o past e c new sent short brings is a k =
       frames_are = a.frames_are ∙ spelled (packets o list (history.Met c left)) ∙ ap (λ y. map frame_spelling (frames_by o list y)) (sym says);
       short = λ i h. subst (λ n. AreShort n sent) (sym (ap (most_in o list) is) ∙ most_is o past e)
           (subst (AreShort (bounds.most_packets o list c)) (sym a.frames_are) (short o list c left i (came_with c left list brings h)));
+      leaves = subst (λ d. LeavesNote d (words.noted o (packets_heard o (answered o past e ∷ past))) (note old.core.notes) (note new.core.notes)) (sym (ap (due_in o list) is))
+          (subst (λ (l : List history.Entry). LeavesNote (words.due o list c) (words.noted o l) (note old.core.notes) (note new.core.notes)) (sym (ap (λ y. packets_heard o (y ∷ past)) same_entry ∙ heard_is o past e left (Hears c) is)) a.leaves);
       stands = subst (λ y. StandsFor note new o (y ∷ past)) (sym same_entry)
           (heard_stands note o past e c left new is a.stands (λ on. k (on_before (words.is_on list) (is_lost left) (sym (on_is o past e c left is) ∙ on)) ∙ same_rows o past e NoSave left));
     }
@@ -134,6 +137,7 @@ heard_faults note o past e c old new fault is w sorts.Save h k = record {
   makes_one = ap (due_in o (packets_heard o past)) is ∙ h.makes_one;
   left = h.left;
   lost = h.lost;
+  bytes_are = subst (λ (l : List history.Entry). (note new.core.notes).bytes ≡ lost_bytes h.left (words.noted o l) (note old.core.notes).bytes) (sym (heard_is o past e h.left (Hears c) is)) h.bytes_are;
   stands = heard_stands note o past e c h.left new is h.stands (λ on. absurd (off_lost (words.is_on (packets_heard o past)) (is_lost h.left) h.lost (sym (on_is o past e c h.left is) ∙ on)));
 }
 heard_faults note o past e c old new fault is w sorts.Refusal h k =
@@ -153,12 +157,12 @@ with_core client core = record client { core = core }
 
 pub whole_ends : {T : Type 0} (note : T → Note) (o : Opening) (past : List FrameEntry) (e : Input) (c : Call) (old : Client T) (core : PacketClient T) (result : Result (List (List ℕ)) Fault) → FramesAreShort → BringsInRange c → sense o past e ≡ Hears c
     → rows_after o past e NoSave ≡ assembly o past → StandsFor note old o past → ends.Ends note o (packets_heard o past) c old.core core result → Ends note o past e old (with_core old core) result
-whole_ends note o past e c old core (Ok sent) short brings is same w h = heard_answers note o past e c (with_core old core) sent short brings is h (λ on. w.pieces on ∙ sym same)
+whole_ends note o past e c old core (Ok sent) short brings is same w h = heard_answers note o past e c old (with_core old core) sent short brings is h (λ on. w.pieces on ∙ sym same)
 whole_ends note o past e c old core (Err fault) short brings is same w h = heard_faults note o past e c old (with_core old core) fault is w (sort_of fault) h refl
 
 pub whole_gives : {T : Type 0} (note : T → Note) (o : Opening) (past : List FrameEntry) (e : Input) (c : Call) (used : ℕ) (old : Client T) (core : PacketClient T) (result : Result (ℕ × List (List ℕ)) Fault) → FramesAreShort → BringsInRange c → sense o past e ≡ Hears c
     → rows_after o past e NoSave ≡ assembly o past → StandsFor note old o past → ends.Gives note o (packets_heard o past) c used old.core core result → Gives note o past e used old (with_core old core) result
-whole_gives note o past e c used old core (Ok given) short brings is same w h = (h.0, heard_answers note o past e c (with_core old core) given.1 short brings is h.1 (λ on. w.pieces on ∙ sym same))
+whole_gives note o past e c used old core (Ok given) short brings is same w h = (h.0, heard_answers note o past e c old (with_core old core) given.1 short brings is h.1 (λ on. w.pieces on ∙ sym same))
 whole_gives note o past e c used old core (Err fault) short brings is same w h = heard_faults note o past e c old (with_core old core) fault is w (sort_of fault) h refl
 
 -- ---- a piece that says a packet
@@ -168,7 +172,7 @@ pub given_answers : {T : Type 0} (note : T → Note) (old : Client T) (core : Pa
     → sense o past (Deliver (Piece q)) ≡ Hears (calls.Deliver p) → ends.Ends note o (packets_heard o past) (calls.Deliver p) old.core core result → is_ok result ≡ true
     → Ends note o past (Deliver (Piece q)) old (record { alloc = old.alloc; core = core; pieces = without q.tag old.pieces }) result
 given_answers note old core o past q p (Ok sent) short brings w is h ok =
-    heard_answers note o past (Deliver (Piece q)) (calls.Deliver p) (record { alloc = old.alloc; core = core; pieces = without q.tag old.pieces }) sent short brings is h
+    heard_answers note o past (Deliver (Piece q)) (calls.Deliver p) old (record { alloc = old.alloc; core = core; pieces = without q.tag old.pieces }) sent short brings is h
     (λ on. ap (without q.tag) (w.pieces on) ∙ sym (said_rows o past q p NoSave is h.free))
 given_answers note old core o past q p (Err fault) short brings w is h ok = absurd cc
 
@@ -203,6 +207,7 @@ kept_ends note o past q old is w =
       free = ap (refusal_in o list) is;
       frames_are = ap (λ y. map frame_spelling (frames_by o list y)) (sym (entry_is o past e left ∙ ap (λ y. entry_by y left) is));
       short = λ i h. record { few = omega arith; short = omega arith };
+      leaves = subst (λ d. LeavesNote d (words.noted o (packets_heard o (answered o past e ∷ past))) (note old.core.notes) (note old.core.notes)) (sym (ap (due_in o list) is)) refl;
       stands = silent_stands note o past e (Keeps q) left old (taken old.pieces q) is refl w (λ r. ap (λ x. taken x q) r ∙ sym (taken_by o past e left (Keeps q) is));
     }
 

@@ -1,6 +1,7 @@
 -- No number is given twice.
 use Rattle.std.proofs.Common.{◌≡◌, refl, sym, subst, ℕ, ◌+◌, ◌≤◌, arith, Bool, true, false, ◌&&◌, ◌==◌, List, [], ◌∷◌, ◌++◌, Option, None, Some}
-use Rattle.std.specs.Prelude.{if◌then◌else◌, is_none}
+use Rattle.std.specs.Prelude.{if◌then◌else◌, is_none, ◌*◌, ◌^◌, IsTrue}
+use Rattle.std.proofs.lemmas.Bool.{and_parts, eqb-true}
 use Rattle.std.specs.List.{AllByRecursion}
 use Rattle.std.proofs.lemmas.Bool.Decides.{nat_tests}
 use Rattle.fc_base.specs.declared.fault.Fault.{Fault}
@@ -16,12 +17,14 @@ use Rattle.client_core.specs.declared.call.Call.{Call}
 use Rattle.client_core.specs.declared.call.Call.TheVariants.{Begin, Trigger, Stop, Verify, Deliver, Tick}
 use Rattle.state_table.specs.Kept.{kept_of}
 use Rattle.client_core.specs.declared.noted.Noted.{Noted}
-use Rattle.client_core.specs.History.{Opening, Entry, Met, Cut, Restart}
+use Rattle.client_core.specs.History.{Opening, Entry, Met, Cut, Restart, Renew, Lose}
 use Rattle.client_core.specs.Refusals.{refusal_by}
 use Rattle.client_core.specs.Saves.{unless_kept, addition_by, addition_of, unless_refused, noted_after, is_answer}
-use Rattle.client_core.specs.Words.{is_on, noted}
+use Rattle.client_core.specs.Words.{is_on, noted, peers, may_renew}
+use Rattle.client_core.specs.Note.{is_blank, renewed}
 use Rattle.client_core.specs.Life.{Deed, Triggers, Stops, Hears, deeds_of, done}
-use Rattle.client_core.specs.Laws.{runs_in, attempts_in, AreFresh, RunsAreFresh, AttemptsAreFresh}
+use Rattle.client_core.specs.Laws.{loses_nothing, runs_in, attempts_in, AreFresh, RunsAreFresh, AttemptsAreFresh}
+use Rattle.client_core.proofs.KeptLemmas.{blank_then}
 use Rattle.client_core.proofs.ListLemmas.{all_weaker}
 
 -- the numbers are fresh, and the last is no lower than the first
@@ -64,6 +67,36 @@ same : (f : List Deed → List ℕ) (b : Bool) (first last : ℕ) (x y : List De
 same f true first last x y h k = h
 same f false first last x y h k = k
 
+-- the last may be any higher one
+higher : (first last more : ℕ) (ns : List ℕ) → last ≤ more → Known first last ns → Known first more ns
+higher first last more ns h k = record {
+  rises = let r = k.rises in omega arith;
+  fresh = record {
+    distinct = k.fresh.distinct;
+    above = k.fresh.above;
+    below = all_weaker (λ n. n ≤ last) (λ n. n ≤ more) ns (λ n l. omega arith) k.fresh.below;
+  };
+}
+
+from_none : (last more : ℕ) → last ≡ 0 → last ≤ more
+from_none last more e = omega arith
+
+-- a blank note used no number
+pub none_used : (n : Noted) → is_blank n ≡ true → (n.runs ≡ 0) × (n.attempts ≡ 0)
+none_used n h =
+    let a = and_parts (n.generation == 0) _ h in
+    let b = and_parts (n.runs == 0) _ a.1 in
+    let c = and_parts (n.attempts == 0) _ b.1 in
+    (eqb-true n.runs 0 b.0, eqb-true n.attempts 0 c.0)
+
+run_renewed : (first : ℕ) (b : Bool) (g : ℕ) (n : Noted) (ns : List ℕ) → (b ≡ true → n.runs ≡ 0) → Known first n.runs ns → Known first (if b then renewed g else n).runs ns
+run_renewed first true g n ns f k = higher first n.runs (g * 2 ^ 32) ns (from_none n.runs (g * 2 ^ 32) (f refl)) k
+run_renewed first false g n ns f k = k
+
+attempt_renewed : (first : ℕ) (b : Bool) (g : ℕ) (n : Noted) (ns : List ℕ) → (b ≡ true → n.attempts ≡ 0) → Known first n.attempts ns → Known first (if b then renewed g else n).attempts ns
+attempt_renewed first true g n ns f k = higher first n.attempts (g * 2 ^ 32) ns (from_none n.attempts (g * 2 ^ 32) (f refl)) k
+attempt_renewed first false g n ns f k = k
+
 -- a state changes no number
 state_only : (new : Bool) (n : Noted) (x : Option State) (state : State) → ((noted_after new (unless_kept x state) n).runs ≡ n.runs) × ((noted_after new (unless_kept x state) n).attempts ≡ n.attempts)
 state_only new n (Some s) state = (refl, refl)
@@ -72,6 +105,7 @@ state_only false n None state = (refl, refl)
 
 pub body_only : (new : Bool) (n : Noted) (body : Body) → ((noted_after new (addition_by n body) n).runs ≡ n.runs) × ((noted_after new (addition_by n body) n).attempts ≡ n.attempts)
 body_only new n (bodies.State jobs state) = state_only new n (kept_of state.key n.kept) state
+body_only new n (bodies.Copy state) = state_only new n (kept_of state.key n.kept) state
 body_only new n _ = (refl, refl)
 
 pub run_step : (first : ℕ) (n : Noted) (c : Call) (r : Option Fault) (left : Left) (ds : List Deed) → Known first n.runs (runs_in ds)
@@ -93,14 +127,16 @@ run_step first n (Deliver p) None left ds k =
     subst (λ m. Known first m (runs_in (if b then Hears (node_number p.from) p.body ∷ ds else ds))) (sym e) (same runs_in b first n.runs (Hears (node_number p.from) p.body ∷ ds) ds k k)
 run_step first n Tick None left ds k = same runs_in (is_answer None left) first n.runs ds ds k k
 
-known_runs : (o : Opening) (past : List Entry) → Known o.noted.runs (noted o past).runs (runs_in (done o past))
-known_runs o [] = record { rises = omega arith; fresh = record { distinct = refl; above = tt; below = tt } }
-known_runs o (Met c left ∷ past) = run_step o.noted.runs (noted o past) c (refusal_by (is_on past) o.servers (noted o past) c) left (done o past) (known_runs o past)
-known_runs o (Cut ∷ past) = known_runs o past
-known_runs o (Restart ∷ past) = known_runs o past
+known_runs : (o : Opening) (past : List Entry) → IsTrue (loses_nothing past) → Known o.noted.runs (noted o past).runs (runs_in (done o past))
+known_runs o [] h = record { rises = omega arith; fresh = record { distinct = refl; above = tt; below = tt } }
+known_runs o (Met c left ∷ past) h = run_step o.noted.runs (noted o past) c (refusal_by (is_on past) (peers o past) (noted o past) c) left (done o past) (known_runs o past h)
+known_runs o (Cut ∷ past) h = known_runs o past h
+known_runs o (Restart mirror ∷ past) h = known_runs o past h
+known_runs o (Renew g left ∷ past) h = run_renewed o.noted.runs (has_new left && may_renew g (noted o past)) g (noted o past) (runs_in (done o past)) (λ e. (none_used (noted o past) (blank_then (has_new left) g (noted o past) e)).0) (known_runs o past h)
+known_runs o (Lose ∷ past) h = cc
 
 pub runs_are_fresh : RunsAreFresh
-runs_are_fresh o past = (known_runs o past).fresh
+runs_are_fresh o past h = (known_runs o past h).fresh
 
 pub attempt_step : (first : ℕ) (n : Noted) (c : Call) (r : Option Fault) (left : Left) (ds : List Deed) → Known first n.attempts (attempts_in ds)
     → Known first (noted_after (has_new left) (unless_refused r (addition_of n c)) n).attempts (attempts_in (if is_none r && is_answer (unless_refused r (addition_of n c)) left then deeds_of n c ++ ds else ds))
@@ -121,11 +157,13 @@ attempt_step first n (Deliver p) None left ds k =
     subst (λ m. Known first m (attempts_in (if b then Hears (node_number p.from) p.body ∷ ds else ds))) (sym e) (same attempts_in b first n.attempts (Hears (node_number p.from) p.body ∷ ds) ds k k)
 attempt_step first n Tick None left ds k = same attempts_in (is_answer None left) first n.attempts ds ds k k
 
-known_attempts : (o : Opening) (past : List Entry) → Known o.noted.attempts (noted o past).attempts (attempts_in (done o past))
-known_attempts o [] = record { rises = omega arith; fresh = record { distinct = refl; above = tt; below = tt } }
-known_attempts o (Met c left ∷ past) = attempt_step o.noted.attempts (noted o past) c (refusal_by (is_on past) o.servers (noted o past) c) left (done o past) (known_attempts o past)
-known_attempts o (Cut ∷ past) = known_attempts o past
-known_attempts o (Restart ∷ past) = known_attempts o past
+known_attempts : (o : Opening) (past : List Entry) → IsTrue (loses_nothing past) → Known o.noted.attempts (noted o past).attempts (attempts_in (done o past))
+known_attempts o [] h = record { rises = omega arith; fresh = record { distinct = refl; above = tt; below = tt } }
+known_attempts o (Met c left ∷ past) h = attempt_step o.noted.attempts (noted o past) c (refusal_by (is_on past) (peers o past) (noted o past) c) left (done o past) (known_attempts o past h)
+known_attempts o (Cut ∷ past) h = known_attempts o past h
+known_attempts o (Restart mirror ∷ past) h = known_attempts o past h
+known_attempts o (Renew g left ∷ past) h = attempt_renewed o.noted.attempts (has_new left && may_renew g (noted o past)) g (noted o past) (attempts_in (done o past)) (λ e. (none_used (noted o past) (blank_then (has_new left) g (noted o past) e)).1) (known_attempts o past h)
+known_attempts o (Lose ∷ past) h = cc
 
 pub attempts_are_fresh : AttemptsAreFresh
-attempts_are_fresh o past = (known_attempts o past).fresh
+attempts_are_fresh o past h = (known_attempts o past h).fresh

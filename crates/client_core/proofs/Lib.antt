@@ -1,4 +1,5 @@
 mod AgainLemmas
+mod ApartLemmas
 mod AskedLemmas
 mod CallLemmas
 mod ClientLemmas
@@ -17,12 +18,17 @@ mod KeptLemmas
 mod LifeLemmas
 mod ListLemmas
 mod Looked
+mod LossLemmas
+mod MirrorLifeLemmas
+mod MirroredLemmas
 mod NoteLemmas
 mod NotedLemmas
+mod PeersLemmas
 mod PlaceLemmas
 mod RangeLemmas
 mod ReasonLemmas
 mod RefusalLemmas
+mod RenewLemmas
 mod ReportLemmas
 mod RisingLemmas
 mod SentLemmas

@@ -1,7 +1,7 @@
 -- What holds of each element of a list.
 use Rattle.std.proofs.Common.{◌≡◌, refl, ◌⊎◌, inl, inr, ℕ, zero, suc, ◌+◌, ◌<◌, ◌≤◌, arith, Bool, true, false, List, [], ◌∷◌, ◌++◌}
 use Rattle.std.specs.Prelude.{if◌then◌else◌, map, Contains}
-use Rattle.std.specs.List.{AllByRecursion, flat_map, range_with_len}
+use Rattle.std.specs.List.{AllByRecursion, flat_map}
 use Rattle.std.proofs.lemmas.List.Elements.{All-contains, All-from_recursion, Contains-append_right, Contains-append_cases, Contains-push_cases}
 use Rattle.fc_base.specs.Counted.{numbers_below}
 
@@ -37,15 +37,10 @@ pub all_where : {X : Type 0} (P : X → Type 0) (b : Bool) (xs : List X) → (b 
 all_where P true xs f = f refl
 all_where P false xs f = tt
 
--- the numbers below n, and those from a on
+-- the numbers below n
 pub all_below : (n m : ℕ) → n ≤ m → AllByRecursion (λ x. x < m) (numbers_below n)
 all_below zero m l = tt
 all_below (suc n) m l = all_append (λ x. x < m) (numbers_below n) (n ∷ []) (all_below n m (omega arith)) (omega arith, tt)
-
-pub all_from : (a n : ℕ) → AllByRecursion (λ r. (a ≤ r) × (r < a + n)) (range_with_len a n)
-all_from a zero = tt
-all_from a (suc n) =
-    ((omega arith, omega arith), all_weaker (λ r. (a + 1 ≤ r) × (r < (a + 1) + n)) (λ r. (a ≤ r) × (r < a + suc n)) (range_with_len (a + 1) n) (λ r h. (let p = h.0 in omega arith, let p = h.1 in omega arith)) (all_from (a + 1) n))
 
 pub each_of : {X : Type 0} (P : X → Type 0) (xs : List X) (x : X) → AllByRecursion P xs → Contains xs x → P x
 each_of P xs x a h = All-contains P xs x (All-from_recursion P xs a) h
@@ -64,3 +59,7 @@ first_or_behind y xs x h = elim (Contains-append_cases (y ∷ []) xs x h) [ inl 
   where
     only : {X : Type 0} (y x : X) → Contains (y ∷ []) x → y ≡ x
     only y x h = elim (Contains-push_cases [] y x h) [ inl i ↦ absurd (none_in x i) | inr e ↦ e ]
+
+pub each_is_there : {X : Type 0} (xs : List X) → AllByRecursion (λ x. Contains xs x) xs
+each_is_there [] = tt
+each_is_there (x ∷ xs) = (first_of x xs, all_weaker (λ y. Contains xs y) (λ y. Contains (x ∷ xs) y) xs (λ y h. behind_one x xs y h) (each_is_there xs))

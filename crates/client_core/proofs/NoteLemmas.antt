@@ -1,6 +1,6 @@
 -- What the bytes of a note say.
 use Rattle.std.proofs.Common.{◌≡◌, refl, sym, ◌∙◌, ap, subst, ◌⊎◌, inl, inr, ℕ, ◌+◌, ◌-◌, ◌<◌, ◌≤◌, arith, true, false, ◌==◌, List, [], ◌∷◌, ◌++◌, length, None, Some, take, drop, get_or}
-use Rattle.std.specs.Prelude.{◌^◌, map, bytes_eq, codes}
+use Rattle.std.specs.Prelude.{◌^◌, Bool, Option, Result, Ok, Err, IfOk, if◌then◌else◌, nat_le, map, bytes_eq, codes}
 use Rattle.std.specs.List.{AllByRecursion, flat_map}
 use Rattle.std.specs.Int.{w32, w64}
 use Rattle.std.proofs.lemmas.Bool.{cases_lt}
@@ -15,39 +15,38 @@ use Rattle.state_table.specs.Kept.{has_distinct_keys}
 use Rattle.state_table.specs.Laws.{SpelledAreRead, ReadWereSpelled}
 use Rattle.state_table.specs.Reading.{states_at, ReadsStates}
 use Rattle.client_core.specs.declared.noted.Noted.{Noted}
-use Rattle.client_core.specs.Note.{blank, note_of, spelling, IsNoted, Spells, Says, SaysOneThing, SaysWhatIsWritten}
+use Rattle.client_core.specs.Note.{blank, numbers_of, note_of, old_note_of, spelling, IsNoted, IsNote, Numbers, Spells, Says, ReadsNumbers, Reads, SaysOneThing, SaysWhatIsWritten}
+use Rattle.std.proofs.lemmas.Bool.Decides.{nat_tests}
+use Rattle.fc_base.specs.declared.limits.TheConstants.{MAX_GENERATION}
 use Rattle.std.proofs.lemmas.List.Folds.{flat_map-map}
 use Rattle.verify_state.specs.Spelling.{spelling as state_bytes}
 use Rattle.verify_state.specs.Laws.{ReadsBack}
 
--- what stands behind the mark, the runs, the attempts and the number of states
-abbrev pub after_magic : List ℕ → List ℕ
-after_magic bytes = drop 4 bytes
+-- ---- what stands behind the generation
 
+-- what stands behind the runs, and behind the attempts
 abbrev pub after_runs : List ℕ → List ℕ
-after_runs bytes = drop 8 (after_magic bytes)
+after_runs bytes = drop 8 bytes
 
 abbrev pub after_attempts : List ℕ → List ℕ
 after_attempts bytes = drop 8 (after_runs bytes)
 
--- what bytes that aren't empty have to be, so as to say a note
-pub record IsRead (bytes : List ℕ) (n : Noted) : Type 0 where
-  pub mark : take 4 bytes ≡ codes "FCC1"
-  pub long : 24 ≤ length bytes
-  pub runs : number_in w64 (after_magic bytes) ≡ n.runs
+-- what the numbers and states of a note have to be
+pub record AreRead (bytes : List ℕ) (n : Noted) : Type 0 where
+  pub long : 20 ≤ length bytes
+  pub runs : number_in w64 bytes ≡ n.runs
   pub attempts : number_in w64 (after_runs bytes) ≡ n.attempts
   pub count : number_in w32 (after_attempts bytes) ≡ length n.kept
   pub states : states_at (length n.kept) (drop 4 (after_attempts bytes)) ≡ Some n.kept
 
-spelled_read : SpelledAreRead → (n : Noted) (parts : List (List ℕ)) → IsNoted n → SayStates parts n.kept → IsRead (note_of n.runs n.attempts parts) n
-unfolding note_of bytes_of number_in
+spelled_read : SpelledAreRead → (n : Noted) (parts : List (List ℕ)) → IsNoted n → SayStates parts n.kept → AreRead (numbers_of n.runs n.attempts parts) n
+unfolding numbers_of bytes_of number_in
 spelled_read reads n parts k h =
     let r = reads parts n.kept h in
     let l : length parts ≡ length n.kept = r.0 in
     let few : length n.kept ≤ 1024 = k.count in
     let small : length parts < 2 ^ 32 = omega arith in
     record {
-      mark = refl;
       long = omega arith;
       runs = from_be_bytes-to_be_bytes_8 n.runs k.runs;
       attempts = from_be_bytes-to_be_bytes_8 n.attempts k.attempts;
@@ -55,37 +54,86 @@ spelled_read reads n parts k h =
       states = subst (λ m. states_at m (flat_map counted_bytes parts) ≡ Some n.kept) l r.1;
     }
 
-says_read : SpelledAreRead → (bytes : List ℕ) (n : Noted) → Says bytes n → (bytes ≡ [] → ⊥) → IsRead bytes n
-says_read reads bytes n s some = by s.spelled
-  where
-    by : Spells bytes n ⊎ ((bytes ≡ []) × (n ≡ blank)) → IsRead bytes n
-    by (inl a) = subst (λ l. IsRead l n) (sym a.spelled) (spelled_read reads n a.parts s.note a.states)
-    by (inr a) = absurd (some a.0)
+numbers_read : SpelledAreRead → (bytes : List ℕ) (n : Noted) → IsNoted n → Numbers bytes n → AreRead bytes n
+numbers_read reads bytes n k a = subst (λ l. AreRead l n) (sym a.spelled) (spelled_read reads n a.parts k a.states)
 
--- no note but the blank one is empty
-not_empty : (runs attempts : ℕ) (parts : List (List ℕ)) → note_of runs attempts parts ≡ [] → ⊥
-unfolding note_of bytes_of number_in
-not_empty runs attempts parts e = cc
-
-blank_by : (bytes : List ℕ) (n : Noted) → bytes ≡ [] → Spells bytes n ⊎ ((bytes ≡ []) × (n ≡ blank)) → n ≡ blank
-blank_by bytes n e (inl a) = absurd (not_empty n.runs n.attempts a.parts (sym a.spelled ∙ e))
-blank_by bytes n e (inr a) = a.1
-
-pub says_blank : (n : Noted) → Says [] n → n ≡ blank
-says_blank n s = blank_by [] n refl s.spelled
-
-same_noted : (bytes : List ℕ) (n m : Noted) → IsRead bytes n → IsRead bytes m → n ≡ m
-same_noted bytes n m a b =
+same_noted : (bytes : List ℕ) (n m : Noted) → n.generation ≡ m.generation → AreRead bytes n → AreRead bytes m → n ≡ m
+same_noted bytes n m g a b =
     let r : n.runs ≡ m.runs = sym a.runs ∙ b.runs in
     let t : n.attempts ≡ m.attempts = sym a.attempts ∙ b.attempts in
     let c : length n.kept ≡ length m.kept = sym a.count ∙ b.count in
     let s : Some n.kept ≡ Some m.kept = sym a.states ∙ (ap (λ k. states_at k (drop 4 (after_attempts bytes))) c ∙ b.states) in
     let k : n.kept ≡ m.kept = cc in
-    λ i. record { runs = r i; attempts = t i; kept = k i }
+    λ i. record { generation = g i; runs = r i; attempts = t i; kept = k i }
+
+-- ---- the magic and the generation
+
+-- the bytes are a note of this layout, which says its generation
+pub record IsNew (bytes : List ℕ) (n : Noted) : Type 0 where
+  pub mark : take 4 bytes ≡ codes "FCC2"
+  pub long : 8 ≤ length (drop 4 bytes)
+  pub generation : number_in w64 (drop 4 bytes) ≡ n.generation
+  pub numbers : Numbers (drop 8 (drop 4 bytes)) n
+
+-- the bytes are an old note, which is of none
+pub record IsOld (bytes : List ℕ) (n : Noted) : Type 0 where
+  pub mark : take 4 bytes ≡ codes "FCC1"
+  pub generation : n.generation ≡ 0
+  pub numbers : Numbers (drop 4 bytes) n
+
+new_parts : (n : Noted) (parts : List (List ℕ)) → IsNoted n → SayStates parts n.kept → IsNew (note_of n.generation n.runs n.attempts parts) n
+unfolding note_of bytes_of number_in
+new_parts n parts k h =
+    let low : n.generation ≤ MAX_GENERATION = k.generation in
+    let small : n.generation < 2 ^ 64 = omega arith in
+    record {
+      mark = refl;
+      long = omega arith;
+      generation = from_be_bytes-to_be_bytes_8 n.generation small;
+      numbers = record { parts = parts; spelled = refl; states = h };
+    }
+
+old_parts : (n : Noted) (parts : List (List ℕ)) → n.generation ≡ 0 → SayStates parts n.kept → IsOld (old_note_of n.runs n.attempts parts) n
+unfolding old_note_of
+old_parts n parts g h = record { mark = refl; generation = g; numbers = record { parts = parts; spelled = refl; states = h } }
+
+-- bytes that aren't empty, and say a note
+pub says_parts : (bytes : List ℕ) (n : Noted) → Says bytes n → (bytes ≡ [] → ⊥) → IsNew bytes n ⊎ IsOld bytes n
+says_parts bytes n s some = by s.spelled
+  where
+    by_note : (a : Spells bytes n) → IsNote bytes n a.parts → IsNew bytes n ⊎ IsOld bytes n
+    by_note a (inl e) = inl (subst (λ l. IsNew l n) (sym e) (new_parts n a.parts s.note a.states))
+    by_note a (inr e) = inr (subst (λ l. IsOld l n) (sym e.1) (old_parts n a.parts e.0 a.states))
+
+    by : Spells bytes n ⊎ ((bytes ≡ []) × (n ≡ blank)) → IsNew bytes n ⊎ IsOld bytes n
+    by (inl a) = by_note a a.spelled
+    by (inr a) = absurd (some a.0)
+
+-- no note but the blank one is empty
+not_empty : (n : Noted) (parts : List (List ℕ)) → IsNote [] n parts → ⊥
+unfolding note_of old_note_of bytes_of
+not_empty n parts (inl e) = cc
+not_empty n parts (inr e) = let x = e.1 in cc
+
+blank_by : (bytes : List ℕ) (n : Noted) → bytes ≡ [] → Spells bytes n ⊎ ((bytes ≡ []) × (n ≡ blank)) → n ≡ blank
+blank_by bytes n e (inl a) = absurd (not_empty n a.parts (subst (λ l. IsNote l n a.parts) e a.spelled))
+blank_by bytes n e (inr a) = a.1
+
+pub says_blank : (n : Noted) → Says [] n → n ≡ blank
+says_blank n s = blank_by [] n refl s.spelled
+
+two_marks : (bytes : List ℕ) → take 4 bytes ≡ codes "FCC2" → take 4 bytes ≡ codes "FCC1" → ⊥
+two_marks bytes a b = let e : 50 ≡ 49 = ap (λ l. get_or l 3 0) (sym a ∙ b) in let f : true ≡ false = ap (λ n. 50 == n) e in cc
+
+same_by : SpelledAreRead → (bytes : List ℕ) (n m : Noted) → IsNoted n → IsNoted m → IsNew bytes n ⊎ IsOld bytes n → IsNew bytes m ⊎ IsOld bytes m → n ≡ m
+same_by reads bytes n m k l (inl a) (inl b) = same_noted _ n m (sym a.generation ∙ b.generation) (numbers_read reads _ n k a.numbers) (numbers_read reads _ m l b.numbers)
+same_by reads bytes n m k l (inr a) (inr b) = same_noted _ n m (a.generation ∙ sym b.generation) (numbers_read reads _ n k a.numbers) (numbers_read reads _ m l b.numbers)
+same_by reads bytes n m k l (inl a) (inr b) = absurd (two_marks bytes a.mark b.mark)
+same_by reads bytes n m k l (inr a) (inl b) = absurd (two_marks bytes b.mark a.mark)
 
 pub one_note : SpelledAreRead → SaysOneThing
 one_note reads [] n m s t = says_blank n s ∙ sym (says_blank m t)
-one_note reads (b ∷ bytes) n m s t = same_noted (b ∷ bytes) n m (says_read reads (b ∷ bytes) n s (λ e. cc)) (says_read reads (b ∷ bytes) m t (λ e. cc))
+one_note reads (b ∷ bytes) n m s t = same_by reads (b ∷ bytes) n m s.note t.note (says_parts (b ∷ bytes) n s (λ e. cc)) (says_parts (b ∷ bytes) m t (λ e. cc))
 
 -- what is written says what it was written of
 written : ReadsBack → (states : List State) → AllByRecursion IsState states → SayStates (map state_bytes states) states
@@ -98,11 +146,11 @@ written back (s ∷ states) h =
 pub says_what_is_written : ReadsBack → SaysWhatIsWritten
 says_what_is_written back n k = record {
   note = k;
-  spelled = inl (record { parts = map state_bytes n.kept; spelled = refl; states = written back n.kept k.states });
+  spelled = inl (record { parts = map state_bytes n.kept; spelled = inl refl; states = written back n.kept k.states });
 }
 
 -- the bytes of a part are bytes
-abbrev AreBytes : List ℕ → Type 0
+abbrev pub AreBytes : List ℕ → Type 0
 AreBytes bytes = (i : ℕ) → get_or bytes i 0 < 256
 
 dropped : (n : ℕ) (bytes : List ℕ) → AreBytes bytes → AreBytes (drop n bytes)
@@ -117,51 +165,73 @@ taken n bytes few h = λ i. elim (cases_lt i n) [
 each_byte : (bytes : List ℕ) → AreBytes bytes → AllByRecursion (λ byte. byte < 256) bytes
 each_byte bytes h = recursion_from_All (λ byte. byte < 256) bytes (All-from_get_or (λ byte. byte < 256) bytes 0 (λ i l. h i))
 
--- what is read says the note
-pub read_says : SpelledAreRead → ReadWereSpelled → (bytes : List ℕ) (runs attempts count : ℕ) (kept : List State) → AreBytes bytes → take 4 bytes ≡ codes "FCC1" → 24 ≤ length bytes
-    → runs ≡ number_in w64 (after_magic bytes) → attempts ≡ number_in w64 (after_runs bytes) → count ≡ number_in w32 (after_attempts bytes)
-    → runs < 2 ^ 64 → attempts < 2 ^ 64 → count ≤ 1024 → states_at count (drop 4 (after_attempts bytes)) ≡ Some kept → has_distinct_keys kept ≡ true → Says bytes (record { runs = runs; attempts = attempts; kept = kept })
-unfolding note_of bytes_of number_in
-read_says reads spelled bytes runs attempts count kept h mark long r a c low_runs low_attempts few states keys =
-    let one = dropped 4 bytes h in
-    let two = dropped 8 (after_magic bytes) one in
+-- ---- what is read
+
+-- what is read behind the generation
+pub numbers_say : SpelledAreRead → ReadWereSpelled → (bytes : List ℕ) (generation runs attempts count : ℕ) (kept : List State) → AreBytes bytes → 20 ≤ length bytes
+    → generation ≤ MAX_GENERATION → runs ≡ number_in w64 bytes → attempts ≡ number_in w64 (after_runs bytes) → count ≡ number_in w32 (after_attempts bytes)
+    → runs < 2 ^ 64 → attempts < 2 ^ 64 → count ≤ 1024 → states_at count (drop 4 (after_attempts bytes)) ≡ Some kept → has_distinct_keys kept ≡ true
+    → IsNoted (record { generation = generation; runs = runs; attempts = attempts; kept = kept }) × Numbers bytes (record { generation = generation; runs = runs; attempts = attempts; kept = kept })
+unfolding numbers_of bytes_of number_in
+numbers_say reads spelled bytes generation runs attempts count kept h long low r a c low_runs low_attempts few states keys =
+    let two = dropped 8 bytes h in
     let three = dropped 8 (after_runs bytes) two in
     let behind = drop 4 (after_attempts bytes) in
     let s = spelled count behind kept (each_byte behind (dropped 4 (after_attempts bytes) three)) states in
     let many : length s.parts ≡ length kept = (reads s.parts kept s.says).0 in
     let counts : length s.parts ≡ count = s.count in
-    let left : length (after_magic bytes) ≡ length bytes - 4 = length-drop 4 bytes in
-    let less : length (after_runs bytes) ≡ length (after_magic bytes) - 8 = length-drop 8 (after_magic bytes) in
+    let less : length (after_runs bytes) ≡ length bytes - 8 = length-drop 8 bytes in
     let least : length (after_attempts bytes) ≡ length (after_runs bytes) - 8 = length-drop 8 (after_runs bytes) in
-    let eight : length (take 8 (after_magic bytes)) ≡ 8 = length-take-le 8 (after_magic bytes) (omega arith) in
+    let eight : length (take 8 bytes) ≡ 8 = length-take-le 8 bytes (omega arith) in
     let again : length (take 8 (after_runs bytes)) ≡ 8 = length-take-le 8 (after_runs bytes) (omega arith) in
     let four : length (take 4 (after_attempts bytes)) ≡ 4 = length-take-le 4 (after_attempts bytes) (omega arith) in
-    let x : bytes_of w64 runs ≡ take 8 (after_magic bytes) = be_bytes_8 (take 8 (after_magic bytes)) runs eight (taken 8 (after_magic bytes) (omega arith) one) r in
+    let x : bytes_of w64 runs ≡ take 8 bytes = be_bytes_8 (take 8 bytes) runs eight (taken 8 bytes (omega arith) h) r in
     let y : bytes_of w64 attempts ≡ take 8 (after_runs bytes) = be_bytes_8 (take 8 (after_runs bytes)) attempts again (taken 8 (after_runs bytes) (omega arith) two) a in
     let z : bytes_of w32 (length s.parts) ≡ take 4 (after_attempts bytes) = ap (bytes_of w32) counts ∙ be_bytes_4 (take 4 (after_attempts bytes)) count four (taken 4 (after_attempts bytes) (omega arith) three) c in
     let tail : bytes_of w32 (length s.parts) ++ flat_map counted_bytes s.parts ≡ after_attempts bytes =
     ap (λ l. l ++ flat_map counted_bytes s.parts) z ∙ (ap (λ l. take 4 (after_attempts bytes) ++ l) (sym s.spelled) ∙ take-append-drop 4 (after_attempts bytes)) in
     let middle : bytes_of w64 attempts ++ after_attempts bytes ≡ after_runs bytes = ap (λ l. l ++ after_attempts bytes) y ∙ take-append-drop 8 (after_runs bytes) in
-    let front : bytes_of w64 runs ++ after_runs bytes ≡ after_magic bytes = ap (λ l. l ++ after_runs bytes) x ∙ take-append-drop 8 (after_magic bytes) in
-    let whole : bytes ≡ codes "FCC1" ++ (bytes_of w64 runs ++ (bytes_of w64 attempts ++ (bytes_of w32 (length s.parts) ++ flat_map counted_bytes s.parts))) =
-    sym (take-append-drop 4 bytes) ∙ (ap (λ l. l ++ after_magic bytes) mark ∙ ap (λ l. codes "FCC1" ++ l) (sym front ∙ ap (λ l. bytes_of w64 runs ++ l) (sym middle ∙ ap (λ l. bytes_of w64 attempts ++ l) (sym tail)))) in
-    record {
-      note = record { runs = low_runs; attempts = low_attempts; count = omega arith; states = s.ranges; keys = keys };
-      spelled = inl (record { parts = s.parts; spelled = whole; states = s.says });
-    }
+    let front : bytes_of w64 runs ++ after_runs bytes ≡ bytes = ap (λ l. l ++ after_runs bytes) x ∙ take-append-drop 8 bytes in
+    let whole : bytes ≡ bytes_of w64 runs ++ (bytes_of w64 attempts ++ (bytes_of w32 (length s.parts) ++ flat_map counted_bytes s.parts)) =
+    sym front ∙ ap (λ l. bytes_of w64 runs ++ l) (sym middle ∙ ap (λ l. bytes_of w64 attempts ++ l) (sym tail)) in (
+      record { generation = low; runs = low_runs; attempts = low_attempts; count = omega arith; states = s.ranges; keys = keys },
+      record { parts = s.parts; spelled = whole; states = s.says },
+    )
+
+-- an old note
+pub old_says : (bytes : List ℕ) (n : Noted) → take 4 bytes ≡ codes "FCC1" → n.generation ≡ 0 → IsNoted n → Numbers (drop 4 bytes) n → Says bytes n
+unfolding old_note_of
+old_says bytes n mark g k numbers =
+    let whole : bytes ≡ codes "FCC1" ++ numbers_of n.runs n.attempts numbers.parts = sym (take-append-drop 4 bytes) ∙ (ap (λ l. l ++ drop 4 bytes) mark ∙ ap (λ l. codes "FCC1" ++ l) numbers.spelled) in
+    record { note = k; spelled = inl (record { parts = numbers.parts; spelled = inr (g, whole); states = numbers.states }) }
+
+-- a note of this layout
+pub new_says : (bytes : List ℕ) (generation : ℕ) (n : Noted) → AreBytes bytes → take 4 bytes ≡ codes "FCC2" → 8 ≤ length (drop 4 bytes) → generation ≡ number_in w64 (drop 4 bytes) → n.generation ≡ generation → IsNoted n → Numbers (drop 8 (drop 4 bytes)) n → Says bytes n
+unfolding note_of bytes_of number_in
+new_says bytes generation n h mark long g same k numbers =
+    let one = dropped 4 bytes h in
+    let eight : length (take 8 (drop 4 bytes)) ≡ 8 = length-take-le 8 (drop 4 bytes) long in
+    let x : bytes_of w64 n.generation ≡ take 8 (drop 4 bytes) = be_bytes_8 (take 8 (drop 4 bytes)) n.generation eight (taken 8 (drop 4 bytes) (omega arith) one) (same ∙ g) in
+    let front : bytes_of w64 n.generation ++ numbers_of n.runs n.attempts numbers.parts ≡ drop 4 bytes =
+    ap (λ l. l ++ numbers_of n.runs n.attempts numbers.parts) x ∙ (ap (λ l. take 8 (drop 4 bytes) ++ l) (sym numbers.spelled) ∙ take-append-drop 8 (drop 4 bytes)) in
+    let whole : bytes ≡ codes "FCC2" ++ (bytes_of w64 n.generation ++ numbers_of n.runs n.attempts numbers.parts) =
+    sym (take-append-drop 4 bytes) ∙ (ap (λ l. l ++ drop 4 bytes) mark ∙ ap (λ l. codes "FCC2" ++ l) (sym front)) in
+    record { note = k; spelled = inl (record { parts = numbers.parts; spelled = inl whole; states = numbers.states }) }
 
 -- what is put together is the spelling
-pub encoded : (n : Noted) (count : ℕ) (states : List State) (a b c d e f : List ℕ) → count ≡ length n.kept → states ≡ n.kept → a ≡ [] → b ≡ a ++ codes "FCC1" → c ≡ b ++ bytes_of w64 n.runs → d ≡ c ++ bytes_of w64 n.attempts
-    → e ≡ d ++ bytes_of w32 count → f ≡ e ++ flat_map (λ s. counted_bytes (state_bytes s)) states → f ≡ spelling n
-unfolding note_of bytes_of number_in
-encoded n count states a b c d e f many all a_is b_is c_is d_is e_is f_is =
-    let front : e ≡ (((([] ++ codes "FCC1") ++ bytes_of w64 n.runs) ++ bytes_of w64 n.attempts) ++ bytes_of w32 count) =
-    e_is ∙ ap (λ l. l ++ bytes_of w32 count) (d_is ∙ ap (λ l. l ++ bytes_of w64 n.attempts) (c_is ∙ ap (λ l. l ++ bytes_of w64 n.runs) (b_is ∙ ap (λ l. l ++ codes "FCC1") a_is))) in
+pub encoded : (n : Noted) (count : ℕ) (states : List State) (a b c d e f g : List ℕ) → count ≡ length n.kept → states ≡ n.kept → a ≡ [] → b ≡ a ++ codes "FCC2" → c ≡ b ++ bytes_of w64 n.generation → d ≡ c ++ bytes_of w64 n.runs → e ≡ d ++ bytes_of w64 n.attempts
+    → f ≡ e ++ bytes_of w32 count → g ≡ f ++ flat_map (λ s. counted_bytes (state_bytes s)) states → g ≡ spelling n
+unfolding note_of numbers_of bytes_of number_in
+encoded n count states a b c d e f g many all a_is b_is c_is d_is e_is f_is g_is =
+    let start : d ≡ (([] ++ codes "FCC2") ++ bytes_of w64 n.generation) ++ bytes_of w64 n.runs =
+    d_is ∙ ap (λ l. l ++ bytes_of w64 n.runs) (c_is ∙ ap (λ l. l ++ bytes_of w64 n.generation) (b_is ∙ ap (λ l. l ++ codes "FCC2") a_is)) in
+    let front : f ≡ (((([] ++ codes "FCC2") ++ bytes_of w64 n.generation) ++ bytes_of w64 n.runs) ++ bytes_of w64 n.attempts) ++ bytes_of w32 count =
+    f_is ∙ ap (λ l. l ++ bytes_of w32 count) (e_is ∙ ap (λ l. l ++ bytes_of w64 n.attempts) start) in
     let number : count ≡ length (map state_bytes n.kept) = many ∙ sym (length-map n.kept state_bytes) in
     let tail : flat_map (λ s. counted_bytes (state_bytes s)) states ≡ flat_map counted_bytes (map state_bytes n.kept) = ap (λ l. flat_map (λ s. counted_bytes (state_bytes s)) l) all ∙ sym (flat_map-map counted_bytes state_bytes n.kept) in
-    f_is ∙ (ap (λ l. l ++ flat_map (λ s. counted_bytes (state_bytes s)) states) front
-    ∙ (ap (λ l. (((([] ++ codes "FCC1") ++ bytes_of w64 n.runs) ++ bytes_of w64 n.attempts) ++ bytes_of w32 count) ++ l) tail
-    ∙ ap (λ k. (((([] ++ codes "FCC1") ++ bytes_of w64 n.runs) ++ bytes_of w64 n.attempts) ++ bytes_of w32 k) ++ flat_map counted_bytes (map state_bytes n.kept)) number))
+    g_is ∙ (ap (λ l. l ++ flat_map (λ s. counted_bytes (state_bytes s)) states) front
+    ∙ (ap (λ l. ((((([] ++ codes "FCC2") ++ bytes_of w64 n.generation) ++ bytes_of w64 n.runs) ++ bytes_of w64 n.attempts) ++ bytes_of w32 count) ++ l) tail
+    ∙ ap (λ k. ((((([] ++ codes "FCC2") ++ bytes_of w64 n.generation) ++ bytes_of w64 n.runs) ++ bytes_of w64 n.attempts) ++ bytes_of w32 k) ++ flat_map counted_bytes (map state_bytes n.kept)) number))
 
 -- ---- where nothing is said
 
@@ -169,23 +239,80 @@ pub some_bytes : (bytes : List ℕ) → false ≡ (length bytes == 0) → bytes 
 some_bytes [] h e = cc
 some_bytes (b ∷ bytes) h e = cc
 
-pub no_magic : SpelledAreRead → (bytes : List ℕ) (n : Noted) → (bytes ≡ [] → ⊥) → bytes_eq (take 4 bytes) (codes "FCC1") ≡ false → Says bytes n → ⊥
-no_magic reads bytes n some h s =
-    let m : bytes_eq (take 4 bytes) (codes "FCC1") ≡ true = (bytes_eq-Decides (take 4 bytes) (codes "FCC1")).1 (says_read reads bytes n s some).mark in
-    let e : true ≡ false = sym m ∙ h in
+is_marked : (bytes mark : List ℕ) → take 4 bytes ≡ mark → bytes_eq (take 4 bytes) mark ≡ false → ⊥
+is_marked bytes mark e h =
+    let m : bytes_eq (take 4 bytes) mark ≡ true = (bytes_eq-Decides (take 4 bytes) mark).1 e in
+    let x : true ≡ false = sym m ∙ h in
     cc
 
-pub too_short : SpelledAreRead → (bytes : List ℕ) (n : Noted) → (bytes ≡ [] → ⊥) → length bytes < 24 → Says bytes n → ⊥
-too_short reads bytes n some h s = let l : 24 ≤ length bytes = (says_read reads bytes n s some).long in absurd (omega arith)
+pub is_equal : (bytes mark : List ℕ) → bytes_eq bytes mark ≡ true → bytes ≡ mark
+is_equal bytes mark h = (bytes_eq-Decides bytes mark).0 h
 
-pub too_many : SpelledAreRead → (bytes : List ℕ) (n : Noted) (count : ℕ) → (bytes ≡ [] → ⊥) → count ≡ number_in w32 (after_attempts bytes) → 1024 < count → Says bytes n → ⊥
-too_many reads bytes n count some c h s =
-    let e : count ≡ length n.kept = c ∙ (says_read reads bytes n s some).count in
-    let few : length n.kept ≤ 1024 = s.note.count in
+-- what is no old note is one of this layout
+pub is_new : (bytes : List ℕ) (n : Noted) → (bytes ≡ [] → ⊥) → bytes_eq (take 4 bytes) (codes "FCC1") ≡ false → Says bytes n → IsNew bytes n
+is_new bytes n some h s = elim (says_parts bytes n s some) [
+  | inl a ↦ a
+  | inr a ↦ absurd (is_marked bytes (codes "FCC1") a.mark h)
+]
+
+pub is_old : (bytes : List ℕ) (n : Noted) → (bytes ≡ [] → ⊥) → take 4 bytes ≡ codes "FCC1" → Says bytes n → IsOld bytes n
+is_old bytes n some mark s = elim (says_parts bytes n s some) [
+  | inl a ↦ absurd (two_marks bytes a.mark mark)
+  | inr a ↦ a
+]
+
+pub no_magic : (bytes : List ℕ) (n : Noted) → (bytes ≡ [] → ⊥) → bytes_eq (take 4 bytes) (codes "FCC1") ≡ false → bytes_eq (take 4 bytes) (codes "FCC2") ≡ false → Says bytes n → ⊥
+no_magic bytes n some old new s = is_marked bytes (codes "FCC2") (is_new bytes n some old s).mark new
+
+pub too_short : SpelledAreRead → (bytes : List ℕ) (n : Noted) → length bytes < 20 → IsNoted n → Numbers bytes n → ⊥
+too_short reads bytes n h k a = let l : 20 ≤ length bytes = (numbers_read reads bytes n k a).long in absurd (omega arith)
+
+pub too_many : SpelledAreRead → (bytes : List ℕ) (n : Noted) (count : ℕ) → count ≡ number_in w32 (after_attempts bytes) → 1024 < count → IsNoted n → Numbers bytes n → ⊥
+too_many reads bytes n count c h k a =
+    let e : count ≡ length n.kept = c ∙ (numbers_read reads bytes n k a).count in
+    let few : length n.kept ≤ 1024 = k.count in
     absurd (omega arith)
 
-pub no_states : SpelledAreRead → (bytes : List ℕ) (n : Noted) (count : ℕ) → (bytes ≡ [] → ⊥) → count ≡ number_in w32 (after_attempts bytes) → ReadsStates count (drop 4 (after_attempts bytes)) None → Says bytes n → ⊥
-no_states reads bytes n count some c h s =
-    let r = says_read reads bytes n s some in
+pub no_states : SpelledAreRead → (bytes : List ℕ) (n : Noted) (count : ℕ) → count ≡ number_in w32 (after_attempts bytes) → ReadsStates count (drop 4 (after_attempts bytes)) None → IsNoted n → Numbers bytes n → ⊥
+no_states reads bytes n count c h k a =
+    let r = numbers_read reads bytes n k a in
     let e : length n.kept ≡ count = sym r.count ∙ sym c in
-    h n.kept (subst (λ k. states_at k (drop 4 (after_attempts bytes)) ≡ Some n.kept) e r.states) s.note.keys
+    h n.kept (subst (λ m. states_at m (drop 4 (after_attempts bytes)) ≡ Some n.kept) e r.states) k.keys
+
+-- ---- a reader of notes, by one of what stands behind the generation
+
+pub if_ok : {A E : Type 0} (r : Result A E) (P Q : A → Type 0) → ((x : A) → P x → Q x) → IfOk r P → IfOk r Q
+if_ok (Ok x) P Q f h = f x h
+if_ok (Err e) P Q f h = tt
+
+pub reads_old : (bytes rest : List ℕ) → (bytes ≡ [] → ⊥) → take 4 bytes ≡ codes "FCC1" → rest ≡ drop 4 bytes → (x : Option Noted) → ReadsNumbers 0 rest x → Reads bytes x
+reads_old bytes rest some mark is (Some n) h = old_says bytes n mark h.0 h.1 (subst (λ l. Numbers l n) is h.2)
+reads_old bytes rest some mark is None h = λ n s. h n s.note (subst (λ l. Numbers l n) (sym is) (is_old bytes n some mark s).numbers)
+
+pub reads_new : (bytes rest : List ℕ) (generation : ℕ) → (bytes ≡ [] → ⊥) → AreBytes bytes → bytes_eq (take 4 bytes) (codes "FCC1") ≡ false → take 4 bytes ≡ codes "FCC2" → 8 ≤ length (drop 4 bytes) → generation ≡ number_in w64 (drop 4 bytes) → rest ≡ drop 8 (drop 4 bytes)
+    → (x : Option Noted) → ReadsNumbers generation rest x → Reads bytes x
+reads_new bytes rest generation some h other mark long g is (Some n) r = new_says bytes generation n h mark long g r.0 r.1 (subst (λ l. Numbers l n) is r.2)
+reads_new bytes rest generation some h other mark long g is None r = λ n s. r n s.note (subst (λ l. Numbers l n) (sym is) (is_new bytes n some other s).numbers)
+
+pub short_note : (bytes : List ℕ) (n : Noted) → (bytes ≡ [] → ⊥) → bytes_eq (take 4 bytes) (codes "FCC1") ≡ false → length (drop 4 bytes) < 8 → Says bytes n → ⊥
+short_note bytes n some other short s = let l : 8 ≤ length (drop 4 bytes) = (is_new bytes n some other s).long in absurd (omega arith)
+
+pub past_generation : (bytes : List ℕ) (n : Noted) (generation : ℕ) → (bytes ≡ [] → ⊥) → bytes_eq (take 4 bytes) (codes "FCC1") ≡ false → generation ≡ number_in w64 (drop 4 bytes) → MAX_GENERATION < generation → Says bytes n → ⊥
+past_generation bytes n generation some other g past s =
+    let e : generation ≡ n.generation = g ∙ (is_new bytes n some other s).generation in
+    let low : n.generation ≤ MAX_GENERATION = s.note.generation in
+    absurd (omega arith)
+
+pub within_generation : (number generation : ℕ) → Some generation ≡ (if nat_le number MAX_GENERATION then Some number else None) → generation ≡ number
+within_generation number generation e = by_test (nat_le number MAX_GENERATION) e
+  where
+    by_test : (b : Bool) → Some generation ≡ (if b then Some number else None) → generation ≡ number
+    by_test true e = cc
+    by_test false e = cc
+
+pub above_generation : (number : ℕ) → None ≡ (if nat_le number MAX_GENERATION then Some number else None) → MAX_GENERATION < number
+above_generation number e = by_test (nat_le number MAX_GENERATION) refl e
+  where
+    by_test : (b : Bool) → nat_le number MAX_GENERATION ≡ b → None ≡ (if b then Some number else None) → MAX_GENERATION < number
+    by_test true is e = cc
+    by_test false is e = grind (arith, nat_tests)

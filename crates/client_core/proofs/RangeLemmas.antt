@@ -13,27 +13,29 @@ use Rattle.messages.specs.declared.packet.PacketParts.{PacketParts}
 use Rattle.messages.specs.declared.body.Body.{Body}
 use Rattle.messages.specs.declared.body.Body.TheVariants as bodies
 use Rattle.messages.specs.declared.refusal.Act.{Act}
-use Rattle.messages.specs.Ranges.{is_run, is_attempt, is_jobs, is_job, is_job_of, is_text, is_body, KeepsState}
+use Rattle.messages.specs.Ranges.{is_generation, is_run, is_attempt, is_jobs, is_job, is_job_of, is_text, is_body, KeepsState}
 use Rattle.messages.specs.Laws.{IsPacket}
 use Rattle.disk_model.specs.declared.left.Left.{Left}
 use Rattle.client_core.specs.declared.call.Call.{Call}
 use Rattle.client_core.specs.declared.call.Call.TheVariants.{Begin, Trigger, Stop, Verify, Deliver, Tick}
+use Rattle.fc_base.specs.declared.limits.TheConstants.{MAX_GENERATION}
 use Rattle.state_table.specs.Kept.{kept_of}
 use Rattle.client_core.specs.declared.noted.Noted.{Noted}
+use Rattle.client_core.specs.declared.peers.Peers.{Peers}
 use Rattle.client_core.specs.Note.{IsNoted}
-use Rattle.client_core.specs.History.{Opening, Entry, Met, Cut, Restart}
+use Rattle.client_core.specs.History.{Opening, Entry, Met, Cut, Restart, Renew, Lose}
 use Rattle.client_core.specs.Refusals.{is_begun, has_next, refusal_by}
 use Rattle.client_core.specs.Saves.{is_answer}
-use Rattle.client_core.specs.Words.{is_on, noted, refusal, due, is_answered, kept}
+use Rattle.client_core.specs.Words.{is_on, noted, refusal, due, is_answered, kept, peers}
 use Rattle.client_core.specs.Life.{Deed, Begins, Triggers, Stops, Verifies, Hears, deeds_of, life, done, text_of}
-use Rattle.client_core.specs.Packets.{to_server, packets}
+use Rattle.client_core.specs.Packets.{to_mirror, to_server, packets}
 use Rattle.client_core.specs.Ranges.{packet_in, CameInRange}
 use Rattle.client_core.specs.Laws.{from_server, NotesKeepRanges, PacketsAreInRange}
 use Rattle.client_core.proofs.AskedLemmas.{begun_was}
 use Rattle.client_core.proofs.HeardLemmas.{none_or}
 use Rattle.client_core.proofs.ListLemmas.{all_append, all_weaker, each_of}
 use Rattle.client_core.proofs.NotedLemmas.{begin_faults, in_entry, next_left, verify_faults}
-use Rattle.client_core.proofs.ReasonLemmas.{IsSaid, IsSent, Why, all_sent}
+use Rattle.client_core.proofs.ReasonLemmas.{IsSaid, IsSent, Why, WhyMirror, all_sent}
 use Rattle.client_core.proofs.TextLemmas.{life_was_done, why_carries}
 
 run_within : (r last : ℕ) → 1 ≤ r → r ≤ last → last < 2 ^ 64 → is_run r ≡ true
@@ -53,8 +55,8 @@ begun_in_range n run h l =
     let d : run ≤ n.runs = grind (arith, nat_tests) in
     run_within run n.runs c d l
 
-pub next_in_range : (used : ℕ) → has_next used ≡ true → is_run (used + 1) ≡ true
-next_in_range used h = run_within (used + 1) (used + 1) (omega arith) (omega arith) (next_left used h)
+pub next_in_range : (peers : Peers) (g used : ℕ) → has_next peers g used ≡ true → is_run (used + 1) ≡ true
+next_in_range peers g used h = run_within (used + 1) (used + 1) (omega arith) (omega arith) (next_left peers g used h)
 
 run_faults : (a b : Bool) → slice_get (when (not a) Down ++ when (not b) NoSuchRun) 0 ≡ None → b ≡ true
 run_faults true true h = refl
@@ -69,13 +71,13 @@ InRange (Stops r) = Unit {0}
 InRange (Verifies r a text) = (is_run r ≡ true) × (is_run a ≡ true) × (is_text text ≡ true)
 InRange (Hears s body) = Unit {0}
 
-deeds_in_range : (on : Bool) (servers : ℕ) (n : Noted) (c : Call) → refusal_by on servers n c ≡ None → IsNoted n → AllByRecursion InRange (deeds_of n c)
-deeds_in_range on servers n (Begin text) h k = let p = begin_faults on (is_text text) (has_next n.runs) h in ((next_in_range n.runs p.1, p.0), tt)
+deeds_in_range : (on : Bool) (servers : Peers) (n : Noted) (c : Call) → refusal_by on servers n c ≡ None → IsNoted n → AllByRecursion InRange (deeds_of n c)
+deeds_in_range on servers n (Begin text) h k = let p = begin_faults on (is_text text) (has_next servers n.generation n.runs) h in ((next_in_range servers n.generation n.runs p.1, p.0), tt)
 deeds_in_range on servers n (Trigger run act) h k = (tt, tt)
 deeds_in_range on servers n (Stop run) h k = (tt, tt)
 deeds_in_range on servers n (Verify run text) h k =
-    let p = verify_faults on (is_begun n run) (is_text text) (has_next n.attempts) h in
-    ((begun_in_range n run p.0 k.runs, next_in_range n.attempts p.2, p.1), tt)
+    let p = verify_faults on (is_begun n run) (is_text text) (has_next servers n.generation n.attempts) h in
+    ((begun_in_range n run p.0 k.runs, next_in_range servers n.generation n.attempts p.2, p.1), tt)
 deeds_in_range on servers n (Deliver p) h k = (tt, tt)
 deeds_in_range on servers n Tick h k = tt
 
@@ -88,10 +90,12 @@ done_in_range ranges o [] k h = tt
 done_in_range ranges o (Met c left ∷ past) k h =
     let p = in_entry (Met c left) past h in
     more_done (is_answered o past c left) (deeds_of (noted o past) c) (done o past)
-    (λ a. deeds_in_range (is_on past) o.servers (noted o past) c (none_or (refusal o past c) (is_answer (due o past c) left) a) (ranges o past k p.1))
+    (λ a. deeds_in_range (is_on past) (peers o past) (noted o past) c (none_or (refusal o past c) (is_answer (due o past c) left) a) (ranges o past k p.1))
     (done_in_range ranges o past k p.1)
 done_in_range ranges o (Cut ∷ past) k h = done_in_range ranges o past k h
-done_in_range ranges o (Restart ∷ past) k h = done_in_range ranges o past k h
+done_in_range ranges o (Restart mirror ∷ past) k h = done_in_range ranges o past k h
+done_in_range ranges o (Renew g left ∷ past) k h = done_in_range ranges o past k h
+done_in_range ranges o (Lose ∷ past) k h = done_in_range ranges o past k h
 
 -- what a body keeps
 abbrev Fits : Body → Type 0
@@ -189,23 +193,47 @@ to_one p s l e f =
     let k : IsPacket (to_server p.body s) = record { in_range = rw (t, b) refl; state = f.1 } in
     subst IsPacket (sym e) k
 
+below_eight : (s servers : ℕ) → s < servers → servers ≤ 8 → s < 8
+below_eight s servers l few = omega arith
+
+mirror_fits : (o : Opening) (past : List Entry) (c : Call) (left : Left) (body : Body) → Known o past c left → WhyMirror (noted o past) c body → Fits body
+mirror_fits o past c left (bodies.Copy state) k (inl h) = (refl, each_of IsState (noted o past).kept state k.note.states h)
+mirror_fits o past c left (bodies.Copy state) k (inr h) = (refl, (said_fits c left h.0 (bodies.State h.1 state) h.2 k.entry).1)
+mirror_fits o past c left (bodies.Fetch generation) k w =
+    (subst (λ g. is_generation g ≡ true) (sym w.0) (ranged (noted o past).generation (subst (λ g. 0 < g) w.0 w.1) k.note.generation), tt)
+  where
+    ranged : (g : ℕ) → 0 < g → g ≤ MAX_GENERATION → is_generation g ≡ true
+    ranged g a b =
+        let x : nat_le 1 g ≡ true = grind (arith, nat_tests) in
+        let y : nat_le g MAX_GENERATION ≡ true = grind (arith, nat_tests) in
+        rw (x, y) refl
+mirror_fits o past c left _ k w = absurd w
+
+to_its_mirror : (p : PacketParts) → p ≡ to_mirror p.body → Fits p.body → IsPacket p
+to_its_mirror p e f =
+    let b : is_body p.body ≡ true = f.0 in
+    let k : IsPacket (to_mirror p.body) = record { in_range = rw b refl; state = f.1 } in
+    subst IsPacket (sym e) k
+
 pub packets_are_in_range : NotesKeepRanges → PacketsAreInRange
 packets_are_in_range ranges o past (Met c left) opens h =
     let came = in_entry (Met c left) past h in
     all_weaker (IsSent o past c left) IsPacket (packets o past (Met c left))
     (λ p x.
-    let w = x.why in
-    let below : w.0 < o.servers = w.1 in
-    let few : o.servers ≤ 8 = opens.servers in
-    let l : w.0 < 8 = omega arith in
-    to_one p w.0 l w.2 (fits o past c left w.0 p.body (record {
+    let k : Known o past c left = record {
       note = ranges o past opens.note came.1;
       entry = came.0;
       before = done_in_range ranges o past opens.note came.1;
       after = done_in_range ranges o (Met c left ∷ past) opens.note h;
       answers = x.answers;
       taken = x.taken;
-    }) w.3))
+    } in
+    elim (x.why) [
+      | inl w ↦ to_one p w.0 (below_eight w.0 o.servers w.1 opens.servers) w.2 (fits o past c left w.0 p.body k w.3)
+      | inr w ↦ to_its_mirror p w.1 (mirror_fits o past c left p.body k w.2)
+    ])
     (all_sent o past c left)
 packets_are_in_range ranges o past Cut opens h = tt
-packets_are_in_range ranges o past Restart opens h = tt
+packets_are_in_range ranges o past (Restart mirror) opens h = tt
+packets_are_in_range ranges o past (Renew g left) opens h = tt
+packets_are_in_range ranges o past Lose opens h = tt

@@ -15,10 +15,11 @@ use Rattle.disk_model.specs.declared.left.Left.{Left}
 use Rattle.client_core.specs.declared.call.Call.{Call}
 use Rattle.client_core.specs.declared.call.Call.TheVariants.{Begin, Trigger, Stop, Verify, Deliver, Tick}
 use Rattle.client_core.specs.declared.received.Received.{Received}
-use Rattle.client_core.specs.History.{Opening, Entry, Met, Cut, Restart}
+use Rattle.client_core.specs.declared.peers.Peers.{Peers}
+use Rattle.client_core.specs.History.{Opening, Entry, Met, Cut, Restart, Renew, Lose}
 use Rattle.client_core.specs.Refusals.{is_for_client, refusal_by}
 use Rattle.client_core.specs.Saves.{addition_of, unless_refused, is_answer}
-use Rattle.client_core.specs.Words.{is_on, noted, is_answered}
+use Rattle.client_core.specs.Words.{is_on, noted, is_answered, peers}
 use Rattle.client_core.specs.Life.{Deed, Hears, deeds_of, life, run_of}
 use Rattle.client_core.specs.Requests.{verify_at}
 use Rattle.client_core.specs.Reports.{counts_for, has_report, with_report, reports_heard, reports}
@@ -43,18 +44,18 @@ chosen : (P : Received → Type 0) (b : Bool) (xs ys : List Received) → AllByR
 chosen P true xs ys h k = h
 chosen P false xs ys h k = k
 
-heard : (servers : ℕ) (from to : Node) (body : Body) (before : List PacketParts) (deeds : List Deed) (rs : List Received) → is_for_client servers (record { from = from; to = to; body = body }) ≡ true
+heard : (servers : Peers) (from to : Node) (body : Body) (before : List PacketParts) (deeds : List Deed) (rs : List Received) → is_for_client servers (record { from = from; to = to; body = body }) ≡ true
     → AllByRecursion (Came (record { from = from; to = to; body = body } ∷ before)) rs → AllByRecursion (Came (record { from = from; to = to; body = body } ∷ before)) (reports_heard deeds (node_number from) body rs)
 heard servers from to (bodies.Report run attempt job jobs report) before deeds rs ours k =
     let p : PacketParts = record { from = from; to = to; body = bodies.Report run attempt job jobs report } in
     let r : Received = record { run = run; attempt = attempt; server = node_number from; job = job; report = report } in
     let there : Contains (p ∷ before) (from_server (bodies.Report run attempt job jobs report) (node_number from)) =
-    Contains-append_left (p ∷ []) before (from_server (bodies.Report run attempt job jobs report) (node_number from)) (one p (from_server (bodies.Report run attempt job jobs report) (node_number from)) (from_own servers from to (bodies.Report run attempt job jobs report) ours)) in
+    Contains-append_left (p ∷ []) before (from_server (bodies.Report run attempt job jobs report) (node_number from)) (one p (from_server (bodies.Report run attempt job jobs report) (node_number from)) (from_own servers from to (bodies.Report run attempt job jobs report) refl ours)) in
     chosen (Came (p ∷ before)) ((run == run_of attempt deeds) && counts_for (record { job = job; jobs = jobs; misfit = false }) (verify_at attempt (node_number from) deeds)) (with_report r rs) rs
     (added (Came (p ∷ before)) r rs (has_report r.attempt r.server r.job rs) (jobs, there) k) k
 heard servers from to _ before deeds rs ours k = k
 
-step : (on : Bool) (servers : ℕ) (o : Opening) (past : List Entry) (c : Call) (left : Left) (b : Bool) → (b ≡ true → refusal_by on servers (noted o past) c ≡ None)
+step : (on : Bool) (servers : Peers) (o : Opening) (past : List Entry) (c : Call) (left : Left) (b : Bool) → (b ≡ true → refusal_by on servers (noted o past) c ≡ None)
     → AllByRecursion (Came (packet_in (Met c left) ++ came past)) (reports (life o past))
     → AllByRecursion (Came (packet_in (Met c left) ++ came past)) (reports (if b then deeds_of (noted o past) c ++ life o past else life o past))
 step on servers o past c left false f k = k
@@ -72,11 +73,13 @@ none_or (Some f) b h = cc
 all_came : (o : Opening) (past : List Entry) → AllByRecursion (Came (came past)) (reports (life o past))
 all_came o [] = tt
 all_came o (Met c left ∷ past) =
-    step (is_on past) o.servers o past c left (is_answered o past c left)
-    (λ a. none_or (refusal_by (is_on past) o.servers (noted o past) c) (is_answer (unless_refused (refusal_by (is_on past) o.servers (noted o past) c) (addition_of (noted o past) c)) left) a)
+    step (is_on past) (peers o past) o past c left (is_answered o past c left)
+    (λ a. none_or (refusal_by (is_on past) (peers o past) (noted o past) c) (is_answer (unless_refused (refusal_by (is_on past) (peers o past) (noted o past) c) (addition_of (noted o past) c)) left) a)
     (all_weaker (Came (came past)) (Came (packet_in (Met c left) ++ came past)) (reports (life o past)) (λ r h. later (packet_in (Met c left)) (came past) r h) (all_came o past))
 all_came o (Cut ∷ past) = tt
-all_came o (Restart ∷ past) = tt
+all_came o (Restart mirror ∷ past) = tt
+all_came o (Renew g left ∷ past) = tt
+all_came o (Lose ∷ past) = tt
 
 pub reports_came : ReportsCame
 reports_came o past r h = All-contains (Came (came past)) (reports (life o past)) r (All-from_recursion (Came (came past)) (reports (life o past)) (all_came o past)) h

@@ -16,16 +16,16 @@ use Rattle.client_core.specs.declared.call.Call.TheVariants.{Deliver}
 use Rattle.state_table.specs.Kept.{kept_of}
 use Rattle.state_table.specs.Laws.{FoundHasItsKey, LastIsFound}
 use Rattle.client_core.specs.declared.noted.Noted.{Noted}
-use Rattle.client_core.specs.History.{Opening, Entry, Met, Cut, Restart}
+use Rattle.client_core.specs.History.{Opening, Entry, Met, Cut, Restart, Renew, Lose}
 use Rattle.client_core.specs.Saves.{unless_kept, unless_refused, noted_after, is_answer}
-use Rattle.client_core.specs.Words.{is_on, noted, refusal, is_answered}
+use Rattle.client_core.specs.Words.{is_on, noted, peers, kept, refusal, is_answered}
 use Rattle.client_core.specs.Life.{Deed, life}
 use Rattle.client_core.specs.Packets.{to_server}
 use Rattle.client_core.specs.Ranges.{packet_in}
-use Rattle.client_core.specs.Laws.{from_server, is_for_server, SavedIsKept, AcksAreFor, PacketsGoToServers}
+use Rattle.client_core.specs.Laws.{from_server, is_for_mirror, is_for_server, SavedIsKept, CopiesAreOfStates, AcksAreFor, PacketsGoToPeers}
 use Rattle.client_core.proofs.HeardLemmas.{has_one, own_state, taken_in}
 use Rattle.client_core.proofs.ListLemmas.{first_of, none_in}
-use Rattle.client_core.proofs.ReasonLemmas.{IsSaid, Why, sent_why}
+use Rattle.client_core.proofs.ReasonLemmas.{IsSaid, SendsTo, Why, WhyMirror, sent_why}
 
 client_kind : (n : Noted) (deeds : List Deed) (c : Call) (s : ℕ) (body : Body) → Why n deeds c s body → is_for_server (kind_of body) ≡ true
 client_kind n deeds c s (bodies.Jobs run text) w = refl
@@ -38,22 +38,54 @@ client_kind n deeds c s (bodies.Saved attempt state) w = refl
 client_kind n deeds c s (bodies.NoSaved run attempt job) w = refl
 client_kind n deeds c s _ w = absurd w
 
-pub packets_go_to_servers : PacketsGoToServers
-packets_go_to_servers o past (Met c left) p h =
-    let w = (sent_why o past c left p h).why in
-    (w.0, w.1, w.2, client_kind (noted o past) (life o past) c w.0 p.body w.3)
-packets_go_to_servers o past Cut p h = absurd (none_in p h)
-packets_go_to_servers o past Restart p h = absurd (none_in p h)
+mirror_kind : (n : Noted) (c : Call) (body : Body) → WhyMirror n c body → is_for_mirror (kind_of body) ≡ true
+mirror_kind n c (bodies.Copy state) w = refl
+mirror_kind n c (bodies.Fetch generation) w = refl
+mirror_kind n c _ w = absurd w
 
-pub saved_is_kept : FoundHasItsKey → SavedIsKept
-saved_is_kept has o past (Met c left) p attempt state h e =
-    let w = (sent_why o past c left p h).why in
+pub packets_go_to_peers : PacketsGoToPeers
+packets_go_to_peers o past (Met c left) p h = elim ((sent_why o past c left p h).why) [
+  | inl w ↦ inl (w.0, w.1, w.2, client_kind (noted o past) (life o past) c w.0 p.body w.3)
+  | inr w ↦ inr (w.0, w.1, mirror_kind (noted o past) c p.body w.2)
+]
+packets_go_to_peers o past Cut p h = absurd (none_in p h)
+packets_go_to_peers o past (Restart mirror) p h = absurd (none_in p h)
+packets_go_to_peers o past (Renew g left) p h = absurd (none_in p h)
+packets_go_to_peers o past Lose p h = absurd (none_in p h)
+
+saved_by : FoundHasItsKey → (o : Opening) (past : List Entry) (c : Call) (p : PacketParts) (attempt : ℕ) (state : State) → SendsTo o.servers (noted o past) (life o past) c p → p.body ≡ bodies.Saved attempt state → kept o past state.key ≡ Some state
+saved_by has o past c p attempt state w e =
     let v : Why (noted o past) (life o past) c w.0 (bodies.Saved attempt state) = subst (Why (noted o past) (life o past) c w.0) e w.3 in
     let key : Key = record { run = v.0; server = w.0; job = v.1 } in
     let own : state.key ≡ key = has key (noted o past).kept state v.3 in
     subst (λ (k : Key). kept_of k (noted o past).kept ≡ Some state) (sym own) v.3
+
+pub saved_is_kept : FoundHasItsKey → SavedIsKept
+saved_is_kept has o past (Met c left) p attempt state h e = elim ((sent_why o past c left p h).why) [
+  | inl w ↦ saved_by has o past c p attempt state w e
+  | inr w ↦ absurd (subst (WhyMirror (noted o past) c) e w.2)
+]
 saved_is_kept has o past Cut p attempt state h e = absurd (none_in p h)
-saved_is_kept has o past Restart p attempt state h e = absurd (none_in p h)
+saved_is_kept has o past (Restart mirror) p attempt state h e = absurd (none_in p h)
+saved_is_kept has o past (Renew g left) p attempt state h e = absurd (none_in p h)
+saved_is_kept has o past Lose p attempt state h e = absurd (none_in p h)
+
+-- Each Copy is of a state of the note, or of the State that has just come.
+copy_by : (o : Opening) (past : List Entry) (c : Call) (left : Left) (state : State) → WhyMirror (noted o past) c (bodies.Copy state)
+    → Contains (noted o past).kept state ⊎ ((server jobs : ℕ) × Contains (packet_in (Met c left)) (from_server (bodies.State jobs state) server))
+copy_by o past c left state (inl kept) = inl kept
+copy_by o past c left state (inr said) =
+    inr (said.0, said.1, subst (λ d. Contains (packet_in (Met d left)) (from_server (bodies.State said.1 state) said.0)) (sym said.2) (first_of (from_server (bodies.State said.1 state) said.0) []))
+
+pub copies_are_of_states : CopiesAreOfStates
+copies_are_of_states o past (Met c left) p state h e = elim ((sent_why o past c left p h).why) [
+  | inl w ↦ absurd (subst (Why (noted o past) (life o past) c w.0) e w.3)
+  | inr w ↦ copy_by o past c left state (subst (WhyMirror (noted o past) c) e w.2)
+]
+copies_are_of_states o past Cut p state h e = absurd (none_in p h)
+copies_are_of_states o past (Restart mirror) p state h e = absurd (none_in p h)
+copies_are_of_states o past (Renew g left) p state h e = absurd (none_in p h)
+copies_are_of_states o past Lose p state h e = absurd (none_in p h)
 
 -- a state that was answered is kept under its server's key
 answered_one : LastIsFound → (n : Noted) (left : Left) (state : State) (r : Option Fault) → (is_none r && is_answer (unless_refused r (unless_kept (kept_of state.key n.kept) state)) left) ≡ true
@@ -67,8 +99,8 @@ kept_by last o past c left jobs s state e a r =
     let p = from_server (bodies.State jobs state) s in
     let answers : is_answered o past (Deliver p) left ≡ true = subst (λ d. is_answered o past d left ≡ true) e a in
     let taken : refusal o past (Deliver p) ≡ None = subst (λ d. refusal o past d ≡ None) e r in
-    let ours = (taken_in (is_on past) o.servers (noted o past) p taken).1 in
-    let own : state.key.server ≡ s = own_state o.servers p.from p.to jobs state ours in
+    let ours = (taken_in (is_on past) (peers o past) (noted o past) p taken).1 in
+    let own : state.key.server ≡ s = own_state (peers o past) p.from p.to jobs state ours in
     (own, subst (λ d. (x : State) × (kept_of state.key (noted o (Met d left ∷ past)).kept ≡ Some x)) (sym e) (answered_one last (noted o past) left state (refusal o past (Deliver p)) answers))
 
 abbrev AckedFor : Noted → Entry → ℕ → ℕ → ℕ → Type 0
@@ -92,9 +124,14 @@ acked last o past c left run server job a r (inr w) =
 pub acks_are_for : LastIsFound → AcksAreFor
 acks_are_for last o past (Met c left) run server job h =
     let x = sent_why o past c left (to_server (bodies.StateAck run job) server) h in
-    let w = x.why in
-    let to : nodes.Server server ≡ nodes.Server w.0 = ap (λ (p : PacketParts). p.to) w.2 in
-    let s : server ≡ w.0 = cc in
-    acked last o past c left run server job x.answers x.taken (subst (λ t. Why (noted o past) (life o past) c t (bodies.StateAck run job)) (sym s) w.3)
+    elim (x.why) [
+      | inl w ↦ (
+          let to : nodes.Server server ≡ nodes.Server w.0 = ap (λ (p : PacketParts). p.to) w.2 in
+          let s : server ≡ w.0 = cc in
+          acked last o past c left run server job x.answers x.taken (subst (λ t. Why (noted o past) (life o past) c t (bodies.StateAck run job)) (sym s) w.3))
+      | inr w ↦ absurd w.2
+    ]
 acks_are_for last o past Cut run server job h = absurd (none_in (to_server (bodies.StateAck run job) server) h)
-acks_are_for last o past Restart run server job h = absurd (none_in (to_server (bodies.StateAck run job) server) h)
+acks_are_for last o past (Restart mirror) run server job h = absurd (none_in (to_server (bodies.StateAck run job) server) h)
+acks_are_for last o past (Renew g left) run server job h = absurd (none_in (to_server (bodies.StateAck run job) server) h)
+acks_are_for last o past Lose run server job h = absurd (none_in (to_server (bodies.StateAck run job) server) h)

@@ -13,15 +13,15 @@ use Rattle.disk_model.specs.declared.left.Left.{Left}
 use Rattle.client_core.specs.declared.call.Call.{Call}
 use Rattle.client_core.specs.declared.call.Call.TheVariants.{Begin, Verify}
 use Rattle.client_core.specs.declared.noted.Noted.{Noted}
-use Rattle.client_core.specs.History.{Opening, Entry, Met, Cut, Restart}
+use Rattle.client_core.specs.History.{Opening, Entry, Met, Cut, Restart, Renew, Lose}
 use Rattle.client_core.specs.Words.{noted, is_answered}
 use Rattle.client_core.specs.Life.{Deed, Begins, Verifies, deeds_of, life, done, text_of, run_of, check_of}
 use Rattle.client_core.specs.Packets.{packets, sent}
 use Rattle.client_core.specs.Laws.{run_in, attempt_in, OneTextOfARun, OneTextOfAnAttempt}
 use Rattle.client_core.proofs.AskedLemmas.{asked_was, begun_was}
-use Rattle.client_core.proofs.FreshLemmas.{attempts_are_fresh, runs_are_fresh}
+use Rattle.client_core.proofs.MirroredLemmas.{numbers_are_given_once}
 use Rattle.client_core.proofs.ListLemmas.{all_append, all_weaker, each_of, first_of, first_or_behind, none_in}
-use Rattle.client_core.proofs.ReasonLemmas.{IsSent, Why, all_sent}
+use Rattle.client_core.proofs.ReasonLemmas.{IsSent, Why, WhyMirror, all_sent}
 
 -- all that was done in this life was done
 chosen : (b : Bool) (xs ys zs : List Deed) (d : Deed) → (Contains ys d → Contains zs d) → Contains (if b then xs ++ ys else ys) d → Contains (if b then xs ++ zs else zs) d
@@ -32,7 +32,9 @@ pub life_was_done : (o : Opening) (past : List Entry) (d : Deed) → Contains (l
 life_was_done o [] d h = h
 life_was_done o (Met c left ∷ past) d h = chosen (is_answered o past c left) (deeds_of (noted o past) c) (life o past) (done o past) d (life_was_done o past d) h
 life_was_done o (Cut ∷ past) d h = absurd (none_in d h)
-life_was_done o (Restart ∷ past) d h = absurd (none_in d h)
+life_was_done o (Restart mirror ∷ past) d h = absurd (none_in d h)
+life_was_done o (Renew g left ∷ past) d h = absurd (none_in d h)
+life_was_done o (Lose ∷ past) d h = absurd (none_in d h)
 
 added : (b : Bool) (xs ys : List Deed) (d : Deed) → Contains ys d → Contains (if b then xs ++ ys else ys) d
 added true xs ys d h = Contains-append_right xs ys d h
@@ -41,7 +43,9 @@ added false xs ys d h = h
 done_stays : (o : Opening) (e : Entry) (past : List Entry) (d : Deed) → Contains (done o past) d → Contains (done o (e ∷ past)) d
 done_stays o (Met c left) past d h = added (is_answered o past c left) (deeds_of (noted o past) c) (done o past) d h
 done_stays o Cut past d h = h
-done_stays o Restart past d h = h
+done_stays o (Restart mirror) past d h = h
+done_stays o (Renew g left) past d h = h
+done_stays o Lose past d h = h
 
 now_done : (b : Bool) (c x : Call) (n : Noted) (d : Deed) (before : List Deed) → b ≡ true → c ≡ x → Contains (deeds_of n x) d → Contains (if b then deeds_of n c ++ before else before) d
 now_done true c x n d before t e h = Contains-append_left (deeds_of n c) before d (subst (λ y. Contains (deeds_of n y) d) (sym e) h)
@@ -80,11 +84,18 @@ why_carries o past c left s (bodies.Jobs run text) a w = jobs_carry o past c lef
 why_carries o past c left s (bodies.Verify run attempt text) a w = verify_carries o past c left s run attempt text a w
 why_carries o past c left s _ a w = tt
 
+mirror_carries : (o : Opening) (past : List Entry) (c : Call) (left : Left) (body : Body) → WhyMirror (noted o past) c body → Carries (done o (Met c left ∷ past)) body
+mirror_carries o past c left (bodies.Copy state) w = tt
+mirror_carries o past c left (bodies.Fetch generation) w = tt
+mirror_carries o past c left _ w = absurd w
+
 now : (o : Opening) (past : List Entry) (e : Entry) → AllByRecursion (λ p. Carries (done o (e ∷ past)) p.body) (packets o past e)
 now o past (Met c left) =
-    all_weaker (IsSent o past c left) (λ p. Carries (done o (Met c left ∷ past)) p.body) (packets o past (Met c left)) (λ p x. why_carries o past c left x.why.0 p.body x.answers x.why.3) (all_sent o past c left)
+    all_weaker (IsSent o past c left) (λ p. Carries (done o (Met c left ∷ past)) p.body) (packets o past (Met c left)) (λ p x. elim (x.why) [ inl w ↦ why_carries o past c left w.0 p.body x.answers w.3 | inr w ↦ mirror_carries o past c left p.body w.2 ]) (all_sent o past c left)
 now o past Cut = tt
-now o past Restart = tt
+now o past (Restart mirror) = tt
+now o past (Renew g left) = tt
+now o past Lose = tt
 
 ever : (o : Opening) (past : List Entry) → AllByRecursion (λ p. Carries (done o past) p.body) (sent o past)
 ever o [] = tt
@@ -146,16 +157,16 @@ one_of_number pick (x ∷ deeds) d e k u h g a b = elim (first_or_behind x deeds
 ]
 
 pub one_text_of_a_run : OneTextOfARun
-one_text_of_a_run o past p q run text other h e g f =
+one_text_of_a_run o past p q run text other apart h e g f =
     let d = carried o past p (bodies.Jobs run text) h e in
     let c = carried o past q (bodies.Jobs run other) g f in
-    let same : Begins run text ≡ Begins run other = one_of_number run_in (done o past) (Begins run text) (Begins run other) run (runs_are_fresh o past).distinct d c refl refl in
+    let same : Begins run text ≡ Begins run other = one_of_number run_in (done o past) (Begins run text) (Begins run other) run (numbers_are_given_once o past apart).runs d c refl refl in
     cc
 
 pub one_text_of_an_attempt : OneTextOfAnAttempt
-one_text_of_an_attempt o past p q attempt run run_there text other h e g f =
+one_text_of_an_attempt o past p q attempt run run_there text other apart h e g f =
     let d = carried o past p (bodies.Verify run attempt text) h e in
     let c = carried o past q (bodies.Verify run_there attempt other) g f in
     let same : Verifies run attempt text ≡ Verifies run_there attempt other =
-    one_of_number attempt_in (done o past) (Verifies run attempt text) (Verifies run_there attempt other) attempt (attempts_are_fresh o past).distinct d c refl refl in
+    one_of_number attempt_in (done o past) (Verifies run attempt text) (Verifies run_there attempt other) attempt (numbers_are_given_once o past apart).attempts d c refl refl in
     (cc, cc)

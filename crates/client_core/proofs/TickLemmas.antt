@@ -10,13 +10,15 @@ use Rattle.messages.specs.declared.body.Body.{Body}
 use Rattle.messages.specs.declared.body.Body.TheVariants as bodies
 use Rattle.client_core.specs.declared.beginning.Beginning.{Beginning}
 use Rattle.client_core.specs.declared.beginning.Beginning.TheVariants as begins
-use Rattle.client_core.specs.declared.noted.Noted.{Noted}
+use Rattle.client_core.specs.Asked.{rising, runs_of, attempts_of}
 use Rattle.client_core.specs.Begins.{begin_heard, begin_at}
 use Rattle.client_core.specs.Bounds.{is_request}
 use Rattle.client_core.specs.Life.{Deed, Begins, Triggers, Stops, Verifies, Hears, text_of, act_of, run_of, check_of}
-use Rattle.client_core.specs.Packets.{begin_again, again, run_again, attempt_again, all_again}
+use Rattle.client_core.specs.Packets.{begin_again, again, run_again, attempt_again, requests_again}
 use Rattle.client_core.specs.Requests as requests
 use Rattle.client_core.specs.Requests.{Request, trigger_heard, stop_heard, verify_heard, trigger_at, stop_at, verify_at}
+use Rattle.client_core.proofs.AgainLemmas.{no_run_again, no_attempt_again}
+use Rattle.client_core.proofs.RisingLemmas.{above, order_spread}
 use Rattle.client_core.proofs.UnaskedLemmas.{begin_unasked, trigger_unasked, stop_unasked, verify_unasked}
 
 -- How many of the deeds are such.
@@ -265,15 +267,21 @@ both (d ∷ ds) = omega (arith, count_more of_run d ds, count_more of_attempt d 
     step (Verifies r a text) = omega arith
     step (Hears s body) = omega arith
 
-pub all_again_few : (servers : ℕ) (n : Noted) (ds : List Deed) → length (all_again servers n ds) ≤ servers * count is_request ds
-all_again_few servers n ds =
-    let runs = tally (λ r. count (for_run r) ds) 1 n.runs in
-    let attempts = tally (λ r. count (for_attempt r) ds) 1 n.attempts in
-    let few : runs + attempts ≤ count is_request ds = omega (arith, tally_few for_run of_run run_once ds 1 n.runs, tally_few for_attempt of_attempt attempt_once ds 1 n.attempts, both ds) in
+pub requests_again_few : (servers : ℕ) (ds : List Deed) → length (requests_again servers ds) ≤ servers * count is_request ds
+requests_again_few servers ds =
+    let run = run_again servers ds in
+    let attempt = attempt_again servers ds in
+    let last = above (runs_of ds) in
+    let most = above (attempts_of ds) in
+    let runs = tally (λ r. count (for_run r) ds) 0 last in
+    let attempts = tally (λ r. count (for_attempt r) ds) 0 most in
+    let few : runs + attempts ≤ count is_request ds = omega (arith, tally_few for_run of_run run_once ds 0 last, tally_few for_attempt of_attempt attempt_once ds 0 most, both ds) in
     omega (
       arith,
-      length-append (flat_map (run_again servers ds) (range_with_len 1 n.runs)) (flat_map (attempt_again servers ds) (range_with_len 1 n.attempts)),
-      all_sends (run_again servers ds) (λ r. count (for_run r) ds) servers (run_sends servers ds) 1 n.runs,
-      all_sends (attempt_again servers ds) (λ r. count (for_attempt r) ds) servers (attempt_sends servers ds) 1 n.attempts,
+      length-append (flat_map run (rising (runs_of ds))) (flat_map attempt (rising (attempts_of ds))),
+      ap length (order_spread run (runs_of ds) (λ n none. no_run_again servers ds n none)),
+      ap length (order_spread attempt (attempts_of ds) (λ n none. no_attempt_again servers ds n none)),
+      all_sends run (λ r. count (for_run r) ds) servers (run_sends servers ds) 0 last,
+      all_sends attempt (λ r. count (for_attempt r) ds) servers (attempt_sends servers ds) 0 most,
       mul-le-mul_left servers few,
     )

@@ -24,10 +24,11 @@ use Rattle.client_core.specs.declared.call.Call.TheVariants.{Begin, Trigger, Sto
 use Rattle.state_table.specs.Kept.{kept_of}
 use Rattle.state_table.specs.Laws.{LastIsFound}
 use Rattle.client_core.specs.declared.noted.Noted.{Noted}
-use Rattle.client_core.specs.History.{Opening, Entry, Met, Cut, Restart}
+use Rattle.client_core.specs.declared.peers.Peers.{Peers}
+use Rattle.client_core.specs.History.{Opening, Entry, Met, Cut, Restart, Renew, Lose}
 use Rattle.client_core.specs.Refusals.{is_for_client, refusal_by}
 use Rattle.client_core.specs.Saves.{unless_kept, addition_by, addition_of, unless_refused, noted_after, is_answer}
-use Rattle.client_core.specs.Words.{is_on, noted}
+use Rattle.client_core.specs.Words.{is_on, noted, peers}
 use Rattle.client_core.specs.Life.{Deed, Begins, Triggers, Stops, Verifies, Hears, deeds_of, life}
 use Rattle.client_core.specs.Requests.{Telling, Request, jobs_told, tells_of, tells_all, has_misfit, told, refused, trigger_refused, trigger_heard, trigger_at}
 use Rattle.client_core.specs.Requests as requests
@@ -140,7 +141,7 @@ either : (n : Noted) (packets : List PacketParts) (run server : ℕ) (b : Bool) 
 either n packets run server true q r f k = f refl
 either n packets run server false q r f k = k
 
-heard : LastIsFound → (servers : ℕ) (n : Noted) (run server : ℕ) (from to : Node) (body : Body) (left : Left) (before : List PacketParts) (q : Request)
+heard : LastIsFound → (servers : Peers) (n : Noted) (run server : ℕ) (from to : Node) (body : Body) (left : Left) (before : List PacketParts) (q : Request)
     → is_for_client servers (record { from = from; to = to; body = body }) ≡ true → is_answer (addition_by n body) left ≡ true → node_number from ≡ server
     → Known (noted_after (has_new left) (addition_by n body) n) (record { from = from; to = to; body = body } ∷ before) run server q
     → Known (noted_after (has_new left) (addition_by n body) n) (record { from = from; to = to; body = body } ∷ before) run server (trigger_heard run body q)
@@ -154,7 +155,7 @@ heard last servers n run server from to (bodies.State jobs state) left before q 
     let r : state.key.run ≡ run = eqb-true state.key.run run e in
     let s : state.key.server ≡ server = own_state servers from to jobs state ours ∙ here in
     let key : state.key ≡ record { run = run; server = server; job = state.key.job } = λ i. record { run = r i; server = s i; job = state.key.job } in
-    let whole : p ≡ from_server (bodies.State jobs state) server = from_own servers from to (bodies.State jobs state) ours ∙ ap (from_server (bodies.State jobs state)) here in
+    let whole : p ≡ from_server (bodies.State jobs state) server = from_own servers from to (bodies.State jobs state) refl ours ∙ ap (from_server (bodies.State jobs state)) here in
     told_one m (p ∷ before) run server t q (
       inl (f.0, subst (λ (x : Key). kept_of x m.kept ≡ Some f.0) key f.1),
       inl (state, r, Contains-append_left (p ∷ []) before (from_server (bodies.State jobs state) server) (one p (from_server (bodies.State jobs state) server) whole)),
@@ -166,7 +167,7 @@ heard last servers n run server from to (bodies.NoState r job jobs) left before 
     either n (p ∷ before) run server (r == run) (told t q) q
     (λ e.
     let r' : r ≡ run = eqb-true r run e in
-    let whole : p ≡ from_server (bodies.NoState run job jobs) server = from_own servers from to (bodies.NoState r job jobs) ours ∙ (λ i. from_server (bodies.NoState (r' i) job jobs) (here i)) in
+    let whole : p ≡ from_server (bodies.NoState run job jobs) server = from_own servers from to (bodies.NoState r job jobs) refl ours ∙ (λ i. from_server (bodies.NoState (r' i) job jobs) (here i)) in
     let there : Contains (p ∷ before) (from_server (bodies.NoState run job jobs) server) = Contains-append_left (p ∷ []) before (from_server (bodies.NoState run job jobs) server) (one p (from_server (bodies.NoState run job jobs) server) whole) in
     told_one n (p ∷ before) run server t q (inr (jobs, there), inr (job, there)) k)
     k
@@ -175,7 +176,7 @@ heard last servers n run server from to (bodies.Refused r) left before q ours a 
     either n more run server (r.run == run) (trigger_refused r.asked r.reason q) q (λ e. denied n more run server r.asked r.reason q k) k
 heard last servers n run server from to _ left before q ours a here k = k
 
-called : LastIsFound → (on : Bool) (servers : ℕ) (n : Noted) (c : Call) (left : Left) (before : List PacketParts) (run server : ℕ) (deeds : List Deed) (r : Option Fault) → r ≡ refusal_by on servers n c
+called : LastIsFound → (on : Bool) (servers : Peers) (n : Noted) (c : Call) (left : Left) (before : List PacketParts) (run server : ℕ) (deeds : List Deed) (r : Option Fault) → r ≡ refusal_by on servers n c
     → Known (noted_after (has_new left) (unless_refused r (addition_of n c)) n) (packet_in (Met c left) ++ before) run server (trigger_at run server deeds)
     → Known (noted_after (has_new left) (unless_refused r (addition_of n c)) n) (packet_in (Met c left) ++ before) run server (trigger_at run server (if is_none r && is_answer (unless_refused r (addition_of n c)) left then deeds_of n c ++ deeds else deeds))
 called last on servers n c left before run server deeds (Some f) e k = k
@@ -215,14 +216,16 @@ called last on servers n Tick left before run server deeds None e k = same (is_a
 known : LastIsFound → FirstKeptStays → (o : Opening) (past : List Entry) (run server : ℕ) → Known (noted o past) (came past) run server (trigger_at run server (life o past))
 known last stays o [] run server = tt
 known last stays o (Met c left ∷ past) run server =
-    called last (is_on past) o.servers (noted o past) c left (came past) run server (life o past) (refusal_by (is_on past) o.servers (noted o past) c) refl
+    called last (is_on past) (peers o past) (noted o past) c left (came past) run server (life o past) (refusal_by (is_on past) (peers o past) (noted o past) c) refl
     (known_grows (noted o past) (noted o (Met c left ∷ past)) (came past) (came (Met c left ∷ past)) run server (trigger_at run server (life o past))
     (record {
-      kept = λ key s h. stays o (Met c left ∷ []) past key s h;
+      kept = λ key s h. stays o (Met c left ∷ []) past key s refl h;
       came = λ p h. Contains-append_right (packet_in (Met c left)) (came past) p h;
     }) (known last stays o past run server))
 known last stays o (Cut ∷ past) run server = tt
-known last stays o (Restart ∷ past) run server = tt
+known last stays o (Restart mirror ∷ past) run server = tt
+known last stays o (Renew g left ∷ past) run server = tt
+known last stays o (Lose ∷ past) run server = tt
 
 pub triggers_end_well : LastIsFound → FirstKeptStays → TriggersEndWell
 triggers_end_well last stays o past run server h = subst (λ q. Known (noted o past) (came past) run server q) h (known last stays o past run server)

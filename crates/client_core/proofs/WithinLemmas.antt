@@ -1,5 +1,5 @@
 -- No run or attempt of this life is above those that were used.
-use Rattle.std.proofs.Common.{◌≡◌, refl, sym, subst, ℕ, ◌+◌, ◌<◌, ◌≤◌, arith, Bool, true, false, ◌==◌, ◌&&◌, List, [], ◌∷◌, ◌++◌, Option, None, Some}
+use Rattle.std.proofs.Common.{leb-true, ◌≡◌, refl, sym, subst, ℕ, ◌+◌, ◌<◌, ◌≤◌, arith, Bool, true, false, ◌==◌, ◌&&◌, List, [], ◌∷◌, ◌++◌, Option, None, Some}
 use Rattle.std.specs.Prelude.{if◌then◌else◌, is_none, nat_le}
 use Rattle.std.specs.List.{AllByRecursion}
 use Rattle.std.proofs.lemmas.Bool.{and_parts}
@@ -12,29 +12,31 @@ use Rattle.messages.specs.Nodes.{node_number}
 use Rattle.client_core.specs.declared.call.Call.{Call}
 use Rattle.client_core.specs.declared.call.Call.TheVariants.{Begin, Trigger, Stop, Verify, Deliver, Tick}
 use Rattle.client_core.specs.declared.noted.Noted.{Noted}
-use Rattle.client_core.specs.History.{Opening, Entry, Met, Cut, Restart}
+use Rattle.client_core.specs.declared.peers.Peers.{Peers}
+use Rattle.client_core.specs.History.{Opening, Entry, Met, Cut, Restart, Renew, Lose}
 use Rattle.client_core.specs.Life.{Deed, Begins, Triggers, Stops, Verifies, Hears, deeds_of, life}
-use Rattle.client_core.specs.Lives.{Unnamed, Unmade}
+use Rattle.client_core.specs.Asked.{runs_of}
 use Rattle.client_core.specs.Refusals.{is_begun, refusal_by}
 use Rattle.client_core.specs.Saves.{addition_by, addition_of, unless_refused, noted_after, is_answer}
-use Rattle.client_core.specs.Words.{is_on, noted, refusal}
-use Rattle.client_core.proofs.DeedLemmas.{run_stays, attempt_stays, begins_other, triggers_other, stops_other, verifies_no_run, begins_no_attempt, triggers_no_attempt, stops_no_attempt, verifies_other}
+use Rattle.client_core.specs.Words.{is_on, noted, refusal, peers}
 use Rattle.client_core.proofs.RefusalLemmas.{run_free}
 use Rattle.client_core.proofs.FreshLemmas.{body_only}
 use Rattle.client_core.proofs.ListLemmas.{all_weaker}
-use Rattle.client_core.proofs.UnaskedLemmas.{unnamed_hears, unmade_hears}
 
 abbrev Within : ℕ → ℕ → Deed → Type 0
-Within runs attempts (Begins r t) = r ≤ runs
-Within runs attempts (Triggers r act) = r ≤ runs
-Within runs attempts (Stops r) = r ≤ runs
+Within runs attempts (Begins r t) = (1 ≤ r) × (r ≤ runs)
+Within runs attempts (Triggers r act) = (1 ≤ r) × (r ≤ runs)
+Within runs attempts (Stops r) = (1 ≤ r) × (r ≤ runs)
 Within runs attempts (Verifies r a t) = a ≤ attempts
 Within runs attempts (Hears s b) = Unit {0}
 
+up : (x r s : ℕ) → x ≤ r → r ≤ s → x ≤ s
+up x r s h l = omega arith
+
 more : (r a s b : ℕ) (d : Deed) → r ≤ s → a ≤ b → Within r a d → Within s b d
-more r a s b (Begins x t) l m h = omega arith
-more r a s b (Triggers x act) l m h = omega arith
-more r a s b (Stops x) l m h = omega arith
+more r a s b (Begins x t) l m h = (h.0, up x r s h.1 l)
+more r a s b (Triggers x act) l m h = (h.0, up x r s h.1 l)
+more r a s b (Stops x) l m h = (h.0, up x r s h.1 l)
 more r a s b (Verifies x y t) l m h = omega arith
 more r a s b (Hears x y) l m h = tt
 
@@ -43,15 +45,15 @@ weaker r a s b ds l m h = all_weaker (Within r a) (Within s b) ds (λ d k. more 
 
 -- a run that is triggered or stopped was begun
 abbrev Own : Noted → Call → Type 0
-Own n (Trigger run act) = run ≤ n.runs
-Own n (Stop run) = run ≤ n.runs
+Own n (Trigger run act) = (1 ≤ run) × (run ≤ n.runs)
+Own n (Stop run) = (1 ≤ run) × (run ≤ n.runs)
 Own n _ = Unit {0}
 
-begun_below : (n : Noted) (run : ℕ) → is_begun n run ≡ true → run ≤ n.runs
+begun_below : (n : Noted) (run : ℕ) → is_begun n run ≡ true → (1 ≤ run) × (run ≤ n.runs)
 unfolding is_begun
-begun_below n run h = let p : nat_le run n.runs ≡ true = (and_parts (nat_le 1 run) (nat_le run n.runs) h).1 in grind (arith, nat_tests)
+begun_below n run h = let p = and_parts (nat_le 1 run) (nat_le run n.runs) h in (leb-true 1 run p.0, leb-true run n.runs p.1)
 
-own : (on : Bool) (servers : ℕ) (n : Noted) (c : Call) → refusal_by on servers n c ≡ None → Own n c
+own : (on : Bool) (servers : Peers) (n : Noted) (c : Call) → refusal_by on servers n c ≡ None → Own n c
 own true servers n (Trigger run act) h = begun_below n run (run_free false (is_begun n run) h).1
 own true servers n (Stop run) h = begun_below n run (run_free false (is_begun n run) h).1
 own false servers n (Trigger run act) h = cc
@@ -73,7 +75,7 @@ step : (n : Noted) (c : Call) (r : Option Fault) (left : Left) (ds : List Deed) 
     → AllByRecursion (Within (noted_after (has_new left) (unless_refused r (addition_of n c)) n).runs (noted_after (has_new left) (unless_refused r (addition_of n c)) n).attempts) (if is_none r && is_answer (unless_refused r (addition_of n c)) left then deeds_of n c ++ ds else ds)
 step n c (Some f) left ds o k = k
 step n (Begin text) None NoSave ds o k = k
-step n (Begin text) None Saved ds o k = (omega arith, weaker n.runs n.attempts (n.runs + 1) n.attempts ds (omega arith) (omega arith) k)
+step n (Begin text) None Saved ds o k = ((omega arith, omega arith), weaker n.runs n.attempts (n.runs + 1) n.attempts ds (omega arith) (omega arith) k)
 step n (Begin text) None LostNew ds o k = weaker n.runs n.attempts (n.runs + 1) n.attempts ds (omega arith) (omega arith) k
 step n (Begin text) None LostOld ds o k = k
 step n (Verify run text) None NoSave ds o k = k
@@ -91,29 +93,20 @@ step n Tick None left ds o k = same n.runs n.attempts (is_answer None left) ds k
 
 life_within : (o : Opening) (past : List Entry) → AllByRecursion (Within (noted o past).runs (noted o past).attempts) (life o past)
 life_within o [] = tt
-life_within o (Met c left ∷ past) = step (noted o past) c (refusal o past c) left (life o past) (own (is_on past) o.servers (noted o past) c) (life_within o past)
+life_within o (Met c left ∷ past) = step (noted o past) c (refusal o past c) left (life o past) (own (is_on past) (peers o past) (noted o past) c) (life_within o past)
 life_within o (Cut ∷ past) = tt
-life_within o (Restart ∷ past) = tt
+life_within o (Restart mirror ∷ past) = tt
+life_within o (Renew g left ∷ past) = tt
+life_within o (Lose ∷ past) = tt
 
-unnamed : (runs attempts run : ℕ) (ds : List Deed) → runs < run → AllByRecursion (Within runs attempts) ds → Unnamed run ds
-unnamed runs attempts run [] l h = record { text = refl; act = refl; begins = λ s. refl; triggers = λ s. refl; stops = λ s. refl }
-unnamed runs attempts run (Begins r t ∷ ds) l h = let low : r ≤ runs = h.0 in let n : (r == run) ≡ false = grind (arith, nat_tests) in run_stays run (Begins r t) ds None (begins_other run r t ds n) (unnamed runs attempts run ds l h.1)
-unnamed runs attempts run (Triggers r act ∷ ds) l h = let low : r ≤ runs = h.0 in let n : (r == run) ≡ false = grind (arith, nat_tests) in run_stays run (Triggers r act) ds None (triggers_other run r act ds n) (unnamed runs attempts run ds l h.1)
-unnamed runs attempts run (Stops r ∷ ds) l h = let low : r ≤ runs = h.0 in let n : (r == run) ≡ false = grind (arith, nat_tests) in run_stays run (Stops r) ds None (stops_other run r ds n) (unnamed runs attempts run ds l h.1)
-unnamed runs attempts run (Verifies r a t ∷ ds) l h = run_stays run (Verifies r a t) ds None (verifies_no_run run r a t ds) (unnamed runs attempts run ds l h.1)
-unnamed runs attempts run (Hears s b ∷ ds) l h = unnamed_hears run s b ds (unnamed runs attempts run ds l h.1)
+of_runs : (runs attempts : ℕ) (ds : List Deed) → AllByRecursion (Within runs attempts) ds → AllByRecursion (λ r. (1 ≤ r) × (r ≤ runs)) (runs_of ds)
+of_runs runs attempts [] h = tt
+of_runs runs attempts (Begins r t ∷ ds) h = (h.0, of_runs runs attempts ds h.1)
+of_runs runs attempts (Triggers r act ∷ ds) h = (h.0, of_runs runs attempts ds h.1)
+of_runs runs attempts (Stops r ∷ ds) h = (h.0, of_runs runs attempts ds h.1)
+of_runs runs attempts (Verifies r a t ∷ ds) h = of_runs runs attempts ds h.1
+of_runs runs attempts (Hears s b ∷ ds) h = of_runs runs attempts ds h.1
 
-unmade : (runs attempts attempt : ℕ) (ds : List Deed) → attempts < attempt → AllByRecursion (Within runs attempts) ds → Unmade attempt ds
-unmade runs attempts attempt [] l h = record { run = refl; text = refl; verifies = λ s. refl }
-unmade runs attempts attempt (Begins r t ∷ ds) l h = attempt_stays attempt (Begins r t) ds None (begins_no_attempt attempt r t ds) (unmade runs attempts attempt ds l h.1)
-unmade runs attempts attempt (Triggers r act ∷ ds) l h = attempt_stays attempt (Triggers r act) ds None (triggers_no_attempt attempt r act ds) (unmade runs attempts attempt ds l h.1)
-unmade runs attempts attempt (Stops r ∷ ds) l h = attempt_stays attempt (Stops r) ds None (stops_no_attempt attempt r ds) (unmade runs attempts attempt ds l h.1)
-unmade runs attempts attempt (Verifies r a t ∷ ds) l h = let low : a ≤ attempts = h.0 in let n : (a == attempt) ≡ false = grind (arith, nat_tests) in attempt_stays attempt (Verifies r a t) ds None (verifies_other attempt r a t ds n) (unmade runs attempts attempt ds l h.1)
-unmade runs attempts attempt (Hears s b ∷ ds) l h = unmade_hears attempt s b ds (unmade runs attempts attempt ds l h.1)
-
--- A run above those that were used was not asked for, and an attempt above them not made.
-pub none_above : (o : Opening) (past : List Entry) (run : ℕ) → (noted o past).runs < run → Unnamed run (life o past)
-none_above o past run l = unnamed (noted o past).runs (noted o past).attempts run (life o past) l (life_within o past)
-
-pub none_made_above : (o : Opening) (past : List Entry) (attempt : ℕ) → (noted o past).attempts < attempt → Unmade attempt (life o past)
-none_made_above o past attempt l = unmade (noted o past).runs (noted o past).attempts attempt (life o past) l (life_within o past)
+-- The runs that were asked for in this life were begun.
+pub runs_were_begun : (o : Opening) (past : List Entry) → AllByRecursion (λ r. (1 ≤ r) × (r ≤ (noted o past).runs)) (runs_of (life o past))
+runs_were_begun o past = of_runs (noted o past).runs (noted o past).attempts (life o past) (life_within o past)

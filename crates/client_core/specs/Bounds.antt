@@ -1,5 +1,5 @@
 -- How much a client sends in answer to one call.
-use Rattle.std.specs.Prelude.{ℕ, ◌*◌, ◌≤◌, Bool, true, false, List, ◌∷◌, filter, length, sum_by}
+use Rattle.std.specs.Prelude.{ℕ, ◌+◌, ◌*◌, ◌≤◌, Bool, true, false, if◌then◌else◌, List, ◌∷◌, filter, length, sum_by}
 use Rattle.disk_model.specs.declared.left.Left.{Left}
 use Rattle.client_core.specs.declared.call.Call.{Call}
 use Rattle.client_core.specs.declared.call.Call.TheVariants.{Tick}
@@ -7,6 +7,7 @@ use Rattle.client_core.specs.History.{Opening, Entry, Met}
 use Rattle.client_core.specs.Framed.{framed}
 use Rattle.client_core.specs.Life.{Deed, Hears, life}
 use Rattle.client_core.specs.Packets.{packets}
+use Rattle.client_core.specs.Words.{noted, has_mirror}
 use Rattle.client_core.specs.Ranges.{OpensInRange, CameInRange}
 
 -- A begin, a trigger, a stop or a verify.
@@ -18,10 +19,14 @@ is_request _ = true
 abbrev pub requests : Opening → List Entry → ℕ
 requests o past = length (filter is_request (life o past))
 
--- A tick sends at most one packet to each server for each request of this life, and any other call at
--- most 8 packets.
+-- How many packets a tick sends to the mirror at most: one, and one for each kept state.
+abbrev pub most_copies : Opening → List Entry → ℕ
+most_copies o past = if has_mirror past then 1 + length (noted o past).kept else 0
+
+-- A tick sends at most one packet to each server for each request of this life, and those to the mirror;
+-- any other call at most 8 packets.
 abbrev pub most_packets : Opening → List Entry → Call → ℕ
-most_packets o past Tick = o.servers * requests o past
+most_packets o past Tick = o.servers * requests o past + most_copies o past
 most_packets o past _ = 8
 
 -- A call sends no more.

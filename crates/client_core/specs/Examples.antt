@@ -8,6 +8,7 @@ use Rattle.fc_base.specs.declared.report.ReportEnd.TheVariants.{Whole}
 use Rattle.disk_model.specs.declared.left.Left.{Left}
 use Rattle.disk_model.specs.declared.left.Left.TheVariants.{NoSave, Saved, LostNew, LostOld}
 use Rattle.verify_state.specs.State.{State}
+use Rattle.messages.specs.declared.packet.PacketParts.{PacketParts}
 use Rattle.messages.specs.declared.body.Body.{Body}
 use Rattle.messages.specs.declared.body.Body.TheVariants as bodies
 use Rattle.messages.specs.declared.refusal.Act.TheVariants as acts
@@ -20,13 +21,13 @@ use Rattle.client_core.specs.declared.call.Call.TheVariants.{Begin, Trigger, Sto
 use Rattle.client_core.specs.declared.outcome.Outcome.TheVariants as outcomes
 use Rattle.client_core.specs.declared.outcome.RequestKind.TheVariants as kinds
 use Rattle.client_core.specs.Note.{blank}
-use Rattle.client_core.specs.History.{Opening, Entry, Met, Cut, Restart}
-use Rattle.client_core.specs.Words.{refusal, due, kept}
+use Rattle.client_core.specs.History.{Opening, Entry, Met, Cut, Restart, Renew, Lose}
+use Rattle.client_core.specs.Words.{refusal, due, kept, noted, peers}
 use Rattle.client_core.specs.Life.{life}
 use Rattle.client_core.specs.Outcomes.{outcome, settled}
-use Rattle.client_core.specs.Packets.{packets}
+use Rattle.client_core.specs.Packets.{packets, to_mirror, fetch_again, copies_again}
 use Rattle.client_core.specs.Reports.{reports}
-use Rattle.client_core.specs.Laws.{from_server}
+use Rattle.client_core.specs.Laws.{from_server, from_mirror}
 
 -- One server, and a blank note.
 abbrev pub opened : Opening
@@ -88,7 +89,7 @@ state job issued = record {
 
 -- Run 1 is begun.
 abbrev pub begun : List Entry
-begun = behind (Restart ∷ []) (Begin text ∷ [])
+begun = behind (Restart false ∷ []) (Begin text ∷ [])
 
 -- Its jobs are staged.
 abbrev pub staged : List Entry
@@ -97,7 +98,7 @@ staged = behind begun (said (bodies.JobsOk 1 2) ∷ [])
 -- The jobs are sent until they are staged, and then the start, once, until it is answered; a server that
 -- lacks the jobs gets them again.
 pub record Begins : Type 0 where
-  pub jobs : sent (Restart ∷ []) (Begin text) ≡ bodies.Jobs 1 text ∷ []
+  pub jobs : sent (Restart false ∷ []) (Begin text) ≡ bodies.Jobs 1 text ∷ []
   pub again : sent begun Tick ≡ bodies.Jobs 1 text ∷ []
   pub start : sent begun (said (bodies.JobsOk 1 2)) ≡ bodies.Start 1 ∷ []
   pub once : sent staged (said (bodies.JobsOk 1 2)) ≡ []
@@ -180,13 +181,13 @@ pub record Verifies : Type 0 where
 
 -- A save of a begin that failed, and a restart.
 abbrev pub lost : Left → List Entry
-lost left = Restart ∷ (Met (Begin text) left ∷ (Restart ∷ []))
+lost left = Restart false ∷ (Met (Begin text) left ∷ (Restart false ∷ []))
 
 -- A client whose save failed is down until it is restarted. The run's number is given again only where
 -- the note has the old bytes.
 pub record GoesDown : Type 0 where
-  pub sends_nothing : packets opened (Restart ∷ []) (Met (Begin text) LostNew) ≡ []
-  pub down : refusal opened (Met (Begin text) LostNew ∷ (Restart ∷ [])) Tick ≡ Some Down
+  pub sends_nothing : packets opened (Restart false ∷ []) (Met (Begin text) LostNew) ≡ []
+  pub down : refusal opened (Met (Begin text) LostNew ∷ (Restart false ∷ [])) Tick ≡ Some Down
   pub next : sent (lost LostNew) (Begin text) ≡ bodies.Jobs 2 text ∷ []
   pub again : sent (lost LostOld) (Begin text) ≡ bodies.Jobs 1 text ∷ []
 
@@ -194,15 +195,15 @@ pub record GoesDown : Type 0 where
 -- save.
 pub record KeepsWhatIsNoted : Type 0 where
   pub acknowledged :
-      sent (Restart ∷ (Met (said (bodies.State 2 (state 1 2))) LostNew ∷ triggered))
+      sent (Restart false ∷ (Met (said (bodies.State 2 (state 1 2))) LostNew ∷ triggered))
       (said (bodies.State 2 (state 1 2))) ≡ bodies.StateAck 1 1 ∷ []
   pub saved :
-      due opened (Restart ∷ (Met (said (bodies.State 2 (state 1 2))) LostNew ∷ triggered))
+      due opened (Restart false ∷ (Met (said (bodies.State 2 (state 1 2))) LostNew ∷ triggered))
       (said (bodies.State 2 (state 1 2))) ≡ None
 
 -- A cut loses the requests, and neither numbers nor states.
 abbrev pub cut_off : List Entry
-cut_off = Restart ∷ (Cut ∷ verifying)
+cut_off = Restart false ∷ (Cut ∷ verifying)
 
 pub record ForgetsByACut : Type 0 where
   pub quiet : sent cut_off Tick ≡ []
@@ -221,5 +222,81 @@ pub record AsksAgainInOrder : Type 0 where
 -- Numbers are spent.
 pub record SpendsNumbers : Type 0 where
   pub spent :
-      refusal (record { servers = 1; noted = record { runs = 18446744073709551615; attempts = 0; kept = [] } })
-      (Restart ∷ []) (Begin text) ≡ Some NumbersSpent
+      refusal (record { servers = 1; noted = record { generation = 0; runs = 18446744073709551615; attempts = 0; kept = [] } })
+      (Restart false ∷ []) (Begin text) ≡ Some NumbersSpent
+
+-- A client with a mirror begins in generation 1.
+abbrev pub anew : List Entry
+anew = Renew 1 Saved ∷ []
+
+-- The mirror says this.
+abbrev pub mirrored : Body → Call
+mirrored body = Deliver (from_mirror body)
+
+-- Generation 1 is granted.
+abbrev pub granted : List Entry
+granted = behind anew (mirrored (bodies.Granted 1) ∷ [])
+
+-- Numbers are given once the mirror granted the generation, which is asked for until then.
+pub record NumbersOnceGranted : Type 0 where
+  pub not_yet : refusal opened anew (Begin text) ≡ Some NumbersSpent
+  pub asked : sent anew Tick ≡ bodies.Fetch 1 ∷ []
+  pub quiet : sent anew (mirrored (bodies.Granted 1)) ≡ []
+  pub other : refusal opened (behind anew (mirrored (bodies.Granted 2) ∷ [])) (Begin text) ≡ Some NumbersSpent
+  pub asked_no_more : sent granted Tick ≡ []
+  pub given : sent granted (Begin text) ≡ bodies.Jobs 4294967297 text ∷ []
+  pub asked_in_each_life : sent (Restart true ∷ (Cut ∷ granted)) Tick ≡ bodies.Fetch 1 ∷ []
+  pub not_without : refusal opened (Restart false ∷ (Cut ∷ granted)) (Begin text) ≡ Some NumbersSpent
+
+-- The first run of generation 1 is begun and triggered.
+abbrev pub begun_anew : List Entry
+begun_anew = behind granted (Trigger 4294967297 acts.None ∷ (Begin text ∷ []))
+
+-- Its state.
+abbrev pub state_anew : State
+state_anew = record (state 0 2) { key = record { run = 4294967297; server = 0; job = 0 } }
+
+-- It is kept.
+abbrev pub kept_anew : List Entry
+kept_anew = behind begun_anew (said (bodies.State 1 state_anew) ∷ [])
+
+-- The mirror keeps it, too.
+abbrev pub copied_anew : List Entry
+copied_anew = behind kept_anew (mirrored (bodies.CopyOk 4294967297 0 0) ∷ [])
+
+-- A state that is newly kept is copied, and again by each tick until the mirror has it: first goes what
+-- asks for the grant, then the open requests, and last the copies.
+pub record CopiesWhatIsKept : Type 0 where
+  pub acknowledged :
+      sent begun_anew (said (bodies.State 1 state_anew))
+      ≡ bodies.StateAck 4294967297 0 ∷ (bodies.Copy state_anew ∷ [])
+  pub once : sent kept_anew (said (bodies.State 1 state_anew)) ≡ bodies.StateAck 4294967297 0 ∷ []
+  pub again : sent kept_anew Tick ≡ bodies.Jobs 4294967297 text ∷ (bodies.Copy state_anew ∷ [])
+  pub no_more : sent copied_anew Tick ≡ bodies.Jobs 4294967297 text ∷ []
+  pub in_each_life :
+      sent (behind (Restart true ∷ (Cut ∷ copied_anew)) (Trigger 4294967297 acts.None ∷ [])) Tick
+      ≡ bodies.Fetch 1 ∷ (bodies.Trigger 4294967297 acts.None ∷ (bodies.Copy state_anew ∷ []))
+
+-- The note is lost, and the client begins in generation 2.
+abbrev pub lost_and_renewed : List Entry
+lost_and_renewed = Renew 2 Saved ∷ (Lose ∷ (Cut ∷ copied_anew))
+
+-- Generation 2 is granted, and the mirror gives the state.
+abbrev pub fetched_again : List Entry
+fetched_again =
+    behind lost_and_renewed
+    (mirrored (bodies.Copy state_anew) ∷ (mirrored (bodies.Granted 2) ∷ []))
+
+-- A lost state is kept again once the mirror gives it, and no number is given again.
+pub record FetchesWhatWasLost : Type 0 where
+  pub lost : kept opened lost_and_renewed state_anew.key ≡ None
+  pub asked : sent lost_and_renewed Tick ≡ bodies.Fetch 2 ∷ []
+  pub kept : kept opened fetched_again state_anew.key ≡ Some state_anew
+  pub given : sent fetched_again (Begin text) ≡ bodies.Jobs 8589934593 text ∷ []
+
+-- Copies, their answers and grants are taken from the mirror alone, where there is one, and nothing else
+-- is taken from it.
+pub record HearsItsMirrorAlone : Type 0 where
+  pub from_a_server : refusal opened granted (said (bodies.Copy state_anew)) ≡ Some Misdirected
+  pub without : refusal opened begun (mirrored (bodies.Granted 1)) ≡ Some Misdirected
+  pub nothing_else : refusal opened granted (mirrored (bodies.Started 1)) ≡ Some Misdirected

@@ -14,21 +14,27 @@ use Rattle.client_core.specs.History.{Opening}
 use Rattle.client_core.specs.Refusals.{is_server_of}
 use Rattle.client_core.specs.Words.{is_on, refusal}
 
--- What came to a client, with what its save left; a cut; a restart, which makes no save.
+-- What came to a client, with what its save left; a cut; a restart, which makes no save, with a mirror or
+-- without one; a renewal with what its save left; the loss of the note.
 pub data FrameEntry : Type 0 where
   Met : Input → Left → FrameEntry
   Cut : FrameEntry
-  Restart : FrameEntry
+  Restart : Bool → FrameEntry
+  Renew : ℕ → Left → FrameEntry
+  Lose : FrameEntry
 
 -- A piece is for a client of so many servers: it is from one of them to it, of a kind that servers send.
+-- The mirror sends no pieces.
 abbrev pub is_piece_for : ℕ → PieceParts → Bool
 is_piece_for servers q = is_client q.to && (is_server_of servers q.from && is_of_server q.tag.whole)
 
--- The entry is a cut or a restart.
+-- The entry ends a life.
 abbrev pub is_end : history.Entry → Bool
 is_end (history.Met c left) = false
 is_end history.Cut = true
-is_end history.Restart = true
+is_end (history.Restart mirror) = true
+is_end (history.Renew g left) = true
+is_end history.Lose = true
 
 -- How a client hears.
 abbrev pub rules : Opening → Rules history.Entry Left
@@ -48,7 +54,9 @@ coming (Met (Verify run text) left) = Happens (history.Met (calls.Verify run tex
 coming (Met (Deliver f) left) = Comes f left
 coming (Met Tick left) = Happens (history.Met calls.Tick left)
 coming Cut = Happens history.Cut
-coming Restart = Happens history.Restart
+coming (Restart mirror) = Happens (history.Restart mirror)
+coming (Renew g left) = Happens (history.Renew g left)
+coming Lose = Happens history.Lose
 
 -- What a client has heard.
 abbrev pub heard_at : Opening → List FrameEntry → Heard history.Entry

@@ -1,8 +1,8 @@
 -- What holds of every list of what came to a client.
-use Rattle.std.specs.Prelude.{◌≡◌, ◌⊎◌, ℕ, ◌<◌, ◌≤◌, Bool, true, false, not, ◌&&◌, List, [], ◌∷◌, ◌++◌, Some, Contains, IsTrue}
+use Rattle.std.specs.Prelude.{◌≡◌, ◌⊎◌, ℕ, ◌<◌, ◌≤◌, Bool, true, false, not, ◌&&◌, nat_lt, List, [], ◌∷◌, ◌++◌, Some, Contains, IsTrue}
 use Rattle.std.specs.List.{AllByRecursion, flat_map}
 use Rattle.fc_base.specs.declared.numbers.Key.{Key}
-use Rattle.fc_base.specs.Counted.{is_distinct}
+use Rattle.fc_base.specs.Counted.{has, is_distinct}
 use Rattle.disk_model.specs.declared.left.Left.{Left}
 use Rattle.verify_state.specs.State.{State}
 use Rattle.messages.specs.declared.packet.PacketParts.{PacketParts}
@@ -12,36 +12,59 @@ use Rattle.messages.specs.declared.node.Node.TheVariants as nodes
 use Rattle.messages.specs.Bodies.{kind_of}
 use Rattle.messages.specs.declared.kind.PacketKind.{PacketKind}
 use Rattle.messages.specs.declared.kind.PacketKind.TheVariants as kinds
+use Rattle.messages.specs.Ranges.{is_generation}
 use Rattle.messages.specs.Laws.{IsPacket}
 use Rattle.client_core.specs.declared.call.Call.TheVariants.{Tick}
 use Rattle.client_core.specs.declared.received.Received.{Received}
 use Rattle.state_table.specs.Kept.{kept_of}
 use Rattle.client_core.specs.declared.noted.Noted.{Noted}
-use Rattle.client_core.specs.Note.{IsNoted}
-use Rattle.client_core.specs.History.{Opening, Entry, Met}
-use Rattle.client_core.specs.Words.{is_on, noted, kept, looked}
+use Rattle.client_core.specs.Note.{IsNoted, blank, is_blank}
+use Rattle.client_core.specs.History.{Opening, Entry, Met, Restart, Renew, Lose}
+use Rattle.client_core.specs.Words.{is_on, has_mirror, noted, kept, looked}
 use Rattle.client_core.specs.Life.{Deed, Begins, Verifies, life, done}
 use Rattle.client_core.specs.Requests.{Served, trigger_at}
 use Rattle.client_core.specs.Reports.{has_report, reports}
-use Rattle.client_core.specs.Packets.{to_server, packets, sent}
+use Rattle.client_core.specs.Packets.{to_server, to_mirror, packets, sent}
 use Rattle.client_core.specs.Ranges.{packet_in, came, CameInRange, OpensInRange}
 
 -- A packet of a server to the client.
 abbrev pub from_server : Body → ℕ → PacketParts
 from_server body server = record { from = nodes.Server server; to = nodes.Client; body = body }
 
--- A kept state is never replaced, whatever comes.
+-- A packet of the mirror to the client.
+abbrev pub from_mirror : Body → PacketParts
+from_mirror body = record { from = nodes.Mirror; to = nodes.Client; body = body }
+
+-- The note isn't lost.
+abbrev pub loses_nothing : List Entry → Bool
+loses_nothing [] = true
+loses_nothing (Lose ∷ past) = false
+loses_nothing (_ ∷ past) = loses_nothing past
+
+-- A kept state is never replaced, whatever comes but the loss of the note.
 abbrev pub FirstKeptStays : Type 0
 FirstKeptStays =
     (o : Opening) (newer past : List Entry) (key : Key) (state : State) →
+    IsTrue (loses_nothing newer) →
     kept o past key ≡ Some state → kept o (newer ++ past) key ≡ Some state
 
--- A state that is kept, and was not at the opening, came in a State from its server.
+-- A state that is kept, and was not at the opening, came in a State from its server, or in a Copy from
+-- the mirror.
 abbrev pub KeptWasSent : Type 0
 KeptWasSent =
     (o : Opening) (past : List Entry) (key : Key) (state : State) → kept o past key ≡ Some state →
     (kept o [] key ≡ Some state)
-    ⊎ ((jobs : ℕ) × Contains (came past) (from_server (bodies.State jobs state) key.server))
+    ⊎ (((jobs : ℕ) × Contains (came past) (from_server (bodies.State jobs state) key.server))
+    ⊎ Contains (came past) (from_mirror (bodies.Copy state)))
+
+-- After the loss of its note a client goes on as one that opens with a blank note.
+pub record GoesOnAsBlank (o : Opening) (newer past : List Entry) : Type 0 where
+  pub noted_is : noted o (newer ++ Lose ∷ past) ≡ noted (record o { noted = blank }) newer
+  pub life_is : life o (newer ++ Lose ∷ past) ≡ life (record o { noted = blank }) newer
+  pub done_is : done o (newer ++ Lose ∷ past) ≡ done (record o { noted = blank }) newer ++ done o past
+
+abbrev pub LossBeginsAnew : Type 0
+LossBeginsAnew = (o : Opening) (newer past : List Entry) → GoesOnAsBlank o newer past
 
 -- Each Saved that is sent has the kept state of its key.
 abbrev pub SavedIsKept : Type 0
@@ -49,6 +72,14 @@ SavedIsKept =
     (o : Opening) (past : List Entry) (entry : Entry) (p : PacketParts) (attempt : ℕ) (state : State) →
     Contains (packets o past entry) p → p.body ≡ bodies.Saved attempt state
     → kept o past state.key ≡ Some state
+
+-- Each Copy that is sent has a state of the note before, or of the State that has just come.
+abbrev pub CopiesAreOfStates : Type 0
+CopiesAreOfStates =
+    (o : Opening) (past : List Entry) (entry : Entry) (p : PacketParts) (state : State) →
+    Contains (packets o past entry) p → p.body ≡ bodies.Copy state →
+    Contains (noted o past).kept state
+    ⊎ ((server jobs : ℕ) × Contains (packet_in entry) (from_server (bodies.State jobs state) server))
 
 -- A StateAck is sent only for a state that is kept by then, or to a server that says that there is
 -- none.
@@ -84,22 +115,52 @@ pub record AreFresh (first last : ℕ) (numbers : List ℕ) : Type 0 where
   pub above : AllByRecursion (λ n. first < n) numbers
   pub below : AllByRecursion (λ n. n ≤ last) numbers
 
--- No run is given twice, whatever was cut and lost.
+-- No run is given twice, whatever was cut and failed to be saved, where the note isn't lost.
 abbrev pub RunsAreFresh : Type 0
 RunsAreFresh =
-    (o : Opening) (past : List Entry) →
+    (o : Opening) (past : List Entry) → IsTrue (loses_nothing past) →
     AreFresh o.noted.runs (noted o past).runs (runs_in (done o past))
 
 -- No attempt is given twice.
 abbrev pub AttemptsAreFresh : Type 0
 AttemptsAreFresh =
-    (o : Opening) (past : List Entry) →
+    (o : Opening) (past : List Entry) → IsTrue (loses_nothing past) →
     AreFresh o.noted.attempts (noted o past).attempts (attempts_in (done o past))
+
+-- The generations of the renewals, the newest first.
+abbrev pub generations : List Entry → List ℕ
+generations [] = []
+generations (Renew g left ∷ past) = g ∷ generations past
+generations (_ ∷ past) = generations past
+
+-- The client is one with a mirror: a blank note opens it, each restart has the mirror and a note of a
+-- generation, and no two renewals are of one.
+abbrev pub is_mirrored : Opening → List Entry → Bool
+is_mirrored o [] = is_blank o.noted
+is_mirrored o (Restart mirror ∷ past) =
+    (mirror && nat_lt 0 (noted o past).generation) && is_mirrored o past
+is_mirrored o (Renew g left ∷ past) =
+    (is_generation g && not (has (generations past) g)) && is_mirrored o past
+is_mirrored o (_ ∷ past) = is_mirrored o past
+
+-- The note isn't lost, or the client is one with a mirror.
+abbrev pub KeepsNumbersApart : Opening → List Entry → Type 0
+KeepsNumbersApart o past = IsTrue (loses_nothing past) ⊎ IsTrue (is_mirrored o past)
+
+-- No number is given twice, whatever was lost, where the client is one with a mirror.
+pub record AreGivenOnce (o : Opening) (past : List Entry) : Type 0 where
+  pub runs : IsTrue (is_distinct (runs_in (done o past)))
+  pub attempts : IsTrue (is_distinct (attempts_in (done o past)))
+
+abbrev pub NumbersAreGivenOnce : Type 0
+NumbersAreGivenOnce =
+    (o : Opening) (past : List Entry) → KeepsNumbersApart o past → AreGivenOnce o past
 
 -- All Jobs packets of a run carry the same text, to whichever servers they go.
 abbrev pub OneTextOfARun : Type 0
 OneTextOfARun =
     (o : Opening) (past : List Entry) (p q : PacketParts) (run : ℕ) (text other : List ℕ) →
+    KeepsNumbersApart o past →
     Contains (sent o past) p → p.body ≡ bodies.Jobs run text →
     Contains (sent o past) q → q.body ≡ bodies.Jobs run other → text ≡ other
 
@@ -108,6 +169,7 @@ abbrev pub OneTextOfAnAttempt : Type 0
 OneTextOfAnAttempt =
     (o : Opening) (past : List Entry) (p q : PacketParts) (attempt run run_there : ℕ)
     (text other : List ℕ) →
+    KeepsNumbersApart o past →
     Contains (sent o past) p → p.body ≡ bodies.Verify run attempt text →
     Contains (sent o past) q → q.body ≡ bodies.Verify run_there attempt other →
     (run ≡ run_there) × (text ≡ other)
@@ -171,11 +233,22 @@ GoesToServer servers p =
     (server : ℕ) × (server < servers) × (p ≡ to_server p.body server)
     × IsTrue (is_for_server (kind_of p.body))
 
--- What a client sends goes to a server that it drives, and is of a kind that is for servers.
-abbrev pub PacketsGoToServers : Type 0
-PacketsGoToServers =
+-- The kinds of packets that are for a mirror.
+abbrev pub is_for_mirror : PacketKind → Bool
+is_for_mirror kinds.Copy = true
+is_for_mirror kinds.Fetch = true
+is_for_mirror _ = false
+
+-- A packet of the client to its mirror, of a kind that is for a mirror.
+abbrev pub GoesToMirror : Bool → PacketParts → Type 0
+GoesToMirror mirror p =
+    (mirror ≡ true) × (p ≡ to_mirror p.body) × IsTrue (is_for_mirror (kind_of p.body))
+
+-- What a client sends goes to a server that it drives or to its mirror, and is of a kind that is for it.
+abbrev pub PacketsGoToPeers : Type 0
+PacketsGoToPeers =
     (o : Opening) (past : List Entry) (entry : Entry) (p : PacketParts) →
-    Contains (packets o past entry) p → GoesToServer o.servers p
+    Contains (packets o past entry) p → GoesToServer o.servers p ⊎ GoesToMirror (has_mirror past) p
 
 -- The packets that a client sends are within the ranges of packets, where what came is within its.
 abbrev pub PacketsAreInRange : Type 0

@@ -1,3 +1,4 @@
+pub mod Asked
 pub mod Begins
 pub mod Bounds
 pub mod Ends

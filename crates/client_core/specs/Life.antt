@@ -7,16 +7,17 @@ use Rattle.messages.specs.Nodes.{node_number}
 use Rattle.client_core.specs.declared.call.Call.{Call}
 use Rattle.client_core.specs.declared.call.Call.TheVariants.{Begin, Trigger, Stop, Verify, Deliver, Tick}
 use Rattle.client_core.specs.declared.noted.Noted.{Noted}
-use Rattle.client_core.specs.History.{Opening, Entry, Met, Cut, Restart}
+use Rattle.client_core.specs.History.{Opening, Entry, Met, Cut, Restart, Renew, Lose}
 use Rattle.client_core.specs.Words.{noted, is_answered}
 
--- A run begins, is triggered or is stopped; an attempt verifies a run; a server says something.
+-- A run begins, is triggered or is stopped; an attempt verifies a run; a server or the mirror says
+-- something.
 pub data Deed : Type 0 where
   Begins : ℕ → List ℕ → Deed  -- run, text
   Triggers : ℕ → Act → Deed  -- run, act
   Stops : ℕ → Deed  -- run
   Verifies : ℕ → ℕ → List ℕ → Deed  -- run, attempt, text
-  Hears : ℕ → Body → Deed  -- server, what it says
+  Hears : ℕ → Body → Deed  -- the number of its node, what it says
 
 -- What an answered call does: a new run or attempt has the number above those that were used.
 abbrev pub deeds_of : Noted → Call → List Deed
@@ -33,7 +34,9 @@ life o [] = []
 life o (Met c left ∷ past) =
     if is_answered o past c left then deeds_of (noted o past) c ++ life o past else life o past
 life o (Cut ∷ past) = []
-life o (Restart ∷ past) = []
+life o (Restart mirror ∷ past) = []
+life o (Renew g left ∷ past) = []
+life o (Lose ∷ past) = []
 
 -- All that was ever done.
 abbrev pub done : Opening → List Entry → List Deed
@@ -41,7 +44,9 @@ done o [] = []
 done o (Met c left ∷ past) =
     if is_answered o past c left then deeds_of (noted o past) c ++ done o past else done o past
 done o (Cut ∷ past) = done o past
-done o (Restart ∷ past) = done o past
+done o (Restart mirror ∷ past) = done o past
+done o (Renew g left ∷ past) = done o past
+done o (Lose ∷ past) = done o past
 
 -- The text with which a run was last begun, empty where it wasn't.
 abbrev pub text_of : ℕ → List Deed → List ℕ

@@ -2,6 +2,9 @@
 use Rattle.std.specs.Prelude.{◌≡◌, ℕ, List, [], Option, Some, None, slice_get, unwrap_or, IsTrue}
 use Rattle.std.specs.Ordering.{nat_cmp}
 use Rattle.std.specs.BTreeMap.{get}
+use Rattle.indexmap.specs.IndexSet.{contains}
+use Rattle.fc_base.specs.declared.numbers.Key.{Key}
+use Rattle.fc_base.specs.Keys.{is_same_key}
 use Rattle.messages.specs.declared.refusal.Act.TheVariants as acts
 use Rattle.messages.specs.Ranges.{is_attempt, is_run}
 use Rattle.client_core.specs.declared.beginning.Beginning.TheVariants.{Unbegun}
@@ -13,6 +16,7 @@ use Rattle.client_core.specs.Begins.{begin_at}
 use Rattle.client_core.specs.Requests.{Unasked, trigger_at, stop_at, verify_at}
 use Rattle.client_core.specs.Reports.{reports}
 use Rattle.client_core.specs.Standing.{IsKept}
+use Rattle.client_core.specs.Packets.{is_copied}
 
 -- P holds of each, beside its place.
 abbrev pub Each : {A : Type 0} → List A → (ℕ → A → Type 0) → Type 0
@@ -69,11 +73,17 @@ abbrev pub AttemptsAre : Life → List Deed → Type 0
 AttemptsAre kept deeds =
     (attempt : ℕ) → AttemptFor attempt deeds (get nat_cmp kept.attempts attempt)
 
--- All is kept that was asked in this life, and the reports that came.
+-- It is known of each key whether the mirror said that it keeps the state.
+abbrev pub CopiedAre : Life → List Deed → Type 0
+CopiedAre kept deeds =
+    (key : Key) → contains is_same_key kept.copied key ≡ is_copied key deeds
+
+-- All is kept that was asked in this life, the reports that came, and what the mirror said.
 pub record LifeIs (kept : Life) (deeds : List Deed) : Type 0 where
   pub runs : RunsAre kept deeds
   pub attempts : AttemptsAre kept deeds
   pub reports_are : kept.reports.items ≡ reports deeds
+  pub copied : CopiedAre kept deeds
 
 -- P holds of each list of deeds of which this is kept.
 abbrev pub EachLife : Life → (List Deed → Type 0) → Type 0

@@ -1,7 +1,8 @@
 -- The durable note of a client: what it says, and its bytes.
-use Rattle.std.specs.Prelude.{◌≡◌, ◌⊎◌, ℕ, Bool, ◌&&◌, ◌==◌, ◌^◌, ◌<◌, ◌≤◌, List, [], ◌++◌, length, map, codes, Option, Some, None, IsTrue}
+use Rattle.std.specs.Prelude.{◌≡◌, ◌⊎◌, ℕ, Bool, ◌&&◌, ◌==◌, ◌*◌, ◌^◌, ◌<◌, ◌≤◌, List, [], ◌++◌, length, map, codes, Option, Some, None, IsTrue}
 use Rattle.std.specs.List.{flat_map, AllByRecursion}
 use Rattle.std.specs.Int.{w32, w64}
+use Rattle.fc_base.specs.declared.limits.TheConstants.{MAX_GENERATION}
 use Rattle.fc_base.specs.Layouts.{bytes_of}
 use Rattle.verify_state.specs.State.{IsState}
 use Rattle.verify_state.specs.Spelling.{spelling as state_bytes}
@@ -11,41 +12,74 @@ use Rattle.client_core.specs.declared.noted.Noted.{Noted}
 
 -- What a blank note says.
 abbrev pub blank : Noted
-blank = record { runs = 0; attempts = 0; kept = [] }
+blank = record { generation = 0; runs = 0; attempts = 0; kept = [] }
+
+-- What a note says that begins anew: the numbers of each generation are above those of the ones before.
+abbrev pub renewed : ℕ → Noted
+renewed g = record { generation = g; runs = g * 2 ^ 32; attempts = g * 2 ^ 32; kept = [] }
 
 -- The note says that.
 abbrev pub is_blank : Noted → Bool
-is_blank n = (n.runs == 0) && ((n.attempts == 0) && (length n.kept == 0))
+is_blank n =
+    (n.generation == 0) && ((n.runs == 0) && ((n.attempts == 0) && (length n.kept == 0)))
 
--- A note with these bytes of states: the magic, the runs, the attempts, the number of states, and the
--- states in their order.
-unfoldable pub note_of : ℕ → ℕ → List (List ℕ) → List ℕ
-note_of runs attempts states =
-    codes "FCC1" ++ (bytes_of w64 runs ++ (bytes_of w64 attempts
-    ++ (bytes_of w32 (length states) ++ flat_map counted_bytes states)))
+-- What stands behind a note's generation, with these bytes of states: the runs, the attempts, the number
+-- of states, and the states in their order.
+unfoldable pub numbers_of : ℕ → ℕ → List (List ℕ) → List ℕ
+numbers_of runs attempts states =
+    bytes_of w64 runs ++ (bytes_of w64 attempts
+    ++ (bytes_of w32 (length states) ++ flat_map counted_bytes states))
+
+-- A note: the magic, the generation, and the rest.
+unfoldable pub note_of : ℕ → ℕ → ℕ → List (List ℕ) → List ℕ
+note_of generation runs attempts states =
+    codes "FCC2" ++ (bytes_of w64 generation ++ numbers_of runs attempts states)
+
+-- A note from before there were generations.
+unfoldable pub old_note_of : ℕ → ℕ → List (List ℕ) → List ℕ
+old_note_of runs attempts states = codes "FCC1" ++ numbers_of runs attempts states
 
 -- How a note is written: with each state in its one spelling.
 abbrev pub spelling : Noted → List ℕ
-spelling n = note_of n.runs n.attempts (map state_bytes n.kept)
+spelling n = note_of n.generation n.runs n.attempts (map state_bytes n.kept)
 
--- What every note keeps: numbers of eight bytes, and at most 1,024 states, all of different keys.
+-- What every note keeps: a generation of four bytes, numbers of eight, and at most 1,024 states, all of
+-- different keys.
 pub record IsNoted (n : Noted) : Type 0 where
+  pub generation : n.generation ≤ MAX_GENERATION
   pub runs : n.runs < 2 ^ 64
   pub attempts : n.attempts < 2 ^ 64
   pub count : length n.kept ≤ 1024
   pub states : AllByRecursion IsState n.kept
   pub keys : IsTrue (has_distinct_keys n.kept)
 
+-- The bytes are a note that says this, with these bytes of states. An old one says generation 0.
+abbrev pub IsNote : List ℕ → Noted → List (List ℕ) → Type 0
+IsNote bytes n parts =
+    (bytes ≡ note_of n.generation n.runs n.attempts parts)
+    ⊎ ((n.generation ≡ 0) × (bytes ≡ old_note_of n.runs n.attempts parts))
+
 -- The bytes are a note, and their states are these.
 pub record Spells (bytes : List ℕ) (n : Noted) : Type 0 where
   pub parts : List (List ℕ)
-  pub spelled : bytes ≡ note_of n.runs n.attempts parts
+  pub spelled : IsNote bytes n parts
   pub states : SayStates parts n.kept
 
 -- The bytes say this note. No bytes at all are a blank one.
 pub record Says (bytes : List ℕ) (n : Noted) : Type 0 where
   pub note : IsNoted n
   pub spelled : Spells bytes n ⊎ ((bytes ≡ []) × (n ≡ blank))
+
+-- The bytes are what stands behind a note's generation, where the note says this.
+pub record Numbers (bytes : List ℕ) (n : Noted) : Type 0 where
+  pub parts : List (List ℕ)
+  pub spelled : bytes ≡ numbers_of n.runs n.attempts parts
+  pub states : SayStates parts n.kept
+
+-- A reader gives what the bytes say behind a generation, and nothing where they say nothing.
+abbrev pub ReadsNumbers : ℕ → List ℕ → Option Noted → Type 0
+ReadsNumbers generation bytes (Some n) = (n.generation ≡ generation) × IsNoted n × Numbers bytes n
+ReadsNumbers generation bytes None = (n : Noted) → IsNoted n → Numbers bytes n → ⊥
 
 -- A reader gives what the bytes say, and nothing where they say nothing.
 abbrev pub Reads : List ℕ → Option Noted → Type 0

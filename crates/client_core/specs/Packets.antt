@@ -1,7 +1,9 @@
 -- The packets that a client sends.
-use Rattle.std.specs.Prelude.{ℕ, ◌+◌, Bool, true, false, if◌then◌else◌, List, [], ◌∷◌, ◌++◌, map, Option, Some, None}
-use Rattle.std.specs.List.{flat_map, range_with_len}
+use Rattle.std.specs.Prelude.{ℕ, ◌+◌, Bool, true, false, not, ◌&&◌, ◌||◌, ◌==◌, nat_lt, if◌then◌else◌, List, [], ◌∷◌, ◌++◌, map, Option, Some, None}
+use Rattle.std.specs.List.{flat_map}
+use Rattle.fc_base.specs.declared.numbers.Key.{Key}
 use Rattle.fc_base.specs.Counted.{numbers_below}
+use Rattle.fc_base.specs.Keys.{is_same_key}
 use Rattle.verify_state.specs.State.{State}
 use Rattle.messages.specs.declared.packet.PacketParts.{PacketParts}
 use Rattle.messages.specs.declared.body.Body.{Body}
@@ -16,11 +18,13 @@ use Rattle.client_core.specs.declared.call.Call.{Call}
 use Rattle.client_core.specs.declared.call.Call.TheVariants.{Begin, Trigger, Stop, Verify, Deliver, Tick}
 use Rattle.state_table.specs.Kept.{kept_of}
 use Rattle.client_core.specs.declared.noted.Noted.{Noted}
-use Rattle.client_core.specs.History.{Opening, Entry, Met, Cut, Restart}
-use Rattle.client_core.specs.Words.{noted, is_answered}
-use Rattle.client_core.specs.Life.{Deed, life, text_of, act_of, run_of, check_of}
+use Rattle.client_core.specs.declared.peers.Peers.{Peers}
+use Rattle.client_core.specs.History.{Opening, Entry, Met, Cut, Restart, Renew, Lose}
+use Rattle.client_core.specs.Words.{noted, peers, is_answered}
+use Rattle.client_core.specs.Life.{Deed, Hears, life, text_of, act_of, run_of, check_of}
 use Rattle.client_core.specs.declared.beginning.Beginning.TheVariants as begins
 use Rattle.client_core.specs.declared.beginning.Beginning.{Beginning}
+use Rattle.client_core.specs.Asked.{rising, runs_of, attempts_of}
 use Rattle.client_core.specs.Begins.{begin_at}
 use Rattle.client_core.specs.Requests as requests
 use Rattle.client_core.specs.Requests.{Request, trigger_at, stop_at, verify_at}
@@ -32,6 +36,10 @@ to_server body server = record { from = nodes.Client; to = nodes.Server server; 
 -- The same to every server, in their order.
 abbrev pub to_all : ℕ → Body → List PacketParts
 to_all servers body = map (to_server body) (numbers_below servers)
+
+-- A packet of the client to the mirror.
+abbrev pub to_mirror : Body → PacketParts
+to_mirror body = record { from = nodes.Client; to = nodes.Mirror; body = body }
 
 -- The start of a run, where its jobs were open.
 abbrev pub start_for : ℕ → ℕ → Beginning → List PacketParts
@@ -53,18 +61,26 @@ abbrev pub state_for : ℕ → ℕ → ℕ → ℕ → Option State → PacketPa
 state_for run attempt job server (Some state) = to_server (bodies.Saved attempt state) server
 state_for run attempt job server None = to_server (bodies.NoSaved run attempt job) server
 
--- What is replied to a server, by what was kept and done before.
-abbrev pub replies : Noted → List Deed → ℕ → Body → List PacketParts
-replies n deeds server (bodies.JobsOk run jobs) = start_for run server (begin_at run server deeds)
-replies n deeds server (bodies.State jobs state) =
-    to_server (bodies.StateAck state.key.run state.key.job) server ∷ []
-replies n deeds server (bodies.NoState run job jobs) = to_server (bodies.StateAck run job) server ∷ []
-replies n deeds server (bodies.WantState run attempt job) =
+-- A state that wasn't kept before goes to the mirror, where there is one.
+abbrev pub copy_for : Bool → State → Option State → List PacketParts
+copy_for true state None = to_mirror (bodies.Copy state) ∷ []
+copy_for _ state _ = []
+
+-- What is replied to a server, by what was kept and done before. Nothing is replied to the mirror.
+abbrev pub replies : Bool → Noted → List Deed → ℕ → Body → List PacketParts
+replies mirror n deeds server (bodies.JobsOk run jobs) =
+    start_for run server (begin_at run server deeds)
+replies mirror n deeds server (bodies.State jobs state) =
+    to_server (bodies.StateAck state.key.run state.key.job) server
+    ∷ copy_for mirror state (kept_of state.key n.kept)
+replies mirror n deeds server (bodies.NoState run job jobs) =
+    to_server (bodies.StateAck run job) server ∷ []
+replies mirror n deeds server (bodies.WantState run attempt job) =
     state_for run attempt job server (kept_of (record { run = run; server = server; job = job }) n.kept) ∷ []
-replies n deeds server (bodies.Refused r) =
+replies mirror n deeds server (bodies.Refused r) =
     if lacks_jobs r.asked r.reason
     then jobs_for r.run (text_of r.run deeds) server (begin_at r.run server deeds) else []
-replies n deeds server _ = []
+replies mirror n deeds server _ = []
 
 -- An open begin again: the jobs, or the start.
 abbrev pub begin_again : ℕ → List ℕ → ℕ → Beginning → List PacketParts
@@ -92,27 +108,63 @@ attempt_again servers deeds attempt =
     (verify_at attempt s deeds)) (numbers_below servers)
 
 -- Every open request again: by run, and then the verifies by attempt.
-abbrev pub all_again : ℕ → Noted → List Deed → List PacketParts
-all_again servers n deeds =
-    flat_map (run_again servers deeds) (range_with_len 1 n.runs)
-    ++ flat_map (attempt_again servers deeds) (range_with_len 1 n.attempts)
+abbrev pub requests_again : ℕ → List Deed → List PacketParts
+requests_again servers deeds =
+    flat_map (run_again servers deeds) (rising (runs_of deeds))
+    ++ flat_map (attempt_again servers deeds) (rising (attempts_of deeds))
+
+-- The mirror is asked for a grant of the generation, until it gives it.
+abbrev pub fetch_again : Peers → ℕ → List PacketParts
+fetch_again peers generation =
+    if peers.mirror && (nat_lt 0 generation && not peers.granted)
+    then to_mirror (bodies.Fetch generation) ∷ [] else []
+
+-- It is said that the state of this key is kept.
+abbrev pub says_kept : Key → Body → Bool
+says_kept key (bodies.CopyOk run server job) =
+    is_same_key (record { run = run; server = server; job = job }) key
+says_kept key _ = false
+
+-- The mirror said in this life that it keeps the state of this key.
+abbrev pub is_copied : Key → List Deed → Bool
+is_copied key [] = false
+is_copied key (Hears node body ∷ deeds) =
+    ((node == node_number nodes.Mirror) && says_kept key body) || is_copied key deeds
+is_copied key (_ ∷ deeds) = is_copied key deeds
+
+-- A kept state goes to the mirror until this has said that it keeps it.
+abbrev pub copy_again : List Deed → State → List PacketParts
+copy_again deeds state =
+    if is_copied state.key deeds then [] else to_mirror (bodies.Copy state) ∷ []
+
+-- The kept states that the mirror isn't known to keep, in order of arrival.
+abbrev pub copies_again : Bool → List State → List Deed → List PacketParts
+copies_again mirror states deeds = if mirror then flat_map (copy_again deeds) states else []
+
+-- The grant, the requests and the copies.
+abbrev pub all_again : Peers → Noted → List Deed → List PacketParts
+all_again peers n deeds =
+    fetch_again peers n.generation
+    ++ (requests_again peers.servers deeds ++ copies_again peers.mirror n.kept deeds)
 
 -- What an answered call sends, by what was noted and done before it.
-abbrev pub packets_for : ℕ → Noted → List Deed → Call → List PacketParts
-packets_for servers n deeds (Begin text) = to_all servers (bodies.Jobs (n.runs + 1) text)
-packets_for servers n deeds (Trigger run act) = to_all servers (bodies.Trigger run act)
-packets_for servers n deeds (Stop run) = to_all servers (bodies.Stop run)
-packets_for servers n deeds (Verify run text) =
-    to_all servers (bodies.Verify run (n.attempts + 1) text)
-packets_for servers n deeds (Deliver p) = replies n deeds (node_number p.from) p.body
-packets_for servers n deeds Tick = all_again servers n deeds
+abbrev pub packets_for : Peers → Noted → List Deed → Call → List PacketParts
+packets_for peers n deeds (Begin text) = to_all peers.servers (bodies.Jobs (n.runs + 1) text)
+packets_for peers n deeds (Trigger run act) = to_all peers.servers (bodies.Trigger run act)
+packets_for peers n deeds (Stop run) = to_all peers.servers (bodies.Stop run)
+packets_for peers n deeds (Verify run text) =
+    to_all peers.servers (bodies.Verify run (n.attempts + 1) text)
+packets_for peers n deeds (Deliver p) = replies peers.mirror n deeds (node_number p.from) p.body
+packets_for peers n deeds Tick = all_again peers n deeds
 
 -- The packets that an event sends.
 abbrev pub packets : Opening → List Entry → Entry → List PacketParts
 packets o past (Met c left) =
-    if is_answered o past c left then packets_for o.servers (noted o past) (life o past) c else []
+    if is_answered o past c left then packets_for (peers o past) (noted o past) (life o past) c else []
 packets o past Cut = []
-packets o past Restart = []
+packets o past (Restart mirror) = []
+packets o past (Renew g left) = []
+packets o past Lose = []
 
 -- All packets that were ever sent, the oldest first.
 abbrev pub sent : Opening → List Entry → List PacketParts

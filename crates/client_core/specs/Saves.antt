@@ -1,5 +1,5 @@
 -- What a call adds to the note.
-use Rattle.std.specs.Prelude.{ℕ, ◌+◌, Bool, true, false, if◌then◌else◌, [], ◌∷◌, ◌++◌, Option, Some, None}
+use Rattle.std.specs.Prelude.{◌+◌, Bool, true, false, if◌then◌else◌, [], ◌∷◌, ◌++◌, Option, Some, None}
 use Rattle.fc_base.specs.declared.fault.Fault.{Fault}
 use Rattle.disk_model.specs.declared.left.Left.{Left}
 use Rattle.disk_model.specs.declared.left.Left.TheVariants.{NoSave, Saved}
@@ -10,6 +10,7 @@ use Rattle.client_core.specs.declared.call.Call.{Call}
 use Rattle.client_core.specs.declared.call.Call.TheVariants.{Begin, Trigger, Stop, Verify, Deliver, Tick}
 use Rattle.state_table.specs.Kept.{kept_of}
 use Rattle.client_core.specs.declared.noted.Noted.{Noted}
+use Rattle.client_core.specs.declared.peers.Peers.{Peers}
 use Rattle.client_core.specs.Refusals.{refusal_by}
 
 -- One more run, one more attempt, or one more state.
@@ -20,19 +21,19 @@ pub data Addition : Type 0 where
 
 -- The note with the addition.
 abbrev pub with_addition : Addition → Noted → Noted
-with_addition NextRun n = record { runs = n.runs + 1; attempts = n.attempts; kept = n.kept }
-with_addition NextAttempt n = record { runs = n.runs; attempts = n.attempts + 1; kept = n.kept }
-with_addition (Keep state) n =
-    record { runs = n.runs; attempts = n.attempts; kept = n.kept ++ state ∷ [] }
+with_addition NextRun n = record n { runs = n.runs + 1 }
+with_addition NextAttempt n = record n { attempts = n.attempts + 1 }
+with_addition (Keep state) n = record n { kept = n.kept ++ state ∷ [] }
 
 -- A state is added where none of its key is kept.
 abbrev pub unless_kept : Option State → State → Option Addition
 unless_kept None state = Some (Keep state)
 unless_kept (Some kept) state = None
 
--- What is added for what a server says.
+-- What is added for what a server or the mirror says.
 abbrev pub addition_by : Noted → Body → Option Addition
 addition_by n (bodies.State jobs state) = unless_kept (kept_of state.key n.kept) state
+addition_by n (bodies.Copy state) = unless_kept (kept_of state.key n.kept) state
 addition_by n _ = None
 
 -- What is added for a call that isn't refused.
@@ -50,8 +51,8 @@ unless_refused None addition = addition
 unless_refused (Some fault) addition = None
 
 -- What a call is due to add to the note.
-abbrev pub due_by : Bool → ℕ → Noted → Call → Option Addition
-due_by on servers n c = unless_refused (refusal_by on servers n c) (addition_of n c)
+abbrev pub due_by : Bool → Peers → Noted → Call → Option Addition
+due_by on peers n c = unless_refused (refusal_by on peers n c) (addition_of n c)
 
 -- An addition counts where the new bytes are there.
 abbrev pub noted_after : Bool → Option Addition → Noted → Noted

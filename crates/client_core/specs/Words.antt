@@ -1,41 +1,111 @@
--- The words of a client, each read from the list: whether it is on, what its note says, which calls it
--- refuses, and what they are due to save.
-use Rattle.std.specs.Prelude.{Bool, false, true, not, ◌&&◌, is_none, is_some, List, [], ◌∷◌, Option, if◌then◌else◌}
+-- The words of a client, each read from the list: whether it is on, with whom, what its note says, which
+-- calls it refuses, and what they are due to save.
+use Rattle.std.specs.Prelude.{ℕ, Bool, false, true, not, ◌&&◌, ◌||◌, ◌==◌, is_none, is_some, List, [], ◌∷◌, ◌++◌, Option, if◌then◌else◌}
+use Rattle.std.specs.List.{list_any}
 use Rattle.fc_base.specs.declared.numbers.Key.{Key}
 use Rattle.fc_base.specs.declared.fault.Fault.{Fault}
 use Rattle.disk_model.specs.declared.left.Left.{Left}
-use Rattle.disk_model.specs.Left.{has_new, is_lost}
+use Rattle.disk_model.specs.Left.{has_new, is_lost, is_saved}
 use Rattle.verify_state.specs.State.{State}
+use Rattle.messages.specs.declared.body.Body.{Body}
+use Rattle.messages.specs.declared.body.Body.TheVariants as bodies
+use Rattle.messages.specs.Nodes.{is_client, is_mirror}
+use Rattle.messages.specs.Ranges.{is_generation}
 use Rattle.client_core.specs.declared.call.Call.{Call}
+use Rattle.client_core.specs.declared.call.Call.TheVariants.{Deliver}
+use Rattle.client_core.specs.declared.peers.Peers.{Peers}
+use Rattle.client_core.specs.Note.{blank, is_blank, renewed}
 use Rattle.state_table.specs.Kept.{kept_of}
 use Rattle.client_core.specs.declared.noted.Noted.{Noted}
-use Rattle.client_core.specs.History.{Opening, Entry, Met, Cut, Restart}
+use Rattle.client_core.specs.History.{Opening, Entry, Met, Cut, Restart, Renew, Lose}
 use Rattle.client_core.specs.Refusals.{refusal_by}
 use Rattle.client_core.specs.Saves.{Addition, due_by, noted_after, is_answer}
 
--- The client is on: it was restarted, and since then came no cut and no failed save.
+-- The client is on: it was restarted or renewed, and since then came no cut and no failed save.
 abbrev pub is_on : List Entry → Bool
 is_on [] = false
 is_on (Met c left ∷ past) = is_on past && not (is_lost left)
 is_on (Cut ∷ past) = false
-is_on (Restart ∷ past) = true
+is_on (Restart mirror ∷ past) = true
+is_on (Renew g left ∷ past) = is_saved left
+is_on (Lose ∷ past) = false
+
+-- It has a mirror, if it is on.
+abbrev pub has_mirror : List Entry → Bool
+has_mirror [] = false
+has_mirror (Met c left ∷ past) = has_mirror past
+has_mirror (Cut ∷ past) = false
+has_mirror (Restart mirror ∷ past) = mirror
+has_mirror (Renew g left ∷ past) = true
+has_mirror (Lose ∷ past) = false
+
+-- The generation that is granted by this.
+abbrev pub granted_in : Body → List ℕ
+granted_in (bodies.Granted generation) = generation ∷ []
+granted_in _ = []
+
+-- The generation that is granted by a call: the mirror says so to the client.
+abbrev pub granted_by : Call → List ℕ
+granted_by (Deliver p) = if is_client p.to && is_mirror p.from then granted_in p.body else []
+granted_by _ = []
+
+-- The generations that were granted in this life to a client that is on and has a mirror.
+abbrev pub granted : List Entry → List ℕ
+granted [] = []
+granted (Met c left ∷ past) =
+    if is_on past && has_mirror past then granted_by c ++ granted past else granted past
+granted (Cut ∷ past) = []
+granted (Restart mirror ∷ past) = []
+granted (Renew g left ∷ past) = []
+granted (Lose ∷ past) = []
+
+-- With whom a client of this generation is, that drives so many servers.
+abbrev pub peers_at : ℕ → List Entry → ℕ → Peers
+peers_at servers past generation = record {
+  servers = servers;
+  mirror = has_mirror past;
+  granted = list_any (λ g. g == generation) (granted past);
+}
+
+-- With whom a client of this generation is, where it was with these and the mirror says this.
+abbrev pub after_grant : ℕ → Body → Peers → Peers
+after_grant generation (bodies.Granted g) peers =
+    record peers { granted = (g == generation) || peers.granted }
+after_grant generation _ peers = peers
+
+-- A client is renewed only with a number that a generation has, and where its note says nothing.
+abbrev pub may_renew : ℕ → Noted → Bool
+may_renew g n = is_generation g && is_blank n
+
+-- The note says the generation where the new bytes are there.
+abbrev pub renewed_after : Bool → ℕ → Noted → Noted
+renewed_after new g n = if new && may_renew g n then renewed g else n
 
 -- What the note says: what it said at the opening, and what was added by each save that left the new
--- bytes.
+-- bytes; the generation of a renewal; and nothing once it is lost.
 abbrev pub noted : Opening → List Entry → Noted
 noted o [] = o.noted
 noted o (Met c left ∷ past) =
-    noted_after (has_new left) (due_by (is_on past) o.servers (noted o past) c) (noted o past)
+    noted_after (has_new left)
+    (due_by (is_on past) (peers_at o.servers past (noted o past).generation) (noted o past) c)
+    (noted o past)
 noted o (Cut ∷ past) = noted o past
-noted o (Restart ∷ past) = noted o past
+noted o (Restart mirror ∷ past) = noted o past
+noted o (Renew g left ∷ past) = renewed_after (has_new left) g (noted o past)
+noted o (Lose ∷ past) = blank
+
+-- With whom the client is: its servers, whether it has a mirror, and whether this granted the generation
+-- of its note.
+abbrev pub peers : Opening → List Entry → Peers
+peers o past = peers_at o.servers past (noted o past).generation
 
 -- Why a call is refused.
 abbrev pub refusal : Opening → List Entry → Call → Option Fault
-refusal o past c = refusal_by (is_on past) o.servers (noted o past) c
+refusal o past c = refusal_by (is_on past) (peers o past) (noted o past) c
 
 -- What a call is due to add to the note.
 abbrev pub due : Opening → List Entry → Call → Option Addition
-due o past c = due_by (is_on past) o.servers (noted o past) c
+due o past c = due_by (is_on past) (peers o past) (noted o past) c
 
 -- A call makes a save where it is due to add something.
 abbrev pub would_save : Opening → List Entry → Call → Bool
@@ -55,4 +125,6 @@ looked [] = []
 looked (Met c left ∷ past) =
     if is_on past then (if is_lost left then past else Met c left ∷ past) else looked past
 looked (Cut ∷ past) = []
-looked (Restart ∷ past) = Restart ∷ past
+looked (Restart mirror ∷ past) = Restart mirror ∷ past
+looked (Renew g left ∷ past) = if is_saved left then Renew g left ∷ past else []
+looked (Lose ∷ past) = []

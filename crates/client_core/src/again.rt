@@ -2,12 +2,10 @@
 
 ghost use Rattle.std.specs.Prelude.{◌≡◌, ◌≤◌, ◌++◌, List, OnOk, Some, IfOk};
 ghost use Rattle.std.specs.List.{flat_map};
-ghost use Rattle.std.specs.Ordering.{nat_cmp};
-ghost use Rattle.std.specs.BTreeMap.{IsOrdered};
 ghost use Rattle.client_core.specs.Framed.{framed};
 ghost use Rattle.client_core.specs.Life.{Deed};
 ghost use Rattle.client_core.specs.Lives.{RunIs, AttemptFor, EachLife};
-ghost use Rattle.client_core.specs.Packets.{run_again, attempt_again};
+ghost use Rattle.client_core.specs.Packets.{run_again, attempt_again, requests_again};
 
 use crate::attempt_asked::AttemptAsked;
 use crate::frames::{begin_again, say_again};
@@ -19,13 +17,9 @@ use std::alloc::{AllocError, Global};
 
 impl Life {
     /// Asks again, at so many servers, for all that isn't answered: by run, and then by attempt.
-    pub(crate) fn all_again(&self, alloc: Global, servers: u32) -> Result<Frames, AllocError>
+    pub(crate) fn requests_again(&self, alloc: Global, servers: u32) -> Result<Frames, AllocError>
         requires { servers ≤ 8 }
-        ensures sent { EachLife self.now (λ deeds. IfOk result (λ frames. frames
-            ≡ framed (flat_map (λ e. run_again servers deeds e.0) self.now.runs.entries)
-            ++ framed (flat_map (λ e. attempt_again servers deeds e.0) self.now.attempts.entries))) }
-        ensures runs { IsOrdered nat_cmp self.now.runs }
-        ensures attempts { IsOrdered nat_cmp self.now.attempts }
+        ensures { EachLife self.now (λ deeds. IfOk result (λ frames. frames ≡ framed (requests_again servers deeds))) }
     {
         let _runs = self.runs.len();
         let _attempts = self.attempts.len();

@@ -10,7 +10,7 @@ use crate::outcome::{Outcome, RequestKind};
 use crate::packet_client::PacketClient;
 use crate::received::Received;
 use disk_model::Notes;
-use fc_base::{Fault, Key, RunNo, ServerNo};
+use fc_base::{Fault, Generation, Key, RunNo, ServerNo};
 use messages::Assembly;
 use std::alloc::Global;
 use verify_state::VerifyState;
@@ -31,17 +31,45 @@ impl<N: Notes> Client<N> {
     ghost use Rattle.client_core.specs.Outcomes.{outcome, settled};
     ghost use Rattle.client_core.specs.Reports.{reports};
     ghost use Rattle.client_core.specs.Hearing.{FrameEntry, packets_heard};
-    ghost use Rattle.client_core.specs.FrameEnds.{StandsFor, Restarts};
+    ghost use Rattle.client_core.specs.FrameEnds.{StandsFor, Restarts, Renews};
 
     /// Opens a client of so many servers over its note, and saves nothing. The notes come back where it
-    /// can't: [`Fault::LoadFault`], the device failed; [`Fault::BadNote`], the bytes are no note;
-    /// [`Fault::NoMemory`].
-    pub fn restart(alloc: Global, servers: u32, notes: N) -> Result<Client<N>, (N, Fault)>
+    /// can't: [`Fault::LoadFault`], the device failed; [`Fault::BadNote`], the bytes are no note, or with a
+    /// mirror they are empty; [`Fault::NoMemory`].
+    pub fn restart(
+        alloc: Global,
+        servers: u32,
+        mirror: bool,
+        notes: N,
+    ) -> Result<Client<N>, (N, Fault)>
         requires some { 1 ≤ servers }
         requires few { servers ≤ 8 }
-        ensures { Restarts N.note servers (N.note notes) result }
+        ensures { Restarts N.note servers mirror (N.note notes) result }
     {
-        let core = PacketClient::restart(alloc, servers, notes)?;
+        let core = PacketClient::restart(alloc, servers, mirror, notes)?;
+        let pieces = Assembly::new(alloc);
+        Ok(Client {
+            alloc,
+            core,
+            pieces,
+        })
+    }
+
+    /// Opens a client with a mirror, whose note was lost, in this generation, which is saved before it is
+    /// used. The notes come back where it can't, in this order: [`Fault::BadGeneration`];
+    /// [`Fault::LoadFault`], the device failed; [`Fault::BadNote`], the note isn't empty;
+    /// [`Fault::NoMemory`]; [`Fault::SaveFault`].
+    pub fn renew(
+        alloc: Global,
+        servers: u32,
+        notes: N,
+        generation: Generation,
+    ) -> Result<Client<N>, (N, Fault)>
+        requires some { 1 ≤ servers }
+        requires few { servers ≤ 8 }
+        ensures { Renews N.note servers generation (N.note notes) result }
+    {
+        let core = PacketClient::renew(alloc, servers, notes, generation)?;
         let pieces = Assembly::new(alloc);
         Ok(Client {
             alloc,

@@ -4,10 +4,11 @@ ghost use Rattle.std.specs.Prelude.{◌≡◌, ◌<◌, ◌≤◌, ℕ, [], ◌�
 ghost use Rattle.std.specs.List.{flat_map};
 ghost use Rattle.fc_base.specs.Counted.{numbers_below};
 ghost use Rattle.messages.specs.Ranges.{is_body, is_run};
+ghost use Rattle.messages.specs.declared.body.Body.TheVariants.{Copy};
 ghost use Rattle.client_core.specs.declared.beginning.Beginning.{Beginning};
 ghost use Rattle.client_core.specs.Framed.{framed};
 ghost use Rattle.client_core.specs.Lives.{Each};
-ghost use Rattle.client_core.specs.Packets.{to_server, to_all, again, begin_again};
+ghost use Rattle.client_core.specs.Packets.{to_server, to_mirror, to_all, again, begin_again};
 ghost use Rattle.client_core.specs.Requests.{Request};
 ghost use Rattle.client_core.specs.Standing.{IsKept};
 
@@ -17,6 +18,7 @@ use crate::standing::Standing;
 use fc_base::{RunNo, ServerNo};
 use messages::{Body, Frames, Node, Packet, PacketParts, Text, frames_of};
 use std::alloc::{AllocError, Global};
+use verify_state::VerifyState;
 
 /// Appends the frames of a packet to a server, and gives back what it says.
 pub(crate) fn say(
@@ -37,6 +39,34 @@ pub(crate) fn say(
     });
     frames.append(&frames_of(alloc, &packet)?)?;
     Ok(packet.into_parts().body)
+}
+
+/// Appends the frames of a packet to the mirror.
+pub(crate) fn say_to_mirror(
+    alloc: Global,
+    body: Body,
+    frames: &mut Frames,
+) -> Result<(), AllocError>
+    requires { IsTrue (is_body body) }
+    ensures { OnOk result (frames.new ≡ frames.old ++ framed (to_mirror body ∷ [])) }
+{
+    let packet = Packet::new(PacketParts {
+        from: Node::Client,
+        to: Node::Mirror,
+        body,
+    });
+    frames.append(&frames_of(alloc, &packet)?)
+}
+
+/// Appends the frames of the copy of a state.
+pub(crate) fn say_copy(
+    alloc: Global,
+    state: &VerifyState,
+    frames: &mut Frames,
+) -> Result<(), AllocError>
+    ensures { OnOk result (frames.new ≡ frames.old ++ framed (to_mirror (Copy state.now) ∷ [])) }
+{
+    say_to_mirror(alloc, Body::Copy { state: *state }, frames)
 }
 
 /// The frames of one packet to a server.

@@ -1,17 +1,17 @@
 //! What holds of every list of what came to a client. The functions have nothing to run.
 
-ghost use Rattle.client_core.specs.Laws.{FirstKeptStays, KeptWasSent, SavedIsKept, AcksAreFor, RunsAreFresh, AttemptsAreFresh, OneTextOfARun, OneTextOfAnAttempt, LooksAtAll, TickOnlyLooks, NotesKeepRanges, TriggersEndWell, PacketsGoToServers, PacketsAreInRange, ReportsCame, OneReportEach};
+ghost use Rattle.client_core.specs.Laws.{FirstKeptStays, KeptWasSent, SavedIsKept, CopiesAreOfStates, AcksAreFor, RunsAreFresh, AttemptsAreFresh, NumbersAreGivenOnce, LossBeginsAnew, OneTextOfARun, OneTextOfAnAttempt, LooksAtAll, TickOnlyLooks, NotesKeepRanges, TriggersEndWell, PacketsGoToPeers, PacketsAreInRange, ReportsCame, OneReportEach};
 ghost use Rattle.client_core.specs.Bounds.{PacketsAreFew, FramesAreShort};
-ghost use Rattle.client_core.specs.Examples.{Begins, WaitsForTheBusy, KeepsTheFirst, TriggersToTheEnd, Verifies, GoesDown, KeepsWhatIsNoted, ForgetsByACut, AsksAgainInOrder, SpendsNumbers};
+ghost use Rattle.client_core.specs.Examples.{Begins, WaitsForTheBusy, KeepsTheFirst, TriggersToTheEnd, Verifies, GoesDown, KeepsWhatIsNoted, ForgetsByACut, AsksAgainInOrder, SpendsNumbers, NumbersOnceGranted, CopiesWhatIsKept, FetchesWhatWasLost, HearsItsMirrorAlone};
 
-/// A kept state is never replaced.
+/// A kept state is never replaced, unless the note is lost.
 pub fn first_kept_stays()
     ensures { FirstKeptStays }
 {
     state_table::found_states();
 }
 
-/// Each kept state was there at the opening, or came from its server.
+/// Each kept state was there at the opening, or came from its server or from the mirror.
 pub fn kept_was_sent()
     ensures { KeptWasSent }
 {
@@ -25,6 +25,11 @@ pub fn saved_is_kept()
     state_table::found_states();
 }
 
+/// Each Copy that is sent has a state of the note, or of the State that has just come.
+pub fn copies_are_of_states()
+    ensures { CopiesAreOfStates }
+{}
+
 /// A state is acknowledged only where it is kept, or where the server says that there is none.
 pub fn acks_are_for_kept_states()
     ensures { AcksAreFor }
@@ -32,10 +37,20 @@ pub fn acks_are_for_kept_states()
     state_table::found_after_a_push();
 }
 
-/// No run and no attempt is given its number twice, whatever was cut and lost.
+/// No run and no attempt is given its number twice, whatever was cut, where the note isn't lost.
 pub fn numbers_are_fresh()
     ensures runs { RunsAreFresh }
     ensures attempts { AttemptsAreFresh }
+{}
+
+/// No number is given twice, though the note was lost, by a client with a mirror.
+pub fn numbers_are_given_once()
+    ensures { NumbersAreGivenOnce }
+{}
+
+/// After the loss of its note a client goes on as one that opens with a blank note.
+pub fn loss_begins_anew()
+    ensures { LossBeginsAnew }
 {}
 
 /// A run has one text, and so has an attempt, which has one run, too.
@@ -70,9 +85,9 @@ pub fn triggers_end_well()
     state_table::found_after_a_push();
 }
 
-/// What a client sends goes to a server that it drives, and is of a kind that is for servers.
-pub fn packets_go_to_servers()
-    ensures { PacketsGoToServers }
+/// What a client sends goes to a server that it drives or to its mirror, and is of a kind that is for it.
+pub fn packets_go_to_peers()
+    ensures { PacketsGoToPeers }
 {}
 
 /// The packets that a client sends are within the ranges of packets, where what came is within its.
@@ -115,4 +130,8 @@ pub fn examples()
     ensures forgets { ForgetsByACut }
     ensures order { AsksAgainInOrder }
     ensures spends { SpendsNumbers }
+    ensures granted { NumbersOnceGranted }
+    ensures copies { CopiesWhatIsKept }
+    ensures fetches { FetchesWhatWasLost }
+    ensures mirror_alone { HearsItsMirrorAlone }
 {}

@@ -8,12 +8,15 @@ mod beginning;
 mod call;
 mod client;
 mod frames;
+mod generation;
 mod input;
 mod law;
 mod life;
+mod mirrored;
 mod noted;
 mod outcome;
 mod packet_client;
+mod peers;
 mod received;
 mod refusal;
 mod replies;
@@ -27,10 +30,10 @@ pub use call::Call;
 pub use client::Client;
 pub use input::Input;
 pub use law::{
-    acks_are_for_kept_states, examples, first_kept_stays, frames_are_short, kept_was_sent,
-    looks_at_all, notes_keep_ranges, numbers_are_fresh, one_text, packets_are_few,
-    packets_are_in_range, packets_go_to_servers, reports_came, saved_is_kept, tick_only_looks,
-    triggers_end_well,
+    acks_are_for_kept_states, copies_are_of_states, examples, first_kept_stays, frames_are_short,
+    kept_was_sent, looks_at_all, loss_begins_anew, notes_keep_ranges, numbers_are_fresh,
+    numbers_are_given_once, one_text, packets_are_few, packets_are_in_range, packets_go_to_peers,
+    reports_came, saved_is_kept, tick_only_looks, triggers_end_well,
 };
 pub use noted::{Noted, notes_are_read_back, one_note};
 pub use outcome::{Outcome, RequestKind};

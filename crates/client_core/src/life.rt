@@ -11,17 +11,21 @@ mod look;
 use crate::attempt_asked::AttemptAsked;
 use crate::received::Received;
 use crate::run_asked::RunAsked;
-use fc_base::{Attempt, RunNo};
+use fc_base::{Attempt, Key, RunNo};
+use indexmap::IndexSet;
 use messages::{Act, Body, Text};
 use std::alloc::{AllocError, Global};
 use std::collections::BTreeMap;
 
-/// The requests of this life, by the numbers of their runs and attempts, and the reports that came.
+/// The requests of this life, by the numbers of their runs and attempts, the reports that came, and what
+/// the mirror said it keeps.
 #[derive(Drop)]
 pub struct Life {
     pub runs: BTreeMap<u64, RunAsked>,
     pub attempts: BTreeMap<u64, Option<AttemptAsked>>,
     pub reports: Vec<Received>,
+    /// The keys of the states that the mirror said it keeps.
+    pub copied: IndexSet<Key>,
 }
 
 impl Life {
@@ -36,6 +40,7 @@ impl Life {
             runs: BTreeMap::new(alloc),
             attempts: BTreeMap::new(alloc),
             reports: Vec::new(alloc),
+            copied: IndexSet::new(alloc),
         }
     }
 

@@ -1,22 +1,35 @@
 //! What outlasts a cut: the bytes of a client's note.
 
-ghost use Rattle.std.specs.Prelude.{◌≡◌, IfOk};
-ghost use Rattle.client_core.specs.Note.{spelling, blank, is_blank, Reads, SaysOneThing, SaysWhatIsWritten};
+ghost use Rattle.std.specs.Prelude.{◌≡◌, ◌≤◌, IfOk};
+ghost use Rattle.client_core.specs.Note.{spelling, blank, renewed, is_blank, Reads, ReadsNumbers, SaysOneThing, SaysWhatIsWritten};
 
+use crate::generation::NotedGeneration;
 use fc_base::{put_u32, put_u64, split_u32, split_u64};
 use state_table::{KEPT_LIMIT, Kept, put_states, read_were_spelled, spelled_are_read, states_in};
 use std::alloc::{AllocError, Global};
 use verify_state::one_spelling;
 
 /// The bytes with which each note begins.
-const MAGIC: &[u8; 4] = b"FCC1";
+const MAGIC: &[u8; 4] = b"FCC2";
 
-/// How many bytes stand behind the magic and before the states.
+/// Those of a note from before there were generations.
+const OLD_MAGIC: &[u8; 4] = b"FCC1";
+
+/// How many bytes a generation is written in.
+const GENERATION_LENGTH: usize = 8;
+
+/// How many bytes stand behind the generation and before the states.
 const NUMBERS: usize = 20;
 
-/// What a client's note says. A blank note says that nothing was begun, and keeps no state.
+/// How many numbers each generation has.
+pub(crate) const GENERATION_NUMBERS: u64 = 4_294_967_296;
+
+/// What a client's note says. A blank note says that nothing was begun, and keeps no state, and it is of
+/// no generation.
 #[derive(Drop)]
 pub struct Noted {
+    /// Its generation, 0 where it has none.
+    pub generation: NotedGeneration,
     /// How many runs were begun.
     pub runs: u64,
     /// How many attempts to verify were begun.
@@ -31,8 +44,22 @@ impl Noted {
         ensures { result ≡ blank }
     {
         Noted {
+            generation: NotedGeneration::none(),
             runs: 0,
             attempts: 0,
+            kept: Kept::new(alloc),
+        }
+    }
+
+    /// What a note says that begins anew with this generation. It takes no memory.
+    pub fn renewed(alloc: Global, generation: NotedGeneration) -> Noted
+        ensures { result ≡ renewed generation }
+    {
+        let used = generation.number() * GENERATION_NUMBERS;
+        Noted {
+            generation,
+            runs: used,
+            attempts: used,
             kept: Kept::new(alloc),
         }
     }
@@ -41,7 +68,8 @@ impl Noted {
     pub fn is_blank(&self) -> bool
         ensures value { result ≡ is_blank self.now }
     {
-        self.runs == 0 && (self.attempts == 0 && self.kept.len() == 0)
+        self.generation.number() == 0
+            && (self.runs == 0 && (self.attempts == 0 && self.kept.len() == 0))
     }
 
     /// The bytes of the note, which has each state in its one spelling.
@@ -49,8 +77,10 @@ impl Noted {
         ensures { IfOk result (λ bytes. bytes.items ≡ spelling self.now) }
     {
         let states = self.kept.as_slice();
-        let mut bytes = Vec::with_capacity(alloc, MAGIC.len() + NUMBERS + 140 * self.kept.len())?;
+        let length = MAGIC.len() + GENERATION_LENGTH + NUMBERS + 140 * self.kept.len();
+        let mut bytes = Vec::with_capacity(alloc, length)?;
         bytes.extend_from_slice(MAGIC)?;
+        put_u64(&mut bytes, self.generation.number())?;
         put_u64(&mut bytes, self.runs)?;
         put_u64(&mut bytes, self.attempts)?;
         put_u32(&mut bytes, self.kept.len() as u32)?;
@@ -63,31 +93,54 @@ impl Noted {
     pub fn decode(alloc: Global, bytes: &[u8]) -> Result<Option<Noted>, AllocError>
         ensures { IfOk result (Reads bytes.now) }
     {
-        spelled_are_read();
-        read_were_spelled();
         if bytes.is_empty() {
             return Ok(Some(Noted::blank(alloc)));
+        }
+        if let Some(rest) = bytes.strip_prefix(OLD_MAGIC) {
+            return numbers_in(alloc, NotedGeneration::none(), rest);
         }
         let Some(rest) = bytes.strip_prefix(MAGIC) else {
             return Ok(None);
         };
-        if rest.len() < NUMBERS {
+        if rest.len() < GENERATION_LENGTH {
             return Ok(None);
         }
-        let (runs, rest) = split_u64(rest);
-        let (attempts, rest) = split_u64(rest);
-        let (count, states) = split_u32(rest);
-        if count as usize > KEPT_LIMIT {
-            return Ok(None);
-        }
-        match states_in(alloc, count, states)? {
-            Some(kept) => Ok(Some(Noted {
-                runs,
-                attempts,
-                kept,
-            })),
+        let (generation, rest) = split_u64(rest);
+        match NotedGeneration::of_note(generation) {
+            Some(generation) => numbers_in(alloc, generation, rest),
             None => Ok(None),
         }
+    }
+}
+
+/// What a note of this generation says, by what stands behind the generation.
+fn numbers_in(
+    alloc: Global,
+    generation: NotedGeneration,
+    bytes: &[u8],
+) -> Result<Option<Noted>, AllocError>
+    ensures { IfOk result (ReadsNumbers generation bytes.now) }
+{
+    spelled_are_read();
+    read_were_spelled();
+    let _number = generation.number();
+    if bytes.len() < NUMBERS {
+        return Ok(None);
+    }
+    let (runs, rest) = split_u64(bytes);
+    let (attempts, rest) = split_u64(rest);
+    let (count, states) = split_u32(rest);
+    if count as usize > KEPT_LIMIT {
+        return Ok(None);
+    }
+    match states_in(alloc, count, states)? {
+        Some(kept) => Ok(Some(Noted {
+            generation,
+            runs,
+            attempts,
+            kept,
+        })),
+        None => Ok(None),
     }
 }
 

@@ -1,6 +1,6 @@
 //! A client over its durable note, to which whole packets come.
 
-ghost use Rattle.std.specs.Prelude.{◌≡◌, ◌≤◌, ◌∷◌, List, Some, None, not};
+ghost use Rattle.std.specs.Prelude.{◌≡◌, ◌==◌, ◌&&◌, ◌≤◌, ◌∷◌, List, Some, None, length, not};
 ghost use Rattle.std.specs.Option.{option_copied};
 ghost use Rattle.client_core.specs.History.{Opening, Entry};
 ghost use Rattle.client_core.specs.Note.{Says, is_blank};
@@ -16,42 +16,45 @@ mod tick;
 mod trigger;
 mod verify;
 
+use crate::generation::NotedGeneration;
 use crate::life::Life;
-use crate::noted::{Noted, one_note};
+use crate::noted::{Noted, notes_are_read_back, one_note};
+use crate::peers::Peers;
 use crate::refusal::{adds, fault_of, is_for_client};
 use crate::servers::Servers;
 use disk_model::Notes;
-use fc_base::{Fault, Key};
+use fc_base::{Fault, Generation, Key};
 use messages::Packet;
 use std::alloc::Global;
 use verify_state::VerifyState;
 
-/// A client to which whole packets come: its durable note, how many servers it drives, what it knows of
-/// its note, and what it keeps of its requests.
+/// A client to which whole packets come: its durable note, with whom it is, what it knows of its note, and
+/// what it keeps of its requests.
 #[derive(Drop)]
 pub struct PacketClient<N> {
     alloc: Global,
     notes: N,
-    servers: Servers,
+    peers: Peers,
     down: bool,
     noted: Noted,
     life: Life,
 }
 
 impl<N: Notes> PacketClient<N> {
-    ghost use Rattle.client_core.specs.Stands.{StandsFor, Restarts};
+    ghost use Rattle.client_core.specs.Stands.{StandsFor, Restarts, Renews};
 
     /// Opens a client of so many servers over its note, and saves nothing. The notes come back where it
-    /// can't: [`Fault::LoadFault`], the device failed; [`Fault::BadNote`], the bytes are no note;
-    /// [`Fault::NoMemory`].
+    /// can't: [`Fault::LoadFault`], the device failed; [`Fault::BadNote`], the bytes are no note, or with a
+    /// mirror they are empty; [`Fault::NoMemory`].
     pub(crate) fn restart(
         alloc: Global,
         servers: u32,
+        mirror: bool,
         notes: N,
     ) -> Result<PacketClient<N>, (N, Fault)>
         requires some { 1 ≤ servers }
         requires few { servers ≤ 8 }
-        ensures { Restarts N.note servers (N.note notes) result }
+        ensures { Restarts N.note servers mirror (N.note notes) result }
     {
         one_note();
         let mut notes = notes;
@@ -59,14 +62,21 @@ impl<N: Notes> PacketClient<N> {
             Ok(bytes) => bytes,
             Err(fault) => return Err((notes, fault)),
         };
+        if mirror && is_lost(&bytes) {
+            return Err((notes, Fault::BadNote));
+        }
         match Noted::decode(alloc, &bytes) {
             Ok(Some(noted)) => {
-                let servers = Servers::new(servers);
+                let peers = Peers {
+                    servers: Servers::new(servers),
+                    mirror,
+                    granted: false,
+                };
                 let life = Life::new(alloc);
                 Ok(PacketClient {
                     alloc,
                     notes,
-                    servers,
+                    peers,
                     down: false,
                     noted,
                     life,
@@ -77,6 +87,54 @@ impl<N: Notes> PacketClient<N> {
         }
     }
 
+    /// Opens a client with a mirror, whose note was lost, in this generation, which is saved. The notes
+    /// come back where it can't: [`Fault::BadGeneration`]; [`Fault::LoadFault`], the device failed;
+    /// [`Fault::BadNote`], the note isn't empty; [`Fault::NoMemory`]; [`Fault::SaveFault`].
+    pub(crate) fn renew(
+        alloc: Global,
+        servers: u32,
+        notes: N,
+        generation: Generation,
+    ) -> Result<PacketClient<N>, (N, Fault)>
+        requires some { 1 ≤ servers }
+        requires few { servers ≤ 8 }
+        ensures { Renews N.note servers generation (N.note notes) result }
+    {
+        one_note();
+        notes_are_read_back();
+        let Some(generation) = NotedGeneration::of_renewal(generation) else {
+            return Err((notes, Fault::BadGeneration));
+        };
+        let mut notes = notes;
+        let bytes = match notes.load() {
+            Ok(bytes) => bytes,
+            Err(fault) => return Err((notes, fault)),
+        };
+        let lost = is_lost(&bytes);
+        if !lost {
+            return Err((notes, Fault::BadNote));
+        }
+        let noted = Noted::renewed(alloc, generation);
+        let Ok(bytes) = noted.encode(alloc) else {
+            return Err((notes, Fault::NoMemory));
+        };
+        match notes.save(&bytes) {
+            Ok(()) => Ok(PacketClient {
+                alloc,
+                notes,
+                peers: Peers {
+                    servers: Servers::new(servers),
+                    mirror: true,
+                    granted: false,
+                },
+                down: false,
+                noted,
+                life: Life::new(alloc),
+            }),
+            Err(fault) => Err((notes, fault)),
+        }
+    }
+
     /// The notes of a client that is taken off.
     pub(crate) fn off(self) -> N
         ensures { (o : Opening) (past : List Entry) → StandsFor N.note self o past → Says (N.note result).bytes (noted o past) }
@@ -84,7 +142,7 @@ impl<N: Notes> PacketClient<N> {
         let PacketClient {
             alloc: _,
             notes,
-            servers: _,
+            peers: _,
             down: _,
             noted: _,
             life: _,
@@ -103,7 +161,7 @@ impl<N: Notes> PacketClient<N> {
     pub(crate) fn servers(&self) -> u32
         ensures { (o : Opening) (past : List Entry) → StandsFor N.note self.now o past → result ≡ o.servers }
     {
-        self.servers.count()
+        self.peers.servers.count()
     }
 
     /// How many runs were begun.
@@ -127,8 +185,8 @@ impl<N: Notes> PacketClient<N> {
         self.noted.is_blank()
     }
 
-    /// Whether the delivery of this packet would make a save: it is a State that isn't refused, of a key of
-    /// which no state is kept.
+    /// Whether the delivery of this packet would make a save: it is a State, or a Copy of the mirror, that
+    /// isn't refused, of a key of which no state is kept.
     pub(crate) fn would_save(&self, packet: &Packet) -> bool
         ensures { (o : Opening) (past : List Entry) → StandsFor N.note self.now o past → result ≡ would_save o past (Deliver packet.now) }
     {
@@ -137,12 +195,12 @@ impl<N: Notes> PacketClient<N> {
 
     /// Why the delivery of this packet is refused.
     fn refusal(&self, packet: &Packet) -> Option<Fault>
-        ensures { result ≡ refusal_by (not self.now.down) self.now.servers self.now.noted (Deliver packet.now) }
+        ensures { result ≡ refusal_by (not self.now.down) self.now.peers self.now.noted (Deliver packet.now) }
     {
         if self.down {
             return Some(Fault::Down);
         }
-        if !is_for_client(self.servers.count(), packet) {
+        if !is_for_client(&self.peers, packet) {
             return Some(Fault::Misdirected);
         }
         fault_of(&self.noted, packet.body())
@@ -154,4 +212,11 @@ impl<N: Notes> PacketClient<N> {
     {
         self.noted.kept.get(key)
     }
+}
+
+/// Whether these are the bytes of a lost note.
+fn is_lost(bytes: &[u8]) -> bool
+    ensures { result ≡ (length bytes.now == 0) }
+{
+    bytes.is_empty()
 }

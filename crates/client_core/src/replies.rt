@@ -9,7 +9,7 @@ ghost use Rattle.client_core.specs.Packets.{replies, start_for, jobs_for, state_
 ghost use Rattle.state_table.specs.Kept.{kept_of};
 
 use crate::beginning::Beginning;
-use crate::frames::only;
+use crate::frames::{only, say_copy};
 use crate::life::Life;
 use crate::noted::Noted;
 use fc_base::{Attempt, JobNo, Key, RunNo, ServerNo};
@@ -19,6 +19,7 @@ use std::alloc::{AllocError, Global};
 /// What is replied to a server that says this.
 pub(crate) fn replies(
     alloc: Global,
+    mirror: bool,
     noted: &Noted,
     life: &Life,
     server: u32,
@@ -27,13 +28,17 @@ pub(crate) fn replies(
     requires server { server < 8 }
     requires body { IsTrue (is_body body.now) }
     ensures { EachLife life.now
-        (λ deeds. IfOk result (λ frames. frames ≡ framed (replies noted.now deeds server body.now))) }
+        (λ deeds. IfOk result (λ frames. frames ≡ framed (replies mirror noted.now deeds server body.now))) }
 {
     match body {
         Body::JobsOk { run, .. } => start_for(alloc, *run, server, life.begin_at(*run, server)),
         Body::State { state, .. } => {
             let Key { run, job, .. } = state.key();
-            only(alloc, server, Body::StateAck { run, job })
+            let mut frames = only(alloc, server, Body::StateAck { run, job })?;
+            if mirror && !noted.kept.has(state.key()) {
+                say_copy(alloc, state, &mut frames)?;
+            }
+            Ok(frames)
         }
         Body::NoState { run, job, .. } => {
             let (run, job) = (*run, *job);

@@ -7,22 +7,25 @@ mod life;
 mod looks;
 mod named;
 mod notes;
+mod opening;
 mod spelling;
 mod stages;
 mod stories;
 mod trouble;
 mod words;
+mod written;
 
 use disk_model::{FaultNotes, MemNotes};
 use life::Life;
 use notes::NOTES;
+use opening::Opening;
 use std::alloc::{AllocGlobal, Global};
 use std::process::Abort;
 use std::test::Fail;
 use stories::stages::STAGES;
 use stories::{
-    LostSave, Story, begins, elsewhere, losses, numbers, pieces, states, stopped, triggers,
-    verifies,
+    LostSave, Story, begins, copies, elsewhere, grants, losses, lost_notes, numbers, pieces,
+    renewals, states, stopped, triggers, verifies,
 };
 use trouble::Trouble;
 
@@ -104,7 +107,7 @@ fn runs_begin(rt: HostRuntime) {
 #[test]
 fn numbers_are_given(rt: HostRuntime) {
     are_answered(&rt, 1, &numbers::STORIES);
-    let note = notes::bytes_in(rt.alloc(), "18446744073709551615 18446744073709551615");
+    let note = notes::bytes_in(rt.alloc(), "old 18446744073709551615 18446744073709551615");
     let unlike = first_unlike(rt.alloc(), note, numbers::SPENT);
     assert!(rt; unlike.is_none(), "{unlike:?}");
 }
@@ -122,29 +125,62 @@ fn runs_are_verified(rt: HostRuntime) {
 #[test]
 fn states_are_kept(rt: HostRuntime) {
     are_answered(&rt, 1, &states::STORIES);
-    let note = notes::bytes_in(rt.alloc(), "1 1 listed");
+    let note = notes::bytes_in(rt.alloc(), "old 1 1 listed");
     let unlike = first_unlike(rt.alloc(), note, states::LISTED);
     assert!(rt; unlike.is_none(), "{unlike:?}");
 }
 
-/// Whether a client is restarted over so many states, and then answers the rows.
-fn holds_of_full(alloc: Global, count: u32, rows: &str) -> Result<bool, Trouble> {
+/// Whether a client is opened over so many states, and then answers the rows.
+fn holds_of_full(
+    alloc: Global,
+    count: u32,
+    opening: &Opening,
+    rows: &str,
+) -> Result<bool, Trouble> {
     let note = notes::note_of(alloc, count)?;
     let mut life = Life::new(alloc, 1, MemNotes::new(note));
-    answers_once_on(&mut life, rows)
+    answers_once_on(&mut life, opening, rows)
 }
 
-/// Whether a client that is off is restarted, and then answers the rows.
-fn answers_once_on(life: &mut Life<MemNotes>, rows: &str) -> Result<bool, Trouble> {
+/// Whether a client that is off is opened, and then answers the rows.
+fn answers_once_on(
+    life: &mut Life<MemNotes>,
+    opening: &Opening,
+    rows: &str,
+) -> Result<bool, Trouble> {
     let notes = life.off()?;
-    Ok(life.restart(notes) == 0 && life.first_unlike(rows).is_none())
+    Ok(life.open(notes, opening) == 0 && life.first_unlike(rows).is_none())
 }
 
 #[test]
 fn a_full_table(rt: HostRuntime) -> Result<(), Fail> {
-    assert!(rt; holds_of_full(rt.alloc(), 1_024, states::FULL)?);
-    assert!(rt; !holds_of_full(rt.alloc(), 1_025, "")?);
+    let alloc = rt.alloc();
+    assert!(rt; holds_of_full(alloc, 1_024, &Opening::Restarted, states::FULL)?);
+    assert!(rt; holds_of_full(alloc, 1_024, &Opening::RestartedWithMirror, copies::FULL)?);
+    assert!(rt; !holds_of_full(alloc, 1_025, &Opening::Restarted, "")?);
     Ok(())
+}
+
+#[test]
+fn lost_notes(rt: HostRuntime) {
+    are_answered(&rt, 1, &lost_notes::STORIES);
+}
+
+#[test]
+fn notes_that_begin_anew(rt: HostRuntime) {
+    are_answered(&rt, 1, &renewals::STORIES);
+    are_answered_after(&rt, &renewals::LOST_SAVES);
+}
+
+#[test]
+fn generations_are_granted(rt: HostRuntime) {
+    are_answered(&rt, 1, &grants::STORIES);
+}
+
+#[test]
+fn states_are_copied(rt: HostRuntime) {
+    are_answered(&rt, 1, &copies::STORIES);
+    are_answered(&rt, 2, &copies::OF_TWO);
 }
 
 #[test]
@@ -168,15 +204,17 @@ fn notes_that_a_client_is_restarted_over(rt: HostRuntime) -> Result<(), Fail> {
     for row in NOTES.lines() {
         assert!(rt; notes::holds(rt.alloc(), row)?, "{row}");
     }
-    assert!(rt; notes::comes_back(rt.alloc()));
+    assert!(rt; notes::come_back(rt.alloc()));
     Ok(())
 }
 
 #[test]
 fn notes_that_are_cut_short(rt: HostRuntime) -> Result<(), Fail> {
-    let note = notes::bytes_in(rt.alloc(), notes::TWO)?;
-    let len = changes::first_note(rt.alloc(), &note)?;
-    assert!(rt; len == Some(note.len()), "{len:?}");
+    for words in [notes::TWO, notes::OLD_TWO] {
+        let note = notes::bytes_in(rt.alloc(), words)?;
+        let len = changes::first_note(rt.alloc(), &note)?;
+        assert!(rt; len == Some(note.len()), "{words}: {len:?}");
+    }
     Ok(())
 }
 
@@ -185,5 +223,13 @@ fn notes_that_are_changed(rt: HostRuntime) -> Result<(), Fail> {
     let mut note = notes::bytes_in(rt.alloc(), notes::TWO)?;
     let unlike = changes::first_unlike(rt.alloc(), &mut note)?;
     assert!(rt; unlike.is_none(), "{unlike:?}");
+    Ok(())
+}
+
+#[test]
+fn old_notes_that_are_changed(rt: HostRuntime) -> Result<(), Fail> {
+    let mut note = notes::bytes_in(rt.alloc(), notes::OLD_TWO)?;
+    let count = changes::changes_to_values(rt.alloc(), &mut note)?;
+    assert!(rt; count == changes::OLD_CHANGES, "{count}");
     Ok(())
 }

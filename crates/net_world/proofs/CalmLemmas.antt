@@ -202,9 +202,9 @@ fine_tick false h = cc
 
 pub fine_call : (n : ℕ) (list : List client.Entry) (c : Call) → NoPacket c → Fine (clients.refusal (client_opening n) list c)
 unfolding Fine NoPacket
-fine_call n list (calls.Begin text) k = fine_two_when (not (clients.is_on list)) (not (is_text text)) (not (has_next (clients.noted (client_opening n) list).runs)) JobTooLong NumbersSpent (λ h. cc) (λ h. cc)
+fine_call n list (calls.Begin text) k = fine_two_when (not (clients.is_on list)) (not (is_text text)) (not (has_next (clients.peers (client_opening n) list) (clients.noted (client_opening n) list).generation (clients.noted (client_opening n) list).runs)) JobTooLong NumbersSpent (λ h. cc) (λ h. cc)
 fine_call n list (calls.Trigger run act) k = fine_one_when (not (clients.is_on list)) (not (is_begun (clients.noted (client_opening n) list) run)) NoSuchRun (λ h. cc)
 fine_call n list (calls.Stop run) k = fine_one_when (not (clients.is_on list)) (not (is_begun (clients.noted (client_opening n) list) run)) NoSuchRun (λ h. cc)
-fine_call n list (calls.Verify run text) k = fine_three_when (not (clients.is_on list)) (not (is_begun (clients.noted (client_opening n) list) run)) (not (is_text text)) (not (has_next (clients.noted (client_opening n) list).attempts))
+fine_call n list (calls.Verify run text) k = fine_three_when (not (clients.is_on list)) (not (is_begun (clients.noted (client_opening n) list) run)) (not (is_text text)) (not (has_next (clients.peers (client_opening n) list) (clients.noted (client_opening n) list).generation (clients.noted (client_opening n) list).attempts))
 fine_call n list (calls.Deliver p) k = absurd k
 fine_call n list calls.Tick k = fine_tick (not (clients.is_on list))

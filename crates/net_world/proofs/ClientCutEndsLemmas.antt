@@ -91,7 +91,7 @@ no_answer false x landed = refl
 
 call_silent : (o : client.Opening) (list : List client.Entry) (c : Call) (landed : Bool) → framed.frames_by o list (Some (client.Met c (lost_by landed))) ≡ []
 call_silent o list c landed =
-    ap (λ b. flat_map frames_of (if b then packets_for o.servers (words.noted o list) (life o list) c else [])) (no_answer (is_none (words.refusal o list c)) (words.due o list c) landed)
+    ap (λ b. flat_map frames_of (if b then packets_for (words.peers o list) (words.noted o list) (life o list) c else [])) (no_answer (is_none (words.refusal o list c)) (words.due o list c) landed)
 
 piece_silent : (o : client.Opening) (list : List client.Entry) (landed : Bool) (m : Meaning) → framed.frames_by o list (heard_by (rules o) (lost_by landed) m) ≡ []
 piece_silent o list landed (Says p) = call_silent o list (calls.Deliver p) landed

@@ -18,6 +18,7 @@ use Rattle.client_core.specs.declared.call.Call.TheVariants as calls
 use Rattle.client_core.specs.declared.input.Input.{Input}
 use Rattle.client_core.specs.declared.input.Input.TheVariants as inputs
 use Rattle.client_core.specs.declared.noted.Noted.{Noted}
+use Rattle.client_core.specs.declared.peers.Peers.{Peers}
 use Rattle.client_core.specs.History as client
 use Rattle.client_core.specs.History.{Opening}
 use Rattle.client_core.specs.Note.{Says as NoteSays}
@@ -137,12 +138,12 @@ free_in o list (Drops q) h = absurd cc
 free_in o list Misses h = absurd cc
 
 -- What is due comes to a client that is on.
-up_call : (on : Bool) (servers : ℕ) (n : Noted) (c : Call) → is_some (due_by on servers n c) ≡ true → on ≡ true
-up_call true servers n c h = refl
-up_call false servers n c h = absurd cc
+up_call : (on : Bool) (peers : Peers) (n : Noted) (c : Call) → is_some (due_by on peers n c) ≡ true → on ≡ true
+up_call true peers n c h = refl
+up_call false peers n c h = absurd cc
 
 up_in : (o : Opening) (list : List client.Entry) (s : Sense) → is_some (due_in o list s) ≡ true → words.is_on list ≡ true
-up_in o list (Hears c) h = up_call (words.is_on list) o.servers (noted o list) c h
+up_in o list (Hears c) h = up_call (words.is_on list) (words.peers o list) (noted o list) c h
 up_in o list (Keeps q) h = absurd cc
 up_in o list (Drops q) h = absurd cc
 up_in o list Misses h = absurd cc

@@ -29,7 +29,9 @@ entry_same n h (Happens (client.Met (calls.Verify run text) left)) = refl
 entry_same n h (Happens (client.Met (calls.Deliver p) left)) = refl
 entry_same n h (Happens (client.Met calls.Tick left)) = refl
 entry_same n h (Happens client.Cut) = refl
-entry_same n h (Happens client.Restart) = refl
+entry_same n h (Happens (client.Restart mirror)) = refl
+entry_same n h (Happens (client.Renew g left)) = refl
+entry_same n h (Happens client.Lose) = refl
 
 next_same : (n : ℕ) (h : Heard client.Entry) (c : Coming client.Entry Left) → next n h (coming (client_frame_entry c)) ≡ next n h c
 unfolding next
@@ -41,7 +43,9 @@ next_same n h (Happens (client.Met (calls.Verify run text) left)) = refl
 next_same n h (Happens (client.Met (calls.Deliver p) left)) = refl
 next_same n h (Happens (client.Met calls.Tick left)) = refl
 next_same n h (Happens client.Cut) = refl
-next_same n h (Happens client.Restart) = refl
+next_same n h (Happens (client.Restart mirror)) = refl
+next_same n h (Happens (client.Renew g left)) = refl
+next_same n h (Happens client.Lose) = refl
 
 pub hears_same : (n : ℕ) (list : List (Coming client.Entry Left)) → heard (at_client n) (map coming (map client_frame_entry list)) ≡ heard (at_client n) list
 unfolding next
@@ -74,7 +78,9 @@ entry_again (hearing.Met (inputs.Verify run text) left) = refl
 entry_again (hearing.Met (inputs.Deliver f) left) = refl
 entry_again (hearing.Met inputs.Tick left) = refl
 entry_again hearing.Cut = refl
-entry_again hearing.Restart = refl
+entry_again (hearing.Restart mirror) = refl
+entry_again (hearing.Renew g left) = refl
+entry_again hearing.Lose = refl
 
 pub frames_are : (n : ℕ) (past : List Change) (e : FrameEntry) → answers.frames (client_opening n) (client_entries (steps past)) e ≡ frames_of_step n (steps past) (OfClient (coming e))
 frames_are n past e =

@@ -62,9 +62,9 @@ by_sort o past e fault old new on sorts.Refusal h =
     inr (record { on = on; why = h.why; stands = (h.stands, on_behind o past e NoSave on refl); unchanged = λ d. (h.unchanged d, on) })
 
 -- A call that is answered, and told so.
-pub answers : (o : Opening) (past : List FrameEntry) (e : Input) (new : Client Kept) (asked : Asked) → is_up o past ≡ true → asked.answer ≡ answer_to o past e
-    → ends.Answers note_of o past e new asked.frames → Asks o past e (On new) (Ok asked)
-answers o past e new asked on is h = record {
+pub answers : (o : Opening) (past : List FrameEntry) (e : Input) (old new : Client Kept) (asked : Asked) → is_up o past ≡ true → asked.answer ≡ answer_to o past e
+    → ends.Answers note_of o past e old new asked.frames → Asks o past e (On new) (Ok asked)
+answers o past e old new asked on is h = record {
   on = on;
   free = h.free;
   answer_is = is;
@@ -80,6 +80,6 @@ fails o past e fault old new on h = by_sort o past e fault old new on (sort_of f
 -- No bytes at all are a blank note.
 pub says_blank : (bytes : List ℕ) → bytes ≡ [] → NoteSays bytes blank
 says_blank bytes none = record {
-  note = record { runs = omega arith; attempts = omega arith; count = omega arith; states = tt; keys = refl };
+  note = record { generation = omega arith; runs = omega arith; attempts = omega arith; count = omega arith; states = tt; keys = refl };
   spelled = inr (none, refl);
 }

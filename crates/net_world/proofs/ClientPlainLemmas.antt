@@ -51,11 +51,11 @@ cut_plain n past h = record {
 pub restart_on : (n : ℕ) (past : List Change) → is_up (client_opening n) (entries past) ≡ true → outcome n past (Restart Client) ≡ Refuses NodeOn
 restart_on n past h = stops n past (Restart Client) NodeOn (ap (λ on. unless (not on) NodeOn) (sym (up_is n past) ∙ h))
 
-pub restart_plain : (n : ℕ) (past : List Change) → is_up (client_opening n) (entries past) ≡ false → IsPlain n past (Restart Client) (step_of hearing.Restart)
+pub restart_plain : (n : ℕ) (past : List Change) → is_up (client_opening n) (entries past) ≡ false → IsPlain n past (Restart Client) (step_of (hearing.Restart false))
 restart_plain n past h = record {
   comes = goes n past (Restart Client) (ap (λ on. unless (not on) NodeOn) (sym (up_is n past) ∙ h));
   answered = refl;
-  silent = sym (frames_are n past hearing.Restart);
+  silent = sym (frames_are n past (hearing.Restart false));
   asks = refl;
 }
 

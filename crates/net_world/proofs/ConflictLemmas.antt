@@ -1,5 +1,5 @@
 -- Nothing that was sent differs from what is kept, or from another of its key.
-use Rattle.std.proofs.Common.{◌≡◌, refl, sym, ◌∙◌, ap, subst, inl, inr, ℕ, arith, Bool, true, false, ◌==◌, List, [], ◌∷◌, ◌++◌, Option, Some, None}
+use Rattle.std.proofs.Common.{◌≡◌, ◌⊎◌, refl, sym, ◌∙◌, ap, subst, inl, inr, ℕ, arith, Bool, true, false, ◌==◌, List, [], ◌∷◌, ◌++◌, Option, Some, None}
 use Rattle.std.specs.Prelude.{not, Contains, slice_get, bytes_eq}
 use Rattle.std.proofs.lemmas.Bool.Decides.{nat_tests}
 use Rattle.fc_base.specs.declared.fault.Fault.{Fault}
@@ -17,10 +17,10 @@ use Rattle.messages.specs.declared.node.Node.TheVariants.{Server, Client}
 use Rattle.client_core.specs.declared.noted.Noted.{Noted}
 use Rattle.state_table.specs.Kept.{kept_of}
 use Rattle.client_core.specs.Refusals.{is_for_client, differs, lacks_room, faults_of_body}
-use Rattle.client_core.specs.Words.{is_on, noted, kept}
+use Rattle.client_core.specs.Words.{is_on, noted, kept, peers}
 use Rattle.net_world.specs.Trace.{Step, AtServer, AtClient, IsTrace, of_client, client_opening, opening_of, of_server, packets_of, sent}
 use Rattle.net_world.specs.Holders.{taken_of}
-use Rattle.net_world.specs.Passes.{SentStatesWereTaken, KeptStatesWereSent}
+use Rattle.net_world.specs.Passes.{SentStatesWereTaken, KeptStatesWereSent, NoCopyIsSent}
 use Rattle.net_world.specs.Verdict.{OneTaking}
 use Rattle.net_world.specs.Fresh.{NeverConflicts, StatePacketsAreEqual}
 use Rattle.net_world.proofs.ListLemmas.{single}
@@ -85,22 +85,29 @@ record Differing (n : Noted) (b : Body) : Type 0 where
   pub found : kept_of new.key n.kept ≡ Some old
   pub other : is_same old new ≡ false
 
-differing : (n : Noted) (b : Body) → slice_get (faults_of_body n b) 0 ≡ Some Conflict → Differing n b
+differing : (n : Noted) (b : Body) → slice_get (faults_of_body n b) 0 ≡ Some Conflict → Differing n b ⊎ ((state : State) × (b ≡ bodies.Copy state))
 differing n (bodies.State jobs x) h =
     let k = kept_differs x (kept_of x.key n.kept) (conflict_differs (differs x (kept_of x.key n.kept)) (lacks_room n.kept (kept_of x.key n.kept)) h) in
-    record { jobs = jobs; new = x; old = k.0; is = refl; found = k.1; other = k.2 }
+    inl (record { jobs = jobs; new = x; old = k.0; is = refl; found = k.1; other = k.2 })
+differing n (bodies.Copy x) h = inr (x, refl)
 differing n _ h = absurd cc
 
-pub never_conflicts : SentStatesWereTaken → KeptStatesWereSent → OneTaking → NeverConflicts
-never_conflicts taken kept_sent once n t p trace was h =
-    let note = noted (client_opening n) (of_client t) in
-    let d = differing note p.body (past_the_first (not (is_on (of_client t))) (not (is_for_client n p)) (faults_of_body note p.body) h) in
+differs_not : SentStatesWereTaken → KeptStatesWereSent → OneTaking → (n : ℕ) (t : List Step) (p : PacketParts) → IsTrace n t → Contains (sent n t) p → Differing (noted (client_opening n) (of_client t)) p.body → ⊥
+differs_not taken kept_sent once n t p trace was d =
     let new = taken n t p d.jobs d.new was d.is in
     let old = kept_taken taken kept_sent n t d.new.key d.old trace d.found in
     let same : d.old ≡ d.new = same_two once t d.new.key d.old d.new old new in
     let yes : is_same d.old d.new ≡ true = subst (λ x. is_same d.old x ≡ true) same (is_same_self d.old) in
     let no = d.other in
     absurd cc
+
+pub never_conflicts : SentStatesWereTaken → KeptStatesWereSent → NoCopyIsSent → OneTaking → NeverConflicts
+never_conflicts taken kept_sent none once n t p trace was h =
+    let note = noted (client_opening n) (of_client t) in
+    elim (differing note p.body (past_the_first (not (is_on (of_client t))) (not (is_for_client (peers (client_opening n) (of_client t)) p)) (faults_of_body note p.body) h)) [
+      | inl d ↦ differs_not taken kept_sent once n t p trace was d
+      | inr copy ↦ none n t p copy.0 trace was copy.1
+    ]
 
 -- ---- State packets of one key are equal
 
@@ -119,7 +126,7 @@ ends_now laws n (AtServer r e) past p jobs a h is =
     let t = laws.sends (opening_of r) (of_server r past) e p jobs a h is in
     let server : a.key.server ≡ r = ap (λ (i : Key). i.server) (t.1).key in
     (ap (λ (q : PacketParts). q.from) k.ends ∙ ap Server (sym server), ap (λ (q : PacketParts). q.to) k.ends)
-ends_now laws n (AtClient e) past p jobs a h is = absurd (no_state laws.to_servers (client_opening n) (of_client past) e p jobs a h is)
+ends_now laws n (AtClient e) past p jobs a h is = absurd (no_state laws.to_peers (client_opening n) (of_client past) e p jobs a h is)
 
 ends_of : Sayings → (n : ℕ) (t : List Step) (p : PacketParts) (jobs : ℕ) (a : State) → Contains (sent n t) p → p.body ≡ bodies.State jobs a → (p.from ≡ Server a.key.server) × (p.to ≡ Client)
 ends_of laws n [] p jobs a h is = absurd (sent_none n p h)

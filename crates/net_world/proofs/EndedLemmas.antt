@@ -1,5 +1,5 @@
 -- A trigger that has ended well, and a server that asks for the cut, leave each taken state kept.
-use Rattle.std.proofs.Common.{◌≡◌, refl, sym, ◌∙◌, ap, subst, ◌⊎◌, inl, inr, ℕ, ◌<◌, arith, List, [], ◌∷◌, length, Some}
+use Rattle.std.proofs.Common.{true, ◌≡◌, refl, sym, ◌∙◌, ap, subst, ◌⊎◌, inl, inr, ℕ, ◌<◌, arith, List, [], ◌∷◌, length, Some}
 use Rattle.std.specs.Prelude.{Contains}
 use Rattle.fc_base.specs.declared.numbers.Key.{Key}
 use Rattle.job_file.specs.declared.job.Job.{Job}
@@ -16,13 +16,13 @@ use Rattle.client_core.specs.Ranges.{came}
 use Rattle.client_core.specs.Words.{noted, kept}
 use Rattle.client_core.specs.Packets.{to_server}
 use Rattle.client_core.specs.Laws.{FirstKeptStays, AcksAreFor, TriggersEndWell, TellsJobs, HasAnswer, from_server}
-use Rattle.net_world.specs.Trace.{Step, AtServer, AtClient, opening_of, client_opening, of_server, of_client, packets_of, sent, IsTrace}
+use Rattle.net_world.specs.Trace.{Step, AtServer, AtClient, is_mirrorless, opening_of, client_opening, of_server, of_client, packets_of, sent, IsTrace}
 use Rattle.net_world.specs.Holders.{taken_of}
 use Rattle.net_world.specs.Passes.{SentStatesWereTaken, KeptStatesWereSent}
 use Rattle.net_world.specs.Verdict.{OneTaking}
 use Rattle.net_world.specs.Kept.{key_at, EndedWellIsKept, CutsWhereKept}
 use Rattle.net_world.proofs.ListLemmas.{none_in, first_or_rest}
-use Rattle.net_world.proofs.TraceLemmas.{sent_cases, sent_none, sent_stays, taken_was_sent, came_was_sent, heard_was_sent}
+use Rattle.net_world.proofs.TraceLemmas.{loses_no_note, sent_cases, sent_none, sent_stays, taken_was_sent, came_was_sent, heard_was_sent}
 use Rattle.net_world.proofs.BegunLemmas.{begun, work_begun, taken_of_set}
 use Rattle.net_world.proofs.SaidLemmas.{Sayings, SaysJobs, SaysNone, sent_by, state_says, none_says, same_count}
 use Rattle.net_world.proofs.ConflictLemmas.{same_two, kept_taken}
@@ -88,11 +88,11 @@ ended_well_is_kept laws law n t key state trace h taken =
 
 -- ---- the cut
 
-kept_more : FirstKeptStays → (n : ℕ) (step : Step) (past : List Step) (key : Key) → KeptOrNone n past key → KeptOrNone n (step ∷ past) key
+kept_more : FirstKeptStays → (n : ℕ) (step : Step) (past : List Step) (key : Key) → is_mirrorless step ≡ true → KeptOrNone n past key → KeptOrNone n (step ∷ past) key
 unfolding KeptOrNone
-kept_more law n (AtServer r e) past key (inl k) = inl k
-kept_more law n (AtClient e) past key (inl k) = inl (k.0, law (client_opening n) (e ∷ []) (of_client past) key k.0 k.1)
-kept_more law n step past key (inr k) = inr (k.0, sent_stays n step past (from_server (bodies.NoState key.run key.job k.0) key.server) k.1)
+kept_more law n (AtServer r e) past key alone (inl k) = inl k
+kept_more law n (AtClient e) past key alone (inl k) = inl (k.0, law (client_opening n) (e ∷ []) (of_client past) key k.0 (loses_no_note e alone) k.1)
+kept_more law n step past key alone (inr k) = inr (k.0, sent_stays n step past (from_server (bodies.NoState key.run key.job k.0) key.server) k.1)
 
 -- An acknowledgement of the client for a key.
 ack : Key → PacketParts
@@ -113,7 +113,7 @@ acked_now laws law n (AtClient e) past key trace h =
 acked_kept : Ending → FirstKeptStays → AcksAreFor → (n : ℕ) (t : List Step) (key : Key) → IsTrace n t → Contains (sent n t) (ack key) → KeptOrNone n t key
 acked_kept laws first law n [] key trace h = absurd (sent_none n (ack key) h)
 acked_kept laws first law n (step ∷ past) key trace h = elim (sent_cases n step past (ack key) h) [
-  | inl before ↦ kept_more first n step past key (acked_kept laws first law n past key trace.0 before)
+  | inl before ↦ kept_more first n step past key trace.2 (acked_kept laws first law n past key trace.0 before)
   | inr now ↦ acked_now laws law n step past key trace now
 ]
 

@@ -13,7 +13,7 @@ use Rattle.messages.specs.Bodies as bodies
 use Rattle.rand_core.specs.Steps.{u32_at, stream_of, word_bytes}
 use Rattle.rand_core.specs.Stream.{fill_bytes}
 use Rattle.net_world.specs.Frames.{frames_sent}
-use Rattle.client_core.specs.Refusals.{is_begun, has_next, is_for_client}
+use Rattle.client_core.specs.Refusals.{is_begun, has_next, is_of_generation, is_free_to_number, is_for_client, is_from_server, is_from_mirror}
 use Rattle.verify_state.specs.Misfit.{misfit}
 use Rattle.verify_state.specs.Same.{is_same}
 use Rattle.verify_state.specs.Spelling as states
@@ -28,27 +28,27 @@ use Rattle.server_core.specs.Taken.{job_state}
 use Rattle.net_world.specs.Examples.{started, IsHonestlyMade, RefusesByNumber, StartsOnceAfterACut, KeepsBehindACut, ChecksInAFullPass, ChecksByItsState, ComesTogether}
 
 pub refuses_by_number : RefusesByNumber
-unfolding frames_sent has_next is_begun
+unfolding frames_sent has_next is_of_generation is_free_to_number is_begun
 refuses_by_number = record { no_frame = refl; no_write = refl; no_save = refl; no_cut_again = refl; stopped = refl; off = refl; on = refl; no_server = refl; no_file = refl; not_ready = refl; no_run = refl; restarts = refl }
 
 pub starts_once_after_a_cut : StartsOnceAfterACut
-unfolding frames_sent has_next is_begun is_for_client jobs_for has_open have_ended bytes_of
+unfolding frames_sent has_next is_of_generation is_free_to_number is_begun is_for_client is_from_server is_from_mirror jobs_for has_open have_ended bytes_of
 starts_once_after_a_cut = record { frames = refl; stopped = refl }
 
 pub checks_in_a_full_pass : ChecksInAFullPass
-unfolding frames_sent has_next is_begun is_for_client jobs_for has_open have_ended zeros counting_bytes stamped_sector bytes_of
+unfolding frames_sent has_next is_of_generation is_free_to_number is_begun is_for_client is_from_server is_from_mirror jobs_for has_open have_ended zeros counting_bytes stamped_sector bytes_of
 checks_in_a_full_pass = record { faulty = refl; frames = refl }
 
 pub keeps_behind_a_cut : KeepsBehindACut
-unfolding frames_sent has_next is_begun is_for_client jobs_for has_open have_ended job_state is_same bytes_of bodies.spelled_state states.spelling key_bytes job_bytes word state_after u32_at stream_of word_bytes fill_bytes
+unfolding frames_sent has_next is_of_generation is_free_to_number is_begun is_for_client is_from_server is_from_mirror jobs_for has_open have_ended job_state is_same bytes_of bodies.spelled_state states.spelling key_bytes job_bytes word state_after u32_at stream_of word_bytes fill_bytes
 keeps_behind_a_cut = record { down = refl; before = refl; behind = refl; kept_before = refl; kept_behind = refl }
 
 pub checks_by_its_state : ChecksByItsState
-unfolding frames_sent has_next is_begun is_for_client jobs_for has_open have_ended job_state is_same bytes_of bodies.spelled_state states.spelling key_bytes job_bytes misfit zeros counting_bytes stamped_sector word state_after u32_at stream_of word_bytes fill_bytes
+unfolding frames_sent has_next is_of_generation is_free_to_number is_begun is_for_client is_from_server is_from_mirror jobs_for has_open have_ended job_state is_same bytes_of bodies.spelled_state states.spelling key_bytes job_bytes misfit zeros counting_bytes stamped_sector word state_after u32_at stream_of word_bytes fill_bytes
 checks_by_its_state = record { begins = refl; writes = refl; cuts = refl; counts = refl; verifies = refl; sound = refl; rotten = refl; frames = refl }
 
 pub comes_together : ComesTogether
-unfolding frames_sent has_next is_begun is_for_client jobs_for has_open have_ended bytes_of number_in
+unfolding frames_sent has_next is_of_generation is_free_to_number is_begun is_for_client is_from_server is_from_mirror jobs_for has_open have_ended bytes_of number_in
 comes_together = record { begins = refl; waits = refl; frames = refl; mixed = refl }
 
 -- ---- the disks were honest
@@ -71,15 +71,15 @@ landed : List Happening
 landed = Land 0 0 0 1 ∷ issued_both
 
 is_open : open_at (trace 1 (world 1 landed)) 0 0 0 ≡ Some the_origin
-unfolding the_origin landed issued_both frames_sent has_next is_for_client jobs_for has_open have_ended
+unfolding the_origin landed issued_both frames_sent has_next is_of_generation is_free_to_number is_for_client is_from_server is_from_mirror jobs_for has_open have_ended
 is_open = refl
 
 was_open : open_at (trace 1 (world 1 issued_both)) 0 0 0 ≡ Some the_origin
-unfolding the_origin issued_both frames_sent has_next is_for_client jobs_for has_open have_ended
+unfolding the_origin issued_both frames_sent has_next is_of_generation is_free_to_number is_for_client is_from_server is_from_mirror jobs_for has_open have_ended
 was_open = refl
 
 holds : HoldsWrite (content 1 (world 1 landed) 0 0) the_origin.key the_origin.job 0
-unfolding the_origin landed issued_both frames_sent has_next is_for_client jobs_for has_open have_ended zeros counting_bytes stamped_sector
+unfolding the_origin landed issued_both frames_sent has_next is_of_generation is_free_to_number is_for_client is_from_server is_from_mirror jobs_for has_open have_ended zeros counting_bytes stamped_sector
 holds = refl
 
 in_file : (origin : Origin) → open_at (trace 1 (world 1 landed)) 0 0 0 ≡ Some origin → HoldsWrite (content 1 (world 1 landed) 0 0) origin.key origin.job 0
@@ -94,7 +94,7 @@ all_landed : (origin : Origin) → open_at (trace 1 (world 1 issued_both)) 0 0 0
 all_landed origin h = subst (λ (x : Origin). HasAllSectors 1 x.job) (some_is (sym was_open ∙ h)) one_sector
 
 pub is_honestly_made : IsHonestlyMade
-unfolding landed issued_both frames_sent has_next is_begun is_for_client jobs_for has_open have_ended job_state is_same misfit zeros counting_bytes stamped_sector word state_after u32_at stream_of word_bytes fill_bytes bodies.spelled_state states.spelling key_bytes job_bytes bytes_of
+unfolding landed issued_both frames_sent has_next is_of_generation is_free_to_number is_begun is_for_client is_from_server is_from_mirror jobs_for has_open have_ended job_state is_same misfit zeros counting_bytes stamped_sector word state_after u32_at stream_of word_bytes fill_bytes bodies.spelled_state states.spelling key_bytes job_bytes bytes_of
 is_honestly_made = record {
   honest = ((((((((((((((((((tt, tt), tt), tt), tt), tt), tt), tt), in_file), tt), tt), tt), tt), tt), tt), tt), tt), tt), tt);
   whole = (tt, all_landed);

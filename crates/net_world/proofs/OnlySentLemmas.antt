@@ -130,13 +130,13 @@ record Kept {E L : Type 0} (r : Rules E L) (n : ℕ) (t : List Step) (h : Heard 
   pub trace : IsTrace n (with_entry (option_map step (entry_of r h c)) t)
 
 server_says : (n s : ℕ) (t : List Step) (left : Left) (m : Meaning) → IsTrace n t → SaysSent (sent n t) (Server s) m → IsTrace n (with_entry (option_map (AtServer s) (heard_by (at_server s) left m)) t)
-server_says n s t left (Says p) h i = (h, (i, tt))
+server_says n s t left (Says p) h i = (h, (i, tt), refl)
 server_says n s t left Waits h i = h
 server_says n s t left Spoils h i = h
 server_says n s t left Strays h i = h
 
 client_says : (n : ℕ) (t : List Step) (left : Left) (m : Meaning) → IsTrace n t → SaysSent (sent n t) Client m → IsTrace n (with_entry (option_map AtClient (heard_by (at_client n) left m)) t)
-client_says n t left (Says p) h i = (h, (i, tt))
+client_says n t left (Says p) h i = (h, (i, tt), refl)
 client_says n t left Waits h i = h
 client_says n t left Spoils h i = h
 client_says n t left Strays h i = h
@@ -151,7 +151,7 @@ server_step law frames n s past t are one h w (Comes f left) i =
     record { rows = k.rows; trace = server_says n s (trace_heard n past) left (meaning (at_server s) h f) t k.says }
 server_step law frames n s past t are one h w (Happens e) i = record {
   rows = either (sent n (trace_heard n past)) ((at_server s).ends e) [] h.rows tt w;
-  trace = (t, takes_none (sent n (trace_heard n past)) (Server s) (taken_by (AtServer s e)) i);
+  trace = (t, takes_none (sent n (trace_heard n past)) (Server s) (taken_by (AtServer s e)) i, refl);
 }
 
 client_step : OnlySentComesTogether → FramesAreOfPackets → (n : ℕ) (past : List FrameStep) → IsTrace n (trace_heard n past) → ArePackets (sent n (trace_heard n past)) → OneBodyOfEachTag (sent n (trace_heard n past))
@@ -161,7 +161,7 @@ client_step law frames n past t are one h w (Comes f left) i =
     record { rows = k.rows; trace = client_says n (trace_heard n past) left (meaning (at_client n) h f) t k.says }
 client_step law frames n past t are one h w (Happens e) i = record {
   rows = either (sent n (trace_heard n past)) ((at_client n).ends e) [] h.rows tt w;
-  trace = (t, takes_none (sent n (trace_heard n past)) Client (taken_by (AtClient e)) i);
+  trace = (t, takes_none (sent n (trace_heard n past)) Client (taken_by (AtClient e)) i.0, i.1);
 }
 
 -- ---- ranges
@@ -224,7 +224,7 @@ stands law frames tags ranges n (OfServer r c ∷ past) h fits =
     let f : FitsFrames n past = record { few = fits.few; steps = fits.steps.1 } in
     let s = stands law frames tags ranges n past h.0 f in
     let are = ranges n t s.trace (heard_fits n past f) in
-    let k = server_step law frames n r past s.trace are (tags n t are) (heard (at_server r) (of_server r past)) (s.servers r) c h.1 in
+    let k = server_step law frames n r past s.trace are (tags n t s.trace are) (heard (at_server r) (of_server r past)) (s.servers r) c h.1 in
     record {
       trace = k.trace;
       servers = λ i. rows_more (sent n t) (sent n (with_entry x t)) (more_sent n x t) (heard (at_server i) (of_server i (OfServer r c ∷ past))).rows
@@ -237,7 +237,7 @@ stands law frames tags ranges n (OfClient c ∷ past) h fits =
     let f : FitsFrames n past = record { few = fits.few; steps = fits.steps.1 } in
     let s = stands law frames tags ranges n past h.0 f in
     let are = ranges n t s.trace (heard_fits n past f) in
-    let k = client_step law frames n past s.trace are (tags n t are) (heard (at_client n) (of_client past)) s.client_rows c h.1 in
+    let k = client_step law frames n past s.trace are (tags n t s.trace are) (heard (at_client n) (of_client past)) s.client_rows c h.1 in
     record {
       trace = k.trace;
       servers = λ i. rows_more (sent n t) (sent n (with_entry x t)) (more_sent n x t) (heard (at_server i) (of_server i past)).rows (s.servers i);

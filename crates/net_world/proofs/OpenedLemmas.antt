@@ -1,5 +1,5 @@
 -- A world opens.
-use Rattle.std.proofs.Common.{◌≡◌, refl, sym, ◌∙◌, ap, subst, inl, inr, ◌⊎◌, ℕ, zero, suc, ◌+◌, ◌*◌, ◌≤◌, arith, List, [], ◌∷◌, ◌++◌, length, Some, None}
+use Rattle.std.proofs.Common.{false, ◌≡◌, refl, sym, ◌∙◌, ap, subst, inl, inr, ◌⊎◌, ℕ, zero, suc, ◌+◌, ◌*◌, ◌≤◌, arith, List, [], ◌∷◌, ◌++◌, length, Some, None}
 use Rattle.std.specs.Prelude.{slice_get}
 use Rattle.std.proofs.lemmas.List.{length-append}
 use Rattle.disk_model.specs.MemDisk.{file_of}
@@ -69,7 +69,7 @@ none_sent : (n : ℕ) → frames n [] ≡ []
 unfolding frames_sent
 none_sent n = refl
 
-pub opened : (n : ℕ) (w : World) → 1 ≤ n → n ≤ 8 → AreOpened n w.servers.items → clients.Stands (client_opening n) (client.Restart ∷ []) w.client → AreBlank (16 * n) w.files.items → sent_in w.sent ≡ [] → StandsFor n [] w
+pub opened : (n : ℕ) (w : World) → 1 ≤ n → n ≤ 8 → AreOpened n w.servers.items → clients.Stands (client_opening n) (client.Restart false ∷ []) w.client → AreBlank (16 * n) w.files.items → sent_in w.sent ≡ [] → StandsFor n [] w
 opened n w some few nodes client_is files sent = record {
   some = some;
   few = few;

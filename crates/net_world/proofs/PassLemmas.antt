@@ -1,6 +1,6 @@
 -- The four passes of a verify state: it is sent as it was taken, kept as it was sent, sent back as it is
 -- kept, and checked with as it was sent back. And there is no other.
-use Rattle.std.proofs.Common.{◌≡◌, sym, ◌∙◌, ap, subst, inl, inr, ℕ, List, [], ◌∷◌, Some}
+use Rattle.std.proofs.Common.{◌≡◌, ◌⊎◌, refl, sym, ◌∙◌, ap, subst, inl, inr, ℕ, true, false, List, [], ◌∷◌, Some}
 use Rattle.std.specs.Prelude.{Contains, IsTrue}
 use Rattle.fc_base.specs.declared.numbers.Key.{Key}
 use Rattle.verify_state.specs.State.{State}
@@ -18,15 +18,16 @@ use Rattle.server_core.specs.Answers as servers
 use Rattle.server_core.specs.Laws as served
 use Rattle.server_core.specs.Sent.{PacketsGoToClient}
 use Rattle.client_core.specs.History as client
-use Rattle.client_core.specs.Words.{kept, noted}
+use Rattle.client_core.specs.Words.{has_mirror, kept, noted}
 use Rattle.client_core.specs.Packets as clients
 use Rattle.client_core.specs.Laws as asked
-use Rattle.client_core.specs.Laws.{is_for_server}
-use Rattle.net_world.specs.Trace.{Step, AtServer, AtClient, opening_of, client_opening, of_server, of_client, packets_of}
+use Rattle.client_core.specs.Laws.{from_server, from_mirror, is_for_mirror, is_for_server}
+use Rattle.client_core.specs.Ranges.{came}
+use Rattle.net_world.specs.Trace.{Step, AtServer, AtClient, is_mirrorless, opening_of, client_opening, of_server, of_client, packets_of}
 use Rattle.net_world.specs.Holders.{taken_of}
-use Rattle.net_world.specs.Passes.{SentStatesWereTaken, KeptStatesWereSent, SavedStatesAreKept, NoCopyIsSent, CheckedStatesWereSent}
+use Rattle.net_world.specs.Passes.{SentStatesWereTaken, KeptStatesWereSent, SavedStatesAreKept, NoCopyIsSent, WasSentAs, CheckedStatesWereSent}
 use Rattle.net_world.proofs.ListLemmas.{first_in}
-use Rattle.net_world.proofs.TraceLemmas.{own_step, taken_stays, sent_cases, sent_none, came_was_sent, heard_was_sent}
+use Rattle.net_world.proofs.TraceLemmas.{loses_no_note, no_mirror, own_step, taken_stays, sent_cases, sent_none, came_was_sent, heard_was_sent}
 
 -- ---- what is sent in a State was taken
 
@@ -45,12 +46,13 @@ sends_taken s o past e p jobs state h is =
     taken_at_key o (last_run o (e ∷ past)) k.0 (e ∷ past) state (k.1).key (k.1).one
 
 -- The client sends no State.
-pub no_state : asked.PacketsGoToServers → (o : client.Opening) (past : List client.Entry) (e : client.Entry) (p : PacketParts) (jobs : ℕ) (state : State) → Contains (clients.packets o past e) p → p.body ≡ bodies.State jobs state → ⊥
-no_state goes o past e p jobs state h is =
-    let kind : IsTrue (is_for_server (kind_of (bodies.State jobs state))) = subst (λ (b : Body). IsTrue (is_for_server (kind_of b))) is (goes o past e p h).3 in
-    cc
+pub no_state : asked.PacketsGoToPeers → (o : client.Opening) (past : List client.Entry) (e : client.Entry) (p : PacketParts) (jobs : ℕ) (state : State) → Contains (clients.packets o past e) p → p.body ≡ bodies.State jobs state → ⊥
+no_state goes o past e p jobs state h is = elim (goes o past e p h) [
+  | inl k ↦ (let kind : IsTrue (is_for_server (kind_of (bodies.State jobs state))) = subst (λ (b : Body). IsTrue (is_for_server (kind_of b))) is k.3 in absurd cc)
+  | inr k ↦ (let kind : IsTrue (is_for_mirror (kind_of (bodies.State jobs state))) = subst (λ (b : Body). IsTrue (is_for_mirror (kind_of b))) is k.2 in absurd cc)
+]
 
-sent_now : served.SendsTheTaken → asked.PacketsGoToServers → (n : ℕ) (step : Step) (past : List Step) (p : PacketParts) (jobs : ℕ) (state : State) → Contains (packets_of n past step) p → p.body ≡ bodies.State jobs state → Contains (taken_of state.key (step ∷ past)) state
+sent_now : served.SendsTheTaken → asked.PacketsGoToPeers → (n : ℕ) (step : Step) (past : List Step) (p : PacketParts) (jobs : ℕ) (state : State) → Contains (packets_of n past step) p → p.body ≡ bodies.State jobs state → Contains (taken_of state.key (step ∷ past)) state
 sent_now s goes n (AtServer r e) past p jobs state h is =
     let k = sends_taken s (opening_of r) (of_server r past) e p jobs state h is in
     let here : r ≡ state.key.server = sym k.0 in
@@ -58,7 +60,7 @@ sent_now s goes n (AtServer r e) past p jobs state h is =
     (subst (λ m. Contains (takings (opening_of m) state.key.run state.key.job (e ∷ of_server m past)) state) here k.1)
 sent_now s goes n (AtClient e) past p jobs state h is = absurd (no_state goes (client_opening n) (of_client past) e p jobs state h is)
 
-pub sent_states_were_taken : served.SendsTheTaken → asked.PacketsGoToServers → SentStatesWereTaken
+pub sent_states_were_taken : served.SendsTheTaken → asked.PacketsGoToPeers → SentStatesWereTaken
 sent_states_were_taken s goes n [] p jobs state h is = absurd (sent_none n p h)
 sent_states_were_taken s goes n (step ∷ past) p jobs state h is =
     elim (sent_cases n step past p h) [
@@ -68,12 +70,13 @@ sent_states_were_taken s goes n (step ∷ past) p jobs state h is =
 
 -- ---- what is kept was sent in a State
 
-pub kept_states_were_sent : FoundHasItsKey → asked.KeptWasSent → KeptStatesWereSent
-kept_states_were_sent has k n t key state trace h =
-    elim (k (client_opening n) (of_client t) key state h) [
-      | inl opening ↦ absurd cc
-      | inr in_state ↦ record { key_is = has key (noted (client_opening n) (of_client t)).kept state h; jobs = in_state.0; sent_in = came_was_sent n t _ trace in_state.1 }
-    ]
+pub kept_states_were_sent : FoundHasItsKey → asked.KeptWasSent → NoCopyIsSent → KeptStatesWereSent
+kept_states_were_sent has k none n t key state trace h = by_source (k (client_opening n) (of_client t) key state h)
+  where
+    by_source : (kept (client_opening n) [] key ≡ Some state) ⊎ (((jobs : ℕ) × Contains (came (of_client t)) (from_server (bodies.State jobs state) key.server)) ⊎ Contains (came (of_client t)) (from_mirror (bodies.Copy state))) → WasSentAs n t key state
+    by_source (inl opening) = absurd cc
+    by_source (inr (inl in_state)) = record { key_is = has key (noted (client_opening n) (of_client t)).kept state h; jobs = in_state.0; sent_in = came_was_sent n t _ trace in_state.1 }
+    by_source (inr (inr copy)) = absurd (none n t (from_mirror (bodies.Copy state)) state trace (came_was_sent n t _ trace copy) refl)
 
 -- ---- what is sent in a Saved is kept
 
@@ -84,38 +87,39 @@ no_saved goes o past e p attempt state h is =
     cc
 
 -- What the client keeps it keeps behind each step.
-kept_stays : asked.FirstKeptStays → (n : ℕ) (step : Step) (past : List Step) (key : Key) (state : State) → kept (client_opening n) (of_client past) key ≡ Some state → kept (client_opening n) (of_client (step ∷ past)) key ≡ Some state
-kept_stays first n (AtServer r e) past key state h = h
-kept_stays first n (AtClient e) past key state h = first (client_opening n) (e ∷ []) (of_client past) key state h
+kept_stays : asked.FirstKeptStays → (n : ℕ) (step : Step) (past : List Step) (key : Key) (state : State) → is_mirrorless step ≡ true → kept (client_opening n) (of_client past) key ≡ Some state → kept (client_opening n) (of_client (step ∷ past)) key ≡ Some state
+kept_stays first n (AtServer r e) past key state alone h = h
+kept_stays first n (AtClient e) past key state alone h = first (client_opening n) (e ∷ []) (of_client past) key state (loses_no_note e alone) h
 
 saved_now : PacketsGoToClient → asked.SavedIsKept → (n : ℕ) (step : Step) (past : List Step) (p : PacketParts) (attempt : ℕ) (state : State) → Contains (packets_of n past step) p → p.body ≡ bodies.Saved attempt state → kept (client_opening n) (of_client past) state.key ≡ Some state
 saved_now goes k n (AtServer r e) past p attempt state h is = absurd (no_saved goes (opening_of r) (of_server r past) e p attempt state h is)
 saved_now goes k n (AtClient e) past p attempt state h is = k (client_opening n) (of_client past) e p attempt state h is
 
 pub saved_states_are_kept : PacketsGoToClient → asked.SavedIsKept → asked.FirstKeptStays → SavedStatesAreKept
-saved_states_are_kept goes k first n [] p attempt state h is = absurd (sent_none n p h)
-saved_states_are_kept goes k first n (step ∷ past) p attempt state h is =
-    kept_stays first n step past state.key state (elim (sent_cases n step past p h) [
-      | inl before ↦ saved_states_are_kept goes k first n past p attempt state before is
+saved_states_are_kept goes k first n [] p attempt state trace h is = absurd (sent_none n p h)
+saved_states_are_kept goes k first n (step ∷ past) p attempt state trace h is =
+    kept_stays first n step past state.key state trace.2 (elim (sent_cases n step past p h) [
+      | inl before ↦ saved_states_are_kept goes k first n past p attempt state trace.0 before is
       | inr now ↦ saved_now goes k n step past p attempt state now is
     ])
 
 -- ---- nobody sends a Copy
 
-no_copy_now : PacketsGoToClient → asked.PacketsGoToServers → (n : ℕ) (step : Step) (past : List Step) (p : PacketParts) (state : State) → Contains (packets_of n past step) p → p.body ≡ bodies.Copy state → ⊥
-no_copy_now served asks n (AtServer r e) past p state h is =
+no_copy_now : PacketsGoToClient → asked.PacketsGoToPeers → (n : ℕ) (step : Step) (past : List Step) (p : PacketParts) (state : State) → has_mirror (of_client past) ≡ false → Contains (packets_of n past step) p → p.body ≡ bodies.Copy state → ⊥
+no_copy_now served asks n (AtServer r e) past p state alone h is =
     let kind : IsTrue (is_of_server (kind_of (bodies.Copy state))) = subst (λ (b : Body). IsTrue (is_of_server (kind_of b))) is (served (opening_of r) (of_server r past) e p h).kind in
     cc
-no_copy_now served asks n (AtClient e) past p state h is =
-    let kind : IsTrue (is_for_server (kind_of (bodies.Copy state))) = subst (λ (b : Body). IsTrue (is_for_server (kind_of b))) is (asks (client_opening n) (of_client past) e p h).3 in
-    cc
+no_copy_now served asks n (AtClient e) past p state alone h is = elim (asks (client_opening n) (of_client past) e p h) [
+  | inl k ↦ (let kind : IsTrue (is_for_server (kind_of (bodies.Copy state))) = subst (λ (b : Body). IsTrue (is_for_server (kind_of b))) is k.3 in absurd cc)
+  | inr k ↦ (let clash : true ≡ false = sym k.0 ∙ alone in absurd cc)
+]
 
-pub no_copy_is_sent : PacketsGoToClient → asked.PacketsGoToServers → NoCopyIsSent
-no_copy_is_sent served asks n [] p state h is = absurd (sent_none n p h)
-no_copy_is_sent served asks n (step ∷ past) p state h is =
+pub no_copy_is_sent : PacketsGoToClient → asked.PacketsGoToPeers → NoCopyIsSent
+no_copy_is_sent served asks n [] p state trace h is = absurd (sent_none n p h)
+no_copy_is_sent served asks n (step ∷ past) p state trace h is =
     elim (sent_cases n step past p h) [
-      | inl before ↦ no_copy_is_sent served asks n past p state before is
-      | inr now ↦ no_copy_now served asks n step past p state now is
+      | inl before ↦ no_copy_is_sent served asks n past p state trace.0 before is
+      | inr now ↦ no_copy_now served asks n step past p state (no_mirror n past trace.0) now is
     ]
 
 -- ---- what a job is checked with was sent in a Saved

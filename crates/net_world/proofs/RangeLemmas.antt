@@ -70,7 +70,9 @@ call_in ps calls.Tick left older are w h = h
 more_heard : (ps : List PacketParts) (e : entry.Entry) (past : List entry.Entry) → ArePackets ps → AllSent ps (AtClient e) → AllByRecursion IsPacket (came past) → AllByRecursion IsPacket (came (e ∷ past))
 more_heard ps (entry.Met c left) past are w h = call_in ps c left (came past) are w h
 more_heard ps entry.Cut past are w h = h
-more_heard ps entry.Restart past are w h = h
+more_heard ps (entry.Restart mirror) past are w h = h
+more_heard ps (entry.Renew g left) past are w h = h
+more_heard ps entry.Lose past are w h = h
 
 came_back : (n : ℕ) (t : List Step) → IsTrace n t → ArePackets (sent n t) → AllByRecursion IsPacket (came (of_client t))
 unfolding AllSent
@@ -81,7 +83,7 @@ came_back n (AtClient e ∷ past) h are =
     more_heard (sent n past) e (of_client past) a h.1 (came_back n past h.0 a)
 
 blank_noted : IsNoted blank
-blank_noted = record { runs = omega arith; attempts = omega arith; count = omega arith; states = tt; keys = refl }
+blank_noted = record { generation = omega arith; runs = omega arith; attempts = omega arith; count = omega arith; states = tt; keys = refl }
 
 each : (ps : List PacketParts) → AllByRecursion IsPacket ps → ArePackets ps
 each ps h p i = each_of IsPacket ps p h i

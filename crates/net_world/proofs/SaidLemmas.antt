@@ -1,5 +1,5 @@
 -- What a server has said of the jobs of a run: how many there are, and of which no state was taken.
-use Rattle.std.proofs.Common.{◌≡◌, refl, sym, ◌∙◌, ap, subst, inl, inr, ℕ, ◌≤◌, arith, Bool, true, false, ◌==◌, List, [], ◌∷◌, ◌++◌, length, Option, Some}
+use Rattle.std.proofs.Common.{◌≡◌, ◌⊎◌, refl, sym, ◌∙◌, ap, subst, inl, inr, ℕ, ◌≤◌, arith, Bool, true, false, ◌==◌, List, [], ◌∷◌, ◌++◌, length, Option, Some}
 use Rattle.std.specs.Prelude.{if◌then◌else◌, Contains}
 use Rattle.fc_base.specs.declared.numbers.Key.{Key}
 use Rattle.job_file.specs.declared.job.Job.{Job}
@@ -15,6 +15,7 @@ use Rattle.server_core.specs.Answers as servers
 use Rattle.server_core.specs.Laws as served
 use Rattle.server_core.specs.Sent.{PacketsGoToClient}
 use Rattle.client_core.specs.Laws as asked
+use Rattle.client_core.specs.Words.{has_mirror}
 use Rattle.net_world.specs.Trace.{Step, AtServer, AtClient, opening_of, client_opening, of_server, of_client, packets_of, sent}
 use Rattle.net_world.proofs.TraceLemmas.{own_step, sent_cases, sent_none}
 use Rattle.net_world.proofs.BegunLemmas.{begun, work_begun, begun_stays}
@@ -28,7 +29,7 @@ pub record Sayings : Type 0 where
   pub none : served.NoStateIsUntaken
   pub stay : served.TakingsStay
   pub to_client : PacketsGoToClient
-  pub to_servers : asked.PacketsGoToServers
+  pub to_peers : asked.PacketsGoToPeers
 
 server_apart : (r s : ℕ) → Server r ≡ Server s → r ≡ s
 server_apart r s h = cc
@@ -62,8 +63,11 @@ sent_now laws n s (AtServer r e) past p from h =
     rw (own_step r s e past same)
     (record { newer = []; entry = e; older = of_server s past; split = refl; sends = subst (λ m. Contains (servers.packets (opening_of m) (of_server m past) e) p) same h })
 sent_now laws n s (AtClient e) past p from h =
-    let k = laws.to_servers (client_opening n) (of_client past) e p h in
-    absurd (not_client s (sym (ap (λ (q : PacketParts). q.from) k.2) ∙ from))
+    absurd (not_client s (sym (from_client (laws.to_peers (client_opening n) (of_client past) e p h)) ∙ from))
+  where
+    from_client : asked.GoesToServer n p ⊎ asked.GoesToMirror (has_mirror (of_client past)) p → p.from ≡ Client
+    from_client (inl k) = ap (λ (q : PacketParts). q.from) k.2
+    from_client (inr k) = ap (λ (q : PacketParts). q.from) k.1
 
 pub sent_by : Sayings → (n s : ℕ) (t : List Step) (p : PacketParts) → p.from ≡ Server s → Contains (sent n t) p → SentBy s (of_server s t) p
 sent_by laws n s [] p from h = absurd (sent_none n p h)

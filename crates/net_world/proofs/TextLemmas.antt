@@ -12,7 +12,7 @@ use Rattle.client_core.specs.Packets as clients
 use Rattle.client_core.specs.Laws.{OneTextOfARun, OneTextOfAnAttempt}
 use Rattle.net_world.specs.Trace.{Step, AtServer, AtClient, opening_of, client_opening, of_server, of_client, packets_of, sent}
 use Rattle.net_world.specs.Fresh.{OneTextOfEachRun, OneTextOfEachAttempt}
-use Rattle.net_world.proofs.TraceLemmas.{sent_cases, sent_none}
+use Rattle.net_world.proofs.TraceLemmas.{loses_none, sent_cases, sent_none}
 
 BySelf : ℕ → List Step → PacketParts → Type 0
 BySelf n t p = Contains (clients.sent (client_opening n) (of_client t)) p
@@ -44,14 +44,14 @@ of_kind b c is h = subst (λ x. is_of_server (kind_of x) ≡ false) (sym is) h
 
 pub one_text_of_each_run : PacketsGoToClient → OneTextOfARun → OneTextOfEachRun
 unfolding BySelf
-one_text_of_each_run goes law n t p q run text other hp ip hq iq =
-    law (client_opening n) (of_client t) p q run text other
+one_text_of_each_run goes law n t p q run text other trace hp ip hq iq =
+    law (client_opening n) (of_client t) p q run text other (inl (loses_none n t trace))
     (client_sent goes n t p (of_kind p.body (bodies.Jobs run text) ip refl) hp) ip
     (client_sent goes n t q (of_kind q.body (bodies.Jobs run other) iq refl) hq) iq
 
 pub one_text_of_each_attempt : PacketsGoToClient → OneTextOfAnAttempt → OneTextOfEachAttempt
 unfolding BySelf
-one_text_of_each_attempt goes law n t p q attempt run run_there text other hp ip hq iq =
-    law (client_opening n) (of_client t) p q attempt run run_there text other
+one_text_of_each_attempt goes law n t p q attempt run run_there text other trace hp ip hq iq =
+    law (client_opening n) (of_client t) p q attempt run run_there text other (inl (loses_none n t trace))
     (client_sent goes n t p (of_kind p.body (bodies.Verify run attempt text) ip refl) hp) ip
     (client_sent goes n t q (of_kind q.body (bodies.Verify run_there attempt other) iq refl) hq) iq

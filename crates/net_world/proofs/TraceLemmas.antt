@@ -1,6 +1,6 @@
 -- Traces: what was sent stays sent, what came was sent, and what was taken stays taken.
 use Rattle.std.proofs.Common.{◌≡◌, refl, subst, ◌⊎◌, inl, inr, ℕ, arith, Bool, true, false, ◌==◌, List, [], ◌∷◌, Option, Some, None}
-use Rattle.std.specs.Prelude.{if◌then◌else◌, Contains}
+use Rattle.std.specs.Prelude.{if◌then◌else◌, not, Contains}
 use Rattle.std.specs.List.{AllByRecursion}
 use Rattle.std.proofs.lemmas.Bool.Decides.{nat_tests}
 use Rattle.std.proofs.lemmas.List.Elements.{Contains-append_cases, Contains-append_left}
@@ -16,8 +16,11 @@ use Rattle.server_core.specs.Request.{asked}
 use Rattle.server_core.specs.Words.{work}
 use Rattle.server_core.specs.Taken.{takes, and_those, takings}
 use Rattle.server_core.specs.Heard.{heard_with, heard}
+use Rattle.client_core.specs.History as client
+use Rattle.client_core.specs.Laws.{loses_nothing}
 use Rattle.client_core.specs.Ranges.{packet_in, came}
-use Rattle.net_world.specs.Trace.{Step, AtServer, AtClient, opening_of, of_server, of_client, packets_of, sent, taken_by, node_of, WasSentTo, IsTrace}
+use Rattle.client_core.specs.Words.{has_mirror}
+use Rattle.net_world.specs.Trace.{Step, AtServer, AtClient, opening_of, of_server, of_client, packets_of, sent, taken_by, node_of, WasSentTo, is_alone, IsTrace}
 use Rattle.net_world.specs.Holders.{taken_of}
 use Rattle.net_world.proofs.ListLemmas.{none_in, later_in, each_of}
 
@@ -27,6 +30,45 @@ same_number x = grind (arith, nat_tests)
 -- The list of a server behind a step of its own.
 pub own_step : (r s : ℕ) (e : server.Entry) (past : List Step) → r ≡ s → of_server s (AtServer r e ∷ past) ≡ e ∷ of_server s past
 own_step r s e past h = let t : (r == s) ≡ true = subst (λ x. (r == x) ≡ true) h (same_number r) in rw t refl
+
+-- ---- a client without a mirror
+
+pub loses_no_note : (e : client.Entry) → is_alone e ≡ true → loses_nothing (e ∷ []) ≡ true
+loses_no_note (client.Met c left) h = refl
+loses_no_note client.Cut h = refl
+loses_no_note (client.Restart mirror) h = refl
+loses_no_note (client.Renew g left) h = cc
+loses_no_note client.Lose h = cc
+
+loses_no_more : (e : client.Entry) (past : List client.Entry) → is_alone e ≡ true → loses_nothing past ≡ true → loses_nothing (e ∷ past) ≡ true
+loses_no_more (client.Met c left) past h k = k
+loses_no_more client.Cut past h k = k
+loses_no_more (client.Restart mirror) past h k = k
+loses_no_more (client.Renew g left) past h k = k
+loses_no_more client.Lose past h k = cc
+
+-- Its note isn't lost.
+pub loses_none : (n : ℕ) (t : List Step) → IsTrace n t → loses_nothing (of_client t) ≡ true
+loses_none n [] trace = refl
+loses_none n (AtServer s e ∷ past) trace = loses_none n past trace.0
+loses_none n (AtClient e ∷ past) trace = loses_no_more e (of_client past) trace.2 (loses_none n past trace.0)
+
+not_true : (b : Bool) → not b ≡ true → b ≡ false
+not_true true h = cc
+not_true false h = refl
+
+gets_no_mirror : (e : client.Entry) (past : List client.Entry) → is_alone e ≡ true → has_mirror past ≡ false → has_mirror (e ∷ past) ≡ false
+gets_no_mirror (client.Met c left) past h k = k
+gets_no_mirror client.Cut past h k = refl
+gets_no_mirror (client.Restart mirror) past h k = not_true mirror h
+gets_no_mirror (client.Renew g left) past h k = cc
+gets_no_mirror client.Lose past h k = refl
+
+-- It gets none.
+pub no_mirror : (n : ℕ) (t : List Step) → IsTrace n t → has_mirror (of_client t) ≡ false
+no_mirror n [] trace = refl
+no_mirror n (AtServer s e ∷ past) trace = no_mirror n past trace.0
+no_mirror n (AtClient e ∷ past) trace = gets_no_mirror e (of_client past) trace.2 (no_mirror n past trace.0)
 
 -- ---- what was taken stays taken
 

@@ -40,7 +40,7 @@ kept_was_taken passes n t key state trace h =
 -- What was sent in a Saved was taken.
 saved_was_taken : Passes → (n : ℕ) (t : List Step) (p : PacketParts) (attempt : ℕ) (state : State) → IsTrace n t → Contains (sent n t) p → p.body ≡ bodies.Saved attempt state → Contains (taken_of state.key t) state
 saved_was_taken passes n t p attempt state trace h is =
-    kept_was_taken passes n t state.key state trace (passes.saved_kept n t p attempt state h is)
+    kept_was_taken passes n t state.key state trace (passes.saved_kept n t p attempt state trace h is)
 
 -- What was taken in this life was taken.
 taken_or : (lost : Bool) (x : Option State) (states all : List State) (state : State) → (Contains states state → Contains all state) → Contains (if lost then [] else and_those x states) state → Contains (and_those x all) state
@@ -59,7 +59,7 @@ taken_in_life_was_taken o run j (Restart left ∷ past) state h = absurd (none_i
 carried_was_taken : Passes → (n : ℕ) (t : List Step) (p : PacketParts) (state : State) (b : Body) → p.body ≡ b → IsTrace n t → Contains (sent n t) p → carried b ≡ Some state → Contains (taken_of state.key t) state
 carried_was_taken passes n t p state (bodies.State jobs x) is trace h e = let same : x ≡ state = cc in passes.sent_taken n t p jobs state h (is ∙ ap (bodies.State jobs) same)
 carried_was_taken passes n t p state (bodies.Saved attempt x) is trace h e = let same : x ≡ state = cc in saved_was_taken passes n t p attempt state trace h (is ∙ ap (bodies.Saved attempt) same)
-carried_was_taken passes n t p state (bodies.Copy x) is trace h e = absurd (passes.no_copy n t p x h is)
+carried_was_taken passes n t p state (bodies.Copy x) is trace h e = absurd (passes.no_copy n t p x trace h is)
 carried_was_taken passes n t p state _ is trace h e = absurd cc
 
 -- Whoever holds a state holds one that was taken.

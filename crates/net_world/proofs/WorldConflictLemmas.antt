@@ -59,7 +59,7 @@ said_was_sent laws n t steps_are fits f i to p is =
     let s = stands laws.law laws.frames laws.tags laws.ranges n t steps_are fits in
     let ps = sent n (trace_heard n t) in
     let are = laws.ranges n (trace_heard n t) s.trace (heard_fits n t fits) in
-    let k = keeps laws.law (at_client n) ps are (laws.tags n (trace_heard n t) are) (heard (at_client n) (frames.of_client t)) s.client_rows Client f (frame_is laws.frames n t f i) to lefts.NoSave in
+    let k = keeps laws.law (at_client n) ps are (laws.tags n (trace_heard n t) s.trace are) (heard (at_client n) (frames.of_client t)) s.client_rows Client f (frame_is laws.frames n t f i) to lefts.NoSave in
     let says : SaysSent ps Client (Says p) = subst (SaysSent ps Client) is k.says in
     says.0
 

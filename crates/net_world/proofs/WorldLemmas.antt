@@ -80,7 +80,7 @@ may_server frames t s e m = may_unless frames (answers.refusal (opening_of s) (o
 
 may_client : (frames : List Frame) (n : ℕ) (t : List Step) (c : Call) → ((left : Left) → packet_in (client.Met c left) ≡ []) → MayBe frames (met_by_client n t c)
 unfolding MayBe
-may_client frames n t c m = may_unless frames (clients.refusal (client_opening n) (of_client t) c) _ (m (left_for (clients.due (client_opening n) (of_client t) c)))
+may_client frames n t c m = may_unless frames (clients.refusal (client_opening n) (of_client t) c) _ (m (left_for (clients.due (client_opening n) (of_client t) c)), refl)
 
 may_end : (frames : List Frame) (t : List Step) (s k : ℕ) (end : WriteEnd) (x : Option Origin) → MayBe frames (ended t s k end x)
 unfolding MayBe
@@ -100,17 +100,17 @@ may_check frames t s (Some c) j held = may_report frames t s c j (report_for c j
 may_cut : (frames : List Frame) (node : Node) → MayBe frames (cut node)
 unfolding MayBe
 may_cut frames (Server s) = refl
-may_cut frames Client = refl
+may_cut frames Client = (refl, refl)
 may_cut frames Mirror = tt
 
 may_restart : (frames : List Frame) (t : List Step) (node : Node) → MayBe frames (restarted t node)
 unfolding MayBe
 may_restart frames t (Server s) = may_if frames (has_boot t s) (OfServer s (Happens (server.Restart lefts.Saved))) NumbersSpent refl
-may_restart frames t Client = refl
+may_restart frames t Client = (refl, refl)
 may_restart frames t Mirror = tt
 
 may_client_cut : (frames : List Frame) (n : ℕ) (t : List Step) (landed : Bool) (c : Call) → ((left : Left) → packet_in (client.Met c left) ≡ []) → MayBe frames (client_cut_in n t landed c)
-may_client_cut frames n t landed c m = may_save frames (clients.due (client_opening n) (of_client t) c) (OfClient (Happens (client.Met c (lost_by landed)))) (m (lost_by landed))
+may_client_cut frames n t landed c m = may_save frames (clients.due (client_opening n) (of_client t) c) (OfClient (Happens (client.Met c (lost_by landed)))) (m (lost_by landed), refl)
 
 may_restart_cut : (frames : List Frame) (t : List Step) (landed : Bool) (node : Node) → MayBe frames (restart_cut_in t landed node)
 unfolding MayBe

@@ -81,7 +81,7 @@ Asks o past e new (Err fault) = Faults o past e (sort_of fault) fault new
 
 -- How a restart ends: the client runs; or it ran; or memory ran out, and nothing changes.
 abbrev pub Restarts : Opening → List FrameEntry → ClientNode → Result (Unit {0}) Fault → Type 0
-Restarts o past new (Ok _) = (is_up o past ≡ false) × Stands o (Restart ∷ past) new
+Restarts o past new (Ok _) = (is_up o past ≡ false) × Stands o (Restart false ∷ past) new
 Restarts o past new (Err NodeOn) = (is_up o past ≡ true) × Stands o past new
 Restarts o past new (Err NoMemory) = (is_up o past ≡ false) × Stands o past new
 Restarts o past new (Err _) = ⊥

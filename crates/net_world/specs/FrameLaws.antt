@@ -35,7 +35,8 @@ FramesAreOfPackets =
 
 -- In each trace a tag names one body.
 abbrev pub TagsNameOneBody : Type 0
-TagsNameOneBody = (n : ℕ) (t : List Step) → ArePackets (sent n t) → OneBodyOfEachTag (sent n t)
+TagsNameOneBody =
+    (n : ℕ) (t : List Step) → IsTrace n t → ArePackets (sent n t) → OneBodyOfEachTag (sent n t)
 
 -- What a trace of frames says is a trace: each packet that is heard was sent.
 abbrev pub OnlySentIsHeard : Type 0

@@ -1,6 +1,6 @@
 -- The steps of a client and its servers with frames in one list, the newest first, and the trace of
 -- packets that it says.
-use Rattle.std.specs.Prelude.{◌≡◌, ℕ, ◌==◌, if◌then◌else◌, List, [], ◌∷◌, ◌++◌, map, Option, Some, None, Contains}
+use Rattle.std.specs.Prelude.{◌≡◌, ℕ, ◌==◌, if◌then◌else◌, List, [], ◌∷◌, ◌++◌, map, Option, Some, None, Contains, false, IsTrue}
 use Rattle.std.specs.List.{flat_map}
 use Rattle.std.specs.Option.{option_map}
 use Rattle.messages.specs.declared.packet.PacketParts.{PacketParts}
@@ -22,7 +22,7 @@ use Rattle.client_core.specs.declared.input.Input.TheVariants as client_inputs
 use Rattle.client_core.specs.History as client
 use Rattle.client_core.specs.Packets as clients
 use Rattle.client_core.specs.Hearing as client_hearing
-use Rattle.net_world.specs.Trace.{Step, AtServer, AtClient, opening_of, client_opening, taken_by}
+use Rattle.net_world.specs.Trace.{Step, AtServer, AtClient, opening_of, client_opening, taken_by, is_alone}
 
 -- A step: a frame comes to the server with this number, or anything else happens to it; or to the
 -- client.
@@ -38,7 +38,7 @@ of_server s (OfClient c ∷ past) = of_server s past
 
 -- What has happened to the client.
 abbrev pub of_client : List FrameStep → List (Coming client.Entry Left)
-of_client [] = Happens client.Restart ∷ []
+of_client [] = Happens (client.Restart false) ∷ []
 of_client (OfServer s c ∷ past) = of_client past
 of_client (OfClient c ∷ past) = c ∷ of_client past
 
@@ -77,12 +77,13 @@ abbrev pub to_of : Frame → Node
 to_of (Whole p) = p.to
 to_of (Piece q) = q.to
 
--- A frame that a step takes was sent to its node, and what happens besides takes no packet.
+-- A frame that a step takes was sent to its node, and what happens besides takes no packet, and to the
+-- client nothing with a mirror.
 abbrev pub MayHappen : List Frame → FrameStep → Type 0
 MayHappen frames (OfServer s (Comes f left)) = Contains frames f × (to_of f ≡ Server s)
 MayHappen frames (OfServer s (Happens e)) = taken_by (AtServer s e) ≡ []
 MayHappen frames (OfClient (Comes f left)) = Contains frames f × (to_of f ≡ Client)
-MayHappen frames (OfClient (Happens e)) = taken_by (AtClient e) ≡ []
+MayHappen frames (OfClient (Happens e)) = (taken_by (AtClient e) ≡ []) × IsTrue (is_alone e)
 
 -- A trace of frames: each frame that a node takes was sent to it earlier.
 abbrev pub IsFrameTrace : ℕ → List FrameStep → Type 0
@@ -130,7 +131,9 @@ client_frame_entry (Happens (client.Met (calls.Deliver p) left)) =
     client_hearing.Met (client_inputs.Deliver (Whole p)) left
 client_frame_entry (Happens (client.Met calls.Tick left)) = client_hearing.Met client_inputs.Tick left
 client_frame_entry (Happens client.Cut) = client_hearing.Cut
-client_frame_entry (Happens client.Restart) = client_hearing.Restart
+client_frame_entry (Happens (client.Restart mirror)) = client_hearing.Restart mirror
+client_frame_entry (Happens (client.Renew g left)) = client_hearing.Renew g left
+client_frame_entry (Happens client.Lose) = client_hearing.Lose
 
 -- The client's list of frames.
 abbrev pub client_entries : List FrameStep → List client_hearing.FrameEntry

@@ -32,26 +32,28 @@ StatePacketsAreEqual =
 abbrev pub OneTextOfEachRun : Type 0
 OneTextOfEachRun =
     (n : ℕ) (t : List Step) (p q : PacketParts) (run : ℕ) (text other : List ℕ) →
-    Contains (sent n t) p → p.body ≡ bodies.Jobs run text →
+    IsTrace n t → Contains (sent n t) p → p.body ≡ bodies.Jobs run text →
     Contains (sent n t) q → q.body ≡ bodies.Jobs run other → text ≡ other
 
 -- All Verify packets of an attempt carry the same run and text.
 abbrev pub OneTextOfEachAttempt : Type 0
 OneTextOfEachAttempt =
     (n : ℕ) (t : List Step) (p q : PacketParts) (attempt run run_there : ℕ) (text other : List ℕ) →
-    Contains (sent n t) p → p.body ≡ bodies.Verify run attempt text →
+    IsTrace n t → Contains (sent n t) p → p.body ≡ bodies.Verify run attempt text →
     Contains (sent n t) q → q.body ≡ bodies.Verify run_there attempt other →
     (run ≡ run_there) × (text ≡ other)
 
 -- No run is given twice, whatever was cut and lost.
 abbrev pub RunsAreGivenOnce : Type 0
 RunsAreGivenOnce =
-    (n : ℕ) (t : List Step) → IsTrue (is_distinct (runs_in (done (client_opening n) (of_client t))))
+    (n : ℕ) (t : List Step) → IsTrace n t →
+    IsTrue (is_distinct (runs_in (done (client_opening n) (of_client t))))
 
 -- No attempt is given twice.
 abbrev pub AttemptsAreGivenOnce : Type 0
 AttemptsAreGivenOnce =
-    (n : ℕ) (t : List Step) → IsTrue (is_distinct (attempts_in (done (client_opening n) (of_client t))))
+    (n : ℕ) (t : List Step) → IsTrace n t →
+    IsTrue (is_distinct (attempts_in (done (client_opening n) (of_client t))))
 
 -- The run that an event starts: one that was due, where its save answered Ok.
 abbrev pub started_by : Left → Option Staged → List ℕ

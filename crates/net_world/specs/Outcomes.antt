@@ -1,5 +1,5 @@
 -- What comes of what happens in a world.
-use Rattle.std.specs.Prelude.{ℕ, ◌+◌, ◌^◌, Bool, nat_lt, List, Option, Some, None, slice_get, Result, Ok, Err, if◌then◌else◌}
+use Rattle.std.specs.Prelude.{ℕ, ◌+◌, ◌^◌, Bool, false, nat_lt, List, Option, Some, None, slice_get, Result, Ok, Err, if◌then◌else◌}
 use Rattle.fc_base.specs.declared.fault.Fault.{Fault}
 use Rattle.fc_base.specs.declared.fault.Fault.TheVariants.{NumbersSpent, Misdirected, NoSave, NoFrame, NoWrite, NotInFlight, NoMirror}
 use Rattle.messages.specs.declared.node.Node.{Node}
@@ -141,7 +141,7 @@ has_boot t s = nat_lt (servers.boot (opening_of s) (of_server s t) + 1) (2 ^ 64)
 abbrev pub restarted : List Step → Node → Result FrameStep Fault
 restarted t (Server s) =
     if has_boot t s then Ok (OfServer s (Happens (server.Restart lefts.Saved))) else Err NumbersSpent
-restarted t Client = Ok (OfClient (Happens client.Restart))
+restarted t Client = Ok (OfClient (Happens (client.Restart false)))
 restarted t Mirror = Err NoMirror
 
 -- The client loses its power within the save that a call is due to make.

@@ -34,14 +34,14 @@ KeptStatesWereSent =
 abbrev pub SavedStatesAreKept : Type 0
 SavedStatesAreKept =
     (n : ℕ) (t : List Step) (p : PacketParts) (attempt : ℕ) (state : State) →
-    Contains (sent n t) p → p.body ≡ bodies.Saved attempt state
+    IsTrace n t → Contains (sent n t) p → p.body ≡ bodies.Saved attempt state
     → kept (client_opening n) (of_client t) state.key ≡ Some state
 
 -- No state is sent in a Copy: there is no mirror.
 abbrev pub NoCopyIsSent : Type 0
 NoCopyIsSent =
     (n : ℕ) (t : List Step) (p : PacketParts) (state : State) →
-    Contains (sent n t) p → p.body ≡ bodies.Copy state → ⊥
+    IsTrace n t → Contains (sent n t) p → p.body ≡ bodies.Copy state → ⊥
 
 -- Each state that a job is checked with was sent to its server.
 abbrev pub CheckedStatesWereSent : Type 0

@@ -1,5 +1,5 @@
 -- The steps of a client and its servers in one list, the newest first.
-use Rattle.std.specs.Prelude.{◌≡◌, ℕ, ◌==◌, if◌then◌else◌, List, [], ◌∷◌, ◌++◌, Contains}
+use Rattle.std.specs.Prelude.{◌≡◌, ℕ, ◌==◌, Bool, true, false, not, if◌then◌else◌, List, [], ◌∷◌, ◌++◌, Contains, IsTrue}
 use Rattle.std.specs.List.{AllByRecursion}
 use Rattle.messages.specs.declared.packet.PacketParts.{PacketParts}
 use Rattle.messages.specs.declared.node.Node.{Node}
@@ -34,7 +34,7 @@ of_server s (AtClient e ∷ past) = of_server s past
 
 -- The list of the client: its first restart, and what came to it since.
 abbrev pub of_client : List Step → List client.Entry
-of_client [] = client.Restart ∷ []
+of_client [] = client.Restart false ∷ []
 of_client (AtServer s e ∷ past) = of_client past
 of_client (AtClient e ∷ past) = e ∷ of_client past
 
@@ -62,8 +62,21 @@ node_of (AtClient e) = Client
 abbrev pub WasSentTo : List PacketParts → Node → PacketParts → Type 0
 WasSentTo packets node p = Contains packets p × (p.to ≡ node)
 
--- A trace: each packet that a node takes was sent to it earlier.
+-- What comes to a client that has no mirror: it is restarted without one, and its note isn't lost.
+abbrev pub is_alone : client.Entry → Bool
+is_alone (client.Restart mirror) = not mirror
+is_alone (client.Renew g left) = false
+is_alone client.Lose = false
+is_alone _ = true
+
+-- The step is one without a mirror.
+abbrev pub is_mirrorless : Step → Bool
+is_mirrorless (AtServer s e) = true
+is_mirrorless (AtClient e) = is_alone e
+
+-- A trace: each packet that a node takes was sent to it earlier, and the client has no mirror.
 abbrev pub IsTrace : ℕ → List Step → Type 0
 IsTrace n [] = Unit {0}
 IsTrace n (step ∷ past) =
     IsTrace n past × AllByRecursion (WasSentTo (sent n past) (node_of step)) (taken_by step)
+    × IsTrue (is_mirrorless step)

@@ -1,6 +1,6 @@
 //! The client of a world, which may be off.
 
-ghost use Rattle.std.specs.Prelude.{◌≡◌, ◌≤◌, ◌∷◌, [], List, IfOk, IfErr};
+ghost use Rattle.std.specs.Prelude.{◌≡◌, ◌≤◌, ◌∷◌, [], false, List, IfOk, IfErr};
 ghost use Rattle.std.specs.Option.{option_copied};
 ghost use Rattle.fc_base.specs.declared.fault.Fault.TheVariants.{NoMemory};
 ghost use Rattle.client_core.specs.Note.{blank};
@@ -30,10 +30,10 @@ impl ClientNode {
     pub(crate) fn open(alloc: Global, servers: u32) -> Result<ClientNode, Fault>
         requires some { 1 ≤ servers }
         requires few { servers ≤ 8 }
-        ensures stands { IfOk result (Stands (record { servers = servers; noted = blank }) (Restart ∷ [])) }
+        ensures stands { IfOk result (Stands (record { servers = servers; noted = blank }) (Restart false ∷ [])) }
         ensures fault { IfErr result (λ fault. fault ≡ NoMemory) }
     {
-        match Client::restart(alloc, servers, MemNotes::new(Vec::new(alloc))) {
+        match Client::restart(alloc, servers, false, MemNotes::new(Vec::new(alloc))) {
             Ok(client) => Ok(ClientNode::On(client)),
             Err(_) => Err(Fault::NoMemory),
         }
@@ -85,7 +85,7 @@ impl ClientNode {
                 *self = ClientNode::On(client);
                 Err(Fault::NodeOn)
             }
-            ClientNode::Off(notes) => match Client::restart(alloc, servers, notes) {
+            ClientNode::Off(notes) => match Client::restart(alloc, servers, false, notes) {
                 Ok(client) => {
                     *self = ClientNode::On(client);
                     Ok(())

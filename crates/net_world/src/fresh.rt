@@ -4,10 +4,10 @@
 ghost use Rattle.net_world.specs.Fresh.{NeverConflicts, StatePacketsAreEqual, OneTextOfEachRun, OneTextOfEachAttempt, RunsAreGivenOnce, AttemptsAreGivenOnce, StartsAreAcceptedOnce};
 ghost use Rattle.net_world.specs.Kept.{EndedWellIsKept, CutsWhereKept};
 
-use crate::passes::{kept_states_were_sent, sent_states_were_taken};
+use crate::passes::{kept_states_were_sent, no_copy_is_sent, sent_states_were_taken};
 use crate::verdict::one_state_of_each_job;
 use client_core::{
-    acks_are_for_kept_states, first_kept_stays, numbers_are_fresh, one_text, packets_go_to_servers,
+    acks_are_for_kept_states, first_kept_stays, numbers_are_fresh, one_text, packets_go_to_peers,
     triggers_end_well,
 };
 use server_core::{
@@ -21,13 +21,14 @@ pub fn nothing_differs()
 {
     sent_states_were_taken();
     kept_states_were_sent();
+    no_copy_is_sent();
     one_state_of_each_job();
     the_taken();
     the_untaken();
     numbers_grow();
     starts();
     packets_go_to_client();
-    packets_go_to_servers();
+    packets_go_to_peers();
 }
 
 /// All Jobs packets of a run carry one text, and all Verify packets of an attempt one run and text.
@@ -37,7 +38,7 @@ pub fn one_text_of_each()
 {
     one_text();
     packets_go_to_client();
-    packets_go_to_servers();
+    packets_go_to_peers();
 }
 
 /// Runs and attempts are given once, and each server accepts a Start of a run once, over cuts and
@@ -65,7 +66,7 @@ pub fn ends_are_kept()
     numbers_grow();
     starts();
     packets_go_to_client();
-    packets_go_to_servers();
+    packets_go_to_peers();
     triggers_end_well();
     first_kept_stays();
     acks_are_for_kept_states();

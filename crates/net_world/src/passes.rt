@@ -3,7 +3,7 @@
 
 ghost use Rattle.net_world.specs.Passes.{SentStatesWereTaken, KeptStatesWereSent, SavedStatesAreKept, NoCopyIsSent, CheckedStatesWereSent};
 
-use client_core::{first_kept_stays, kept_was_sent, packets_go_to_servers, saved_is_kept};
+use client_core::{first_kept_stays, kept_was_sent, packets_go_to_peers, saved_is_kept};
 use server_core::{packets_go_to_client, the_taken, with_was_heard};
 
 /// Each state that was sent in a State was taken, by the server that its key names.
@@ -11,7 +11,7 @@ pub fn sent_states_were_taken()
     ensures { SentStatesWereTaken }
 {
     the_taken();
-    packets_go_to_servers();
+    packets_go_to_peers();
 }
 
 /// Each state that the client keeps was sent to it, by the server that its key names.
@@ -20,6 +20,7 @@ pub fn kept_states_were_sent()
 {
     state_table::found_states();
     kept_was_sent();
+    no_copy_is_sent();
 }
 
 /// Each state that was sent in a Saved is one that the client keeps.
@@ -35,7 +36,7 @@ pub fn saved_states_are_kept()
 pub fn no_copy_is_sent()
     ensures { NoCopyIsSent }
 {
-    packets_go_to_servers();
+    packets_go_to_peers();
     packets_go_to_client();
 }
 

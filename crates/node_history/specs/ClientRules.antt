@@ -67,11 +67,12 @@ abbrev pub said : Opening → List FrameEntry → Ask Input → Said
 said o past (Meets e) = record { answer = answer_to o past e; act = acts.None }
 said o past _ = record { answer = Plain; act = acts.None }
 
--- The entry that is added where all goes well.
+-- The entry that is added where all goes well. A restart is one without a mirror; a renewal and the loss of
+-- a note are never added.
 abbrev pub added : Opening → List FrameEntry → Ask Input → Option FrameEntry
 added o past (Meets e) = Some (answers.answered o past e)
 added o past Cuts = Some Cut
-added o past Restarts = Some Restart
+added o past Restarts = Some (Restart false)
 added o past Nothing = None
 
 -- What is refused doesn't stand in the list, but for a piece whose tag is dropped, without a save.
@@ -85,10 +86,10 @@ abbrev pub lost : Opening → List FrameEntry → Ask Input → Bool → Option 
 lost o past (Meets e) landed = option_map (λ addition. Met e (left_by landed)) (answers.due o past e)
 lost o past _ landed = None
 
--- The rules of a client that opens by a restart.
+-- The rules of a client that opens by a restart without a mirror.
 abbrev pub rules : Opening → Rules Input FrameEntry
 rules o = record {
-  opened = Restart ∷ [];
+  opened = Restart false ∷ [];
   asked = asked;
   refusal = refusal o;
   loads = loads o;

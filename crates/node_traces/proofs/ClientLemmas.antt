@@ -33,11 +33,12 @@ use Rattle.client_core.specs.History as history
 use Rattle.client_core.specs.History.{Opening}
 use Rattle.client_core.specs.Life.{life}
 use Rattle.client_core.specs.Packets.{packets_for}
-use Rattle.client_core.specs.Refusals.{is_for_client, is_own, is_server_of, faults_of_body}
+use Rattle.client_core.specs.Refusals.{is_for_client, is_from_server, is_from_mirror, is_server_of, faults_of_body}
+use Rattle.client_core.specs.declared.peers.Peers.{Peers}
 use Rattle.client_core.specs.Saves.{Addition, is_answer}
 use Rattle.client_core.specs.Words as words
 use Rattle.client_core.specs.Words.{is_on, noted}
-use Rattle.client_core.specs.Hearing.{FrameEntry, Met, Cut, Restart, coming, heard_at, packets_heard, rules as hearing}
+use Rattle.client_core.specs.Hearing.{FrameEntry, Met, Cut, Restart, Renew, Lose, coming, heard_at, packets_heard, rules as hearing}
 use Rattle.client_core.specs.FrameAnswers as answers
 use Rattle.node_history.specs.declared.answer.Said.{Said}
 use Rattle.node_history.specs.declared.came.Came.{Came}
@@ -58,13 +59,13 @@ to_client (Server s) h = cc
 to_client Client h = refl
 to_client Mirror h = cc
 
-both_true : (a b c : Bool) → ((a && b) && c) ≡ true → a ≡ true
-both_true true b c h = refl
-both_true false b c h = cc
+both_true : (a b : Bool) → (a && b) ≡ true → a ≡ true
+both_true true b h = refl
+both_true false b h = cc
 
-for_client : (servers : ℕ) (p : PacketParts) → is_for_client servers p ≡ true → is_client p.to ≡ true
+for_client : (peers : Peers) (p : PacketParts) → is_for_client peers p ≡ true → is_client p.to ≡ true
 unfolding is_for_client
-for_client servers p h = both_true (is_client p.to) (is_server_of servers p.from) (is_of_server (kind_of p.body) && is_own (node_number p.from) p.body) h
+for_client peers p h = both_true (is_client p.to) (is_from_server peers.servers p || is_from_mirror peers.mirror p) h
 
 whole_to : (on good : Bool) (others : List Fault) → MayPass (slice_get (when (not on) Down ++ (when (not good) Misdirected ++ others)) 0) → good ≡ true
 whole_to true true others h = refl
@@ -82,7 +83,7 @@ piece_to o past q false a b m h = absurd (strays (is_on past) h)
 
 to_me : (o : Opening) (past : List FrameEntry) (f : Frame) → MayPass (answers.refusal o past (inputs.Deliver f)) → to_of f ≡ Client
 to_me o past (Whole p) h =
-    to_client p.to (for_client o.servers p (whole_to (is_on (packets_heard o past)) (is_for_client o.servers p) (faults_of_body (noted o (packets_heard o past)) p.body) h))
+    to_client p.to (for_client (words.peers o (packets_heard o past)) p (whole_to (is_on (packets_heard o past)) (is_for_client (words.peers o (packets_heard o past)) p) (faults_of_body (noted o (packets_heard o past)) p.body) h))
 to_me o past (Piece q) h =
     to_client q.to (piece_to o (packets_heard o past) q (is_on (packets_heard o past)) (is_client q.to) (is_server_of o.servers q.from && is_of_server q.tag.whole) (said_by (look (heard_at o past).rows q)) h)
 
@@ -110,7 +111,7 @@ unanswered None y left (inr h) = cc
 
 call_quiet : (o : Opening) (list : List history.Entry) (c : Call) (left : Left) → Quiet (is_lost left) (words.refusal o list c) → answers.frames_by o list (Some (history.Met c left)) ≡ []
 call_quiet o list c left h =
-    ap (λ b. flat_map frames_of (if b then packets_for o.servers (noted o list) (life o list) c else [])) (unanswered (words.refusal o list c) (words.due o list c) left h)
+    ap (λ b. flat_map frames_of (if b then packets_for (words.peers o list) (noted o list) (life o list) c else [])) (unanswered (words.refusal o list c) (words.due o list c) left h)
 
 piece_quiet : (o : Opening) (list : List history.Entry) (q : PieceParts) (left : Left) (m : Meaning) → Quiet (is_lost left) (answers.refusal_in o list (answers.sense_of q m)) → answers.frames_by o list (heard_by (hearing o) left m) ≡ []
 piece_quiet o list q left (Says p) h = call_quiet o list (calls.Deliver p) left h
@@ -129,7 +130,7 @@ quiet o past inputs.Tick left h = call_quiet o (packets_heard o past) calls.Tick
 
 -- ---- the entry of an event
 
--- The entry is of what was asked, where it is a frame, and that is for the client.
+-- The entry is of what was asked, where it is a frame, and that is for the client; and it has no mirror.
 pub IsAsked : Ask Input → FrameEntry → Type 0
 IsAsked ask (Met (inputs.Deliver f) left) = (ask ≡ Meets (inputs.Deliver f)) × (to_of f ≡ Client)
 IsAsked ask (Met (inputs.Begin text) left) = Unit {0}
@@ -138,7 +139,9 @@ IsAsked ask (Met (inputs.Stop run) left) = Unit {0}
 IsAsked ask (Met (inputs.Verify run text) left) = Unit {0}
 IsAsked ask (Met inputs.Tick left) = Unit {0}
 IsAsked ask Cut = Unit {0}
-IsAsked ask Restart = Unit {0}
+IsAsked ask (Restart mirror) = mirror ≡ false
+IsAsked ask (Renew g left) = ⊥
+IsAsked ask Lose = ⊥
 
 -- What an event adds: an entry, whose frames it sends.
 pub record Adds (o : Opening) (past : List FrameEntry) (ask : Ask Input) (sent : List (List ℕ)) (after : List FrameEntry) : Type 0 where
@@ -169,7 +172,7 @@ unfolding IsAsked
 accepted o past (Meets e) entry free is =
     subst (IsAsked (Meets e)) (some_is (answers.answered o past e) entry is) (met_asked o past e _ (as_core (is_up o past) (answers.refusal o past e) (inl free)))
 accepted o past Cuts entry free is = subst (IsAsked Cuts) (some_is Cut entry is) tt
-accepted o past Restarts entry free is = subst (IsAsked Restarts) (some_is Restart entry is) tt
+accepted o past Restarts entry free is = subst (IsAsked Restarts) (some_is (Restart false) entry is) refl
 accepted o past Nothing entry free is = cc
 
 lost_of : (landed : Bool) → is_lost (left_by landed) ≡ true
@@ -284,13 +287,15 @@ asked_of frames came.Restart h = tt
 happens : (frames : List Frame) (ask : Ask Input) (e : FrameEntry) → IsOf frames ask → IsAsked ask e → MayHappen frames (OfClient (coming e))
 unfolding IsOf IsAsked
 happens frames ask (Met (inputs.Deliver f) left) h k = (subst (IsOf frames) k.0 h, k.1)
-happens frames ask (Met (inputs.Begin text) left) h k = refl
-happens frames ask (Met (inputs.Trigger run act) left) h k = refl
-happens frames ask (Met (inputs.Stop run) left) h k = refl
-happens frames ask (Met (inputs.Verify run text) left) h k = refl
-happens frames ask (Met inputs.Tick left) h k = refl
-happens frames ask Cut h k = refl
-happens frames ask Restart h k = refl
+happens frames ask (Met (inputs.Begin text) left) h k = (refl, refl)
+happens frames ask (Met (inputs.Trigger run act) left) h k = (refl, refl)
+happens frames ask (Met (inputs.Stop run) left) h k = (refl, refl)
+happens frames ask (Met (inputs.Verify run text) left) h k = (refl, refl)
+happens frames ask (Met inputs.Tick left) h k = (refl, refl)
+happens frames ask Cut h k = (refl, refl)
+happens frames ask (Restart mirror) h k = (refl, ap not k)
+happens frames ask (Renew g left) h k = absurd k
+happens frames ask Lose h k = absurd k
 
 -- It may happen behind these frames.
 pub client_happens : (frames : List Frame) (c : Came) (e : FrameEntry) → CameOf frames (frame_of c) → IsAsked (asked c) e → MayHappen frames (OfClient (coming e))

@@ -22,7 +22,7 @@ const JOB: JobParts = JobParts {
 
 /// A client that keeps so many states.
 pub fn client_with(alloc: Global, kept: u32) -> Result<Client<MemNotes>, Trouble> {
-    match Client::restart(alloc, 1, MemNotes::new(note_of(alloc, kept)?)) {
+    match Client::restart(alloc, 1, false, MemNotes::new(note_of(alloc, kept)?)) {
         Ok(client) => Ok(client),
         Err((_, fault)) => Err(Trouble::Refused(fault)),
     }
@@ -31,9 +31,10 @@ pub fn client_with(alloc: Global, kept: u32) -> Result<Client<MemNotes>, Trouble
 /// The note of so many states.
 fn note_of(alloc: Global, kept: u32) -> Result<Vec<u8>, Trouble> {
     let mut note = Vec::new(alloc);
-    note.extend_from_slice(b"FCC1")?;
-    note.extend_from_slice(&0u64.to_be_bytes())?;
-    note.extend_from_slice(&0u64.to_be_bytes())?;
+    note.extend_from_slice(b"FCC2")?;
+    for _ in 0..3 {
+        note.extend_from_slice(&0u64.to_be_bytes())?;
+    }
     note.extend_from_slice(&kept.to_be_bytes())?;
     for index in 0..kept {
         let state = state_of(index)?.encode(alloc)?;

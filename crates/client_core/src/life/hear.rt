@@ -1,7 +1,11 @@
 //! What a server says.
 
-ghost use Rattle.std.specs.Prelude.{◌≡◌, ◌<◌, ◌∷◌, IsTrue, List, Some, OnOk, OnErr};
+ghost use Rattle.std.specs.Prelude.{◌≡◌, ◌<◌, ◌∷◌, true, IsTrue, List, Some, OnOk, OnErr};
+ghost use Rattle.fc_base.specs.Keys.{is_same_key};
+ghost use Rattle.indexmap.specs.IndexSet.{IsUnchanged, Updates};
 ghost use Rattle.messages.specs.Ranges.{is_body};
+ghost use Rattle.messages.specs.Bodies.{kind_of};
+ghost use Rattle.messages.specs.Kinds.{is_of_mirror};
 ghost use Rattle.client_core.specs.Life.{Deed, Hears};
 ghost use Rattle.client_core.specs.Lives.{LifeIs, EachLife, RunsAre, AttemptsAre, AttemptFor};
 ghost use Rattle.client_core.specs.Told.{IsNoReport};
@@ -12,7 +16,7 @@ use super::Life;
 use crate::attempt_asked::AttemptAsked;
 use crate::received::Received;
 use crate::told::{attempt_told, run_told};
-use fc_base::{Attempt, ServerNo};
+use fc_base::{Attempt, Key, ServerNo};
 use messages::Body;
 use std::alloc::AllocError;
 
@@ -49,6 +53,34 @@ impl Life {
         }
     }
 
+    /// What the mirror says. Where memory runs out, nothing is heard.
+    pub fn hear_mirror(&mut self, body: &Body) -> Result<(), AllocError>
+        requires { IsTrue (is_of_mirror (kind_of body.now)) }
+        ensures left { OnOk result (EachLife self.old
+            (λ deeds. LifeIs self.new (Hears 9 body.now ∷ deeds))) }
+        ensures same { OnErr result (EachLife self.old (LifeIs self.new)) }
+    {
+        match body {
+            Body::CopyOk { run, server, job } => {
+                let (run, server, job) = (*run, *server, *job);
+                self.add_copied(Key { run, server, job })
+            }
+            _ => Ok(()),
+        }
+    }
+
+    /// The mirror keeps the state of this key.
+    fn add_copied(&mut self, key: Key) -> Result<(), AllocError>
+        ensures copied { OnOk result (Updates is_same_key self.old.copied self.new.copied key true) }
+        ensures same { OnErr result (IsUnchanged self.old.copied self.new.copied) }
+        ensures runs { self.new.runs ≡ self.old.runs }
+        ensures attempts { self.new.attempts ≡ self.old.attempts }
+        ensures reports { self.new.reports.items ≡ self.old.reports.items }
+    {
+        self.copied.insert(key)?;
+        Ok(())
+    }
+
     /// What a server says, but for a report.
     pub fn hear(&mut self, server: u32, body: &Body)
         requires server { server < 8 }
@@ -68,6 +100,7 @@ impl Life {
             RunsAre self.new (Hears server body.now ∷ deeds) }
         ensures attempts { self.new.attempts ≡ self.old.attempts }
         ensures reports { self.new.reports.items ≡ self.old.reports.items }
+        ensures copied { self.new.copied ≡ self.old.copied }
     {
         let run = run_told(body);
         if let Some(asked) = self.runs.get_mut(&run.0) {
@@ -83,6 +116,7 @@ impl Life {
             AttemptsAre self.new (Hears server body.now ∷ deeds) }
         ensures runs { self.new.runs ≡ self.old.runs }
         ensures reports { self.new.reports.items ≡ self.old.reports.items }
+        ensures copied { self.new.copied ≡ self.old.copied }
     {
         let attempt = attempt_told(body);
         if let Some(place) = self.attempts.get_mut(&attempt.0) {

@@ -4,13 +4,14 @@ ghost use Rattle.std.specs.Prelude.{◌≡◌, ◌<◌, ◌≤◌, List, length}
 ghost use Rattle.client_core.specs.Begins.{begin_at};
 ghost use Rattle.client_core.specs.Life.{Deed, text_of};
 ghost use Rattle.client_core.specs.Lives.{EachLife};
+ghost use Rattle.client_core.specs.Packets.{is_copied};
 ghost use Rattle.client_core.specs.Outcomes.{request_outcome, outcome_at, all_ended};
 ghost use Rattle.client_core.specs.Requests.{trigger_at, stop_at, verify_at};
 
 use super::Life;
 use crate::beginning::Beginning;
 use crate::outcome::{Outcome, RequestKind};
-use fc_base::{Attempt, RunNo};
+use fc_base::{Attempt, Key, RunNo};
 
 impl Life {
     /// How far the begin of a run is at a server.
@@ -79,6 +80,13 @@ impl Life {
             Some(Some(asked)) => asked.verify_at(server),
             _ => Outcome::None,
         }
+    }
+
+    /// Whether the mirror said in this life that it keeps the state of this key.
+    pub fn is_copied(&self, key: Key) -> bool
+        ensures { EachLife self.now (λ deeds. result ≡ is_copied key deeds) }
+    {
+        self.copied.contains(&key)
     }
 
     /// Whether the trigger of a run has ended at each of so many servers.

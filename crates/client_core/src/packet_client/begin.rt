@@ -35,7 +35,8 @@ impl<N: Notes> PacketClient<N> {
             return Err(fault);
         }
         let run = RunNo(self.noted.runs + 1);
-        let Ok((frames, text)) = begin_frames(self.alloc, self.servers.count(), run, text) else {
+        let Ok((frames, text)) = begin_frames(self.alloc, self.peers.servers.count(), run, text)
+        else {
             return Err(Fault::NoMemory);
         };
         if self.life.make_room_for_run(run).is_err() {
@@ -60,7 +61,7 @@ impl<N: Notes> PacketClient<N> {
 
     /// Why a run with this job file isn't begun.
     fn begin_refusal(&self, text: &[u8]) -> Option<Fault>
-        ensures { result ≡ refusal_by (not self.now.down) self.now.servers self.now.noted (Begin text.now) }
+        ensures { result ≡ refusal_by (not self.now.down) self.now.peers self.now.noted (Begin text.now) }
     {
         if self.down {
             return Some(Fault::Down);
@@ -68,7 +69,7 @@ impl<N: Notes> PacketClient<N> {
         if !is_text(text) {
             return Some(Fault::JobTooLong);
         }
-        if !has_next(self.noted.runs) {
+        if !has_next(&self.peers, self.noted.generation, self.noted.runs) {
             return Some(Fault::NumbersSpent);
         }
         None

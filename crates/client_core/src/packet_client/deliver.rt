@@ -1,9 +1,11 @@
 //! A packet of a server is delivered.
 
-ghost use Rattle.std.specs.Prelude.{◌≡◌, ◌<◌, [], not, false, List, None, IsTrue};
+ghost use Rattle.std.specs.Prelude.{◌≡◌, ◌<◌, [], not, false, true, List, None, IsTrue};
 ghost use Rattle.messages.specs.declared.packet.PacketParts.{PacketParts as Parts};
-ghost use Rattle.messages.specs.Nodes.{node_number};
+ghost use Rattle.messages.specs.Nodes.{node_number, is_client, is_mirror};
 ghost use Rattle.messages.specs.Ranges.{is_body, KeepsState};
+ghost use Rattle.messages.specs.Bodies.{kind_of};
+ghost use Rattle.messages.specs.Kinds.{is_of_mirror};
 ghost use Rattle.client_core.specs.declared.call.Call.TheVariants.{Deliver};
 ghost use Rattle.client_core.specs.Ends.{Ends};
 ghost use Rattle.client_core.specs.History.{Opening, Entry};
@@ -31,9 +33,13 @@ impl<N: Notes> PacketClient<N> {
         if let Some(fault) = self.refusal(&packet) {
             return Err(fault);
         }
-        self.servers.are_few();
+        self.peers.servers.are_few();
+        let mirror = packet.from().is_mirror();
         let server = packet.from().number();
         let PacketParts { body, .. } = packet.into_parts();
+        if mirror {
+            return self.hear_mirror(&body);
+        }
         self.hear(server, body)
     }
 
@@ -46,13 +52,20 @@ impl<N: Notes> PacketClient<N> {
         requires free { faults_of_body self.old.noted body ≡ [] }
         ensures { (o : Opening) (past : List Entry) (p : Parts) → p.body ≡ body →
             node_number p.from ≡ server →
-            refusal_by (not self.old.down) self.old.servers self.old.noted (Deliver p) ≡ None →
+            refusal_by (not self.old.down) self.old.peers self.old.noted (Deliver p) ≡ None →
             StandsFor N.note self.old o past →
             Ends N.note o past (Deliver p) self.old self.new result }
     {
         notes_are_read_back();
         found_after_a_push();
-        let Ok(frames) = replies(self.alloc, &self.noted, &self.life, server, &body) else {
+        let Ok(frames) = replies(
+            self.alloc,
+            self.peers.mirror,
+            &self.noted,
+            &self.life,
+            server,
+            &body,
+        ) else {
             return Err(Fault::NoMemory);
         };
         match new_state(&self.noted, &body) {
@@ -65,6 +78,36 @@ impl<N: Notes> PacketClient<N> {
             },
             None => match self.life.hear_any(server, body) {
                 Ok(()) => Ok(frames),
+                Err(_) => Err(Fault::NoMemory),
+            },
+        }
+    }
+
+    /// Takes what the mirror says, which isn't refused. Nothing is replied.
+    fn hear_mirror(&mut self, body: &Body) -> Result<Frames, Fault>
+        requires up { self.old.down ≡ false }
+        requires mirror { self.old.peers.mirror ≡ true }
+        requires kind { IsTrue (is_of_mirror (kind_of body.now)) }
+        requires state { KeepsState body.now }
+        requires free { faults_of_body self.old.noted body.now ≡ [] }
+        ensures { (o : Opening) (past : List Entry) (p : Parts) → p.body ≡ body.now →
+            IsTrue (is_mirror p.from) → IsTrue (is_client p.to) →
+            refusal_by (not self.old.down) self.old.peers self.old.noted (Deliver p) ≡ None →
+            StandsFor N.note self.old o past →
+            Ends N.note o past (Deliver p) self.old self.new result }
+    {
+        notes_are_read_back();
+        found_after_a_push();
+        match new_state(&self.noted, body) {
+            Some(state) => match self.keep(state) {
+                Ok(()) => Ok(Frames::new(self.alloc)),
+                Err(unsaved) => Err(unsaved),
+            },
+            None => match self.life.hear_mirror(body) {
+                Ok(()) => {
+                    self.peers.hear(self.noted.generation, body);
+                    Ok(Frames::new(self.alloc))
+                }
                 Err(_) => Err(Fault::NoMemory),
             },
         }

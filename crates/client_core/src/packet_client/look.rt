@@ -30,7 +30,7 @@ impl<N: Notes> PacketClient<N> {
         ensures { (o : Opening) (past : List Entry) → StandsFor N.note self.now o past →
             result ≡ outcome o (looked past) kind number server }
     {
-        let servers = self.servers.count();
+        let servers = self.peers.servers.count();
         if server.0 < servers {
             self.life.outcome(kind, number, server.0)
         } else {
@@ -43,6 +43,6 @@ impl<N: Notes> PacketClient<N> {
         ensures { (o : Opening) (past : List Entry) → StandsFor N.note self.now o past →
             result ≡ settled o (looked past) run }
     {
-        self.life.settled(run, self.servers.count())
+        self.life.settled(run, self.peers.servers.count())
     }
 }

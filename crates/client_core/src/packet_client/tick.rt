@@ -7,13 +7,14 @@ ghost use Rattle.client_core.specs.History.{Opening, Entry};
 ghost use Rattle.client_core.specs.Stands.{StandsFor};
 
 use super::PacketClient;
+use crate::mirrored::all_again;
 use disk_model::Notes;
 use fc_base::Fault;
 use messages::Frames;
 
 impl<N: Notes> PacketClient<N> {
-    /// Asks again for all that isn't answered: by run its begin, its trigger and its stop, each by
-    /// server, and then by attempt the verifies. It changes nothing.
+    /// Asks again for all that isn't answered: the grant of the generation; by run its begin, its trigger
+    /// and its stop, each by server; by attempt the verifies; and the copies of states. It changes nothing.
     ///
     /// In this order: `Down`; `NoMemory`.
     pub(crate) fn tick(&self) -> Result<Frames, Fault>
@@ -23,7 +24,7 @@ impl<N: Notes> PacketClient<N> {
         if self.down {
             return Err(Fault::Down);
         }
-        match self.life.all_again(self.alloc, self.servers.count()) {
+        match all_again(self.alloc, &self.peers, &self.noted, &self.life) {
             Ok(frames) => Ok(frames),
             Err(_) => Err(Fault::NoMemory),
         }

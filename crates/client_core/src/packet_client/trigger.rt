@@ -26,7 +26,11 @@ impl<N: Notes> PacketClient<N> {
         if let Some(fault) = self.run_refusal(run) {
             return Err(fault);
         }
-        let Ok(frames) = to_all(self.alloc, self.servers.count(), Body::Trigger { run, act }) else {
+        let Ok(frames) = to_all(
+            self.alloc,
+            self.peers.servers.count(),
+            Body::Trigger { run, act },
+        ) else {
             return Err(Fault::NoMemory);
         };
         if self.life.make_room_for_run(run).is_err() {
@@ -46,7 +50,7 @@ impl<N: Notes> PacketClient<N> {
         if let Some(fault) = self.run_refusal(run) {
             return Err(fault);
         }
-        let Ok(frames) = to_all(self.alloc, self.servers.count(), Body::Stop { run }) else {
+        let Ok(frames) = to_all(self.alloc, self.peers.servers.count(), Body::Stop { run }) else {
             return Err(Fault::NoMemory);
         };
         if self.life.make_room_for_run(run).is_err() {
@@ -58,7 +62,7 @@ impl<N: Notes> PacketClient<N> {
 
     /// Why a run isn't triggered or stopped.
     fn run_refusal(&self, run: RunNo) -> Option<Fault>
-        ensures why { result ≡ refusal_by (not self.now.down) self.now.servers self.now.noted (Stop run) }
+        ensures why { result ≡ refusal_by (not self.now.down) self.now.peers self.now.noted (Stop run) }
         ensures range { result ≡ None → IsTrue (is_run run) }
     {
         if self.down {

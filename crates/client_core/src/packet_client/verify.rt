@@ -39,7 +39,7 @@ impl<N: Notes> PacketClient<N> {
             return Err(fault);
         }
         let attempt = Attempt(self.noted.attempts + 1);
-        let servers = self.servers.count();
+        let servers = self.peers.servers.count();
         let Ok((frames, asked)) = verify_frames(self.alloc, servers, run, attempt, text) else {
             return Err(Fault::NoMemory);
         };
@@ -66,7 +66,7 @@ impl<N: Notes> PacketClient<N> {
     /// Why a run isn't verified by this job file.
     fn verify_refusal(&self, run: RunNo, text: &[u8]) -> Option<Fault>
         ensures why { result
-            ≡ refusal_by (not self.now.down) self.now.servers self.now.noted (Verifying run text.now) }
+            ≡ refusal_by (not self.now.down) self.now.peers self.now.noted (Verifying run text.now) }
         ensures range { result ≡ None → IsTrue (is_run run) }
     {
         if self.down {
@@ -78,7 +78,7 @@ impl<N: Notes> PacketClient<N> {
         if !is_text(text) {
             return Some(Fault::JobTooLong);
         }
-        if !has_next(self.noted.attempts) {
+        if !has_next(&self.peers, self.noted.generation, self.noted.attempts) {
             return Some(Fault::NumbersSpent);
         }
         None

@@ -8,8 +8,18 @@ use std::alloc::Global;
 /// by hand, from the field's range.
 type Field = (usize, u32);
 
-/// What stands before the states: the magic, the runs, the attempts and the number of states.
-const HEAD: [Field; 4] = [(4, 0), (8, 2_040), (8, 2_040), (4, 0)];
+/// What stands before the states: the magic, the generation, which is below 2 ^ 32, the runs, the attempts
+/// and the number of states.
+const HEAD: [Field; 5] = [(4, 0), (8, 1_020), (8, 2_040), (8, 2_040), (4, 0)];
+
+/// What bytes are changed to in a note from before there were generations.
+const VALUES: [u8; 4] = [0, 1, 0x80, 0xff];
+
+/// How many such changes leave that note, by hand: 25 of the runs and as many of the attempts. Of each
+/// state 23 of the run, 1 of the server, 1 of the kind, 1 of how it is verified, 1 of the block's bytes, 6 of
+/// the blocks, 6 of the writes, 24 of the seed, 1 of the writes in flight, 2 of the window, 1 of the writes
+/// issued, 128 of the place of the generator, and 1 of the writes that are done.
+pub const OLD_CHANGES: u32 = 25 + 25 + 2 * 196;
 
 /// Each of two states, that of job 0 and that of job 1. Its job has 2 blocks and 2 writes, 2 at a time, which
 /// are issued, and write 0 is done.
@@ -86,6 +96,28 @@ pub fn first_unlike(alloc: Global, note: &mut [u8]) -> Result<Option<(usize, u32
     } else {
         Some((start, 0))
     })
+}
+
+/// How many changes of one byte to one of these values leave a note.
+pub fn changes_to_values(alloc: Global, note: &mut [u8]) -> Result<u32, Trouble> {
+    let mut count: u32 = 0;
+    for at in 0..note.len() {
+        for value in &VALUES {
+            let bits = bits_between(note.get(at), *value);
+            if bits != 0 && is_changed_note(alloc, note, at, bits)? {
+                count = count.saturating_add(1);
+            }
+        }
+    }
+    Ok(count)
+}
+
+/// In which bits a byte differs from a value.
+fn bits_between(byte: Option<&u8>, value: u8) -> u8 {
+    match byte {
+        Some(byte) => *byte ^ value,
+        None => 0,
+    }
 }
 
 /// How many changes of one byte at these places leave a note.

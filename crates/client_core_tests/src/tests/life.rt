@@ -2,9 +2,10 @@
 
 use super::calls::{Given, ask, asked_in, frame_in, spell_answer, would_save};
 use super::looks::{is_look, shows};
-use super::named::put_word;
-use super::spelling::{Spelling, first_word, put_hex, put_number};
+use super::opening::{Opening, opened, opening_in};
+use super::spelling::{Spelling, first_word};
 use super::trouble::Trouble;
+use super::written::put_note;
 use client_core::Client;
 use disk_model::Notes;
 use fc_base::Fault;
@@ -63,7 +64,8 @@ impl<N: Notes + Drop> Life<N> {
         let (event, answer) = (event.trim(), answer.trim());
         let (word, rest) = first_word(event);
         match word {
-            "restart" => self.restarts(answer),
+            "restart" | "renew" => self.opens(&opening_in(event)?, answer),
+            "note" => self.changes_note(rest, answer),
             "would_save" => self.would_save(rest, answer),
             _ if is_look(word) => self.is_shown(word, rest, answer),
             _ => {
@@ -98,16 +100,46 @@ impl<N: Notes + Drop> Life<N> {
         }
     }
 
-    /// Takes the client off, and restarts it: whether its note had the bytes of the answer, and it is
+    /// Takes the client off, and opens it so: whether its note had the bytes of the answer, and it is
     /// opened, or refused by the number behind `/`.
-    fn restarts(&mut self, answer: &str) -> Result<bool, Trouble> {
+    fn opens(&mut self, opening: &Opening, answer: &str) -> Result<bool, Trouble> {
         let (note, fault) = match answer.split_once('/') {
             Some((note, fault)) => (note, fault.trim().parse::<u8>().unwrap_or(0)),
             None => (answer, 0),
         };
         let mut notes = self.off()?;
         let said = self.is_noted(&mut notes, note.trim())?;
-        Ok(said && self.restart(notes) == fault)
+        Ok(said && self.open(notes, opening) == fault)
+    }
+
+    /// Takes the client off, and writes its note anew: whether it had the bytes of the answer.
+    fn changes_note(&mut self, words: &str, answer: &str) -> Result<bool, Trouble> {
+        let mut notes = self.off()?;
+        let said = self.is_noted(&mut notes, answer)?;
+        self.write_note(&mut notes, words)?;
+        self.notes = Some(notes);
+        Ok(said)
+    }
+
+    /// Writes a note, once more where memory ran out.
+    fn write_note(&mut self, notes: &mut N, words: &str) -> Result<(), Trouble> {
+        match self.write_note_once(notes, words) {
+            Err(Trouble::NoMemory) => {
+                self.wants = self.wants.saturating_add(1);
+                self.write_note_once(notes, words)
+            }
+            answer => answer,
+        }
+    }
+
+    fn write_note_once(&mut self, notes: &mut N, words: &str) -> Result<(), Trouble> {
+        self.wanted.clear();
+        put_note(&mut self.wanted, words)?;
+        match notes.save(&self.wanted) {
+            Ok(()) => Ok(()),
+            Err(Fault::NoMemory) => Err(Trouble::NoMemory),
+            Err(_) => Err(Trouble::NoClient),
+        }
     }
 
     /// The notes of the client, which then is off.
@@ -135,27 +167,19 @@ impl<N: Notes + Drop> Life<N> {
         }
     }
 
-    /// Restarts the client over its notes, once more where memory ran out: 0, or the fault's number.
-    pub fn restart(&mut self, notes: N) -> u8 {
-        match self.open(notes) {
+    /// Opens the client over its notes, once more where memory ran out: 0, or the fault's number.
+    pub fn open(&mut self, notes: N, opening: &Opening) -> u8 {
+        match opened(self.alloc, self.servers, notes, opening) {
             Err((notes, Fault::NoMemory)) => {
                 self.wants = self.wants.saturating_add(1);
-                let again = self.open(notes);
-                self.opened(again)
+                let again = opened(self.alloc, self.servers, notes, opening);
+                self.take_opened(again)
             }
-            answer => self.opened(answer),
+            answer => self.take_opened(answer),
         }
     }
 
-    fn open(&self, notes: N) -> Result<Client<N>, (N, Fault)> {
-        if self.servers == 1 {
-            Client::restart(self.alloc, 1, notes)
-        } else {
-            Client::restart(self.alloc, 2, notes)
-        }
-    }
-
-    fn opened(&mut self, answer: Result<Client<N>, (N, Fault)>) -> u8 {
+    fn take_opened(&mut self, answer: Result<Client<N>, (N, Fault)>) -> u8 {
         match answer {
             Ok(client) => {
                 self.client = Some(client);
@@ -232,29 +256,4 @@ fn shown<N: Notes>(client: &Client<N>) -> (u64, u64, usize, bool) {
         client.reports().len(),
         client.is_blank(),
     )
-}
-
-/// Puts the bytes of a note: none for `-`; those that stand there in hexadecimal; or those of so many
-/// runs, so many attempts and these states.
-pub fn put_note(bytes: &mut Vec<u8>, words: &str) -> Result<(), Trouble> {
-    if words == "-" {
-        return Ok(());
-    }
-    if words.starts_with("4643") {
-        return put_hex(bytes, words);
-    }
-    let states = words.split_whitespace().count().saturating_sub(2);
-    let mut words = words.split_whitespace();
-    let runs = words.next().and_then(|word| word.parse::<u64>().ok());
-    let attempts = words.next().and_then(|word| word.parse::<u64>().ok());
-    bytes.extend_from_slice(b"FCC1")?;
-    put_number(bytes, runs.unwrap_or(0), 8)?;
-    put_number(bytes, attempts.unwrap_or(0), 8)?;
-    put_number(bytes, states as u64, 4)?;
-    for word in words {
-        let length = if word.starts_with("listed") { 108 } else { 136 };
-        put_number(bytes, length, 4)?;
-        put_word(bytes, word)?;
-    }
-    Ok(())
 }

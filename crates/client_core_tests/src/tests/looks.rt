@@ -1,6 +1,8 @@
 //! What a client shows, and what rows say of it.
 
+use super::calls::text_in;
 use super::named::put_word;
+use super::spelling::first_word;
 use super::trouble::Trouble;
 use super::words::{kind_in, next_u32, next_u64};
 use client_core::{Client, Outcome, Received};
@@ -14,7 +16,14 @@ use verify_state::VerifyState;
 pub fn is_look(word: &str) -> bool {
     matches!(
         word,
-        "on" | "used" | "blank" | "saved" | "reports" | "outcome" | "settled"
+        "on" | "used"
+            | "blank"
+            | "saved"
+            | "reports"
+            | "outcome"
+            | "settled"
+            | "would_begin"
+            | "would_verify"
     )
 }
 
@@ -36,6 +45,13 @@ pub fn shows<N: Notes>(
         "settled" => {
             let run = of.parse::<u64>().unwrap_or(0);
             Ok(is_told(client.settled(RunNo(run)), words))
+        }
+        "would_begin" => Ok(is_told(client.begin_would_save(&text_in(alloc, of)?), words)),
+        "would_verify" => {
+            let (run, text) = first_word(of);
+            let run = RunNo(run.parse::<u64>().unwrap_or(0));
+            let text = text_in(alloc, text)?;
+            Ok(is_told(client.verify_would_save(run, &text), words))
         }
         _ => Err(Trouble::BadRow),
     }

@@ -1,16 +1,21 @@
 //! What a client is restarted over.
 
-use super::life::{Life, put_note};
+use super::life::Life;
 use super::named::put_word;
+use super::opening::{Opening, opened};
 use super::spelling::put_number;
 use super::trouble::Trouble;
-use client_core::{Client, Noted};
+use super::written::put_note;
+use client_core::Noted;
 use disk_model::{MemNotes, Notes};
-use fc_base::Fault;
+use fc_base::{Fault, Generation};
 use std::alloc::Global;
 
 /// Two states, of two jobs.
 pub const TWO: &str = "3 2 first first~19=1";
+
+/// The same in a note from before there were generations.
+pub const OLD_TWO: &str = "old 3 2 first first~19=1";
 
 /// Notes, and the number of the refusal, or 0.
 pub const NOTES: &str = "
@@ -20,7 +25,27 @@ pub const NOTES: &str = "
     4643433100000000000000010000000000000001000000 => 54
     46434331 => 54
     4643 => 54
-    464343320000000000000001000000000000000000000000 => 54
+    old 3 2 first first~19=1 => 0
+    old 3 2 listed first~19=1 => 0
+    old 3 2 first listed => 54
+    old 3 2 first~11=0 => 54
+    46434332_0000000000000000_0000000000000000_0000000000000000_00000000 => 0
+    46434332_0000000000000001_0000000000000001_0000000000000001_00000000 => 0
+    46434332_00000000ffffffff_ffffffffffffffff_ffffffffffffffff_00000000 => 0
+    46434332_0000000100000000_0000000000000001_0000000000000001_00000000 => 54
+    46434332_ffffffffffffffff_0000000000000001_0000000000000001_00000000 => 54
+    46434332_0000000000000001_0000000000000001_0000000000000001_0000000000 => 54
+    46434332_0000000000000001_0000000000000001_0000000000000001_000000 => 54
+    46434332_0000000000000001_0000000000000001 => 54
+    46434332_0000000000000001 => 54
+    46434332_00000000000001 => 54
+    46434332 => 54
+    46434332_0000000000000001_0000000000000001_0000000000000001_00000400 => 54
+    46434332_0000000000000001_0000000000000001_0000000000000001_00000401 => 54
+    46434332_0000000000000001_0000000000000001_0000000000000001_00000001_ffffffff => 54
+    46434333_0000000000000000_0000000000000000_0000000000000000_00000000 => 54
+    46434330_0000000000000000_0000000000000000_00000000 => 54
+    46434d31_0000000000000001_00000000 => 54
     46434e3100000000000000010000000000000000 => 54
     46434e31000000000000000100000000000000 => 54
     464343310000000000000000000000000000000000000400 => 54
@@ -67,7 +92,7 @@ fn is_restarted(
     answer: Option<u8>,
 ) -> Result<bool, Trouble> {
     let notes = life.off()?;
-    if Some(life.restart(notes)) != answer {
+    if Some(life.open(notes, &Opening::Restarted)) != answer {
         return Ok(false);
     }
     still_says(life, words)
@@ -90,7 +115,7 @@ pub fn note_of(alloc: Global, count: u32) -> Result<Vec<u8>, Trouble> {
 fn note_once(alloc: Global, count: u32) -> Result<Vec<u8>, Trouble> {
     let mut bytes = Vec::new(alloc);
     put_note(&mut bytes, "0 0")?;
-    bytes.truncate(20);
+    bytes.truncate(28);
     put_number(&mut bytes, u64::from(count), 4)?;
     for index in 0..count {
         put_number(&mut bytes, 136, 4)?;
@@ -111,8 +136,8 @@ fn put_state(bytes: &mut Vec<u8>, index: u32) -> Result<(), Trouble> {
     Ok(())
 }
 
-/// Whether bytes are a note, which has to be written as just these bytes. Where memory runs out, they are
-/// read again.
+/// Whether bytes are a note, which has to be written as just these bytes, or with generation 0 where it is
+/// from before there were generations. Where memory runs out, they are read again.
 pub fn is_note(alloc: Global, bytes: &[u8]) -> Result<bool, Trouble> {
     match is_note_once(alloc, bytes) {
         Err(Trouble::NoMemory) => is_note_once(alloc, bytes),
@@ -124,10 +149,18 @@ fn is_note_once(alloc: Global, bytes: &[u8]) -> Result<bool, Trouble> {
     let Some(noted) = Noted::decode(alloc, bytes)? else {
         return Ok(false);
     };
-    if noted.encode(alloc)?.as_slice() == bytes {
+    if is_written_so(bytes, &noted.encode(alloc)?) {
         Ok(true)
     } else {
         Err(Trouble::Changed)
+    }
+}
+
+/// Whether a note that was read is to be written so.
+fn is_written_so(read: &[u8], written: &[u8]) -> bool {
+    match read.strip_prefix(b"FCC1") {
+        Some(old) => written.strip_prefix(b"FCC2\0\0\0\0\0\0\0\0") == Some(old),
+        None => read == written,
     }
 }
 
@@ -156,14 +189,42 @@ impl Notes for UnreadNotes {
     }
 }
 
-/// Whether notes whose load fails come back with that.
-pub fn comes_back(alloc: Global) -> bool {
-    let notes = UnreadNotes {
+/// What a client is opened by over notes whose first load fails and which save nothing, one after the other,
+/// and the number of each refusal: none of the generations that aren't any loads the note.
+const REFUSALS: [(Opening, u8); 5] = [
+    (Opening::Renewed(Generation(0)), 88),
+    (Opening::Renewed(Generation(4_294_967_296)), 88),
+    (Opening::Renewed(Generation(1)), 55),
+    (Opening::Renewed(Generation(1)), 35),
+    (Opening::RestartedWithMirror, 54),
+];
+
+/// Whether notes whose load fails, and which save nothing, come back with each refusal.
+pub fn come_back(alloc: Global) -> bool {
+    is_restart_refused(alloc) && are_refused(alloc)
+}
+
+fn blank_notes(alloc: Global) -> UnreadNotes {
+    UnreadNotes {
         alloc,
         failed: false,
-    };
-    match Client::restart(alloc, 1, notes) {
+    }
+}
+
+fn is_restart_refused(alloc: Global) -> bool {
+    match opened(alloc, 1, blank_notes(alloc), &Opening::Restarted) {
         Err((notes, Fault::LoadFault)) => notes.failed,
         _ => false,
     }
+}
+
+fn are_refused(alloc: Global) -> bool {
+    let mut notes = blank_notes(alloc);
+    for (opening, number) in &REFUSALS {
+        notes = match opened(alloc, 1, notes, opening) {
+            Err((back, fault)) if fault.number() == *number => back,
+            _ => return false,
+        };
+    }
+    true
 }

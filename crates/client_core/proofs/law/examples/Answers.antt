@@ -1,4 +1,4 @@
-use Rattle.client_core.proofs.ExampleLemmas.{begins, waits_for_the_busy, keeps_the_first, triggers_to_the_end, verifies, goes_down, keeps_what_is_noted, forgets_by_a_cut, asks_again_in_order, spends_numbers}
+use Rattle.client_core.proofs.ExampleLemmas.{begins, waits_for_the_busy, keeps_the_first, triggers_to_the_end, verifies, goes_down, keeps_what_is_noted, forgets_by_a_cut, asks_again_in_order, spends_numbers, numbers_once_granted, copies_what_is_kept, fetches_what_was_lost, hears_its_mirror_alone}
 use Rattle.client_core.proofs.law.examples.Goals as goal
 
 pub returns-clause-begins : goal.returns-clause-begins
@@ -30,3 +30,15 @@ returns-clause-order c = asks_again_in_order
 
 pub returns-clause-spends : goal.returns-clause-spends
 returns-clause-spends c = spends_numbers
+
+pub returns-clause-granted : goal.returns-clause-granted
+returns-clause-granted c = numbers_once_granted
+
+pub returns-clause-copies : goal.returns-clause-copies
+returns-clause-copies c = copies_what_is_kept
+
+pub returns-clause-fetches : goal.returns-clause-fetches
+returns-clause-fetches c = fetches_what_was_lost
+
+pub returns-clause-mirror_alone : goal.returns-clause-mirror_alone
+returns-clause-mirror_alone c = hears_its_mirror_alone

@@ -40,6 +40,7 @@ impl Life {
         ensures same { OnErr result (self.new.reports.items ≡ self.old.reports.items) }
         ensures runs { self.new.runs ≡ self.old.runs }
         ensures attempts { self.new.attempts ≡ self.old.attempts }
+        ensures copied { self.new.copied ≡ self.old.copied }
     {
         let (attempt, server, job) = (received.attempt, received.server, received.job);
         let counts = self.counts(received.run, attempt, server, job, jobs);
@@ -57,6 +58,7 @@ impl Life {
             AttemptsAre self.new (Hears server (Report run attempt job jobs report) ∷ deeds) }
         ensures runs { self.new.runs ≡ self.old.runs }
         ensures reports { self.new.reports.items ≡ self.old.reports.items }
+        ensures copied { self.new.copied ≡ self.old.copied }
     {
         if let Some(place) = self.attempts.get_mut(&attempt.0) {
             report_at(place, run, server, job, jobs);

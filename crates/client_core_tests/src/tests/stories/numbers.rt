@@ -54,9 +54,9 @@ pub const STORIES: [Story; 3] = [
     ),
 ];
 
-/// Over a note whose numbers are used up.
+/// Over a note from before there were generations, whose numbers are used up.
 pub const SPENT: &str = "
-    restart => 18446744073709551615 18446744073709551615
+    restart => old 18446744073709551615 18446744073709551615
     begin writes => 72
     begin too_long => 1
     verify 1 reads => 72
@@ -65,5 +65,5 @@ pub const SPENT: &str = "
     trigger 18446744073709551615 1 => Trigger 18446744073709551615 1
     stop 18446744073709551615 => Stop 18446744073709551615
     used => 18446744073709551615 18446744073709551615
-    restart => 18446744073709551615 18446744073709551615
+    restart => old 18446744073709551615 18446744073709551615
 ";

@@ -88,12 +88,12 @@ pub const STORIES: [Story; 5] = [
     ),
 ];
 
-/// Over a note with a state in layout 1.
+/// Over a note with a state in layout 1, from before there were generations.
 pub const LISTED: &str = "
-    restart => 1 1 listed
+    restart => old 1 1 listed
     saved 1 0 0 => first
     State 1 first => StateAck 1 0
-    restart => 1 1 listed
+    restart => old 1 1 listed
     begin writes => run 2 + Jobs 2 writes
     restart => 2 1 first
 ";

@@ -52,11 +52,11 @@ returns-clause-served c key state =
 
 pub returns-clause-runs : goal.returns-clause-runs
 returns-clause-runs c =
-    c.numbers_are_given_once.ensures.runs c.args.config.servers (trace c.args.config.servers (world c.args.config.servers (map happening (reverse c.args.events.now))))
+    c.numbers_are_given_once.ensures.runs c.args.config.servers (trace c.args.config.servers (world c.args.config.servers (map happening (reverse c.args.events.now)))) (c.each_world_is_a_trace.ensures.packets c.args.config.servers (map happening (reverse c.args.events.now)) c.requires.few)
 
 pub returns-clause-attempts : goal.returns-clause-attempts
 returns-clause-attempts c =
-    c.numbers_are_given_once.ensures.attempts c.args.config.servers (trace c.args.config.servers (world c.args.config.servers (map happening (reverse c.args.events.now))))
+    c.numbers_are_given_once.ensures.attempts c.args.config.servers (trace c.args.config.servers (world c.args.config.servers (map happening (reverse c.args.events.now)))) (c.each_world_is_a_trace.ensures.packets c.args.config.servers (map happening (reverse c.args.events.now)) c.requires.few)
 
 pub returns-clause-starts : goal.returns-clause-starts
 returns-clause-starts c s =

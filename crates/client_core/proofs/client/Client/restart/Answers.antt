@@ -6,6 +6,7 @@ returns g c =
     let opened = c.in_ok-core.ensures in
     record {
       same = opened.same;
+      some = opened.some;
       said = opened.said;
       says = opened.says;
       stands = λ o past servers said. record {

@@ -15,4 +15,5 @@ returns-in-Some c deeds h =
           (λ q x n k. run_stays q _ deeds x (begins_other q run text deeds n) k) h.runs;
       attempts = λ a. attempt_stays a _ deeds _ (begins_no_attempt a run text deeds) (h.attempts a);
       reports_are = h.reports_are;
+      copied = h.copied;
     }

@@ -14,4 +14,5 @@ returns-in-Some c deeds h =
           (λ q x n k. run_stays q _ deeds x (stops_other q run deeds n) k) h.runs;
       attempts = λ a. attempt_stays a _ deeds _ (stops_no_attempt a run deeds) (h.attempts a);
       reports_are = h.reports_are;
+      copied = h.copied;
     }

@@ -15,4 +15,5 @@ returns-in-Some c deeds h =
           (c.requires.asked deeds)
           (λ q x n k. attempt_stays q _ deeds x (verifies_other q asked.run attempt asked.text deeds n) k) h.attempts;
       reports_are = h.reports_are;
+      copied = h.copied;
     }

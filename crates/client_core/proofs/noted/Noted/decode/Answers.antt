@@ -1,47 +1,40 @@
-use Rattle.std.proofs.Common.{◌∙◌, ap, subst, ℕ, List, take, drop, arith, None, Some}
+use Rattle.std.proofs.Common.{◌∙◌, ◌≤◌, ap, subst, take, drop, length, arith}
 use Rattle.std.specs.Prelude.{codes}
-use Rattle.std.specs.Int.{w32, w64}
-use Rattle.std.proofs.lemmas.Slice.Eq.{bytes_eq-Decides}
+use Rattle.std.specs.Int.{w64}
 use Rattle.fc_base.specs.Layouts.{number_in}
-use Rattle.state_table.specs.Reading.{ReadsStates}
-use Rattle.client_core.proofs.NoteLemmas.{some_bytes, no_magic, too_short, too_many, no_states, read_says}
+use Rattle.client_core.specs.Note.{Reads, ReadsNumbers}
+use Rattle.client_core.proofs.NoteLemmas.{some_bytes, is_equal, no_magic, if_ok, reads_old, reads_new, short_note, past_generation, within_generation, above_generation}
 use Rattle.client_core.proofs.noted.Noted.decode.Goals as goal
 
-pub returns-in_default : goal.returns-in_default
-returns-in_default c = λ n s. no_magic c.spelled_are_read.ensures c.args.bytes.now n (some_bytes c.args.bytes.now c.if-is_empty.ensures) c.in_default.ensures.cases s
+pub returns-in-Some : goal.returns-in-Some
+returns-in-Some c =
+    let bytes = c.args.bytes.now in
+    if_ok c.numbers_in.result (ReadsNumbers c.none.result c.in-Some.rest.now) (Reads bytes)
+    (λ x h. reads_old bytes c.in-Some.rest.now (some_bytes bytes c.if-is_empty.ensures) (is_equal (take 4 bytes) (codes "FCC1") c.in-Some.ensures.cases.0) c.in-Some.ensures.cases.1 x (subst (λ g. ReadsNumbers g c.in-Some.rest.now x) c.none.ensures h))
+    c.numbers_in.ensures
 
-pub returns-then-rest-lt-NUMBERS : goal.returns-then-rest-lt-NUMBERS
-returns-then-rest-lt-NUMBERS c =
-    let len = c.in-Some.ensures.cases.2 in
-    λ n s. too_short c.spelled_are_read.ensures c.args.bytes.now n (some_bytes c.args.bytes.now c.if-is_empty.ensures) (omega (arith, len, c.if-rest-lt-NUMBERS.true)) s
+pub returns-in_default-strip_prefix : goal.returns-in_default-strip_prefix
+returns-in_default-strip_prefix c = λ n s. no_magic c.args.bytes.now n (some_bytes c.args.bytes.now c.if-is_empty.ensures) c.in_default.ensures.cases c.in_default-strip_prefix.ensures.cases s
 
-pub returns-then-count-gt-KEPT_LIMIT : goal.returns-then-count-gt-KEPT_LIMIT
-returns-then-count-gt-KEPT_LIMIT c =
-    let runs = c.split_u64-runs.ensures.rest ∙ ap (drop 8) c.in-Some.ensures.cases.1 in
-    let attempts = c.split_u64-attempts.ensures.rest ∙ ap (drop 8) runs in
-    let count = c.split_u32-count.ensures.number ∙ ap (λ l. number_in w32 l) attempts in
-    λ n s. too_many c.spelled_are_read.ensures c.args.bytes.now n c.split_u32-count.result.0 (some_bytes c.args.bytes.now c.if-is_empty.ensures) count (omega (arith, c.if-count-gt-KEPT_LIMIT.true)) s
+pub returns-then-rest-lt-GENERATION_LENGTH : goal.returns-then-rest-lt-GENERATION_LENGTH
+returns-then-rest-lt-GENERATION_LENGTH c =
+    let behind = c.in-Some-strip_prefix.ensures.cases.1 in
+    λ n s. short_note c.args.bytes.now n (some_bytes c.args.bytes.now c.if-is_empty.ensures) c.in_default.ensures.cases (omega (arith, ap length behind, c.if-rest-lt-GENERATION_LENGTH.true)) s
 
-pub returns-in-Some-2 : goal.returns-in-Some-2
-returns-in-Some-2 c =
-    let mark = (bytes_eq-Decides (take 4 c.args.bytes.now) (codes "FCC1")).0 c.in-Some.ensures.cases.0 in
-    let after = c.in-Some.ensures.cases.1 in
-    let runs = c.split_u64-runs.ensures.rest ∙ ap (drop 8) after in
-    let attempts = c.split_u64-attempts.ensures.rest ∙ ap (drop 8) runs in
-    let states = c.split_u32-count.ensures.rest ∙ ap (drop 4) attempts in
-    let read = subst (λ (l : List ℕ). ReadsStates c.split_u32-count.result.0 l (Some c.in-Some-2.kept)) states (subst (ReadsStates c.split_u32-count.result.0 c.split_u32-count.result.1.now) c.in-Some-2.is c.in_ok-kept.ensures) in
-    read_says c.spelled_are_read.ensures c.read_were_spelled.ensures c.args.bytes.now c.split_u64-runs.result.0 c.split_u64-attempts.result.0 c.split_u32-count.result.0 c.in-Some-2.kept (λ i. omega (arith, c.type_inv.bytes i)) mark
-    (omega (arith, c.in-Some.ensures.cases.2, c.if-rest-lt-NUMBERS.false))
-    (c.split_u64-runs.ensures.number ∙ ap (λ l. number_in w64 l) after)
-    (c.split_u64-attempts.ensures.number ∙ ap (λ l. number_in w64 l) runs)
-    (c.split_u32-count.ensures.number ∙ ap (λ l. number_in w32 l) attempts)
-    (omega arith) (omega arith) (omega (arith, c.if-count-gt-KEPT_LIMIT.false)) read.0 read.1
+pub returns-in-Some-of_note : goal.returns-in-Some-of_note
+returns-in-Some-of_note c =
+    let bytes = c.args.bytes.now in
+    let behind = c.in-Some-strip_prefix.ensures.cases.1 in
+    let number = c.split_u64-generation.ensures.number ∙ ap (λ l. number_in w64 l) behind in
+    let generation = within_generation c.split_u64-generation.result.0 c.in-Some-of_note.generation c.in-Some-of_note.ensures ∙ number in
+    let rest = c.split_u64-generation.ensures.rest ∙ ap (drop 8) behind in
+    let long : 8 ≤ length (drop 4 bytes) = omega (arith, ap length behind, c.if-rest-lt-GENERATION_LENGTH.false) in
+    let reads = reads_new bytes c.split_u64-generation.result.1.now c.in-Some-of_note.generation (some_bytes bytes c.if-is_empty.ensures) (λ i. omega (arith, c.type_inv.bytes i)) c.in_default.ensures.cases
+    (is_equal (take 4 bytes) (codes "FCC2") c.in-Some-strip_prefix.ensures.cases.0) long generation rest in
+    if_ok c.numbers_in-in-Some-of_note.result (ReadsNumbers c.in-Some-of_note.generation c.split_u64-generation.result.1.now) (Reads bytes) reads c.numbers_in-in-Some-of_note.ensures
 
 pub returns-in-None : goal.returns-in-None
 returns-in-None c =
-    let runs = c.split_u64-runs.ensures.rest ∙ ap (drop 8) c.in-Some.ensures.cases.1 in
-    let attempts = c.split_u64-attempts.ensures.rest ∙ ap (drop 8) runs in
-    let count = c.split_u32-count.ensures.number ∙ ap (λ l. number_in w32 l) attempts in
-    let states = c.split_u32-count.ensures.rest ∙ ap (drop 4) attempts in
-    let read = subst (λ (l : List ℕ). ReadsStates c.split_u32-count.result.0 l None) states (subst (ReadsStates c.split_u32-count.result.0 c.split_u32-count.result.1.now) c.in-None.is c.in_ok-kept.ensures) in
-    λ n s. no_states c.spelled_are_read.ensures c.args.bytes.now n c.split_u32-count.result.0 (some_bytes c.args.bytes.now c.if-is_empty.ensures) count read s
+    let behind = c.in-Some-strip_prefix.ensures.cases.1 in
+    let number = c.split_u64-generation.ensures.number ∙ ap (λ l. number_in w64 l) behind in
+    λ n s. past_generation c.args.bytes.now n c.split_u64-generation.result.0 (some_bytes c.args.bytes.now c.if-is_empty.ensures) c.in_default.ensures.cases number (above_generation c.split_u64-generation.result.0 c.in-None.ensures) s

@@ -11,6 +11,7 @@ use Rattle.client_core.specs.Saves.{Keep, addition_by, noted_after}
 use Rattle.client_core.proofs.DeliverLemmas.{adds_new, replied_to}
 use Rattle.client_core.proofs.CallLemmas.{fails_stored, answers_stored, answers_plain}
 use Rattle.client_core.proofs.NotedLemmas.{body_step}
+use Rattle.client_core.proofs.PeersLemmas.{from_server_grants_none, no_mirror}
 use Rattle.client_core.proofs.packet_client.PacketClient.hear.Goals as goal
 
 pub keep-requires-clause-new : goal.keep-requires-clause-new
@@ -39,14 +40,14 @@ returns-in-Ok-keep g c o past p e f r s =
     answers_stored note old c.keep.new.self old.life c.hear.new.self (Keep c.in-Some.state) o past (Deliver p) c.in-Ok.frames c.notes_are_read_back.ensures c.requires.up r
     (ap (addition_by old.noted) e ∙ c.in-Some.ensures)
     (λ n. subst IsNoted (ap (λ d. noted_after true d old.noted) c.in-Some.ensures) (body_step c.found_after_a_push.ensures.apart true old.noted c.args.body c.requires.free c.requires.state n)) _ stored
-    (λ deeds h. c.in-Ok.ensures deeds h ∙ ap framed (replied_to old.noted deeds p c.args.server c.args.body e f))
+    (λ deeds h. c.in-Ok.ensures deeds h ∙ ap framed (replied_to old.peers.mirror old.noted deeds p c.args.server c.args.body e f))
     (λ deeds h. subst (λ b. LifeIs c.hear.new.self (Hears (node_number p.from) b ∷ deeds)) (sym e) (subst (λ n. LifeIs c.hear.new.self (Hears n c.args.body ∷ deeds)) (sym f)
-    (c.hear.ensures deeds (subst (λ l. LifeIs l deeds) (sym (ap (λ (m : PacketClient _). m.life) stored.1)) h)))) s
+    (c.hear.ensures deeds (subst (λ l. LifeIs l deeds) (sym (ap (λ (m : PacketClient _). m.life) stored.1)) h)))) (from_server_grants_none p (no_mirror p.from c.args.server f c.requires.server)) s
 
 pub returns-in-Ok-hear_any : goal.returns-in-Ok-hear_any
 returns-in-Ok-hear_any g c o past p e f r s =
     let old = c.args.self.now in
     answers_plain g.N.Notes.note old c.hear_any.new.self o past (Deliver p) c.in-Ok.frames c.requires.up r (ap (addition_by old.noted) e ∙ c.in-None.ensures)
-    (λ deeds h. c.in-Ok.ensures deeds h ∙ ap framed (replied_to old.noted deeds p c.args.server c.args.body e f))
+    (λ deeds h. c.in-Ok.ensures deeds h ∙ ap framed (replied_to old.peers.mirror old.noted deeds p c.args.server c.args.body e f))
     (λ deeds h. subst (λ b. LifeIs c.hear_any.new.self (Hears (node_number p.from) b ∷ deeds)) (sym e) (subst (λ n. LifeIs c.hear_any.new.self (Hears n c.args.body ∷ deeds)) (sym f)
-    (c.in-Ok-hear_any.ensures.left deeds h))) s
+    (c.in-Ok-hear_any.ensures.left deeds h))) (from_server_grants_none p (no_mirror p.from c.args.server f c.requires.server)) s

@@ -23,4 +23,4 @@ returns g c o past s =
     let free = sym c.run_refusal.ensures.why ∙ c.in_default.is in
     answers_plain g.N.Notes.note c.args.self.now c.stop.new.self o past call c.in-Ok.frames (run_free _ _ free).0 free refl
     (λ deeds h. c.in-Ok.ensures ∙ ap (λ n. framed (to_all n (bodies.Stop c.args.run))) c.count.ensures.count)
-    (λ deeds h. c.stop.ensures deeds (c.make_room_for_run.ensures.same deeds h)) s
+    (λ deeds h. c.stop.ensures deeds (c.make_room_for_run.ensures.same deeds h)) refl s

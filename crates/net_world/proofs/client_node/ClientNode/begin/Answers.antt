@@ -8,7 +8,7 @@ pub returns-in-Ok : goal.returns-in-Ok
 returns-in-Ok c o past stands =
     let h = rw c.in-On.is at stands in
     let g = c.in-Ok.ensures o past h.0 in
-    answers o past (inputs.Begin c.args.text.now) c.begin.new.self _ h.1 (ap told.Run g.0) g.1
+    answers o past (inputs.Begin c.args.text.now) c.in-On.client c.begin.new.self _ h.1 (ap told.Run g.0) g.1
 
 pub returns-in-Err : goal.returns-in-Err
 returns-in-Err c o past stands =

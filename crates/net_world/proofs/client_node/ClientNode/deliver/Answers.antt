@@ -8,7 +8,7 @@ pub returns-in-Ok : goal.returns-in-Ok
 returns-in-Ok c o past stands =
     let h = rw c.in-On.is at stands in
     let g = c.in-Ok.ensures.ends o past h.0 in
-    answers o past (inputs.Deliver c.args.frame) c.deliver.new.self (record { answer = told.Plain; frames = c.in-Ok.frames }) h.1 refl g
+    answers o past (inputs.Deliver c.args.frame) c.in-On.client c.deliver.new.self (record { answer = told.Plain; frames = c.in-Ok.frames }) h.1 refl g
 
 pub returns-in-Err : goal.returns-in-Err
 returns-in-Err c o past stands =

@@ -8,7 +8,7 @@ pub returns-in-Ok : goal.returns-in-Ok
 returns-in-Ok c o past stands =
     let h = rw c.in-On.is at stands in
     let g = c.in-Ok.ensures o past h.0 in
-    answers o past (inputs.Tick) c.in-On.client (record { answer = told.Plain; frames = c.in-Ok.frames }) h.1 refl g
+    answers o past (inputs.Tick) c.in-On.client c.in-On.client (record { answer = told.Plain; frames = c.in-Ok.frames }) h.1 refl g
 
 pub returns-in-Err : goal.returns-in-Err
 returns-in-Err c o past stands =

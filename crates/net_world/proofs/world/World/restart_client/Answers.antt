@@ -1,4 +1,4 @@
-use Rattle.std.proofs.Common.{refl, sym, ◌∙◌, ap, length, append-nil, arith, List, ℕ}
+use Rattle.std.proofs.Common.{refl, sym, ◌∙◌, ap, false, length, append-nil, arith, List, ℕ}
 use Rattle.messages.specs.declared.node.Node.TheVariants.{Client}
 use Rattle.client_core.specs.Hearing as hearing
 use Rattle.net_world.specs.declared.server_node.ServerNode.{ServerNode}
@@ -16,7 +16,7 @@ returns-in_default c n past stands = (refl, settled n past c.args.self.now _ sta
 pub returns-in-Ok-restart : goal.returns-in-Ok-restart
 returns-in-Ok-restart c n past stands =
     let h = c.in-Ok-restart.ensures (client_opening n) (entries past) (sym (ap (λ (xs : List ServerNode). length xs) c.as_slice-servers.ensures.value ∙ stands.number)) stands.client_is in
-    plain_ends n past (Restart Client) hearing.Restart c.in-Ok.first c.plain.result c.args.self.now _ stands
+    plain_ends n past (Restart Client) (hearing.Restart false) c.in-Ok.first c.plain.result c.args.self.now _ stands
     (record { sent_is = c.settle.ensures.same ∙ sym (append-nil (sent_in c.args.self.now.sent)); servers_are = refl; files_are = refl })
     h.1
     (restart_plain n past h.0)

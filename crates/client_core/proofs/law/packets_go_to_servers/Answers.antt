@@ -1,5 +1,0 @@
-use Rattle.client_core.proofs.SentLemmas.{packets_go_to_servers}
-use Rattle.client_core.proofs.law.packets_go_to_servers.Goals as goal
-
-pub returns : goal.returns
-returns c = packets_go_to_servers

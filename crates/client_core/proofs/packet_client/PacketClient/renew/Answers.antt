@@ -1,0 +1,31 @@
+use Rattle.std.proofs.Common.{◌≡◌, refl, sym, ◌∙◌, ap, subst, true, false, ◌==◌, length, List, ℕ, [], arith}
+use Rattle.disk_model.specs.Notes.{Note}
+use Rattle.messages.specs.Ranges.{is_generation}
+use Rattle.client_core.specs.Note.{Says, renewed, spelling}
+use Rattle.client_core.proofs.NotedLemmas.{of_renewed}
+use Rattle.client_core.proofs.RenewLemmas.{no_bytes, renewed_noted, renewed_with}
+use Rattle.client_core.proofs.packet_client.PacketClient.renew.Goals as goal
+
+pub returns-in-Ok-save : goal.returns-in-Ok-save
+returns-in-Ok-save g c =
+    let loaded = c.in-Ok.ensures in
+    let old = g.N.Notes.note c.args.notes in
+    let new = g.N.Notes.note c.save.new.self in
+    let with = renewed_with c.args.generation c.in-Some.generation c.in-Some.ensures in
+    let none : old.bytes ≡ [] = sym loaded.1 ∙ no_bytes c.in-Ok.bytes.items (sym c.if-not-lost.false ∙ c.is_lost-lost.ensures ∙ ap (λ (l : List ℕ). length l == 0) c.deref.ensures.value) in
+    let is = c.renewed-noted.ensures ∙ ap renewed with.1 in
+    let bytes : new.bytes ≡ spelling (renewed c.args.generation) = ap (λ (n : Note). n.bytes) c.in-Ok-save.ensures ∙ c.deref-2.ensures.value ∙ c.in-Ok-encode.ensures ∙ ap spelling is in
+    record {
+      free = with.0;
+      empty = none;
+      stands = λ o past servers said.
+          let after = renewed_noted o past old.bytes c.args.generation none with.0 said in
+          record {
+            on = refl;
+            peers = λ i. record { servers = (c.new.ensures ∙ sym servers) i; mirror = true; granted = false };
+            few = omega (arith, servers, c.requires.few);
+            durable = subst (Says new.bytes) (sym after) (subst (λ (l : List ℕ). Says l (renewed c.args.generation)) (sym bytes) (c.notes_are_read_back.ensures (renewed c.args.generation) (of_renewed c.args.generation with.0)));
+            knows = is ∙ sym after;
+            lives = c.new-in-Ok-save.ensures;
+          };
+    }
