@@ -74,7 +74,7 @@ pub const STORIES: [Story; 4] = [
     ),
 ];
 
-pub const LOST_SAVES: [LostSave; 6] = [
+pub const LOST_SAVES: [LostSave; 8] = [
     LostSave {
         name: "a renewal that is lost",
         at: 0,
@@ -162,6 +162,39 @@ pub const LOST_SAVES: [LostSave; 6] = [
         from 9 to 8 Copy first =>
         from 9 to 8 Copy first~111=3 => 71
         saved 1 0 0 => first
+        ",
+    },
+    LostSave {
+        name: "a renewal that is refused saves nothing",
+        at: 1,
+        landed: false,
+        rows: "
+        note 0 0 => -
+        renew 0 => 0 0 / 88
+        renew 1 => 0 0 / 54
+        restart mirror => 0 0
+        begin writes => 53
+        restart mirror => 0 0
+        begin writes => run 1 + Jobs 1 writes
+        ",
+    },
+    LostSave {
+        name: "what a mirror says of what is known saves nothing",
+        at: 2,
+        landed: false,
+        rows: "
+        renew 1 => -
+        from 9 to 8 Copy first =>
+        restart mirror => of 1 4294967296 4294967296 first
+        from 9 to 8 Granted 2 =>
+        from 9 to 8 Granted 1 =>
+        from 9 to 8 Copy first =>
+        from 9 to 8 CopyOk 1 0 1 =>
+        from 9 to 8 CopyOk 1 0 0 =>
+        State 1 first => StateAck 1 0
+        tick =>
+        begin writes => 53
+        restart mirror => of 1 4294967296 4294967296 first
         ",
     },
 ];
