@@ -99,7 +99,8 @@ impl<N: Notes> Client<N> {
         self.core.on()
     }
 
-    /// How many runs were begun. Where a save has failed, up to it.
+    /// The number up to which runs are used: without a generation, how many were begun. Where a save has
+    /// failed, up to it.
     pub fn runs_used(&self) -> u64
         ensures { (o : Opening) (past : List FrameEntry) → StandsFor N.note self.now o past →
             result ≡ (noted o (looked (packets_heard o past))).runs }
@@ -107,7 +108,7 @@ impl<N: Notes> Client<N> {
         self.core.runs_used()
     }
 
-    /// How many attempts to verify were begun. Where a save has failed, up to it.
+    /// The number up to which attempts to verify are used, likewise. Where a save has failed, up to it.
     pub fn attempts_used(&self) -> u64
         ensures { (o : Opening) (past : List FrameEntry) → StandsFor N.note self.now o past →
             result ≡ (noted o (looked (packets_heard o past))).attempts }

@@ -30,9 +30,9 @@ pub(crate) const GENERATION_NUMBERS: u64 = 4_294_967_296;
 pub struct Noted {
     /// Its generation, 0 where it has none.
     pub generation: NotedGeneration,
-    /// How many runs were begun.
+    /// The number up to which runs are used: without a generation, how many were begun.
     pub runs: u64,
-    /// How many attempts to verify were begun.
+    /// The number up to which attempts to verify are used, likewise.
     pub attempts: u64,
     /// The kept states.
     pub kept: Kept,

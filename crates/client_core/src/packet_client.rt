@@ -164,14 +164,14 @@ impl<N: Notes> PacketClient<N> {
         self.peers.servers.count()
     }
 
-    /// How many runs were begun.
+    /// The number up to which runs are used.
     pub(crate) fn runs_used(&self) -> u64
         ensures { (o : Opening) (past : List Entry) → StandsFor N.note self.now o past → result ≡ (noted o (looked past)).runs }
     {
         self.noted.runs
     }
 
-    /// How many attempts to verify were begun.
+    /// The number up to which attempts are used.
     pub(crate) fn attempts_used(&self) -> u64
         ensures { (o : Opening) (past : List Entry) → StandsFor N.note self.now o past → result ≡ (noted o (looked past)).attempts }
     {

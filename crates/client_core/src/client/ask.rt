@@ -1,4 +1,4 @@
-//! What a client asks of its servers.
+//! What a client asks of its servers, and of its mirror.
 
 ghost use Rattle.std.specs.Prelude.{◌≡◌, List, is_some};
 ghost use Rattle.client_core.specs.declared.input.Input.TheVariants as inputs;
@@ -17,8 +17,8 @@ use messages::{Act, Frames};
 impl<N: Notes> Client<N> {
     /// Begins a run with this job file at each server. Its number is saved before it is used.
     ///
-    /// In this order: `Down`; `JobTooLong`; `NumbersSpent`; `NoMemory`, and nothing changes; `SaveFault`,
-    /// and the client is down.
+    /// In this order: `Down`; `JobTooLong`; `NumbersSpent`, no number is left, or its generation isn't
+    /// granted in this life; `NoMemory`, and nothing changes; `SaveFault`, and the client is down.
     pub fn begin(&mut self, text: &[u8]) -> Result<(RunNo, Frames), Fault>
         ensures { (o : Opening) (past : List FrameEntry) → StandsFor N.note self.old o past →
             Gives N.note o past (inputs.Begin text.now) (noted o (packets_heard o past)).runs
@@ -61,8 +61,8 @@ impl<N: Notes> Client<N> {
     /// Checks the files of a run by this job file at each server. The attempt's number is saved before
     /// it is used.
     ///
-    /// In this order: `Down`; `NoSuchRun`; `JobTooLong`; `NumbersSpent`; `NoMemory`, and nothing changes;
-    /// `SaveFault`, and the client is down.
+    /// In this order: `Down`; `NoSuchRun`; `JobTooLong`; `NumbersSpent`, as of a begin; `NoMemory`, and
+    /// nothing changes; `SaveFault`, and the client is down.
     pub fn verify(&mut self, run: RunNo, text: &[u8]) -> Result<(Attempt, Frames), Fault>
         ensures { (o : Opening) (past : List FrameEntry) → StandsFor N.note self.old o past →
             Gives N.note o past (inputs.Verify run text.now)
@@ -80,8 +80,9 @@ impl<N: Notes> Client<N> {
         self.core.verify_would_save(run, text)
     }
 
-    /// Asks again for all that isn't answered: by run its begin, its trigger and its stop, each by
-    /// server, and then by attempt the verifies. It changes nothing.
+    /// Asks again for all that isn't answered: of the mirror the grant of the generation; of the servers, by
+    /// run, its begin, its trigger and its stop, each by server, and then by attempt the verifies; and last
+    /// come copies for the mirror of the kept states that it isn't known to keep. It changes nothing.
     ///
     /// In this order: `Down`; `NoMemory`.
     pub fn tick(&self) -> Result<Frames, Fault>

@@ -1,4 +1,4 @@
-//! A frame of a server is delivered.
+//! A frame of a server, or of the mirror, is delivered.
 
 ghost use Rattle.std.specs.Prelude.{◌≡◌, List, IfOk, OnErr};
 ghost use Rattle.messages.specs.declared.frame.Frame.TheVariants.{Whole, Piece as OfPiece};
@@ -19,8 +19,9 @@ use messages::{Frame, Frames, Packet, Piece};
 use std::alloc::AllocError;
 
 impl<N: Notes> Client<N> {
-    /// Whether the delivery of this frame would make a save: it is a State that isn't refused, of a key of
-    /// which no state is kept, or the piece that completes one. Memory may be wanted only for a piece.
+    /// Whether the delivery of this frame would make a save: it is a State or a Copy that isn't refused, of a
+    /// key of which no state is kept, or the piece that completes a State. Memory may be wanted only for a
+    /// piece.
     pub fn would_save(&self, frame: &Frame) -> Result<bool, AllocError>
         ensures memory { OnErr result (IsPiece frame.now) }
         ensures saves { (o : Opening) (past : List FrameEntry) → StandsFor N.note self.now o past →
@@ -45,7 +46,7 @@ impl<N: Notes> Client<N> {
     }
 
     /// Takes a frame, and replies to the packet that it is or completes. A State of a new key is saved
-    /// before it is acknowledged.
+    /// before it is acknowledged, and then goes to the mirror; nothing is replied to the mirror.
     ///
     /// In this order: `Down`; `Misdirected`; `FrameBadField`, a piece completes a body that isn't the packet
     /// of its tag, which is dropped; `Conflict`, another state of the key is kept; `TableFull`; `NoMemory`,

@@ -1,4 +1,4 @@
-//! A packet of a server is delivered.
+//! A packet of a server, or of the mirror, is delivered.
 
 ghost use Rattle.std.specs.Prelude.{◌≡◌, ◌<◌, [], not, false, true, List, None, IsTrue};
 ghost use Rattle.messages.specs.declared.packet.PacketParts.{PacketParts as Parts};
