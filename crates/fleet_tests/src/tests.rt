@@ -1,6 +1,7 @@
 //! What no clause of a fleet shows: that its threads do their work.
 
 mod gates;
+mod kinds;
 mod replay;
 mod story;
 
@@ -199,4 +200,16 @@ fn one_list_of_events(rt: HostRuntime) {
         same => same,
     };
     assert!(rt; same == Ok(true), "{same:?}");
+}
+
+#[test]
+fn checks_of_three_kinds(rt: HostRuntime) {
+    let ended = kinds::end_by_kind(&rt, rt.alloc());
+    assert!(rt; ended == Ok(true), "{ended:?}");
+}
+
+#[test]
+fn the_trigger_is_asked(rt: HostRuntime) {
+    let asked = kinds::is_asked(&rt, rt.alloc());
+    assert!(rt; asked == Ok(true), "{asked:?}");
 }

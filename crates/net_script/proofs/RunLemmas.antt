@@ -82,7 +82,7 @@ command_run n before all left w new old mid now faults more_faults line command 
 -- No order is left.
 pub all_run : (n : ℕ) (before : List Happening) (all left : List Order) (w : World) (old now : Option (List ℕ)) (faults : Bool) (status : ℕ)
     → RunSoFar n before all left w old now faults → left ≡ [] → status ≡ cond faults 1 0
-    → RunOrders (lines_in n before) (status_in n before) all old now status
+    → RunOrders (lines_in n before) are_commands (status_in n before) all old now status
 all_run n before all left w old now faults status s none ends =
     inl (subst (λ l. Appends old now (flat_map ended l)) (sym lines_are) s.written, ends ∙ sym status_is)
   where
@@ -107,7 +107,7 @@ all_run n before all left w old now faults status s none ends =
 pub bad_run : (n : ℕ) (before : List Happening) (all left : List Order) (w : World) (old mid now : Option (List ℕ)) (faults : Bool) (status number : ℕ)
     → (s : RunSoFar n before all left w old mid faults) → are_commands left ≡ false → ((behind : List Happening) → lines_in n behind left ≡ bad_line number ∷ [])
     → Appends mid now (ended (bad_line number)) → status ≡ 2
-    → RunOrders (lines_in n before) (status_in n before) all old now status
+    → RunOrders (lines_in n before) are_commands (status_in n before) all old now status
 bad_run n before all left w old mid now faults status number s bad prints wrote ends =
     inl (subst (Appends old now) (sym lines_are) (Appends-trans old mid now _ _ s.written wrote), ends ∙ sym status_is)
   where
@@ -126,12 +126,12 @@ bad_run n before all left w old mid now faults status number s bad prints wrote 
 -- Memory ran out at a command.
 pub lacks : (n : ℕ) (before : List Happening) (all left : List Order) (w : World) (old mid now : Option (List ℕ)) (faults : Bool) (status line : ℕ) (command : Command) (text : List ℕ) (rest : List Order)
     → (s : RunSoFar n before all left w old mid faults) → left ≡ Asks line command text ∷ rest → Appends mid now (ended (refusal_line NoMemory)) → status ≡ 2
-    → RunOrders (lines_in n before) (status_in n before) all old now status
+    → RunOrders (lines_in n before) are_commands (status_in n before) all old now status
 lacks n before all left w old mid now faults status line command text rest s next wrote ends = inr (record {
   before = s.asked;
   lacking = Asks line command text;
   rest = rest;
   split = s.split ∙ ap (λ l. s.asked ++ l) next;
-  lacks = refl;
+  lacks = s.commands (Asks line command text ∷ []);
   finishes = (Appends-trans old mid now _ _ s.written wrote, ends);
 })

@@ -9,17 +9,17 @@ use Rattle.fc_base.specs.declared.fault.Fault.TheVariants.{NoMemory}
 use Rattle.bounded_input.specs.Input.{IsRead}
 use Rattle.net_script.specs.Orders.{Order, Opens, Asks, Fails, ended, orders_of}
 use Rattle.net_script.specs.Printed.{bad_line, refusal_line}
-use Rattle.net_script.specs.Script.{lines_in, lines_of_orders, status_by, status_in, status_of_orders, reads_well, finds_faults, is_too_long, text_of, status_of}
+use Rattle.net_script.specs.Script.{are_commands, lines_in, lines_of_orders, status_by, status_in, status_of_orders, reads_well, finds_faults, is_too_long, text_of, status_of}
 use Rattle.net_script.specs.Runs.{Finishes, EndedSoon, RunOrders, HasRun}
 
 -- No order.
-pub nothing_run : (orders : List Order) (old : Option (List ℕ)) → orders ≡ [] → RunOrders lines_of_orders status_of_orders orders old old 0
+pub nothing_run : (orders : List Order) (old : Option (List ℕ)) → orders ≡ [] → RunOrders lines_of_orders reads_well status_of_orders orders old old 0
 nothing_run orders old none = inl (subst (λ os. Appends old old (flat_map ended (lines_of_orders os))) (sym none) (Appends-nil old), ap status_of_orders (sym none))
 
 -- The world is made, and the orders behind have run in it.
 pub opened : (line n : ℕ) (orders : List Order) (old mid new : Option (List ℕ)) (status : ℕ) → Appends old mid (codes "ok\n")
-    → RunOrders (lines_in n []) (status_in n []) orders mid new status
-    → RunOrders lines_of_orders status_of_orders (Opens line n ∷ orders) old new status
+    → RunOrders (lines_in n []) are_commands (status_in n []) orders mid new status
+    → RunOrders lines_of_orders reads_well status_of_orders (Opens line n ∷ orders) old new status
 opened line n orders old mid new status ok (inl ran) = inl (Appends-trans old mid new _ _ ok ran.0, ran.1)
 opened line n orders old mid new status ok (inr soon) = inr (record {
   before = Opens line n ∷ soon.before;
@@ -32,7 +32,7 @@ opened line n orders old mid new status ok (inr soon) = inr (record {
 
 -- No memory for the world.
 pub no_world : (line n : ℕ) (orders : List Order) (old new : Option (List ℕ)) → Appends old new (ended (refusal_line NoMemory))
-    → RunOrders lines_of_orders status_of_orders (Opens line n ∷ orders) old new 2
+    → RunOrders lines_of_orders reads_well status_of_orders (Opens line n ∷ orders) old new 2
 no_world line n orders old new wrote = inr (record {
   before = [];
   lacking = Opens line n;
@@ -46,7 +46,7 @@ no_world line n orders old new wrote = inr (record {
 pub refused_first : (all : List Order) (o : Order) (orders : List Order) (line : ℕ) (old new : Option (List ℕ)) (status : ℕ) → all ≡ o ∷ orders
     → lines_of_orders (o ∷ orders) ≡ bad_line line ∷ [] → reads_well (o ∷ orders) ≡ false
     → Appends old new (ended (bad_line line)) → status ≡ 2
-    → RunOrders lines_of_orders status_of_orders all old new status
+    → RunOrders lines_of_orders reads_well status_of_orders all old new status
 refused_first all o orders line old new status is prints bad wrote two =
     inl (
       subst (Appends old new) (sym (append-nil (ended (bad_line line))) ∙ ap (flat_map ended) (sym prints) ∙ ap (λ os. flat_map ended (lines_of_orders os)) (sym is)) wrote,
@@ -70,7 +70,7 @@ not_long : (script : List ℕ) → length script ≤ 1048576 → is_too_long scr
 not_long script short = grind (arith, nat_tests)
 
 pub has_run : (script : List ℕ) (old new : Option (List ℕ)) (status : ℕ) → length script ≤ 1048576
-    → RunOrders lines_of_orders status_of_orders (orders_of script) old new status → HasRun script old new status
+    → RunOrders lines_of_orders reads_well status_of_orders (orders_of script) old new status → HasRun script old new status
 has_run script old new status short (inl ran) =
     inl (
       subst (Appends old new) (sym (ap (λ b. cond b (codes "too long\n") (flat_map ended (lines_of_orders (orders_of script)))) (not_long script short))) ran.0,

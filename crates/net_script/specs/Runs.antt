@@ -1,5 +1,5 @@
 -- How a run of a script ends.
-use Rattle.std.specs.Prelude.{◌≡◌, ◌⊎◌, ℕ, Bool, true, false, IsTrue, List, ◌∷◌, ◌++◌, ⊤, Option, Result, Ok, Err}
+use Rattle.std.specs.Prelude.{◌≡◌, ◌⊎◌, ℕ, Bool, false, IsTrue, List, [], ◌∷◌, ◌++◌, ⊤, Option, Result, Ok, Err}
 use Rattle.std.specs.List.{flat_map}
 use Rattle.std.specs.Io.KnownBytes.{Appends, Keeps}
 use Rattle.fc_base.specs.declared.fault.Fault.TheVariants.{NoMemory}
@@ -7,40 +7,35 @@ use Rattle.bounded_input.specs.declared.input.InputFault.{InputFault as Unread}
 use Rattle.bounded_input.specs.declared.input.InputFault.TheVariants as unread
 use Rattle.net_script.specs.declared.script_fault.ScriptFault.{ScriptFault}
 use Rattle.net_script.specs.declared.script_fault.ScriptFault.TheVariants as faults
-use Rattle.net_script.specs.Orders.{Order, Opens, Asks, Fails, ended, orders_of}
+use Rattle.net_script.specs.Orders.{Order, ended, orders_of}
 use Rattle.net_script.specs.Printed.{refusal_line}
-use Rattle.net_script.specs.Script.{lines_of_orders, text_of, status_of, is_too_long}
+use Rattle.net_script.specs.Script.{lines_of_orders, reads_well, text_of, status_of, is_too_long}
 
 -- This text is written and nothing else, and this is the status.
 abbrev pub Finishes : List ℕ → ℕ → Option (List ℕ) → Option (List ℕ) → ℕ → Type 0
 Finishes text wanted old new status = Appends old new text × (status ≡ wanted)
 
--- An order that may need memory.
-abbrev pub may_lack : Order → Bool
-may_lack (Fails line at) = false
-may_lack (Opens line n) = true
-may_lack (Asks line command text) = true
-
--- Memory ran out at an order: behind the lines of those before it one says so, and it is the last.
-pub record EndedSoon (lines : List Order → List (List ℕ)) (orders : List Order) (old new : Option (List ℕ)) (status : ℕ) : Type 0 where
+-- Memory ran out at an order, up to which none is bad: behind the lines of those before it one says so, and
+-- it is the last.
+pub record EndedSoon (lines : List Order → List (List ℕ)) (reads : List Order → Bool) (orders : List Order) (old new : Option (List ℕ)) (status : ℕ) : Type 0 where
   pub before : List Order
   pub lacking : Order
   pub rest : List Order
   pub split : orders ≡ before ++ (lacking ∷ rest)
-  pub lacks : IsTrue (may_lack lacking)
+  pub lacks : IsTrue (reads (before ++ lacking ∷ []))
   pub finishes : Finishes (flat_map ended (lines before) ++ ended (refusal_line NoMemory)) 2 old new status
 
 -- Orders have run: all of their lines are written, and the status is theirs; or memory ran out.
-abbrev pub RunOrders : (List Order → List (List ℕ)) → (List Order → ℕ) → List Order → Option (List ℕ) → Option (List ℕ) → ℕ → Type 0
-RunOrders lines wanted orders old new status =
+abbrev pub RunOrders : (List Order → List (List ℕ)) → (List Order → Bool) → (List Order → ℕ) → List Order → Option (List ℕ) → Option (List ℕ) → ℕ → Type 0
+RunOrders lines reads wanted orders old new status =
     Finishes (flat_map ended (lines orders)) (wanted orders) old new status
-    ⊎ EndedSoon lines orders old new status
+    ⊎ EndedSoon lines reads orders old new status
 
 -- A script has run: what it prints is written, and its status is answered; or memory ran out.
 abbrev pub HasRun : List ℕ → Option (List ℕ) → Option (List ℕ) → ℕ → Type 0
 HasRun script old new status =
     Finishes (text_of script) (status_of script) old new status
-    ⊎ ((is_too_long script ≡ false) × EndedSoon lines_of_orders (orders_of script) old new status)
+    ⊎ ((is_too_long script ≡ false) × EndedSoon lines_of_orders reads_well (orders_of script) old new status)
 
 -- A run of a script by a reader and a writer: nothing is written before all is read.
 abbrev pub Runs : List ℕ → Option (List ℕ) → Option (List ℕ) → Result ℕ ScriptFault → Type 0

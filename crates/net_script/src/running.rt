@@ -5,7 +5,7 @@ ghost use Rattle.std.specs.Io.KnownBytes.{Appends};
 ghost use Rattle.net_script.specs.Left.{orders_left};
 ghost use Rattle.net_script.specs.Orders.{Opens, ended, orders_of};
 ghost use Rattle.net_script.specs.Printed.{bad_line, refusal_line};
-ghost use Rattle.net_script.specs.Script.{lines_of_orders, status_of_orders};
+ghost use Rattle.net_script.specs.Script.{lines_of_orders, reads_well, status_of_orders};
 ghost use Rattle.net_script.specs.Runs.{Runs, HasRun, RunOrders};
 
 mod commands;
@@ -74,7 +74,7 @@ fn answer<W: Write>(alloc: Global, script: &[u8], writer: &mut W) -> io::Result<
 /// Runs a script that isn't too long.
 fn run_text<W: Write>(alloc: Global, script: &[u8], writer: &mut W) -> io::Result<u8>
     requires { length script.now ≤ MAX_SCRIPT }
-    ensures { IfOk result (RunOrders lines_of_orders status_of_orders (orders_of script.now)
+    ensures { IfOk result (RunOrders lines_of_orders reads_well status_of_orders (orders_of script.now)
         (W.contents writer.old) (W.contents writer.new)) }
 {
     let mut orders = Orders::of(script);
@@ -97,7 +97,7 @@ fn open_world<W: Write>(
     requires some { 1 ≤ servers }
     requires few { servers ≤ 8 }
     requires room { orders.old.number + length orders.old.rest.now ≤ u64.MAX }
-    ensures { (line : ℕ) → IfOk result (RunOrders lines_of_orders status_of_orders
+    ensures { (line : ℕ) → IfOk result (RunOrders lines_of_orders reads_well status_of_orders
         (Opens line servers ∷ orders_left orders.old) (W.contents writer.old) (W.contents writer.new)) }
 {
     match World::new(alloc, Config { servers }) {

@@ -4,7 +4,7 @@ use Rattle.std.proofs.Common.{◌≡◌, ap, ℕ, Bool, true, false, ◌&&◌, �
 use Rattle.std.specs.Prelude.{if◌then◌else◌, slice_get, nat_lt, not, is_some}
 use Rattle.std.specs.Option.{option_or}
 use Rattle.fc_base.specs.declared.fault.Fault.{Fault}
-use Rattle.fc_base.specs.declared.fault.Fault.TheVariants.{Conflict, NoServer, NoMirror, NodeOff, NodeOn, NoWrite, NumbersSpent, JobTooLong, NoSuchRun, Down}
+use Rattle.fc_base.specs.declared.fault.Fault.TheVariants.{Conflict, NoServer, NodeOff, NodeOn, NoWrite, NumbersSpent, JobTooLong, NoSuchRun, Down}
 use Rattle.fc_base.specs.declared.limits.TheConstants.{MAX_JOBS}
 use Rattle.fc_base.specs.Faults.{when}
 use Rattle.messages.specs.declared.frame.Frame.{Frame}

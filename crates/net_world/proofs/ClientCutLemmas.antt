@@ -1,5 +1,5 @@
 -- A client's node loses its power within a save.
-use Rattle.std.proofs.Common.{◌≡◌, refl, sym, ap, subst, inl, inr, ℕ, Bool, true, false, ◌&&◌, List, ◌∷◌, Option, Some, None, Ok, Err}
+use Rattle.std.proofs.Common.{◌≡◌, refl, sym, ap, subst, inl, inr, Bool, true, false, ◌&&◌, List, ◌∷◌, Option, Some, None, Ok, Err}
 use Rattle.std.specs.Prelude.{not, is_some}
 use Rattle.fc_base.specs.declared.fault.Fault.{Fault}
 use Rattle.fc_base.specs.declared.fault.Fault.TheVariants.{NoMemory, NoSave}

@@ -21,9 +21,8 @@ use Rattle.messages.specs.declared.piece.PieceParts.{PieceParts}
 use Rattle.messages.specs.FrameBytes.{frame_at, frame_spelling}
 use Rattle.messages.specs.Hearing.{Meaning, Says, Waits, Spoils, Strays, meaning, heard_by, said_by}
 use Rattle.messages.specs.Assemblies.{look}
-use Rattle.messages.specs.Bodies.{kind_of}
 use Rattle.messages.specs.Kinds.{is_of_server}
-use Rattle.messages.specs.Nodes.{is_client, node_number}
+use Rattle.messages.specs.Nodes.{is_client}
 use Rattle.messages.specs.Pieces.{frames_of}
 use Rattle.client_core.specs.declared.call.Call.{Call}
 use Rattle.client_core.specs.declared.call.Call.TheVariants as calls

@@ -1,5 +1,5 @@
 -- What holds of nodes that are one trace. All lists are newest first.
-use Rattle.std.specs.Prelude.{◌≡◌, ◌≤◌, ℕ, List, [], ◌∷◌, length, Some}
+use Rattle.std.specs.Prelude.{◌≡◌, ◌≤◌, ℕ, List, [], ◌∷◌, ◌++◌, length, Some}
 use Rattle.fc_base.specs.declared.numbers.Key.{Key}
 use Rattle.verify_state.specs.State.{State}
 use Rattle.server_core.specs.History as server_history
@@ -34,11 +34,14 @@ abbrev pub taken_by : (ℕ → List ServerEntry) → Key → List State
 taken_by servers key = takings (opening_of key.server) key.run key.job (server_hears servers key.server)
 
 -- Of each job of a run one state was taken at most. Whoever holds one, as the client which keeps it, holds
--- the one that was taken; it counts just the writes that were completed by then; and where a job is
--- checked with it, no write was issued at that server since.
+-- the one that was taken; it counts just the writes that were completed by then; and wherever in its
+-- server's list a job is checked with it, no write was issued there since: up to the end of that check.
 pub record HoldOneState (n : ℕ) (servers : ℕ → List ServerEntry) (client : List ClientEntry) (trace : List FrameStep) : Type 0 where
   pub once : (key : Key) → length (taken_by servers key) ≤ 1
   pub keeps : (key : Key) (state : State) → kept (client_opening n) (client_hears n client) key ≡ Some state → Holds n (trace_heard n trace) key state
   pub held : (key : Key) (state : State) → Holds n (trace_heard n trace) key state → taken_by servers key ≡ state ∷ []
   pub counted : (key : Key) (state : State) → Holds n (trace_heard n trace) key state → IsTaking (opening_of key.server) key.run key.job (server_hears servers key.server) state
-  pub quiet : (s j : ℕ) (state : State) → progress (opening_of s) (server_hears servers s) j ≡ Some (With state) → IsBased s j (server_hears servers s) state
+  pub quiet :
+      (s j : ℕ) (state : State) (later past : List server_history.Entry) →
+      server_hears servers s ≡ later ++ past → progress (opening_of s) past j ≡ Some (With state) →
+      IsBased s j past state

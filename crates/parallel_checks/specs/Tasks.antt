@@ -7,10 +7,10 @@ use Rattle.disk_model.specs.File.{File}
 use Rattle.recheck.specs.Disk.{ChecksDisk}
 use Rattle.parallel_checks.specs.declared.task.Task.{Task}
 
--- What the check of a task's disk may answer, whatever it leaves of the file.
+-- What the check of a task's disk may answer, whatever it leaves of the disk.
 abbrev pub Answers : {T : Type 0} → (T → File) → Task T → Result ReportParts Fault → Type 0
-Answers file task answer =
-    (left : File) × ChecksDisk answer task.key task.rec task.state task.fatal (file task.disk) left
+Answers {T} file task answer =
+    (left : T) × ChecksDisk answer task.key task.rec task.state task.fatal (file task.disk) (file left)
 
 -- These are the reports of the tasks, one for each, in their order.
 abbrev pub AreReports : {T : Type 0} → (T → File) → List (Task T) → List ReportParts → Type 0

@@ -13,7 +13,7 @@ ghost use Rattle.net_world.specs.Ends.{Ends};
 ghost use Rattle.net_script.specs.Orders.{Opens, ended};
 ghost use Rattle.net_script.specs.Commands.{happens};
 ghost use Rattle.net_script.specs.Printed.{addressee, refusal_line};
-ghost use Rattle.net_script.specs.Script.{lines_in, lines_of_orders, status_in, status_of_orders};
+ghost use Rattle.net_script.specs.Script.{are_commands, lines_in, lines_of_orders, reads_well, status_in, status_of_orders};
 ghost use Rattle.net_script.specs.Runs.{RunOrders};
 ghost use Rattle.net_script.specs.Left.{orders_left};
 ghost use Rattle.net_script.specs.Running.{HasCome, refused_by};
@@ -50,7 +50,7 @@ pub(crate) fn run_opened<W: Write>(
 ) -> io::Result<u8>
     requires { orders.old.number + length orders.old.rest.now ≤ u64.MAX }
     ensures { (n : ℕ) → StandsFor n [] world.old → (line : ℕ) →
-        IfOk result (RunOrders lines_of_orders status_of_orders (Opens line n ∷ orders_left orders.old)
+        IfOk result (RunOrders lines_of_orders reads_well status_of_orders (Opens line n ∷ orders_left orders.old)
         (W.contents writer.old) (W.contents writer.new)) }
 {
     writeln!(writer, "ok")?;
@@ -66,7 +66,7 @@ fn run_commands<W: Write>(
 ) -> io::Result<u8>
     requires { orders.old.number + length orders.old.rest.now ≤ u64.MAX }
     ensures { (n : ℕ) (before : List Happening) → StandsFor n (changes n before) world.old →
-        IfOk result (RunOrders (lines_in n before) (status_in n before) (orders_left orders.old) (W.contents writer.old) (W.contents writer.new)) }
+        IfOk result (RunOrders (lines_in n before) are_commands (status_in n before) (orders_left orders.old) (W.contents writer.old) (W.contents writer.new)) }
 {
     let mut faults = false;
     while let Some(order) = orders.next() {
