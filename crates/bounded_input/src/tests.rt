@@ -1,4 +1,5 @@
-//! What no clause shows: the bounds of reading, and which inputs are read at all.
+//! What no clause shows: the bounds of reading, which inputs are read at all, and that want of memory is
+//! told as such.
 
 use crate::{InputFault, read_input};
 use fake_io::{Source, failing, failing_at, in_steps, interrupted, source_of};
@@ -10,6 +11,9 @@ const MAX_BYTES: usize = 8;
 
 /// The most reads that they make.
 const MAX_READS: u32 = 20;
+
+/// More bytes than any machine has.
+const MORE_THAN_THERE_IS: usize = usize::MAX / 2;
 
 /// Whether these bytes are read of an input.
 fn gives(alloc: Global, source: &mut Source<'_>, text: &[u8]) -> bool {
@@ -71,4 +75,12 @@ fn interrupted_reads(rt: HostRuntime) {
     let mut source = interrupted(b"123", u32::MAX);
     assert!(rt; fails(rt.alloc(), &mut source));
     assert!(rt; source.reads == 20);
+}
+
+#[test]
+fn want_of_memory(rt: HostRuntime) {
+    let mut source = source_of(b"123");
+    let read = read_input(rt.alloc(), &mut source, MORE_THAN_THERE_IS, MAX_READS);
+    assert!(rt; read.err() == Some(InputFault::NoMemory));
+    assert!(rt; source.reads == 0);
 }

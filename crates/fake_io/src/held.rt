@@ -4,17 +4,20 @@ ghost use Rattle.std.specs.Prelude.{◌++◌, Some};
 
 use std::alloc::Global;
 use std::io;
-use std::io::Write;
+use std::io::{ErrorKind, Write};
 
-/// An output that shows nothing until it is flushed, and counts that.
+/// An output that shows nothing until it is flushed, and counts that. A flush may fail; it shows nothing,
+/// then.
 #[derive(Drop)]
 pub struct Held {
     /// What was written before the last flush.
     pub shown: Vec<u8>,
     /// What was written behind it.
     pub held: Vec<u8>,
-    /// How often it was flushed.
+    /// How often it was flushed, or was to be.
     pub flushes: u32,
+    /// Whether each flush fails.
+    pub fails: bool,
 }
 
 impl Write for Held {
@@ -27,6 +30,9 @@ impl Write for Held {
 
     fn flush(&mut self) -> io::Result<()> {
         self.flushes = self.flushes.saturating_add(1);
+        if self.fails {
+            return Err(ErrorKind::Other.into());
+        }
         self.shown.extend_from_slice(&self.held)?;
         self.held.clear();
         Ok(())
@@ -39,5 +45,6 @@ pub fn held_output(alloc: Global) -> Held {
         shown: Vec::new(alloc),
         held: Vec::new(alloc),
         flushes: 0,
+        fails: false,
     }
 }

@@ -79,5 +79,8 @@ fn flushed_output(rt: HostRuntime) -> Result<(), Fail> {
     output.flush()?;
     output.write_all(b"c")?;
     assert!(rt; output.shown.as_slice() == b"ab".as_slice() && output.flushes == 1);
+    output.fails = true;
+    assert!(rt; output.flush().is_err() && output.flushes == 2);
+    assert!(rt; output.shown.as_slice() == b"ab".as_slice());
     Ok(())
 }
