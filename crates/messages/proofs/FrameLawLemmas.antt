@@ -1,10 +1,10 @@
 -- The laws of frames that hold packets or pieces.
-use Rattle.std.proofs.Common.{◌≡◌, ℕ, ◌+◌, ◌-◌, ◌%◌, ◌<◌, ◌≤◌, Bool, true, ◌&&◌, Option, Some, None, List, [], ◌++◌, length, drop, refl, ap, ◌∙◌, arith}
+use Rattle.std.proofs.Common.{◌≡◌, ℕ, ◌+◌, ◌-◌, ◌%◌, ◌<◌, ◌≤◌, Bool, true, ◌&&◌, Option, Some, None, List, [], ◌++◌, length, drop, refl, sym, ap, ◌∙◌, append_assoc, arith}
 use Rattle.std.specs.Prelude.{if◌then◌else◌, ◌==◌, nat_lt, nat_le, is_none, is_some, slice_index, min}
 use Rattle.std.specs.Option.{option_map, option_and_then}
 use Rattle.std.proofs.lemmas.Bool.{eqb-true}
 use Rattle.std.proofs.lemmas.Bool.Decides.{nat_tests}
-use Rattle.std.proofs.lemmas.List.{length-append}
+use Rattle.std.proofs.lemmas.List.{length-append, append-nil, nil_from_length}
 use Rattle.fc_base.specs.declared.fault.Fault.TheVariants.{FrameBadField}
 use Rattle.fc_base.specs.Faults.{when}
 use Rattle.messages.specs.declared.kind.PacketKind.{PacketKind}
@@ -24,14 +24,14 @@ use Rattle.messages.specs.Bodies.{kind_of, length_of, spelled_body}
 use Rattle.messages.specs.Packets.{header, header_faults, spelling}
 use Rattle.messages.specs.Laws.{IsPacket}
 use Rattle.messages.specs.PieceRanges.{is_long_kind, is_number, is_owner, is_cut_length, is_tag_in_range, is_place, is_piece}
-use Rattle.messages.specs.FrameBytes.{piece_layout, piece_numbers, piece_spelling, sort_numbered, is_frame_kind, frame_limit, in_ranges, piece_with, piece_said, frame_said, frame_at, frame_faults}
-use Rattle.messages.specs.FrameLaws.{FramesAreRead}
+use Rattle.messages.specs.FrameBytes.{piece_layout, piece_numbers, piece_spelling, sort_numbered, is_frame_kind, frame_limit, in_ranges, piece_with, piece_said, frame_said, frame_at, frame_faults, frame_spelling}
+use Rattle.messages.specs.FrameLaws.{IsFrame, FramesAreRead, NoFrameBeginsAnother}
 use Rattle.verify_state.specs.Laws.{ReadsBack}
 use Rattle.messages.proofs.LayoutLemmas.{AreWide, Fit, wide8, wide32, wide64, length-spelled, numbers-spelled, drop-spelled}
 use Rattle.messages.proofs.ChoiceLemmas.{kind_again, kind_fits, node_again, node_fits}
 use Rattle.messages.proofs.TestLemmas.{both, le_of, lt_of}
 use Rattle.messages.proofs.HeaderLemmas.{header_wide, passes, none_left, clean, head_numbers, Headed, headed_passes}
-use Rattle.messages.proofs.LawLemmas.{parts_of, numbers_of_header, spelling_headed}
+use Rattle.messages.proofs.LawLemmas.{parts_of, numbers_of_header, spelling_headed, framed, none_begins_another}
 use Rattle.messages.proofs.BodyLemmas.{length-spelled_body}
 use Rattle.messages.proofs.FitLemmas.{body_at-spelled}
 use Rattle.messages.proofs.FramesOfLemmas.{length-piece_spelling}
@@ -189,16 +189,21 @@ piece_again q h r =
     ∙ ap (λ (bs : List ℕ). in_ranges (piece_with q.from q.to (piece_numbers q) bs q.tag.whole)) (drop-spelled piece_layout (piece_numbers q) q.bytes refl)
     ∙ rw h refl
 
--- The header of a piece's bytes.
-pub piece_headed : (q : PieceParts) → Ranged q → Headed (piece_spelling q) 17 q.from q.to (33 + length q.bytes)
-piece_headed q r =
+-- The header of a piece's bytes, whatever stands behind them.
+piece_front : (q : PieceParts) (more : List ℕ) → Ranged q → numbers header (piece_spelling q ++ more) ≡ head_numbers 17 q.from q.to (33 + length q.bytes)
+piece_front q more r =
     let short = r.short in
     let ns = head_numbers 17 q.from q.to (33 + length q.bytes) in
     let fits : Fit header ns = (omega arith, (omega arith, (omega arith, (omega arith, (node_fits q.from r.from, (node_fits q.to r.to, (omega (arith, short), tt))))))) in
-    record {
-      numbers = numbers-spelled header ns (spelled piece_layout (piece_numbers q) ++ q.bytes) header_wide fits;
-      long = omega (arith, length-piece_spelling q);
-    }
+    let body = spelled piece_layout (piece_numbers q) ++ q.bytes in
+    ap (numbers header) (append_assoc (spelled header ns) body more) ∙ numbers-spelled header ns (body ++ more) header_wide fits
+
+-- The header of a piece's bytes.
+pub piece_headed : (q : PieceParts) → Ranged q → Headed (piece_spelling q) 17 q.from q.to (33 + length q.bytes)
+piece_headed q r = record {
+  numbers = ap (numbers header) (sym (append-nil (piece_spelling q))) ∙ piece_front q [] r;
+  long = omega (arith, length-piece_spelling q);
+}
 
 piece_read : (q : PieceParts) → is_piece q ≡ true → (frame_faults (piece_spelling q) ≡ []) × (frame_at (piece_spelling q) ≡ Some (Piece q))
 piece_read q h =
@@ -213,3 +218,55 @@ piece_read q h =
 pub frames_are_read : ReadsBack → FramesAreRead
 frames_are_read law (Whole p) h short = whole_read law p h short
 frames_are_read law (Piece q) h short = piece_read q h
+
+-- No spelling begins another: the header tells what a frame is and how long, whatever stands behind it.
+
+abbrev numbers_in_front : Frame → List ℕ
+numbers_in_front (Whole p) = numbers_of_header p
+numbers_in_front (Piece q) = head_numbers 17 q.from q.to (33 + length q.bytes)
+
+record Tells (f : Frame) (more : List ℕ) : Type 0 where
+  told : numbers header (frame_spelling f ++ more) ≡ numbers_in_front f
+  long : length (frame_spelling f) ≡ 16 + slice_index (numbers_in_front f) 6
+
+tells : ReadsBack → (f : Frame) (more : List ℕ) → IsFrame f → Tells f more
+tells law (Whole p) more h = record {
+  told = framed law p more (parts_of p h);
+  long = (spelling_headed law p (parts_of p h)).long;
+}
+tells law (Piece q) more h = record {
+  told = piece_front q more (ranged q h);
+  long = (piece_headed q (ranged q h)).long;
+}
+
+no_packet_kind : kind_numbered 17 ≡ None
+unfolding kind_numbered
+no_packet_kind = refl
+
+not_a_piece : (k : PacketKind) → number_of k ≡ 17 → ⊥
+not_a_piece k e =
+    let both_ways = sym (kind_again k) ∙ ap kind_numbered e ∙ no_packet_kind in
+    absurd cc
+
+some_piece : (x y : Frame) → Some x ≡ Some y → x ≡ y
+some_piece x y h = cc
+
+-- Frames with one spelling are one frame.
+one_frame : ReadsBack → (f g : Frame) → IsFrame f → IsFrame g → frame_spelling f ≡ frame_spelling g → numbers_in_front f ≡ numbers_in_front g → f ≡ g
+one_frame law (Whole p) (Whole q) hp hq e front = ap (λ x. Whole x) (none_begins_another law p q [] hp hq (append-nil (spelling p) ∙ e)).1
+one_frame law (Whole p) (Piece q) hp hq e front = absurd (not_a_piece (kind_of p.body) (ap (λ (ns : List ℕ). slice_index ns 3) front))
+one_frame law (Piece p) (Whole q) hp hq e front = absurd (not_a_piece (kind_of q.body) (ap (λ (ns : List ℕ). slice_index ns 3) (sym front)))
+one_frame law (Piece p) (Piece q) hp hq e front = some_piece (Piece p) (Piece q) (sym (piece_read p hp).1 ∙ ap frame_at e ∙ (piece_read q hq).1)
+
+pub no_frame_begins_another : ReadsBack → NoFrameBeginsAnother
+no_frame_begins_another law f g more hf hg e =
+    let first = tells law f more hf in
+    let second = tells law g [] hg in
+    let front : numbers_in_front f ≡ numbers_in_front g =
+    sym first.told ∙ ap (numbers header) (e ∙ sym (append-nil (frame_spelling g))) ∙ second.told in
+    let len = ap (λ (ns : List ℕ). slice_index ns 6) front in
+    let long = first.long in
+    let long_too = second.long in
+    let nothing : more ≡ [] = nil_from_length more (omega (arith, ap length e, length-append (frame_spelling f) more, long, long_too, len)) in
+    let equal : frame_spelling f ≡ frame_spelling g = sym (append-nil (frame_spelling f)) ∙ ap (λ (xs : List ℕ). frame_spelling f ++ xs) (sym nothing) ∙ e in
+    (nothing, one_frame law f g hf hg equal front)

@@ -1,8 +1,7 @@
 -- Putting the filled places of a body together.
 use Rattle.std.proofs.Common.{◌≡◌, refl, sym, ◌∙◌, ap, inl, inr, ℕ, zero, suc, ◌+◌, ◌<◌, ◌≤◌, arith, Bool, true, false, ◌==◌, Option, Some, None, List, [], ◌∷◌, ◌++◌, length, append_assoc}
 use Rattle.std.specs.Prelude.{if◌then◌else◌, is_some, nat_le, ◌&&◌, Err}
-use Rattle.fc_base.specs.declared.fault.Fault.{Fault}
-use Rattle.fc_base.specs.declared.fault.Fault.TheVariants.{FrameNoMemory}
+use Rattle.fc_base.specs.declared.fault.Fault.TheVariants.{NoMemory}
 use Rattle.std.proofs.lemmas.Bool.{eqb-true, cases_Bool}
 use Rattle.messages.specs.declared.piece.PieceParts.{PieceParts}
 use Rattle.messages.specs.declared.places.Filled.{Filled}
@@ -11,7 +10,7 @@ use Rattle.messages.specs.Assemblies.{filled_at, unless_filled, fill, after_thes
 use Rattle.messages.specs.declared.body.Body.{Body}
 use Rattle.messages.specs.Nodes.{is_node}
 use Rattle.messages.specs.Ranges.{is_run}
-use Rattle.messages.specs.Bodies.{body_at, Reads}
+use Rattle.messages.specs.Bodies.{body_at}
 use Rattle.messages.specs.PieceRanges.{is_long_kind, is_number, is_owner, is_cut_length, is_tag_in_range, is_place, is_piece}
 use Rattle.messages.specs.Tags.{is_tag}
 use Rattle.messages.proofs.TestLemmas.{both, le_of}
@@ -136,19 +135,15 @@ piece_ends q h =
 
 -- What looking answers.
 
-no_memory_by : (q : PieceParts) (b : Body) (t : Bool) → LookAnswers (Err FrameNoMemory) (if t then Gives (packet_of q b) else NoPacket)
+no_memory_by : (q : PieceParts) (b : Body) (t : Bool) → LookAnswers (Err NoMemory) (if t then Gives (packet_of q b) else NoPacket)
 no_memory_by q b true = refl
 no_memory_by q b false = inr refl
 
-pub body_fails : (q : PieceParts) (o : Option Body) (f : Fault) → Reads (Err f) o → LookAnswers (Err f) (of_tag q o)
-body_fails q None f e = inl e
-body_fails q (Some b) f e = rw e (no_memory_by q b (is_tag (tag_in b q.tag.length) q.tag))
-
-no_memory_of : (q : PieceParts) (o : Option Body) → LookAnswers (Err FrameNoMemory) (of_tag q o)
+no_memory_of : (q : PieceParts) (o : Option Body) → LookAnswers (Err NoMemory) (of_tag q o)
 no_memory_of q None = inr refl
 no_memory_of q (Some b) = no_memory_by q b (is_tag (tag_in b q.tag.length) q.tag)
 
-pub no_memory : (q : PieceParts) (o : Option (List ℕ)) → is_some o ≡ true → LookAnswers (Err FrameNoMemory) (look_at q o)
+pub no_memory : (q : PieceParts) (o : Option (List ℕ)) → is_some o ≡ true → LookAnswers (Err NoMemory) (look_at q o)
 no_memory q None e = absurd cc
 no_memory q (Some bytes) e = no_memory_of q (body_at q.tag.whole bytes)
 

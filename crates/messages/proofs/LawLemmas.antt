@@ -53,7 +53,7 @@ header_fits law p h =
     let limit = most law p h in
     (omega arith, (omega arith, (omega arith, (kind_fits (kind_of p.body), (node_fits p.from h.from, (node_fits p.to h.to, (omega arith, tt)))))))
 
-framed : ReadsBack → (p : PacketParts) (more : List ℕ) → Parts p → numbers header (spelling p ++ more) ≡ numbers_of_header p
+pub framed : ReadsBack → (p : PacketParts) (more : List ℕ) → Parts p → numbers header (spelling p ++ more) ≡ numbers_of_header p
 framed law p more h =
     ap (numbers header) (append_assoc (header_of p.from p.to p.body (length_of p.body)) (spelled_body p.body) more)
     ∙ numbers-spelled header (numbers_of_header p) (spelled_body p.body ++ more) header_wide (header_fits law p h)

@@ -1,7 +1,7 @@
 -- What comes together of the pieces that a node takes.
 use Rattle.std.specs.Prelude.{◌≡◌, ◌⊎◌, ℕ, ◌-◌, Bool, true, false, ◌==◌, if◌then◌else◌, List, [], ◌∷◌, ◌++◌, length, drop, map, Option, Some, None, Result, Ok, Err}
 use Rattle.fc_base.specs.declared.fault.Fault.{Fault}
-use Rattle.fc_base.specs.declared.fault.Fault.TheVariants.{FrameBadField, FrameNoMemory}
+use Rattle.fc_base.specs.declared.fault.Fault.TheVariants.{FrameBadField, NoMemory}
 use Rattle.messages.specs.declared.body.Body.{Body}
 use Rattle.messages.specs.declared.packet.PacketParts.{PacketParts}
 use Rattle.messages.specs.declared.piece.Tag.{Tag}
@@ -127,5 +127,5 @@ LookAnswers (Ok o) Waits = o ≡ None
 LookAnswers (Ok o) (Gives p) = o ≡ Some p
 LookAnswers (Ok o) NoPacket = ⊥
 LookAnswers (Err f) Waits = ⊥
-LookAnswers (Err f) (Gives p) = f ≡ FrameNoMemory
-LookAnswers (Err f) NoPacket = (f ≡ FrameBadField) ⊎ (f ≡ FrameNoMemory)
+LookAnswers (Err f) (Gives p) = f ≡ NoMemory
+LookAnswers (Err f) NoPacket = (f ≡ FrameBadField) ⊎ (f ≡ NoMemory)

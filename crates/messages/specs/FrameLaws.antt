@@ -1,5 +1,5 @@
 -- What the bytes of frames promise.
-use Rattle.std.specs.Prelude.{◌≡◌, ◌≤◌, ℕ, List, [], Some, IsTrue}
+use Rattle.std.specs.Prelude.{◌≡◌, ◌≤◌, ℕ, List, [], ◌++◌, Some, IsTrue}
 use Rattle.messages.specs.declared.frame.Frame.{Frame}
 use Rattle.messages.specs.declared.frame.Frame.TheVariants.{Whole, Piece}
 use Rattle.messages.specs.declared.packet.PacketParts.{PacketParts}
@@ -30,3 +30,8 @@ OnlyFramesAreRead = (bytes : List ℕ) → IsBytes bytes → frame_faults bytes 
 -- The frames of each packet are few.
 abbrev pub FramesAreFew : Type 0
 FramesAreFew = (p : PacketParts) → IsPacket p → AreFew p (spelled_frames p)
+
+-- No frame's spelling begins another's.
+abbrev pub NoFrameBeginsAnother : Type 0
+NoFrameBeginsAnother =
+    (f g : Frame) (more : List ℕ) → IsFrame f → IsFrame g → frame_spelling f ++ more ≡ frame_spelling g → (more ≡ []) × (f ≡ g)

@@ -47,15 +47,15 @@ impl Assembly {
 
     /// The packet that this piece completes, if it fills the last place of its tag. Nothing changes.
     ///
-    /// `FrameBadField` is answered where the bytes are no packet with that tag, `FrameNoMemory` where
-    /// memory runs out.
+    /// `FrameBadField` is answered where the bytes are no packet with that tag, `NoMemory` where memory
+    /// runs out, which it may only for a piece that fills the last place.
     pub fn look(&self, piece: &Piece) -> Result<Option<Packet>, Fault>
         ensures { LookAnswers result (look self.now piece.now) }
     {
         match join(self.alloc, self.filled_of(piece.tag()), piece) {
             Ok(Some(bytes)) => packet_of(self.alloc, piece, &bytes),
             Ok(None) => Ok(None),
-            Err(_) => Err(Fault::FrameNoMemory),
+            Err(_) => Err(Fault::NoMemory),
         }
     }
 
@@ -115,7 +115,11 @@ fn packet_of(alloc: Global, piece: &Piece, bytes: &[u8]) -> Result<Option<Packet
     ensures { LookAnswers result (of_tag piece.now (body_at piece.now.tag.whole bytes.now)) }
 {
     let tag = piece.tag();
-    let body = body_of(alloc, tag.whole, bytes)?;
+    let body = match body_of(alloc, tag.whole, bytes) {
+        Ok(body) => body,
+        Err(Fault::FrameNoMemory) => return Err(Fault::NoMemory),
+        Err(_) => return Err(Fault::FrameBadField),
+    };
     if body.tag(tag.length) != tag {
         return Err(Fault::FrameBadField);
     }

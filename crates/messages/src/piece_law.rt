@@ -1,6 +1,6 @@
 //! The laws of pieces.
 
-ghost use Rattle.messages.specs.FrameLaws.{FramesAreFew, FramesAreRead, OnlyFramesAreRead};
+ghost use Rattle.messages.specs.FrameLaws.{FramesAreFew, FramesAreRead, NoFrameBeginsAnother, OnlyFramesAreRead};
 ghost use Rattle.messages.specs.PieceLaws.{PiecesGiveTheBytes, PiecesGiveThePacket, OnlyWholeBodiesAreGiven, OnlySentComesTogether, OnlySentIsGiven};
 
 use crate::law::one_spelling;
@@ -30,6 +30,14 @@ pub fn only_sent_comes_together()
 /// Each frame is read back from its bytes.
 pub fn frames_are_read_back()
     ensures { FramesAreRead }
+{
+    verify_state::one_spelling();
+}
+
+/// Packets and pieces can stand one after another without a mark between them: the header tells which it is,
+/// and its length says where it ends.
+pub fn no_frame_begins_another()
+    ensures { NoFrameBeginsAnother }
 {
     verify_state::one_spelling();
 }

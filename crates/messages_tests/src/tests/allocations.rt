@@ -25,7 +25,7 @@ fn piece_again(alloc: Global, bytes: &[u8]) -> Result<Piece, Fail> {
 /// What looking at a piece gives, likewise.
 fn look_again(kept: &Assembly, piece: &Piece) -> Result<Option<Packet>, Fail> {
     match kept.look(piece) {
-        Err(Fault::FrameNoMemory) => Ok(kept.look(piece)?),
+        Err(Fault::NoMemory) => Ok(kept.look(piece)?),
         answer => Ok(answer?),
     }
 }
