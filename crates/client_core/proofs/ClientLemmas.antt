@@ -1,5 +1,5 @@
 -- What a client that stands for a list knows of it.
-use Rattle.std.proofs.Common.{◌≡◌, refl, sym, ◌∙◌, ap, subst, ℕ, Bool, true, false, ◌&&◌, List, Option, None, Some}
+use Rattle.std.proofs.Common.{◌≡◌, refl, sym, ◌∙◌, ap, Bool, true, false, ◌&&◌, List, Option, None, Some}
 use Rattle.std.specs.Prelude.{not, is_none, is_some}
 use Rattle.fc_base.specs.declared.fault.Fault.{Fault}
 use Rattle.messages.specs.declared.packet.PacketParts.{PacketParts}

@@ -2,7 +2,7 @@
 use Rattle.std.proofs.Common.{◌≡◌, refl, sym, ◌∙◌, ap, subst, ℕ, Bool, true, false, ◌&&◌, List, ◌∷◌, Option, Some, None, Ok, Err}
 use Rattle.std.specs.Prelude.{if◌then◌else◌, is_some}
 use Rattle.fc_base.specs.declared.fault.Fault.{Fault}
-use Rattle.fc_base.specs.declared.fault.Fault.TheVariants.{FrameBadField, FrameNoMemory}
+use Rattle.fc_base.specs.declared.fault.Fault.TheVariants.{FrameBadField, NoMemory}
 use Rattle.disk_model.specs.declared.left.Left.{Left}
 use Rattle.messages.specs.declared.packet.PacketParts.{PacketParts}
 use Rattle.messages.specs.declared.piece.PieceParts.{PieceParts}
@@ -198,6 +198,6 @@ pub looked_bad : (o : Opening) (past : List FrameEntry) (q : PieceParts) (l : Lo
 looked_bad o past q looks.Waits is a = absurd a
 looked_bad o past q (Gives p) is a = absurd (no_memory a)
   where
-    no_memory : FrameBadField ≡ FrameNoMemory → ⊥
+    no_memory : FrameBadField ≡ NoMemory → ⊥
     no_memory e = cc
 looked_bad o past q looks.NoPacket is a = is

@@ -27,7 +27,7 @@ use Rattle.client_core.specs.Words.{is_on, noted, kept, peers, may_renew}
 use Rattle.client_core.specs.Note.{is_blank, renewed}
 use Rattle.client_core.specs.Packets.{packets}
 use Rattle.client_core.specs.Ranges.{packet_in, came}
-use Rattle.client_core.specs.Laws.{from_server, from_mirror, loses_nothing, FirstKeptStays, KeptWasSent}
+use Rattle.client_core.specs.Laws.{from_server, from_mirror, FirstKeptStays, KeptWasSent}
 use Rattle.client_core.proofs.HeardLemmas.{from_own, from_its_mirror, one, own_state, taken_in}
 
 added_stays : FoundStays → (key : Key) (a : Addition) (n : Noted) (s : State) → kept_of key n.kept ≡ Some s → kept_of key (with_addition a n).kept ≡ Some s

@@ -1,12 +1,12 @@
 -- No number is given twice: where the note isn't lost, or the client is one with a mirror.
 use Rattle.std.proofs.Common.{◌≡◌, refl, sym, subst, inl, inr, ℕ, ◌+◌, ◌<◌, ◌≤◌, arith, Bool, true, false, ◌&&◌, ◌||◌, ◌==◌, List, [], ◌∷◌, ◌++◌, Option, None, Some}
-use Rattle.std.specs.Prelude.{if◌then◌else◌, not, is_none, nat_le, nat_lt, ◌*◌, ◌^◌, IsTrue, slice_get}
+use Rattle.std.specs.Prelude.{if◌then◌else◌, not, is_none, nat_le, nat_lt, ◌*◌, ◌^◌, slice_get}
 use Rattle.std.proofs.lemmas.Bool.{and_parts, cases_Bool, eqb-true, leb-true, ltb-true}
 use Rattle.std.proofs.lemmas.Bool.Decides.{nat_tests}
 use Rattle.fc_base.specs.declared.fault.Fault.{Fault}
 use Rattle.fc_base.specs.declared.fault.Fault.TheVariants.{Down}
 use Rattle.fc_base.specs.declared.limits.TheConstants.{MAX_GENERATION}
-use Rattle.fc_base.specs.Counted.{has, is_distinct}
+use Rattle.fc_base.specs.Counted.{has}
 use Rattle.fc_base.specs.Faults.{when}
 use Rattle.messages.specs.Nodes.{node_number}
 use Rattle.messages.specs.Ranges.{is_generation, is_text}
@@ -25,7 +25,7 @@ use Rattle.client_core.specs.Words.{is_on, noted, peers, may_renew}
 use Rattle.client_core.specs.Life.{Deed, Triggers, Stops, Hears, deeds_of, done}
 use Rattle.client_core.specs.Laws.{runs_in, attempts_in, generations, is_mirrored, NumbersAreGivenOnce}
 use Rattle.client_core.proofs.ApartLemmas.{Apart, give, lose, pass, renew, start, unsaved}
-use Rattle.client_core.proofs.FreshLemmas.{attempts_are_fresh, body_only, none_used, runs_are_fresh}
+use Rattle.client_core.proofs.FreshLemmas.{attempts_are_fresh, body_only, runs_are_fresh}
 use Rattle.client_core.proofs.NotedLemmas.{begin_faults, verify_faults}
 
 on_of : (on : Bool) (more : List Fault) → slice_get (when (not on) Down ++ more) 0 ≡ None → on ≡ true

@@ -1,10 +1,10 @@
 -- What the bytes of a note say.
 use Rattle.std.proofs.Common.{◌≡◌, refl, sym, ◌∙◌, ap, subst, ◌⊎◌, inl, inr, ℕ, ◌+◌, ◌-◌, ◌<◌, ◌≤◌, arith, true, false, ◌==◌, List, [], ◌∷◌, ◌++◌, length, None, Some, take, drop, get_or}
-use Rattle.std.specs.Prelude.{◌^◌, Bool, Option, Result, Ok, Err, IfOk, if◌then◌else◌, nat_le, map, bytes_eq, codes}
+use Rattle.std.specs.Prelude.{◌^◌, Bool, Option, Result, Ok, Err, IfOk, OnErr, if◌then◌else◌, nat_le, map, bytes_eq, codes}
 use Rattle.std.specs.List.{AllByRecursion, flat_map}
 use Rattle.std.specs.Int.{w32, w64}
 use Rattle.std.proofs.lemmas.Bool.{cases_lt}
-use Rattle.std.proofs.lemmas.List.{length-map, take-append-drop, length-take-le, length-drop, get_or-drop, get_or-take, get_or_past}
+use Rattle.std.proofs.lemmas.List.{drop-drop, length-map, take-append-drop, length-take-le, length-drop, get_or-drop, get_or-take, get_or_past}
 use Rattle.std.proofs.lemmas.List.Elements.{All-from_get_or, recursion_from_All}
 use Rattle.std.proofs.lemmas.Nat.{from_be_bytes-to_be_bytes_4, from_be_bytes-to_be_bytes_8, be_bytes_8, be_bytes_4}
 use Rattle.std.proofs.lemmas.Slice.Eq.{bytes_eq-Decides}
@@ -15,7 +15,7 @@ use Rattle.state_table.specs.Kept.{has_distinct_keys}
 use Rattle.state_table.specs.Laws.{SpelledAreRead, ReadWereSpelled}
 use Rattle.state_table.specs.Reading.{states_at, ReadsStates}
 use Rattle.client_core.specs.declared.noted.Noted.{Noted}
-use Rattle.client_core.specs.Note.{blank, numbers_of, note_of, old_note_of, spelling, IsNoted, IsNote, Numbers, Spells, Says, ReadsNumbers, Reads, SaysOneThing, SaysWhatIsWritten}
+use Rattle.client_core.specs.Note.{blank, numbers_of, note_of, old_note_of, spelling, IsNoted, IsNote, Numbers, Spells, Says, ReadsNumbers, Reads, TellsStates, BeginsStates, SaysOneThing, SaysWhatIsWritten}
 use Rattle.std.proofs.lemmas.Bool.Decides.{nat_tests}
 use Rattle.fc_base.specs.declared.limits.TheConstants.{MAX_GENERATION}
 use Rattle.std.proofs.lemmas.List.Folds.{flat_map-map}
@@ -284,6 +284,10 @@ no_states reads bytes n count c h k a =
 pub if_ok : {A E : Type 0} (r : Result A E) (P Q : A → Type 0) → ((x : A) → P x → Q x) → IfOk r P → IfOk r Q
 if_ok (Ok x) P Q f h = f x h
 if_ok (Err e) P Q f h = tt
+
+pub begins_states : {A E : Type 0} (r : Result A E) (bytes rest : List ℕ) → take 4 bytes ≡ codes "FCC2" → rest ≡ drop 8 (drop 4 bytes) → OnErr r (TellsStates rest) → OnErr r (BeginsStates bytes)
+begins_states (Ok x) bytes rest mark is h = tt
+begins_states (Err e) bytes rest mark is h = inl (mark, subst TellsStates (is ∙ drop-drop 8 4 bytes) h)
 
 pub reads_old : (bytes rest : List ℕ) → (bytes ≡ [] → ⊥) → take 4 bytes ≡ codes "FCC1" → rest ≡ drop 4 bytes → (x : Option Noted) → ReadsNumbers 0 rest x → Reads bytes x
 reads_old bytes rest some mark is (Some n) h = old_says bytes n mark h.0 h.1 (subst (λ l. Numbers l n) is h.2)

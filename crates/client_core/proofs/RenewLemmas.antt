@@ -1,10 +1,9 @@
 -- What a client finds in its note where it is opened.
-use Rattle.std.proofs.Common.{◌≡◌, refl, ◌∙◌, ap, subst, sym, ℕ, ◌+◌, arith, eqb-true, Bool, true, false, ◌==◌, ◌&&◌, List, [], ◌∷◌, length, Option, None, Some}
+use Rattle.std.proofs.Common.{◌≡◌, refl, ◌∙◌, ap, subst, sym, ℕ, arith, eqb-true, Bool, true, false, ◌==◌, ◌&&◌, List, [], ◌∷◌, length, None, Some}
 use Rattle.std.specs.Prelude.{if◌then◌else◌}
 use Rattle.disk_model.specs.declared.left.Left.TheVariants.{Saved}
 use Rattle.messages.specs.Ranges.{is_generation}
-use Rattle.client_core.specs.declared.noted.Noted.{Noted}
-use Rattle.client_core.specs.Note.{Says, blank, is_blank, renewed}
+use Rattle.client_core.specs.Note.{Says, blank, renewed}
 use Rattle.client_core.specs.History.{Opening, Entry, Renew}
 use Rattle.client_core.specs.Words.{noted, renewed_after}
 use Rattle.client_core.proofs.NoteLemmas.{says_blank}

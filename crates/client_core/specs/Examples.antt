@@ -8,7 +8,6 @@ use Rattle.fc_base.specs.declared.report.ReportEnd.TheVariants.{Whole}
 use Rattle.disk_model.specs.declared.left.Left.{Left}
 use Rattle.disk_model.specs.declared.left.Left.TheVariants.{NoSave, Saved, LostNew, LostOld}
 use Rattle.verify_state.specs.State.{State}
-use Rattle.messages.specs.declared.packet.PacketParts.{PacketParts}
 use Rattle.messages.specs.declared.body.Body.{Body}
 use Rattle.messages.specs.declared.body.Body.TheVariants as bodies
 use Rattle.messages.specs.declared.refusal.Act.TheVariants as acts
@@ -22,10 +21,10 @@ use Rattle.client_core.specs.declared.outcome.Outcome.TheVariants as outcomes
 use Rattle.client_core.specs.declared.outcome.RequestKind.TheVariants as kinds
 use Rattle.client_core.specs.Note.{blank}
 use Rattle.client_core.specs.History.{Opening, Entry, Met, Cut, Restart, Renew, Lose}
-use Rattle.client_core.specs.Words.{refusal, due, kept, noted, peers}
+use Rattle.client_core.specs.Words.{refusal, due, kept}
 use Rattle.client_core.specs.Life.{life}
 use Rattle.client_core.specs.Outcomes.{outcome, settled}
-use Rattle.client_core.specs.Packets.{packets, to_mirror, fetch_again, copies_again}
+use Rattle.client_core.specs.Packets.{packets}
 use Rattle.client_core.specs.Reports.{reports}
 use Rattle.client_core.specs.Laws.{from_server, from_mirror}
 

@@ -1,13 +1,14 @@
 -- The durable note of a client: what it says, and its bytes.
-use Rattle.std.specs.Prelude.{◌≡◌, ◌⊎◌, ℕ, Bool, ◌&&◌, ◌==◌, ◌*◌, ◌^◌, ◌<◌, ◌≤◌, List, [], ◌++◌, length, map, codes, Option, Some, None, IsTrue}
+use Rattle.std.specs.Prelude.{◌≡◌, ◌⊎◌, ℕ, Bool, ◌&&◌, ◌==◌, ◌*◌, ◌^◌, ◌<◌, ◌≤◌, List, [], ◌++◌, length, take, drop, map, codes, Option, Some, None, IsTrue}
 use Rattle.std.specs.List.{flat_map, AllByRecursion}
 use Rattle.std.specs.Int.{w32, w64}
 use Rattle.fc_base.specs.declared.limits.TheConstants.{MAX_GENERATION}
-use Rattle.fc_base.specs.Layouts.{bytes_of}
+use Rattle.fc_base.specs.Layouts.{bytes_of, number_in}
 use Rattle.verify_state.specs.State.{IsState}
 use Rattle.verify_state.specs.Spelling.{spelling as state_bytes}
 use Rattle.state_table.specs.Counted.{counted_bytes, SayStates}
 use Rattle.state_table.specs.Kept.{has_distinct_keys}
+use Rattle.state_table.specs.Reading.{HasFirst}
 use Rattle.client_core.specs.declared.noted.Noted.{Noted}
 
 -- What a blank note says.
@@ -85,6 +86,17 @@ ReadsNumbers generation bytes None = (n : Noted) → IsNoted n → Numbers bytes
 abbrev pub Reads : List ℕ → Option Noted → Type 0
 Reads bytes (Some n) = Says bytes n
 Reads bytes None = (n : Noted) → Says bytes n → ⊥
+
+-- What stands behind a note's generation tells of 1 to 1,024 states, and the first of them is sound.
+pub record TellsStates (bytes : List ℕ) : Type 0 where
+  pub few : number_in w32 (drop 16 bytes) ≤ 1024
+  pub first : HasFirst (number_in w32 (drop 16 bytes)) (drop 20 bytes)
+
+-- The bytes begin as a note does that has states, the first of which is sound.
+abbrev pub BeginsStates : List ℕ → Type 0
+BeginsStates bytes =
+    ((take 4 bytes ≡ codes "FCC2") × TellsStates (drop 12 bytes))
+    ⊎ ((take 4 bytes ≡ codes "FCC1") × TellsStates (drop 4 bytes))
 
 -- Bytes say one thing at most.
 abbrev pub SaysOneThing : Type 0

@@ -10,7 +10,7 @@ use messages::{Asked, Body, Reason};
 
 /// How far the begin of a run is at a server.
 #[derive(Clone, Copy, Debug, PartialEq, Eq)]
-pub enum Beginning {
+pub(crate) enum Beginning {
     /// It was not asked for.
     Unbegun,
     /// Jobs is open.
@@ -25,7 +25,7 @@ pub enum Beginning {
 
 impl Beginning {
     /// How far it is, once the server has said this, of this run or of another.
-    pub fn heard(self, run: RunNo, body: &Body) -> Beginning
+    pub(crate) fn heard(self, run: RunNo, body: &Body) -> Beginning
         ensures { result ≡ begin_heard run body.now self }
     {
         match body {
@@ -39,7 +39,7 @@ impl Beginning {
     }
 
     /// How it stands.
-    pub fn outcome(self) -> Outcome
+    pub(crate) fn outcome(self) -> Outcome
         ensures { result ≡ begin_outcome self }
     {
         match self {

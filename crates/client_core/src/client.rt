@@ -80,7 +80,8 @@ impl<N: Notes> Client<N> {
 
     /// The notes of a client that is taken off.
     pub fn off(self) -> N
-        ensures { (o : Opening) (past : List FrameEntry) → StandsFor N.note self o past →
+        ensures note { N.note result ≡ N.note self.core.notes }
+        ensures says { (o : Opening) (past : List FrameEntry) → StandsFor N.note self o past →
             Says (N.note result).bytes (noted o (packets_heard o past)) }
     {
         let Client {

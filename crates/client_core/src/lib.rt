@@ -25,7 +25,6 @@ mod servers;
 mod standing;
 mod told;
 
-pub use beginning::Beginning;
 pub use call::Call;
 pub use client::Client;
 pub use input::Input;
@@ -37,5 +36,4 @@ pub use law::{
 };
 pub use noted::{Noted, notes_are_read_back, one_note};
 pub use outcome::{Outcome, RequestKind};
-pub use packet_client::PacketClient;
 pub use received::Received;

@@ -1,7 +1,7 @@
 //! What outlasts a cut: the bytes of a client's note.
 
-ghost use Rattle.std.specs.Prelude.{◌≡◌, ◌≤◌, IfOk};
-ghost use Rattle.client_core.specs.Note.{spelling, blank, renewed, is_blank, Reads, ReadsNumbers, SaysOneThing, SaysWhatIsWritten};
+ghost use Rattle.std.specs.Prelude.{◌≡◌, ◌≤◌, IfOk, OnErr};
+ghost use Rattle.client_core.specs.Note.{spelling, blank, renewed, is_blank, BeginsStates, Reads, ReadsNumbers, TellsStates, SaysOneThing, SaysWhatIsWritten};
 
 use crate::generation::NotedGeneration;
 use fc_base::{put_u32, put_u64, split_u32, split_u64};
@@ -89,9 +89,11 @@ impl Noted {
     }
 
     /// What these bytes say, `None` where they are no note. No bytes at all are a blank one. States may
-    /// stand in it in either layout.
+    /// stand in it in either layout. Memory is asked for only behind a first sound state, whatever number
+    /// of states the note tells.
     pub fn decode(alloc: Global, bytes: &[u8]) -> Result<Option<Noted>, AllocError>
-        ensures { IfOk result (Reads bytes.now) }
+        ensures said { IfOk result (Reads bytes.now) }
+        ensures memory { OnErr result (BeginsStates bytes.now) }
     {
         if bytes.is_empty() {
             return Ok(Some(Noted::blank(alloc)));
@@ -119,7 +121,8 @@ fn numbers_in(
     generation: NotedGeneration,
     bytes: &[u8],
 ) -> Result<Option<Noted>, AllocError>
-    ensures { IfOk result (ReadsNumbers generation bytes.now) }
+    ensures said { IfOk result (ReadsNumbers generation bytes.now) }
+    ensures memory { OnErr result (TellsStates bytes.now) }
 {
     spelled_are_read();
     read_were_spelled();

@@ -31,7 +31,7 @@ use verify_state::VerifyState;
 /// A client to which whole packets come: its durable note, with whom it is, what it knows of its note, and
 /// what it keeps of its requests.
 #[derive(Drop)]
-pub struct PacketClient<N> {
+pub(crate) struct PacketClient<N> {
     alloc: Global,
     notes: N,
     peers: Peers,
@@ -137,7 +137,8 @@ impl<N: Notes> PacketClient<N> {
 
     /// The notes of a client that is taken off.
     pub(crate) fn off(self) -> N
-        ensures { (o : Opening) (past : List Entry) → StandsFor N.note self o past → Says (N.note result).bytes (noted o past) }
+        ensures note { N.note result ≡ N.note self.notes }
+        ensures says { (o : Opening) (past : List Entry) → StandsFor N.note self o past → Says (N.note result).bytes (noted o past) }
     {
         let PacketClient {
             alloc: _,

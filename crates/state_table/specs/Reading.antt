@@ -1,5 +1,5 @@
 -- How the states of a note are read.
-use Rattle.std.specs.Prelude.{◌≡◌, ℕ, zero, suc, nat_lt, List, [], ◌∷◌, length, take, drop, Option, Some, None, IsTrue, if◌then◌else◌}
+use Rattle.std.specs.Prelude.{◌≡◌, ◌<◌, ℕ, zero, suc, nat_lt, is_some, List, [], ◌∷◌, length, take, drop, Option, Some, None, IsTrue, if◌then◌else◌}
 use Rattle.std.specs.Option.{option_map, option_and_then}
 use Rattle.std.specs.Int.{w32}
 use Rattle.fc_base.specs.declared.fault.Fault.{Fault}
@@ -30,6 +30,10 @@ states_at zero [] = Some []
 states_at zero (byte ∷ bytes) = None
 states_at (suc n) bytes =
     option_and_then (λ first. option_map (λ states. first.0 ∷ states) (states_at n first.1)) (first_state bytes)
+
+-- There is to be a state, and the first one is sound.
+abbrev pub HasFirst : ℕ → List ℕ → Type 0
+HasFirst n bytes = (0 < n) × IsTrue (is_some (first_state bytes))
 
 -- A reader gives so many states, of different keys, and nothing where the bytes aren't that.
 abbrev pub ReadsStates : ℕ → List ℕ → Option (List State) → Type 0

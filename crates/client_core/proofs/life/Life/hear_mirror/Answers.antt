@@ -1,6 +1,4 @@
-use Rattle.std.proofs.Common.{◌≡◌, refl, sym, ◌∙◌, ap, subst, Bool, true, false, ◌||◌, ◌∷◌}
-use Rattle.std.specs.Prelude.{cond}
-use Rattle.fc_base.specs.declared.numbers.Key.{Key}
+use Rattle.std.proofs.Common.{refl, sym, subst, ◌∷◌}
 use Rattle.messages.specs.declared.body.Body.{Body}
 use Rattle.client_core.specs.Life.{Hears}
 use Rattle.client_core.specs.Lives.{LifeIs}

@@ -1,4 +1,4 @@
-use Rattle.std.proofs.Common.{refl, sym, subst, ◌∙◌, ap, ◌∷◌, true}
+use Rattle.std.proofs.Common.{sym, subst, ◌∙◌, ap, ◌∷◌, true}
 use Rattle.messages.specs.Nodes.{node_number}
 use Rattle.messages.specs.Bodies.{kind_of}
 use Rattle.messages.specs.Kinds.{is_of_mirror}

@@ -1,6 +1,5 @@
 use Rattle.std.proofs.Common.{◌≡◌, refl, sym, ◌∙◌, ap, subst, true, false, ◌==◌, length, List, ℕ, [], arith}
 use Rattle.disk_model.specs.Notes.{Note}
-use Rattle.messages.specs.Ranges.{is_generation}
 use Rattle.client_core.specs.Note.{Says, renewed, spelling}
 use Rattle.client_core.proofs.NotedLemmas.{of_renewed}
 use Rattle.client_core.proofs.RenewLemmas.{no_bytes, renewed_noted, renewed_with}

@@ -1,4 +1,4 @@
-use Rattle.std.proofs.Common.{refl, sym, ◌∙◌, ap, subst, false, ◌==◌, ◌&&◌, length, List, ℕ, arith}
+use Rattle.std.proofs.Common.{refl, sym, ◌∙◌, ap, subst, false, ◌==◌, length, List, ℕ, arith}
 use Rattle.disk_model.specs.Notes.{Note}
 use Rattle.client_core.specs.Note.{Says, Reads}
 use Rattle.client_core.specs.Words.{noted}
@@ -10,7 +10,7 @@ pub returns-in-Ok-Some : goal.returns-in-Ok-Some
 returns-in-Ok-Some g c =
     let loaded = c.in-Ok.ensures in
     let old = g.N.Notes.note c.args.notes in
-    let says = subst (λ (l : List ℕ). Says l c.in-Ok-Some.noted) (c.deref-2.ensures.value ∙ loaded.1) (subst (Reads c.deref-2.result.now) c.in-Ok-Some.field-0-is c.in-Ok-Some.ensures) in
+    let says = subst (λ (l : List ℕ). Says l c.in-Ok-Some.noted) (c.deref-2.ensures.value ∙ loaded.1) (subst (Reads c.deref-2.result.now) c.in-Ok-Some.field-0-is c.in-Ok-Some.ensures.said) in
     record {
       same = loaded.0;
       some = λ m e. elim c.else-mirror.branch [

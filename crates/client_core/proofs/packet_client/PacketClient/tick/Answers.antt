@@ -1,4 +1,4 @@
-use Rattle.std.proofs.Common.{◌≡◌, refl, sym, ◌∙◌, ap, None}
+use Rattle.std.proofs.Common.{refl, ap}
 use Rattle.std.specs.Prelude.{not}
 use Rattle.fc_base.specs.declared.fault.Fault.TheVariants.{Down}
 use Rattle.client_core.specs.declared.call.Call.TheVariants.{Tick}

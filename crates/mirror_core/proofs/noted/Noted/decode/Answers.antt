@@ -32,7 +32,7 @@ returns-in-Some-2 c =
     let after = c.in-Some.ensures.cases.1 in
     let generation = c.split_u64-generation.ensures.rest ∙ ap (drop 8) after in
     let states = c.split_u32-count.ensures.rest ∙ ap (drop 4) generation in
-    let read = subst (λ (l : List ℕ). ReadsStates c.split_u32-count.result.0 l (Some c.in-Some-2.kept)) states (subst (ReadsStates c.split_u32-count.result.0 c.split_u32-count.result.1.now) c.in-Some-2.is c.in_ok-kept.ensures) in
+    let read = subst (λ (l : List ℕ). ReadsStates c.split_u32-count.result.0 l (Some c.in-Some-2.kept)) states (subst (ReadsStates c.split_u32-count.result.0 c.split_u32-count.result.1.now) c.in-Some-2.is c.in_ok-kept.ensures.states) in
     read_says c.spelled_are_read.ensures c.read_were_spelled.ensures c.args.bytes.now c.split_u64-generation.result.0 c.split_u32-count.result.0 c.in-Some-2.kept (λ i. omega (arith, c.type_inv.bytes i)) mark
     (omega (arith, c.in-Some.ensures.cases.2, c.if-rest-lt-NUMBERS.false))
     (c.split_u64-generation.ensures.number ∙ ap (λ l. number_in w64 l) after)
@@ -44,5 +44,5 @@ returns-in-None c =
     let generation = c.split_u64-generation.ensures.rest ∙ ap (drop 8) c.in-Some.ensures.cases.1 in
     let count = c.split_u32-count.ensures.number ∙ ap (λ l. number_in w32 l) generation in
     let states = c.split_u32-count.ensures.rest ∙ ap (drop 4) generation in
-    let read = subst (λ (l : List ℕ). ReadsStates c.split_u32-count.result.0 l None) states (subst (ReadsStates c.split_u32-count.result.0 c.split_u32-count.result.1.now) c.in-None.is c.in_ok-kept.ensures) in
+    let read = subst (λ (l : List ℕ). ReadsStates c.split_u32-count.result.0 l None) states (subst (ReadsStates c.split_u32-count.result.0 c.split_u32-count.result.1.now) c.in-None.is c.in_ok-kept.ensures.states) in
     λ n s. no_states c.spelled_are_read.ensures c.args.bytes.now n c.split_u32-count.result.0 (some_bytes c.args.bytes.now c.if-is_empty.ensures) count read s
