@@ -12,7 +12,7 @@ use Rattle.fc_base.specs.declared.fault.FaultSort.TheVariants as sorts
 use Rattle.fc_base.specs.Fault.{sort_of}
 use Rattle.disk_model.specs.declared.left.Left.{Left}
 use Rattle.disk_model.specs.declared.left.Left.TheVariants.{NoSave}
-use Rattle.disk_model.specs.Left.{is_lost}
+use Rattle.disk_model.specs.Left.{is_lost, bytes_left}
 use Rattle.disk_model.specs.Notes.{Note}
 use Rattle.messages.specs.declared.packet.PacketParts.{PacketParts}
 use Rattle.messages.specs.declared.piece.PieceParts.{PieceParts}
@@ -35,7 +35,8 @@ use Rattle.server_core.specs.Words as words
 use Rattle.server_core.specs.Answers as answers
 use Rattle.server_core.specs.Handles.{sent_alone}
 use Rattle.server_core.specs.Serves as whole
-use Rattle.server_core.specs.Serves.{saved_for}
+use Rattle.server_core.specs.Note.{spelling}
+use Rattle.server_core.specs.Serves.{LeavesNote, saved_for}
 use Rattle.server_core.specs.Hearing.{FrameEntry, Met, is_piece_for, rules, heard_at, packets_heard, assembly}
 use Rattle.server_core.specs.FrameAnswers.{Sense, Hears, Keeps, Drops, Misses, sense_of, sense, refusal, refusal_in, due, due_in, issue_in, act_in, answered, entry_heard, frames_by}
 use Rattle.server_core.specs.FrameEnds.{StandsFor, Answers, Refuses, Faults, Ends, is_drop}
@@ -70,9 +71,9 @@ heard_stands note o past e x left new is h k = record {
   pieces = k;
 }
 
-heard_answers : {T : Type 0} (note : T → Note) (o : Opening) (past : List FrameEntry) (e : Input) (x : Event) (new : Server T) (outs : Outs) → sense o past e ≡ Hears x
-    → whole.Answers note o (packets_heard o past) x new.core outs → (words.is_on (packets_heard o past) ≡ true → new.pieces ≡ rows_after o past e NoSave) → Answers note o past e new outs
-heard_answers note o past e x new outs is a k =
+heard_answers : {T : Type 0} (note : T → Note) (o : Opening) (past : List FrameEntry) (e : Input) (x : Event) (old new : Server T) (outs : Outs) → sense o past e ≡ Hears x
+    → whole.Answers note o (packets_heard o past) x old.core new.core outs → (words.is_on (packets_heard o past) ≡ true → new.pieces ≡ rows_after o past e NoSave) → Answers note o past e old new outs
+heard_answers note o past e x old new outs is a k =
     let list = packets_heard o past in
     let left = saved_for (words.due o list x) in
     let same_entry : answered o past e ≡ Met e left = ap (λ y. Met e (saved_for (due_in o list y))) is in
@@ -83,6 +84,8 @@ heard_answers note o past e x new outs is a k =
       issue_is = a.issue_is ∙ sym (ap (issue_in o list) is);
       act_is = a.act_is ∙ sym (ap (act_in o list) is);
       short = a.short;
+      leaves = subst (λ d. LeavesNote d (words.noted o (packets_heard o (answered o past e ∷ past))) (note old.core.notes) (note new.core.notes)) (sym (ap (due_in o list) is))
+          (subst (λ (l : List history.Entry). LeavesNote (words.due o list x) (words.noted o l) (note old.core.notes) (note new.core.notes)) (sym (ap (λ y. packets_heard o (y ∷ past)) same_entry ∙ heard_is o past e left (Hears x) is)) a.leaves);
       stands = subst (λ y. StandsFor note new o (y ∷ past)) (sym same_entry)
           (heard_stands note o past e x left new is a.stands (λ on. k (on_before (words.is_on list) (is_lost left) (sym (on_is o past e x left is) ∙ on)) ∙ same_rows o past e NoSave left));
     }
@@ -98,6 +101,7 @@ heard_faults note o past e x old new fault is w sorts.Save h k = record {
   makes_one = ap (due_in o (packets_heard o past)) is ∙ h.makes_one;
   left = h.left;
   lost = h.lost;
+  bytes_are = subst (λ (l : List history.Entry). (note new.core.notes).bytes ≡ bytes_left h.left (spelling (words.noted o l)) (note old.core.notes).bytes) (sym (heard_is o past e h.left (Hears x) is)) h.bytes_are;
   stands = heard_stands note o past e x h.left new is h.stands (λ on. absurd (off_lost (words.is_on (packets_heard o past)) (is_lost h.left) h.lost (sym (on_is o past e x h.left is) ∙ on)));
 }
 heard_faults note o past e x old new fault is w sorts.Refusal h k =
@@ -117,7 +121,7 @@ HeardRows o past e old new (Err fault) = new ≡ old
 
 pub heard_ends : {T : Type 0} (note : T → Note) (o : Opening) (past : List FrameEntry) (e : Input) (x : Event) (old new : Server T) (result : Result Outs Fault) → sense o past e ≡ Hears x → StandsFor note old o past
     → whole.Ends note o (packets_heard o past) x old.core new.core result → HeardRows o past e old.pieces new.pieces result → Ends note o past e old new result
-heard_ends note o past e x old new (Ok outs) is w h k = heard_answers note o past e x new outs is h k
+heard_ends note o past e x old new (Ok outs) is w h k = heard_answers note o past e x old new outs is h k
 heard_ends note o past e x old new (Err fault) is w h k = heard_faults note o past e x old new fault is w (sort_of fault) h k
 
 -- What leaves pieces as they are is heard so.
@@ -154,6 +158,7 @@ kept_ends note o past e q old is w =
       issue_is = sym (ap (issue_in o list) is);
       act_is = sym (ap (act_in o list) is);
       short = λ i h. record { few = omega arith; short = All-nil (λ (frame : List ℕ). length frame ≤ 1073) };
+      leaves = subst (λ d. LeavesNote d (words.noted o (packets_heard o (answered o past e ∷ past))) (note old.core.notes) (note old.core.notes)) (sym (ap (due_in o list) is)) refl;
       stands = silent_stands note o past e (Keeps q) left old (taken old.pieces q) is refl w (λ r. ap (λ x. taken x q) r ∙ sym (kept_rows o past e q left is));
     }
 

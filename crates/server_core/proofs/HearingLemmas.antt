@@ -2,7 +2,7 @@
 use Rattle.std.proofs.Common.{◌≡◌, refl, sym, ◌∙◌, ap, subst, ℕ, Bool, true, false, ◌&&◌, List, ◌∷◌, Option, Some, None, Result, Ok, Err}
 use Rattle.std.specs.Prelude.{if◌then◌else◌, is_some}
 use Rattle.fc_base.specs.declared.fault.Fault.{Fault}
-use Rattle.fc_base.specs.declared.fault.Fault.TheVariants.{FrameBadField, FrameNoMemory}
+use Rattle.fc_base.specs.declared.fault.Fault.TheVariants.{FrameBadField, NoMemory}
 use Rattle.disk_model.specs.declared.left.Left.{Left}
 use Rattle.messages.specs.declared.packet.PacketParts.{PacketParts}
 use Rattle.messages.specs.declared.piece.PieceParts.{PieceParts}
@@ -148,7 +148,7 @@ waited (Ok None) looks.Waits a is = refl
 waited (Ok None) (looks.Gives p) a is = cc
 waited (Ok None) looks.NoPacket a is = elim a [ ]
 
-no_memory : FrameBadField ≡ FrameNoMemory → ⊥
+no_memory : FrameBadField ≡ NoMemory → ⊥
 no_memory e = cc
 
 pub spoiled : (r : Result (Option PacketParts) Fault) (l : Look) → LookAnswers r l → r ≡ Err FrameBadField → l ≡ looks.NoPacket

@@ -17,7 +17,7 @@ use Rattle.server_core.specs.declared.packet_server.PacketServer.{PacketServer}
 use Rattle.server_core.specs.History.{Opening, Entry, Met}
 use Rattle.server_core.specs.Note.{Says}
 use Rattle.server_core.specs.Request.{Request, ToStage, ToStart, ToTrigger, ToMark, ToStop, ToVerify, ToHold, ToPassFully, ToIssue, ToEnd, ToReport, ToNobody, asked}
-use Rattle.server_core.specs.Words.{is_on, boot, last_run, due, is_due}
+use Rattle.server_core.specs.Words.{is_on, boot, last_run, noted, due, is_due}
 use Rattle.server_core.specs.Replies.{Now, replies}
 use Rattle.server_core.specs.Answers.{now, refusal, refusal_of, refused_by, packets, to_client, sent_by, looked}
 use Rattle.server_core.specs.Handles.{Handled, EachUndue}
@@ -25,7 +25,7 @@ use Rattle.server_core.specs.Stands.{MachineIs, EachNow, IsDueFor, after}
 use Rattle.server_core.specs.Bounds.{AreShort, FramesAreShort}
 use Rattle.server_core.specs.Laws.{PacketsAreInRange}
 use Rattle.server_core.specs.Ranges.{IsInRange, OpensInRange, CameInRange}
-use Rattle.server_core.specs.Serves.{StandsFor, Faults, Ends, saved_for, answered}
+use Rattle.server_core.specs.Serves.{StandsFor, LeavesNote, Faults, Ends, saved_for, answered}
 use Rattle.server_core.proofs.WorkLemmas.{unsaved}
 use Rattle.server_core.proofs.Looked.{looked_on}
 use Rattle.server_core.proofs.FollowLemmas.{follows}
@@ -109,6 +109,7 @@ ends note server m o past e (Ok outs) up s on k none can a =
       act_is = a.act_is;
       short = λ i h. subst AreShort (sym frames) (can.short i h);
       ranges = can.ranges;
+      leaves = subst (λ d. LeavesNote d (noted o (answered o past e ∷ past)) (note server.notes) (note server.notes)) (sym none) refl;
       stands = subst (λ d. StandsFor note (record { notes = server.notes; down = server.down; machine = m }) o (Met e (saved_for d) ∷ past)) (sym none) (stands_with note server m o past e up s on none a.left);
     }
 ends note server m o past e (Err fault) up s on k none can u = by_why u.why

@@ -8,7 +8,9 @@ use Rattle.fc_base.specs.declared.fault.Fault.TheVariants.{Down}
 use Rattle.fc_base.specs.declared.fault.FaultSort.{FaultSort}
 use Rattle.fc_base.specs.declared.fault.FaultSort.TheVariants as sorts
 use Rattle.fc_base.specs.Fault.{sort_of}
-use Rattle.disk_model.specs.declared.left.Left.TheVariants.{Saved, LostNew, LostOld}
+use Rattle.disk_model.specs.declared.left.Left.{Left}
+use Rattle.disk_model.specs.declared.left.Left.TheVariants.{NoSave, Saved, LostNew, LostOld}
+use Rattle.disk_model.specs.Left.{has_new}
 use Rattle.disk_model.specs.Notes.{Note}
 use Rattle.messages.specs.FramesOf.{spelled_frames}
 use Rattle.messages.specs.Ranges.{is_run, is_word}
@@ -16,16 +18,17 @@ use Rattle.server_core.specs.declared.event.Event.{Event}
 use Rattle.server_core.specs.declared.outs.Outs.{Outs}
 use Rattle.server_core.specs.declared.packet_server.PacketServer.{PacketServer}
 use Rattle.server_core.specs.History.{Opening, Entry, Met}
+use Rattle.server_core.specs.declared.note.Noted.{Noted}
 use Rattle.server_core.specs.Note.{Says, spelling}
 use Rattle.server_core.specs.Request.{ToStart, asked}
 use Rattle.server_core.specs.Run.{Work}
-use Rattle.server_core.specs.Words.{Staged, is_on, boot, last_run, due, is_due, recorded, work}
+use Rattle.server_core.specs.Words.{Staged, is_on, boot, last_run, noted, due, is_due, recorded, work}
 use Rattle.server_core.specs.Replies.{replies}
 use Rattle.server_core.specs.Answers.{now, refusal, refusal_of, packets, to_client, sent_by, issue_for, act_of, looked}
 use Rattle.server_core.specs.Framed.{framed}
 use Rattle.server_core.specs.Stands.{MachineIs, EachNow, IsDueFor}
 use Rattle.server_core.specs.Bounds.{AreShort}
-use Rattle.server_core.specs.Serves.{StandsFor, Starts, Unstarted, Answers, Fails, Faults, Ends, saved_for, answered}
+use Rattle.server_core.specs.Serves.{StandsFor, Starts, Unstarted, LeavesNote, Answers, Fails, Faults, Ends, saved_for, answered}
 use Rattle.server_core.proofs.Due.{rests}
 use Rattle.server_core.proofs.FollowLemmas.{starts_follow}
 use Rattle.server_core.proofs.UndueLemmas.{no_act}
@@ -50,12 +53,28 @@ record IsStart (o : Opening) (past : List Entry) (e : Event) (run : ℕ) (s : St
 free_of : (o : Opening) (past : List Entry) (e : Event) (run : ℕ) (s : Staged) → IsStart o past e run s → refusal o past e ≡ None
 free_of o past e run s d = ap (λ b. if b then refusal_of (now o past) (asked o.me e) else Some Down) d.on ∙ ap (refusal_of (now o past)) d.asks
 
+abbrev noted_as : ℕ → ℕ → Noted
+noted_as b run = record { boot = b; last_run = run }
+
 -- The durable bytes say the boot and a run that was recorded.
 new_says : (bytes : List ℕ) (b mine last run : ℕ) → Says bytes (record { boot = b; last_run = last }) → mine ≡ b → run < 2 ^ 64 → (new : List ℕ) → new ≡ spelling (record { boot = mine; last_run = run }) → Says new (record { boot = b; last_run = run })
 new_says bytes b mine last run s same fits new is = record { boot_range = s.boot_range; last_range = fits; spelled = inl (is ∙ ap (λ n. spelling (record { boot = n; last_run = run })) same) }
 
+-- A boot and a run that was recorded are what is noted then.
+to_note : (o : Opening) (past : List Entry) (e : Event) (run : ℕ) (s : Staged) (mine : ℕ) (left : Left) → has_new left ≡ true → mine ≡ boot o past → IsStart o past e run s
+    → noted_as mine run ≡ noted o (Met e left ∷ past)
+to_note o past e run s mine left new same d =
+    ap (λ b. noted_as b run) same
+    ∙ ap (noted_as (boot o past)) (sym (ap (λ x. recorded left x (last_run o past)) d.is ∙ by_left left new))
+  where
+    by_left : (left : Left) → has_new left ≡ true → recorded left (Some s) (last_run o past) ≡ run
+    by_left Saved h = d.run_is
+    by_left LostNew h = d.run_is
+    by_left LostOld h = cc
+    by_left NoSave h = cc
+
 begun : {T : Type 0} (note : T → Note) (old new : PacketServer T) (o : Opening) (past : List Entry) (e : Event) (run : ℕ) (s : Staged) (outs : Outs) → old.down ≡ false → StandsFor note old o past → MachineIs old.machine (now o past) → run < 2 ^ 64 → IsStart o past e run s
-    → IsSendable o past e → Starts note run old new (Ok outs) → Answers note o past e new outs
+    → IsSendable o past e → Starts note run old new (Ok outs) → Answers note o past e old new outs
 begun note old new o past e run s outs up stands k fits d can p =
     let q = p.2 (now o past) s k d.words in
     let free = free_of o past e run s d in
@@ -71,6 +90,8 @@ begun note old new o past e run s outs up stands k fits d can p =
       frames_are = frames;
       short = λ i h. subst AreShort (sym frames) (can.short i h);
       ranges = can.ranges;
+      leaves = subst (λ x. LeavesNote x (noted o (Met e (saved_for x) ∷ past)) (note old.notes) (note new.notes)) (sym d.is)
+          (p.0 ∙ ap (λ n. record (note old.notes) { bytes = spelling n }) (to_note o past e run s old.machine.boot Saved refl k.boot_is d));
       issue_is = ap (λ (x : Outs). x.issue) q.0 ∙ ap (issue_for (work o past)) (sym d.asks);
       act_is = ap (λ (x : Outs). x.act) q.0 ∙ no_act (work o past) run ∙ ap (act_of (work o past)) (sym d.asks);
       stands = subst (λ x. StandsFor note new o (Met e (saved_for x) ∷ past)) (sym d.is)
@@ -103,6 +124,7 @@ unbegun note old new o past e run s sorts.Save fault up stands k fits d u = by_b
       makes_one = d.is;
       left = LostOld;
       lost = refl;
+      bytes_are = same;
       stands = record {
         on = u.2 ∙ sym (ap (λ b. not (b && false)) d.on);
         durable = subst (λ n. Says (note new.notes).bytes (record { boot = boot o past; last_run = n })) (sym (ap (λ x. recorded LostOld x (last_run o past)) d.is))
@@ -117,6 +139,7 @@ unbegun note old new o past e run s sorts.Save fault up stands k fits d u = by_b
       makes_one = d.is;
       left = LostNew;
       lost = refl;
+      bytes_are = new_bytes ∙ ap spelling (to_note o past e run s old.machine.boot LostNew refl k.boot_is d);
       stands = record {
         on = u.2 ∙ sym (ap (λ b. not (b && false)) d.on);
         durable = subst (λ n. Says (note new.notes).bytes (record { boot = boot o past; last_run = n })) (sym (ap (λ x. recorded LostNew x (last_run o past)) d.is ∙ d.run_is))

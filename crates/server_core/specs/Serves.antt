@@ -8,7 +8,7 @@ use Rattle.fc_base.specs.declared.fault.FaultSort.TheVariants as sorts
 use Rattle.fc_base.specs.Fault.{sort_of}
 use Rattle.disk_model.specs.declared.left.Left.{Left}
 use Rattle.disk_model.specs.declared.left.Left.TheVariants.{NoSave, Saved}
-use Rattle.disk_model.specs.Left.{is_lost}
+use Rattle.disk_model.specs.Left.{is_lost, bytes_left}
 use Rattle.disk_model.specs.Notes.{Note}
 use Rattle.messages.specs.FramesOf.{spelled_frames}
 use Rattle.messages.specs.Laws.{IsPacket}
@@ -19,7 +19,7 @@ use Rattle.server_core.specs.History.{Opening, Entry, Met, Restart}
 use Rattle.server_core.specs.declared.note.Noted.{Noted}
 use Rattle.server_core.specs.Note.{Says, spelling}
 use Rattle.server_core.specs.Request.{ToStart}
-use Rattle.server_core.specs.Words.{Staged, is_on, boot, last_run, due, is_due}
+use Rattle.server_core.specs.Words.{Staged, is_on, noted, due, is_due}
 use Rattle.server_core.specs.Replies.{Now, replies}
 use Rattle.server_core.specs.Answers.{now, refusal, packets, issue, act, looked}
 use Rattle.server_core.specs.Bounds.{AreShort}
@@ -32,7 +32,7 @@ use Rattle.server_core.specs.Stands.{MachineIs, begun_by}
 -- the list says, and where it keeps what the list said before the first failed save.
 pub record StandsFor {T : Type 0} (note : T → Note) (server : PacketServer T) (o : Opening) (past : List Entry) : Type 0 where
   pub on : server.down ≡ not (is_on past)
-  pub durable : Says (note server.notes).bytes (record { boot = boot o past; last_run = last_run o past })
+  pub durable : Says (note server.notes).bytes (noted o past)
   pub keeps : MachineIs server.machine (now o (looked past))
 
 -- A Start that is due isn't answered: memory ran out, and nothing changes; or the device failed, and the
@@ -67,15 +67,23 @@ saved_for (Some s) = Saved
 abbrev pub answered : Opening → List Entry → Event → Entry
 answered o past e = Met e (saved_for (due o past e))
 
--- The event isn't refused, its answers are those of the list, and it is added; and where what came
--- before keeps its ranges, the packets that are sent keep theirs, and their frames are few and short.
-pub record Answers {T : Type 0} (note : T → Note) (o : Opening) (past : List Entry) (e : Event) (new : PacketServer T) (outs : Outs) : Type 0 where
+-- What an answered event leaves of the note: all of it where nothing was due, else the bytes are the
+-- spelling of what is noted then.
+abbrev pub LeavesNote : Option Staged → Noted → Note → Note → Type 0
+LeavesNote None after old new = new ≡ old
+LeavesNote (Some began) after old new = new ≡ record old { bytes = spelling after }
+
+-- The event isn't refused, its answers are those of the list, it leaves the note as told, and it is
+-- added; and where what came before keeps its ranges, the packets that are sent keep theirs, and their
+-- frames are few and short.
+pub record Answers {T : Type 0} (note : T → Note) (o : Opening) (past : List Entry) (e : Event) (old new : PacketServer T) (outs : Outs) : Type 0 where
   pub free : refusal o past e ≡ None
   pub frames_are : outs.frames ≡ flat_map spelled_frames (packets o past (answered o past e))
   pub issue_is : outs.issue ≡ issue o past e
   pub act_is : outs.act ≡ act o past e
   pub short : OpensInRange o → CameInRange past → AreShort outs.frames
   pub ranges : OpensInRange o → CameInRange past → AllByRecursion IsPacket (packets o past (answered o past e))
+  pub leaves : LeavesNote (due o past e) (noted o (answered o past e ∷ past)) (note old.notes) (note new.notes)
   pub stands : StandsFor note new o (answered o past e ∷ past)
 
 -- The event is refused for this reason, and nothing changes; the refused event may also stand in the list.
@@ -85,7 +93,8 @@ pub record Refuses {T : Type 0} (note : T → Note) (o : Opening) (past : List E
   pub unchanged : StandsFor note new o past
   pub stands : StandsFor note new o (Met e NoSave ∷ past)
 
--- The device failed in the save of a run that was due: it is durable, or it isn't.
+-- The device failed in the save of a run that was due: the bytes are the old ones, or the spelling of what
+-- was to be noted.
 pub record Fails {T : Type 0} (note : T → Note) (o : Opening) (past : List Entry) (e : Event) (old new : PacketServer T) : Type 0 where
   pub cause : (note old.notes).failures < (note new.notes).failures
   pub free : refusal o past e ≡ None
@@ -93,6 +102,9 @@ pub record Fails {T : Type 0} (note : T → Note) (o : Opening) (past : List Ent
   pub makes_one : due o past e ≡ Some began
   pub left : Left
   pub lost : is_lost left ≡ true
+  pub bytes_are :
+      (note new.notes).bytes
+      ≡ bytes_left left (spelling (noted o (Met e left ∷ past))) (note old.notes).bytes
   pub stands : StandsFor note new o (Met e left ∷ past)
 
 -- For want of memory nothing changes.
@@ -109,17 +121,18 @@ Faults note o past e sorts.Refusal fault old new = Refuses note o past e fault o
 
 -- How a step ends.
 abbrev pub Ends : {T : Type 0} → (T → Note) → Opening → List Entry → Event → PacketServer T → PacketServer T → Result Outs Fault → Type 0
-Ends note o past e old new (Ok outs) = Answers note o past e new outs
+Ends note o past e old new (Ok outs) = Answers note o past e old new outs
 Ends note o past e old new (Err fault) = Faults note o past e (sort_of fault) fault old new
 
 -- For each list whose words the note said, the server stands for it with the restart. The note said
--- something, so there is such a list: the empty one.
+-- something, so there is such a list: the empty one. Now it has the next boot.
 pub record Restarts {T : Type 0} (note : T → Note) (me : ℕ) (notes : T) (server : PacketServer T) : Type 0 where
   pub said : Noted
   pub says : Says (note notes).bytes said
+  pub leaves : note server.notes ≡ record (note notes) { bytes = spelling (record said { boot = said.boot + 1 }) }
   pub stands :
       (o : Opening) (past : List Entry) → o.me ≡ me
-      → Says (note notes).bytes (record { boot = boot o past; last_run = last_run o past })
+      → Says (note notes).bytes (noted o past)
       → StandsFor note server o (Restart Saved ∷ past)
 
 -- The bytes said something that left a boot, and they are still there, or those of the next boot are.

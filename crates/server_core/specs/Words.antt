@@ -4,6 +4,7 @@ use Rattle.std.specs.Prelude.{ℕ, ◌+◌, Bool, false, not, ◌&&◌, ◌==◌
 use Rattle.job_file.specs.declared.job.Job.{Job}
 use Rattle.job_file.specs.declared.job.Phase.TheVariants.{Write}
 use Rattle.server_core.specs.declared.event.Event.{Event}
+use Rattle.server_core.specs.declared.note.Noted.{Noted}
 use Rattle.disk_model.specs.declared.left.Left.{Left}
 use Rattle.disk_model.specs.declared.left.Left.TheVariants.{NoSave, Saved, LostNew, LostOld}
 use Rattle.disk_model.specs.Left.{has_new, is_lost, is_saved}
@@ -120,6 +121,10 @@ abbrev mutual
       o.me (boot o past) (asked o.me e) (work o past)
   work o (Cut ∷ past) = None
   work o (Restart left ∷ past) = None
+
+-- What the note says: the boot and the last run.
+abbrev pub noted : Opening → List Entry → Noted
+noted o past = record { boot = boot o past; last_run = last_run o past }
 
 -- The staged run: the greatest above the last run.
 abbrev pub staged : Opening → List Entry → Option Staged

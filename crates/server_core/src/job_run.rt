@@ -14,7 +14,7 @@ use verify_state::VerifyState;
 
 /// How a run came to its end.
 #[derive(Clone, Copy, Debug, PartialEq, Eq)]
-pub enum End {
+pub(crate) enum End {
     /// A Trigger took the states of its jobs, and asked for this.
     Taken(Act),
     /// It was stopped.
@@ -23,7 +23,7 @@ pub enum End {
 
 /// What is kept of a job of the present run.
 #[derive(Debug, Drop)]
-pub struct JobRun {
+pub(crate) struct JobRun {
     pub engine: Engine,
     /// Whether a Trigger takes its state.
     pub save: bool,
@@ -35,7 +35,7 @@ pub struct JobRun {
 
 impl JobRun {
     /// A job that begins.
-    pub fn new(engine: Engine, save: bool) -> JobRun
+    pub(crate) fn new(engine: Engine, save: bool) -> JobRun
         ensures { result ≡ record { engine = engine; save = save; taken = None; marked = false } }
     {
         JobRun {
@@ -47,7 +47,7 @@ impl JobRun {
     }
 
     /// The state that was taken, else that of now; `None` where the job saves none.
-    pub fn state(&self) -> Option<VerifyState>
+    pub(crate) fn state(&self) -> Option<VerifyState>
         ensures { result ≡ state_kept self.now }
     {
         match self.taken {
@@ -58,7 +58,7 @@ impl JobRun {
     }
 
     /// Notes how a write ended, where the ticket names an open write of the job.
-    pub fn end(&mut self, ticket: Ticket, end: WriteEnd) -> Result<(), Fault>
+    pub(crate) fn end(&mut self, ticket: Ticket, end: WriteEnd) -> Result<(), Fault>
         ensures answer { result
             ≡ ticket_answer self.old.engine.origin self.old.engine.kept.open_writes ticket }
         ensures history { EachHistory self.old.engine
@@ -75,14 +75,14 @@ impl JobRun {
     }
 
     /// Stops the job.
-    pub fn stop(&mut self)
+    pub(crate) fn stop(&mut self)
         ensures { self.new ≡ stopped_kept self.old }
     {
         self.engine.stop();
     }
 
     /// Takes the state, and stops the job.
-    pub fn take(&mut self)
+    pub(crate) fn take(&mut self)
         ensures { self.new ≡ taken_kept self.old }
     {
         self.taken = self.state();
@@ -91,14 +91,14 @@ impl JobRun {
 }
 
 /// The index of a job in a list of all jobs.
-pub fn index_of(job: JobNo) -> usize
+pub(crate) fn index_of(job: JobNo) -> usize
     ensures { result ≡ job }
 {
     job.0 as usize
 }
 
 /// The index of the job of a ticket.
-pub fn index_in(ticket: &Ticket) -> usize
+pub(crate) fn index_in(ticket: &Ticket) -> usize
     ensures { result ≡ ticket.now.key.job }
 {
     ticket.key.job.0 as usize

@@ -26,21 +26,15 @@ mod work;
 pub use check_law::open_check_is_last;
 pub use event::{Event, WriteEnd};
 pub use input::Input;
-pub use job_run::{End, JobRun};
 pub use law::{
     counts_the_done, cuts_when_kept, due_starts, examples, few_packets, frames_are_short,
     legal_histories, looks_at_all, numbers_grow, one_taking, packets_are_in_range, quiet,
     refused_stays, starts, the_taken, the_untaken, with_was_heard, words_follow,
 };
-pub use machine::Machine;
 pub use note::{Noted, one_note};
-pub use open_check::{OpenCheck, progress_of_jobs};
 pub use open_law::tickets_tell_origins;
 pub use outs::Outs;
-pub use packet_server::PacketServer;
 pub use progress::Progress;
-pub use run::Run;
 pub use sent_law::packets_go_to_client;
 pub use server::Server;
-pub use staged::StagedSet;
 pub use status::{Stage, Status};

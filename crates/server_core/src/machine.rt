@@ -25,7 +25,7 @@ use std::alloc::{AllocError, Global};
 
 /// What a server keeps of its words in memory.
 #[derive(Debug, Drop)]
-pub struct Machine {
+pub(crate) struct Machine {
     pub alloc: Global,
     pub me: ServerNo,
     pub boot: u64,

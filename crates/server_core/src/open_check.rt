@@ -18,7 +18,7 @@ use verify_state::VerifyState;
 /// The open check: that of the last Verify that was accepted since the server was restarted, with no
 /// accepted Start since.
 #[derive(Debug, Drop)]
-pub struct OpenCheck {
+pub(crate) struct OpenCheck {
     run: RunNo,
     attempt: Attempt,
     jobs: Jobs,
@@ -42,7 +42,12 @@ impl OpenCheck {
     ghost use Rattle.server_core.specs.KeptCheck.{CheckKept, GoesOn, judged, ready_in, wants_in};
 
     /// A check that is opened.
-    pub fn new(run: RunNo, attempt: Attempt, jobs: Jobs, progress: Vec<Progress>) -> OpenCheck
+    pub(crate) fn new(
+        run: RunNo,
+        attempt: Attempt,
+        jobs: Jobs,
+        progress: Vec<Progress>,
+    ) -> OpenCheck
         requires run { IsTrue (is_run run) }
         requires attempt { IsTrue (in_range attempt) }
         requires some { 1 ≤ length jobs }
@@ -64,21 +69,21 @@ impl OpenCheck {
     }
 
     /// The attempt.
-    pub fn attempt(&self) -> Attempt
+    pub(crate) fn attempt(&self) -> Attempt
         ensures { result ≡ self.now.attempt }
     {
         self.attempt
     }
 
     /// A job of it.
-    pub fn job(&self, job: JobNo) -> Option<&Job>
+    pub(crate) fn job(&self, job: JobNo) -> Option<&Job>
         ensures { option_copied result ≡ slice_get self.now.jobs job }
     {
         self.jobs.as_slice().get(index_of(job))
     }
 
     /// How far the check of a job is, where there is such a job.
-    pub fn progress(&self, job: JobNo) -> Option<&Progress>
+    pub(crate) fn progress(&self, job: JobNo) -> Option<&Progress>
         ensures { option_map progress_of (option_copied result) ≡ slice_get self.now.progress job }
     {
         self.progress.get(index_of(job))
@@ -92,7 +97,7 @@ impl OpenCheck {
     }
 
     /// Whether the check of a job may be made, in this attempt: it is a full pass, or has its state.
-    pub fn is_ready(&self, attempt: Attempt, job: JobNo) -> bool
+    pub(crate) fn is_ready(&self, attempt: Attempt, job: JobNo) -> bool
         ensures { result ≡ ready_in self.now attempt job }
     {
         self.attempt == attempt
@@ -100,7 +105,12 @@ impl OpenCheck {
     }
 
     /// What a state makes of the job that it is for, where that waits for one in this attempt.
-    pub fn judge(&self, me: ServerNo, attempt: Attempt, state: &VerifyState) -> Option<Progress>
+    pub(crate) fn judge(
+        &self,
+        me: ServerNo,
+        attempt: Attempt,
+        state: &VerifyState,
+    ) -> Option<Progress>
         ensures { option_map progress_of result ≡ judged me self.now attempt state.now }
     {
         let job = state.key().job;
@@ -120,7 +130,7 @@ impl OpenCheck {
     }
 
     /// Notes how far the check of a job is.
-    pub fn set(&mut self, job: JobNo, progress: Progress)
+    pub(crate) fn set(&mut self, job: JobNo, progress: Progress)
         requires { job < length self.old.progress }
         ensures { self.new ≡ record self.old {
           progress = set self.old.progress job (progress_of progress);
@@ -130,7 +140,7 @@ impl OpenCheck {
     }
 
     /// Makes the check of a job a full pass, where it waits for its state in this attempt.
-    pub fn pass(&mut self, attempt: Attempt, job: JobNo)
+    pub(crate) fn pass(&mut self, attempt: Attempt, job: JobNo)
         ensures { GoesOn self.old self.new (ToPassFully attempt job) }
     {
         if self.wants(attempt, job) {
@@ -140,7 +150,7 @@ impl OpenCheck {
 }
 
 /// How far the check of each of these jobs is at first: those that load their state wait for it.
-pub fn progress_of_jobs(alloc: Global, jobs: &[Job]) -> Result<Vec<Progress>, AllocError>
+pub(crate) fn progress_of_jobs(alloc: Global, jobs: &[Job]) -> Result<Vec<Progress>, AllocError>
     ensures { IfOk result (λ progress. map progress_of progress.items ≡ map progress_begun jobs.now) }
 {
     let mut progress = Vec::with_capacity(alloc, jobs.len())?;

@@ -23,7 +23,7 @@ use verify_state::VerifyState;
 
 /// A server to which whole packets come.
 #[derive(Drop)]
-pub struct PacketServer<N> {
+pub(crate) struct PacketServer<N> {
     notes: N,
     down: bool,
     machine: Machine,
@@ -32,7 +32,7 @@ pub struct PacketServer<N> {
 impl<N: Notes> PacketServer<N> {
     ghost use Rattle.server_core.specs.History.{Opening, Entry};
     ghost use Rattle.server_core.specs.Note.{Says};
-    ghost use Rattle.server_core.specs.Words.{is_on, boot, last_run, due};
+    ghost use Rattle.server_core.specs.Words.{is_on, noted, due};
     ghost use Rattle.server_core.specs.Answers.{looked, status, run_job, check_job};
     ghost use Rattle.server_core.specs.Check.{progress};
     ghost use Rattle.server_core.specs.KeptCheck.{progress_of};
@@ -76,8 +76,9 @@ impl<N: Notes> PacketServer<N> {
 
     /// The notes of a server that is taken off.
     pub(crate) fn off(self) -> N
-        ensures { (o : Opening) (past : List Entry) → StandsFor N.note self o past →
-            Says (N.note result).bytes (record { boot = boot o past; last_run = last_run o past }) }
+        ensures note { N.note result ≡ N.note self.notes }
+        ensures says { (o : Opening) (past : List Entry) → StandsFor N.note self o past →
+            Says (N.note result).bytes (noted o past) }
     {
         let PacketServer {
             notes,

@@ -21,7 +21,7 @@ use verify_state::VerifyState;
 
 /// The present run: that of the last Start that was accepted since the server was restarted.
 #[derive(Debug, Drop)]
-pub struct Run {
+pub(crate) struct Run {
     number: RunNo,
     end: Option<End>,
     jobs: Jobs,
@@ -62,28 +62,28 @@ impl Run {
     }
 
     /// The number of the run.
-    pub fn number(&self) -> RunNo
+    pub(crate) fn number(&self) -> RunNo
         ensures { result ≡ self.now.number }
     {
         self.number
     }
 
     /// How it came to its end, `None` while it writes.
-    pub fn end(&self) -> Option<End>
+    pub(crate) fn end(&self) -> Option<End>
         ensures { result ≡ self.now.end }
     {
         self.end
     }
 
     /// A job of it.
-    pub fn job(&self, job: JobNo) -> Option<&Job>
+    pub(crate) fn job(&self, job: JobNo) -> Option<&Job>
         ensures { option_copied result ≡ slice_get self.now.jobs job }
     {
         self.jobs.as_slice().get(index_of(job))
     }
 
     /// The state that was taken of a job.
-    pub fn taken(&self, job: JobNo) -> Option<&VerifyState>
+    pub(crate) fn taken(&self, job: JobNo) -> Option<&VerifyState>
         ensures { EachRun self.now
             (λ w. option_copied result ≡ taken_by_halt w job (halted w.run w.since)) }
     {
@@ -96,7 +96,7 @@ impl Run {
     }
 
     /// The ticket of this write of a job, where it is open.
-    pub fn open_write(&self, job: JobNo, write: Seq) -> Option<Ticket>
+    pub(crate) fn open_write(&self, job: JobNo, write: Seq) -> Option<Ticket>
         ensures { EachRun self.now (λ w. result ≡ open_ticket (Some w) job write) }
     {
         let index = index_of(job);
@@ -108,35 +108,35 @@ impl Run {
     }
 
     /// Whether it is this run.
-    pub fn is(&self, number: RunNo) -> bool
+    pub(crate) fn is(&self, number: RunNo) -> bool
         ensures { result ≡ (self.now.number == number) }
     {
         self.number == number
     }
 
     /// Whether it is this run, and writes.
-    pub fn is_writing(&self, number: RunNo) -> bool
+    pub(crate) fn is_writing(&self, number: RunNo) -> bool
         ensures { result ≡ ((self.now.number == number) && is_none self.now.end) }
     {
         self.number == number && self.end.is_none()
     }
 
     /// Whether some write is open.
-    pub fn has_open(&self) -> bool
+    pub(crate) fn has_open(&self) -> bool
         ensures { EachRun self.now (λ w. result ≡ has_open w) }
     {
         any_open(&self.kept)
     }
 
     /// Whether every job has ended: it has no open write, and issues none any more.
-    pub fn have_ended(&self) -> bool
+    pub(crate) fn have_ended(&self) -> bool
         ensures { EachRun self.now (λ w. result ≡ have_ended w) }
     {
         all_ended(&self.kept)
     }
 
     /// Issues the next write of a job, or says why none is issued.
-    pub fn issue(&mut self, job: JobNo) -> Issue
+    pub(crate) fn issue(&mut self, job: JobNo) -> Issue
         ensures answer { EachRun self.old (λ w. result ≡ issue_of_job w job (slice_get w.jobs job)) }
         ensures left { GoesOn self.old self.new (ToIssue job) }
     {
@@ -150,7 +150,7 @@ impl Run {
     }
 
     /// Notes how a write ended. A ticket that names no open write is refused, and nothing changes.
-    pub fn end_write(&mut self, ticket: Ticket, end: WriteEnd) -> Result<(), Fault>
+    pub(crate) fn end_write(&mut self, ticket: Ticket, end: WriteEnd) -> Result<(), Fault>
         ensures answer { EachRun self.old (λ w. w.boot ≡ ticket.boot →
             result ≡ open_answer (names_open_of w ticket (slice_get w.jobs ticket.key.job))) }
         ensures left { GoesOn self.old self.new (ToEnd ticket end) }
@@ -166,7 +166,7 @@ impl Run {
     }
 
     /// Takes the states of all jobs, and stops them.
-    pub fn take(&mut self, act: Act)
+    pub(crate) fn take(&mut self, act: Act)
         requires { self.old.end ≡ None }
         ensures { EachRun self.old
             (λ w. RunIs self.new (record w { since = ToTrigger w.run act ∷ w.since })) }
@@ -176,7 +176,7 @@ impl Run {
     }
 
     /// Stops all jobs.
-    pub fn stop(&mut self)
+    pub(crate) fn stop(&mut self)
         requires { self.old.end ≡ None }
         ensures { EachRun self.old
             (λ w. RunIs self.new (record w { since = ToStop w.run ∷ w.since })) }
@@ -187,7 +187,7 @@ impl Run {
 
     /// Marks a job of a run that was taken: the client has told that its state is kept. The mark of
     /// the last job asks for the cut, where the Trigger did.
-    pub fn mark(&mut self, job: JobNo) -> Act
+    pub(crate) fn mark(&mut self, job: JobNo) -> Act
         ensures answer { EachRun self.old (λ w. result ≡ act_of (Some w) (ToMark w.run job)) }
         ensures left { EachRun self.old (λ w.
             RunIs self.new (record w { since = ToMark w.run job ∷ w.since })) }

@@ -31,7 +31,7 @@ pub struct Server<N> {
 impl<N: Notes> Server<N> {
     ghost use Rattle.server_core.specs.History.{Opening};
     ghost use Rattle.server_core.specs.Note.{Says};
-    ghost use Rattle.server_core.specs.Words.{is_on, boot, last_run};
+    ghost use Rattle.server_core.specs.Words.{is_on, noted};
     ghost use Rattle.server_core.specs.Answers.{looked, status, run_job, check_job};
     ghost use Rattle.server_core.specs.Check.{progress};
     ghost use Rattle.server_core.specs.KeptCheck.{progress_of};
@@ -63,11 +63,9 @@ impl<N: Notes> Server<N> {
 
     /// The notes of a server that is taken off.
     pub fn off(self) -> N
-        ensures { (o : Opening) (past : List FrameEntry) → StandsFor N.note self o past →
-            Says (N.note result).bytes (record {
-              boot = boot o (packets_heard o past);
-              last_run = last_run o (packets_heard o past);
-            }) }
+        ensures note { N.note result ≡ N.note self.core.notes }
+        ensures says { (o : Opening) (past : List FrameEntry) → StandsFor N.note self o past →
+            Says (N.note result).bytes (noted o (packets_heard o past)) }
     {
         let Server {
             alloc: _,

@@ -15,7 +15,7 @@ use std::marker::Model;
 
 /// A set of writing jobs that is staged for a run: 1 to 16, each within its limits.
 #[derive(Debug, Drop)]
-pub struct StagedSet {
+pub(crate) struct StagedSet {
     run: RunNo,
     jobs: Jobs,
 }
@@ -35,7 +35,7 @@ impl Model for StagedSet {
 
 impl StagedSet {
     /// These jobs, staged for a run.
-    pub fn new(run: RunNo, jobs: Jobs) -> StagedSet
+    pub(crate) fn new(run: RunNo, jobs: Jobs) -> StagedSet
         requires run { IsTrue (is_run run) }
         requires jobs { IsSet jobs }
         ensures { result ≡ record { run = run; jobs = jobs } }
@@ -44,7 +44,7 @@ impl StagedSet {
     }
 
     /// The run.
-    pub fn run(&self) -> RunNo
+    pub(crate) fn run(&self) -> RunNo
         ensures value { result ≡ self.now.run }
         ensures range { IsTrue (is_run result) }
     {
@@ -52,7 +52,7 @@ impl StagedSet {
     }
 
     /// How many jobs there are.
-    pub fn len(&self) -> u32
+    pub(crate) fn len(&self) -> u32
         ensures value { result ≡ length self.now.jobs }
         ensures some { 1 ≤ result }
         ensures few { result ≤ 16 }
@@ -62,7 +62,12 @@ impl StagedSet {
 
     /// What is kept of each job once the run begins: an engine that has issued nothing. All memory
     /// that the run is kept in is taken here.
-    pub fn engines(&self, alloc: Global, me: ServerNo, boot: u64) -> Result<Vec<JobRun>, AllocError>
+    pub(crate) fn engines(
+        &self,
+        alloc: Global,
+        me: ServerNo,
+        boot: u64,
+    ) -> Result<Vec<JobRun>, AllocError>
         requires { me < 8 }
         ensures { IfOk result (λ kept. kept.items
             ≡ jobs_kept (started me boot self.now) 0 self.now.jobs) }
@@ -84,7 +89,7 @@ impl StagedSet {
     }
 
     /// The run, which begins with these engines. The jobs are moved.
-    pub fn start(self, me: ServerNo, boot: u64, kept: Vec<JobRun>) -> Run
+    pub(crate) fn start(self, me: ServerNo, boot: u64, kept: Vec<JobRun>) -> Run
         requires me { me < 8 }
         requires kept { kept.items ≡ jobs_kept (started me boot self) 0 self.jobs }
         ensures { RunIs result (started me boot self) }

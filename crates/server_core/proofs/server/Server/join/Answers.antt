@@ -9,7 +9,7 @@ use Rattle.server_core.specs.Hearing.{packets_heard}
 use Rattle.server_core.specs.Handles.{sent_alone}
 use Rattle.server_core.specs.FrameEnds.{Ends}
 use Rattle.server_core.proofs.HearingLemmas.{gave, waited, spoiled, spoiled_gone}
-use Rattle.server_core.specs.FrameAnswers.{Hears, Keeps, Drops}
+use Rattle.server_core.specs.FrameAnswers.{Hears, Keeps}
 use Rattle.server_core.specs.declared.event.Event.TheVariants as events
 use Rattle.server_core.specs.HeardRange.{SenseInRange}
 use Rattle.server_core.proofs.HeardRangeLemmas.{hears_in_range}
