@@ -2,57 +2,37 @@
 //! others computed, and that each call answers where memory is there.
 
 mod calls;
-mod life;
 mod looks;
 mod lost;
-mod named;
 mod notes;
-mod spelling;
 mod stories;
-mod trouble;
+mod told;
 mod words;
 
-use disk_model::{FaultNotes, MemNotes};
-use fc_base::{Fault, ServerNo};
-use life::Life;
-use notes::{NOTES, UnreadNotes};
-use server_core::Server;
+use core_stories::{Failing, Life, Trouble, failing_notes, holds_note, unlike_after, unlike_over};
+use lost::first_lost;
+use notes::NOTES;
 use std::alloc::{AllocGlobal, Global};
 use std::process::Abort;
-use std::test::Fail;
 use stories::{LostSave, Story, checks, elsewhere, losses, pieces, runs, starts, states, triggers};
-use trouble::Trouble;
-
-fn blank(alloc: Global) -> MemNotes {
-    MemNotes::new(Vec::new(alloc))
-}
+use told::Told;
 
 /// A server over blank notes answers the rows of each story.
 fn are_answered(rt: &(impl Abort + AllocGlobal), stories: &[Story]) {
     for (name, rows) in stories {
-        let mut life = Life::new(rt.alloc(), blank(rt.alloc()));
-        let unlike = life.first_unlike(rows);
-        assert!(rt; unlike.is_none() && life.wants <= 1, "{name}: {unlike:?}");
+        let unlike = unlike_over::<Told>(rt.alloc(), 1, "-", rows);
+        assert!(rt; unlike.is_none(), "{name}: {unlike:?}");
     }
-}
-
-/// The first row of a story that isn't answered so, where a save fails.
-fn unlike_after(alloc: Global, story: &LostSave) -> Option<(usize, Option<Trouble>)> {
-    let notes = FaultNotes::new(blank(alloc), story.at, story.landed);
-    let mut life = Life::new(alloc, notes);
-    let unlike = life.first_unlike(story.rows);
-    // A save that finds no memory counts as one, so that another fails. The story is told anew.
-    if life.wants == 1 {
-        let notes = FaultNotes::new(blank(alloc), story.at, story.landed);
-        return Life::new(alloc, notes).first_unlike(story.rows);
-    }
-    unlike
 }
 
 /// A server over blank notes answers the rows of each story, in which a save fails.
 fn are_answered_after(rt: &(impl Abort + AllocGlobal), stories: &[LostSave]) {
     for story in stories {
-        let unlike = unlike_after(rt.alloc(), story);
+        let failing = Failing {
+            at: story.at,
+            landed: story.landed,
+        };
+        let unlike = unlike_after::<Told>(rt.alloc(), "-", failing, story.rows);
         assert!(rt; unlike.is_none(), "{}: {unlike:?}", story.name);
     }
 }
@@ -94,23 +74,30 @@ fn saves_that_fail(rt: HostRuntime) {
     are_answered_after(&rt, &losses::LOST_SAVES);
 }
 
-/// What save number `at` of a story leaves, where it fails: whether the server is down over that note.
-/// Where memory ran out, the story is told anew, as a save that finds none counts as one.
-fn lost_at(alloc: Global, rows: &str, at: u64, landed: bool) -> Result<Option<bool>, Trouble> {
-    let mut life = Life::new(alloc, FaultNotes::new(blank(alloc), at, landed));
-    let lost = life.first_lost(rows, landed)?;
-    if life.wants == 1 {
-        let notes = FaultNotes::new(blank(alloc), at, landed);
-        return Life::new(alloc, notes).first_lost(rows, landed);
+/// Tells a story up to the save that fails: how often memory ran out, and whether the server is down over
+/// that note.
+fn tell_lost(alloc: Global, rows: &str, failing: Failing) -> (u32, Result<Option<bool>, Trouble>) {
+    let notes = failing_notes(Vec::new(alloc), failing);
+    let mut life = Life::new(alloc, 1, notes);
+    let lost = first_lost(&mut life, alloc, rows, failing.landed);
+    (life.end(), lost)
+}
+
+/// What a save of a story leaves, where it fails: whether the server is down over that note. Where memory ran
+/// out, the story is told anew, as a save that finds none counts as one.
+fn lost_at(alloc: Global, rows: &str, failing: Failing) -> Result<Option<bool>, Trouble> {
+    let (wants, lost) = tell_lost(alloc, rows, failing);
+    if wants == 1 {
+        return tell_lost(alloc, rows, failing).1;
     }
-    Ok(lost)
+    lost
 }
 
 /// How many saves of a story fail in turn, in one way.
 fn lost_in_turn(alloc: Global, rows: &str, landed: bool) -> Result<u64, Trouble> {
     let mut count = 0;
     for at in 0..8 {
-        match lost_at(alloc, rows, at, landed)? {
+        match lost_at(alloc, rows, Failing { at, landed })? {
             Some(true) => count = at + 1,
             Some(false) => return Ok(0),
             None => return Ok(count),
@@ -119,31 +106,30 @@ fn lost_in_turn(alloc: Global, rows: &str, landed: bool) -> Result<u64, Trouble>
     Ok(count)
 }
 
-#[test]
-fn each_save_fails(rt: HostRuntime) -> Result<(), Fail> {
-    for story in starts::STORIES {
-        for landed in [false, true] {
-            let count = lost_in_turn(rt.alloc(), story.1, landed)?;
-            assert!(rt; count > 0, "{}", story.0);
-        }
-    }
-    Ok(())
+/// Whether at least one save of a story fails in turn, in each way.
+fn are_lost_in_turn(alloc: Global, rows: &str) -> Result<bool, Trouble> {
+    let old = lost_in_turn(alloc, rows, false)?;
+    let new = lost_in_turn(alloc, rows, true)?;
+    Ok(old > 0 && new > 0)
 }
 
 #[test]
-fn notes_that_a_server_is_restarted_over(rt: HostRuntime) -> Result<(), Fail> {
-    for row in NOTES.lines() {
-        assert!(rt; notes::holds(rt.alloc(), row)?, "{row}");
+fn each_save_fails(rt: HostRuntime) {
+    for (name, rows) in &starts::STORIES {
+        let lost = are_lost_in_turn(rt.alloc(), rows);
+        assert!(rt; lost == Ok(true), "{name}: {lost:?}");
     }
-    Ok(())
+}
+
+#[test]
+fn notes_that_a_server_is_restarted_over(rt: HostRuntime) {
+    for row in NOTES.lines() {
+        let held = holds_note::<Told>(rt.alloc(), row);
+        assert!(rt; held == Ok(true), "{row}: {held:?}");
+    }
 }
 
 #[test]
 fn notes_that_can_not_be_loaded(rt: HostRuntime) {
-    let notes = UnreadNotes {
-        alloc: rt.alloc(),
-        failed: false,
-    };
-    let opened = Server::restart(rt.alloc(), ServerNo(0), notes);
-    assert!(rt; matches!(opened, Err((notes, Fault::LoadFault)) if notes.failed));
+    assert!(rt; notes::come_back(rt.alloc()));
 }

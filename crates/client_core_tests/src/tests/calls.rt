@@ -1,29 +1,21 @@
 //! The calls of a client that take what comes to it.
 
-use super::named::put_word;
-use super::spelling::{Spelling, first_word};
-use super::trouble::Trouble;
-use super::words::{act_in, next_u64};
+use super::words::act_in;
 use client_core::Client;
-use disk_model::Notes;
+use core_stories::{Draft, Trouble, first_word, is_frame, put_word};
+use disk_model::FaultNotes;
 use fc_base::{Fault, RunNo};
-use messages::{Act, Frame, Frames, decode_frame};
-use std::alloc::{AllocError, Global};
+use messages::{Act, Frame, Frames};
+use std::alloc::AllocError;
 
-/// The numbers of a server and of the client, in frames.
-const SERVER: u64 = 0;
-
-const CLIENT: u64 = 8;
-
-/// What is asked of a client.
-#[derive(Drop)]
+/// What is asked of a client. The text of a job file stands elsewhere.
+#[derive(Clone, Copy)]
 pub enum Asked {
-    Begin(Vec<u8>),
+    Begin,
     Trigger(RunNo, Act),
     Stop(RunNo),
-    Verify(RunNo, Vec<u8>),
+    Verify(RunNo),
     Tick,
-    Deliver(Frame),
 }
 
 /// What a client gives: a number, where it gives one, and frames.
@@ -33,116 +25,91 @@ pub struct Given {
     pub frames: Frames,
 }
 
-/// What a row asks. A frame goes from server 0 to the client, where it doesn't say `from A to B` first.
-pub fn asked_in(alloc: Global, spelling: &mut Spelling, words: &str) -> Result<Asked, Trouble> {
-    let (word, rest) = first_word(words);
+/// What a row asks.
+pub fn asked_in(word: &str, words: &str) -> Option<Asked> {
+    let (run, rest) = first_word(words);
     match word {
-        "begin" => Ok(Asked::Begin(text_in(alloc, rest)?)),
-        "verify" => {
-            let (run, text) = first_word(rest);
-            let run = run.parse::<u64>().unwrap_or(0);
-            Ok(Asked::Verify(RunNo(run), text_in(alloc, text)?))
-        }
-        "trigger" | "stop" => run_in(word, rest).ok_or(Trouble::BadRow),
-        "tick" => Ok(Asked::Tick),
-        _ => Ok(Asked::Deliver(frame_in(alloc, spelling, words)?)),
+        "begin" => Some(Asked::Begin),
+        "verify" => Some(Asked::Verify(RunNo(run.parse::<u64>().unwrap_or(0)))),
+        "trigger" => Some(Asked::Trigger(run_in(run)?, act_in(rest)?)),
+        "stop" => Some(Asked::Stop(run_in(run)?)),
+        _ => Some(Asked::Tick),
     }
 }
 
-fn run_in(word: &str, rest: &str) -> Option<Asked> {
-    let mut words = rest.split_whitespace();
-    let run = RunNo(next_u64(&mut words)?);
-    match word {
-        "stop" => Some(Asked::Stop(run)),
-        _ => Some(Asked::Trigger(run, act_in(&mut words)?)),
-    }
+fn run_in(word: &str) -> Option<RunNo> {
+    Some(RunNo(word.parse::<u64>().ok()?))
 }
 
-/// The bytes of a text. Where memory runs out, it is tried again.
-pub fn text_in(alloc: Global, word: &str) -> Result<Vec<u8>, Trouble> {
-    match text_once(alloc, word) {
-        Err(Trouble::NoMemory) => text_once(alloc, word),
+/// Puts the text that a row hands over, if it does. Where memory runs out, it is put again.
+pub fn put_text_of(draft: &mut Draft, words: &str) -> Result<(), Trouble> {
+    match put_text_once(draft, words) {
+        Err(Trouble::NoMemory) => put_text_once(draft, words),
         answer => answer,
     }
 }
 
-fn text_once(alloc: Global, word: &str) -> Result<Vec<u8>, Trouble> {
-    let mut text = Vec::new(alloc);
+fn put_text_once(draft: &mut Draft, words: &str) -> Result<(), Trouble> {
+    draft.clear();
+    let (word, rest) = first_word(words);
+    match word {
+        "begin" => put_text(draft, rest),
+        "verify" => put_text(draft, first_word(rest).1),
+        _ => {}
+    }
+    draft.told()
+}
+
+/// Puts a text that a word says.
+pub fn put_text(draft: &mut Draft, word: &str) {
     if !word.is_empty() {
-        put_word(&mut text, word)?;
-    }
-    Ok(text)
-}
-
-/// The frame that comes. Where memory runs out, it is read again.
-pub fn frame_in(alloc: Global, spelling: &mut Spelling, words: &str) -> Result<Frame, Trouble> {
-    spell_event(spelling, words)?;
-    match decode_frame(alloc, spelling.frame()) {
-        Err(Fault::FrameNoMemory) => read(decode_frame(alloc, spelling.frame())),
-        answer => read(answer),
+        put_word(draft, word);
     }
 }
 
-fn read(answer: Result<Frame, Fault>) -> Result<Frame, Trouble> {
-    match answer {
-        Ok(frame) => Ok(frame),
-        Err(Fault::FrameNoMemory) => Err(Trouble::NoMemory),
-        Err(fault) => Err(Trouble::BadFrame(fault.number())),
-    }
+/// What a client shows without memory: its runs, its attempts, how many reports came, and whether its
+/// note is blank.
+pub fn shown(client: &Client<FaultNotes>) -> (u64, u64, usize, bool) {
+    (
+        client.runs_used(),
+        client.attempts_used(),
+        client.reports().len(),
+        client.is_blank(),
+    )
 }
 
-/// Spells the frame that comes.
-fn spell_event(spelling: &mut Spelling, words: &str) -> Result<(), Trouble> {
-    let Some(rest) = words.strip_prefix("from ") else {
-        return spelling.spell(SERVER, CLIENT, words);
-    };
-    let (from, rest) = first_word(rest);
-    let (_, rest) = first_word(rest);
-    let (to, rest) = first_word(rest);
-    match (from.parse::<u64>(), to.parse::<u64>()) {
-        (Ok(from), Ok(to)) => spelling.spell(from, to, rest),
-        _ => Err(Trouble::BadRow),
-    }
-}
-
-/// Spells the frame of an answer, which goes to server 0 where it doesn't say `to B` first.
-pub fn spell_answer(spelling: &mut Spelling, words: &str) -> Result<(), Trouble> {
-    let Some(rest) = words.strip_prefix("to ") else {
-        return spelling.spell(CLIENT, SERVER, words);
-    };
-    let (to, rest) = first_word(rest);
-    match to.parse::<u64>() {
-        Ok(to) => spelling.spell(CLIENT, to, rest),
-        Err(_) => Err(Trouble::BadRow),
-    }
-}
-
-/// Asks it of a client.
-pub fn ask<N: Notes>(client: &mut Client<N>, asked: Asked) -> Result<Given, Fault> {
+pub fn ask(client: &mut Client<FaultNotes>, asked: Asked, text: &[u8]) -> Result<Given, Fault> {
     match asked {
-        Asked::Begin(text) => {
-            let (run, frames) = client.begin(&text)?;
-            Ok(Given {
-                number: Some(run.0),
-                frames,
-            })
-        }
-        Asked::Verify(run, text) => {
-            let (attempt, frames) = client.verify(run, &text)?;
-            Ok(Given {
-                number: Some(attempt.0),
-                frames,
-            })
-        }
+        Asked::Begin => begin(client, text),
+        Asked::Verify(run) => verify(client, run, text),
         Asked::Trigger(run, act) => plain(client.trigger(run, act)),
         Asked::Stop(run) => plain(client.stop(run)),
         Asked::Tick => plain(client.tick()),
-        Asked::Deliver(frame) => plain(client.deliver(frame)),
+    }
+}
+
+fn begin(client: &mut Client<FaultNotes>, text: &[u8]) -> Result<Given, Fault> {
+    match client.begin(text) {
+        Ok((run, frames)) => Ok(Given {
+            number: Some(run.0),
+            frames,
+        }),
+        Err(fault) => Err(fault),
+    }
+}
+
+fn verify(client: &mut Client<FaultNotes>, run: RunNo, text: &[u8]) -> Result<Given, Fault> {
+    match client.verify(run, text) {
+        Ok((attempt, frames)) => Ok(Given {
+            number: Some(attempt.0),
+            frames,
+        }),
+        Err(fault) => Err(fault),
     }
 }
 
 /// Frames without a number.
-fn plain(answer: Result<Frames, Fault>) -> Result<Given, Fault> {
+pub fn plain(answer: Result<Frames, Fault>) -> Result<Given, Fault> {
     match answer {
         Ok(frames) => Ok(Given {
             number: None,
@@ -153,9 +120,23 @@ fn plain(answer: Result<Frames, Fault>) -> Result<Given, Fault> {
 }
 
 /// Whether the delivery of a frame would make a save; where memory runs out, asked once more.
-pub fn would_save<N: Notes>(client: &Client<N>, frame: &Frame) -> Result<bool, AllocError> {
+pub fn would_save(client: &Client<FaultNotes>, frame: &Frame) -> Result<bool, AllocError> {
     match client.would_save(frame) {
         Err(_) => client.would_save(frame),
         answer => answer,
     }
+}
+
+/// The number that an answer gives, if it gives one: the only part of it that says no frame.
+pub fn number_in(words: &str) -> Result<Option<u64>, Trouble> {
+    let mut number = None;
+    for part in words.split('+') {
+        let (word, rest) = first_word(part);
+        if word == "run" || word == "attempt" {
+            number = rest.parse::<u64>().ok();
+        } else if !word.is_empty() && !is_frame(part) {
+            return Err(Trouble::BadRow);
+        }
+    }
+    Ok(number)
 }

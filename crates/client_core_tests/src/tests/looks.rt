@@ -1,16 +1,13 @@
 //! What a client shows, and what rows say of it.
 
-use super::calls::text_in;
-use super::named::put_word;
-use super::spelling::first_word;
-use super::trouble::Trouble;
-use super::words::{kind_in, next_u32, next_u64};
+use super::calls::put_text;
+use super::words::kind_in;
 use client_core::{Client, Outcome, Received};
-use disk_model::Notes;
-use fc_base::{JobNo, Key, RunNo, ServerNo};
+use core_stories::{Draft, Trouble, first_word, is_state, next_key, next_u32, next_u64};
+use disk_model::FaultNotes;
+use fc_base::{Key, RunNo, ServerNo};
 use messages::Reason;
 use std::alloc::Global;
-use verify_state::VerifyState;
 
 /// Whether a row with this word asks for what the client shows.
 pub fn is_look(word: &str) -> bool {
@@ -28,9 +25,9 @@ pub fn is_look(word: &str) -> bool {
 }
 
 /// Whether the client shows what the words say of this.
-pub fn shows<N: Notes>(
+pub fn shows(
     alloc: Global,
-    client: &Client<N>,
+    client: &Client<FaultNotes>,
     word: &str,
     of: &str,
     words: &str,
@@ -46,15 +43,36 @@ pub fn shows<N: Notes>(
             let run = of.parse::<u64>().unwrap_or(0);
             Ok(is_told(client.settled(RunNo(run)), words))
         }
-        "would_begin" => Ok(is_told(client.begin_would_save(&text_in(alloc, of)?), words)),
-        "would_verify" => {
-            let (run, text) = first_word(of);
-            let run = RunNo(run.parse::<u64>().unwrap_or(0));
-            let text = text_in(alloc, text)?;
-            Ok(is_told(client.verify_would_save(run, &text), words))
-        }
+        "would_begin" => would_begin(alloc, client, of, words),
+        "would_verify" => would_verify(alloc, client, of, words),
         _ => Err(Trouble::BadRow),
     }
+}
+
+fn would_begin(
+    alloc: Global,
+    client: &Client<FaultNotes>,
+    word: &str,
+    answer: &str,
+) -> Result<bool, Trouble> {
+    let mut text = Draft::new(alloc);
+    put_text(&mut text, word);
+    text.told()?;
+    Ok(is_told(client.begin_would_save(text.bytes()), answer))
+}
+
+fn would_verify(
+    alloc: Global,
+    client: &Client<FaultNotes>,
+    words: &str,
+    answer: &str,
+) -> Result<bool, Trouble> {
+    let (run, word) = first_word(words);
+    let run = RunNo(run.parse::<u64>().unwrap_or(0));
+    let mut text = Draft::new(alloc);
+    put_text(&mut text, word);
+    text.told()?;
+    Ok(is_told(client.verify_would_save(run, text.bytes()), answer))
 }
 
 fn is_told(yes: bool, word: &str) -> bool {
@@ -74,29 +92,7 @@ fn are_numbers(numbers: &[u64], words: &str) -> bool {
 
 /// The key of this run, server and job.
 fn key_in(words: &str) -> Result<Key, Trouble> {
-    let mut words = words.split_whitespace();
-    match (
-        next_u64(&mut words),
-        next_u32(&mut words),
-        next_u32(&mut words),
-    ) {
-        (Some(run), Some(server), Some(job)) => Ok(Key {
-            run: RunNo(run),
-            server: ServerNo(server),
-            job: JobNo(job),
-        }),
-        _ => Err(Trouble::BadRow),
-    }
-}
-
-/// The state's bytes are those of the word; `none` says that there is no state.
-fn is_state(alloc: Global, state: Option<&VerifyState>, word: &str) -> Result<bool, Trouble> {
-    let Some(state) = state else {
-        return Ok(word == "none");
-    };
-    let mut wanted = Vec::with_capacity(alloc, 136)?;
-    put_word(&mut wanted, word)?;
-    Ok(state.encode(alloc)? == wanted)
+    next_key(&mut words.split_whitespace()).ok_or(Trouble::BadRow)
 }
 
 /// The reports are of these runs, attempts, servers and jobs, with so many blocks checked; they are joined
@@ -121,9 +117,10 @@ fn are_reports(reports: &[Received], words: &str) -> bool {
 
 /// How the request of this kind, number and server stands: `none`, `open`, `good`, or the number of its
 /// refusal.
-pub fn outcome_of<N: Notes>(client: &Client<N>, words: &str) -> Result<&'static str, Trouble> {
-    let mut words = words.split_whitespace();
-    let kind = kind_in(&mut words);
+pub fn outcome_of(client: &Client<FaultNotes>, words: &str) -> Result<&'static str, Trouble> {
+    let (kind, rest) = first_word(words);
+    let mut words = rest.split_whitespace();
+    let kind = kind_in(kind);
     let number = next_u64(&mut words);
     let server = next_u32(&mut words);
     match (kind, number, server) {

@@ -1,13 +1,7 @@
 //! What a client is restarted over.
 
-use super::life::Life;
-use super::named::put_word;
 use super::opening::{Opening, opened};
-use super::spelling::put_number;
-use super::trouble::Trouble;
-use super::written::put_note;
-use client_core::Noted;
-use disk_model::{MemNotes, Notes};
+use core_stories::UnreadNotes;
 use fc_base::{Fault, Generation};
 use std::alloc::Global;
 
@@ -60,135 +54,6 @@ pub const NOTES: &str = "
     3 2 first~11=0 => 54
 ";
 
-/// The bytes of a note. Where memory runs out, it is tried again.
-pub fn bytes_in(alloc: Global, words: &str) -> Result<Vec<u8>, Trouble> {
-    match bytes_once(alloc, words) {
-        Err(Trouble::NoMemory) => bytes_once(alloc, words),
-        answer => answer,
-    }
-}
-
-fn bytes_once(alloc: Global, words: &str) -> Result<Vec<u8>, Trouble> {
-    let mut bytes = Vec::new(alloc);
-    put_note(&mut bytes, words)?;
-    Ok(bytes)
-}
-
-/// Whether a client is restarted over a note as the row says. The notes hold what they held.
-pub fn holds(alloc: Global, row: &str) -> Result<bool, Trouble> {
-    let Some((words, answer)) = row.split_once("=>") else {
-        return Ok(row.trim().is_empty());
-    };
-    let words = words.trim();
-    let bytes = bytes_in(alloc, words)?;
-    let mut life = Life::new(alloc, 1, MemNotes::new(bytes));
-    is_restarted(&mut life, words, answer.trim().parse::<u8>().ok())
-}
-
-/// Whether a client that is off is restarted, or is refused by this number, and its notes say this then.
-fn is_restarted(
-    life: &mut Life<MemNotes>,
-    words: &str,
-    answer: Option<u8>,
-) -> Result<bool, Trouble> {
-    let notes = life.off()?;
-    if Some(life.open(notes, &Opening::Restarted)) != answer {
-        return Ok(false);
-    }
-    still_says(life, words)
-}
-
-/// Whether the notes of a client say this.
-fn still_says(life: &mut Life<MemNotes>, words: &str) -> Result<bool, Trouble> {
-    let mut notes = life.off()?;
-    life.is_noted(&mut notes, words)
-}
-
-/// The note that keeps so many states: of server 0, those of 16 jobs for each run.
-pub fn note_of(alloc: Global, count: u32) -> Result<Vec<u8>, Trouble> {
-    match note_once(alloc, count) {
-        Err(Trouble::NoMemory) => note_once(alloc, count),
-        answer => answer,
-    }
-}
-
-fn note_once(alloc: Global, count: u32) -> Result<Vec<u8>, Trouble> {
-    let mut bytes = Vec::new(alloc);
-    put_note(&mut bytes, "0 0")?;
-    bytes.truncate(28);
-    put_number(&mut bytes, u64::from(count), 4)?;
-    for index in 0..count {
-        put_number(&mut bytes, 136, 4)?;
-        put_state(&mut bytes, index)?;
-    }
-    Ok(bytes)
-}
-
-/// Puts the state `first`, as that of the job with this index.
-fn put_state(bytes: &mut Vec<u8>, index: u32) -> Result<(), Trouble> {
-    let start = bytes.len();
-    put_word(bytes, "first")?;
-    for (at, byte) in [(11, index / 16 + 1), (19, index % 16)] {
-        if let Some(place) = bytes.get_mut(start.saturating_add(at)) {
-            *place = (byte % 256) as u8;
-        }
-    }
-    Ok(())
-}
-
-/// Whether bytes are a note, which has to be written as just these bytes, or with generation 0 where it is
-/// from before there were generations. Where memory runs out, they are read again.
-pub fn is_note(alloc: Global, bytes: &[u8]) -> Result<bool, Trouble> {
-    match is_note_once(alloc, bytes) {
-        Err(Trouble::NoMemory) => is_note_once(alloc, bytes),
-        answer => answer,
-    }
-}
-
-fn is_note_once(alloc: Global, bytes: &[u8]) -> Result<bool, Trouble> {
-    let Some(noted) = Noted::decode(alloc, bytes)? else {
-        return Ok(false);
-    };
-    if is_written_so(bytes, &noted.encode(alloc)?) {
-        Ok(true)
-    } else {
-        Err(Trouble::Changed)
-    }
-}
-
-/// Whether a note that was read is to be written so.
-fn is_written_so(read: &[u8], written: &[u8]) -> bool {
-    match read.strip_prefix(b"FCC1") {
-        Some(old) => written.strip_prefix(b"FCC2\0\0\0\0\0\0\0\0") == Some(old),
-        None => read == written,
-    }
-}
-
-/// Notes of which the first load fails. They save nothing.
-#[derive(Drop)]
-pub struct UnreadNotes {
-    pub alloc: Global,
-    pub failed: bool,
-}
-
-impl Notes for UnreadNotes {
-    ghost use Rattle.std.specs.Prelude.{[], if◌then◌else◌};
-
-    ghost note = { λ n. record { bytes = []; failures = if n.failed then 1 else 0 } };
-
-    fn load(&mut self) -> Result<Vec<u8>, Fault> {
-        if self.failed {
-            return Ok(Vec::new(self.alloc));
-        }
-        self.failed = true;
-        Err(Fault::LoadFault)
-    }
-
-    fn save(&mut self, _bytes: &[u8]) -> Result<(), Fault> {
-        Err(Fault::NoMemory)
-    }
-}
-
 /// What a client is opened by over notes whose first load fails and which save nothing, one after the other,
 /// and the number of each refusal: none of the generations that aren't any loads the note.
 const REFUSALS: [(Opening, u8); 5] = [
@@ -204,22 +69,15 @@ pub fn come_back(alloc: Global) -> bool {
     is_restart_refused(alloc) && are_refused(alloc)
 }
 
-fn blank_notes(alloc: Global) -> UnreadNotes {
-    UnreadNotes {
-        alloc,
-        failed: false,
-    }
-}
-
 fn is_restart_refused(alloc: Global) -> bool {
-    match opened(alloc, 1, blank_notes(alloc), &Opening::Restarted) {
+    match opened(alloc, 1, UnreadNotes::new(alloc), &Opening::Restarted) {
         Err((notes, Fault::LoadFault)) => notes.failed,
         _ => false,
     }
 }
 
 fn are_refused(alloc: Global) -> bool {
-    let mut notes = blank_notes(alloc);
+    let mut notes = UnreadNotes::new(alloc);
     for (opening, number) in &REFUSALS {
         notes = match opened(alloc, 1, notes, opening) {
             Err((back, fault)) if fault.number() == *number => back,

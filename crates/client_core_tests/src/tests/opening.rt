@@ -2,14 +2,13 @@
 
 ghost use Rattle.std.specs.Prelude.{◌≤◌};
 
-use super::trouble::Trouble;
 use client_core::Client;
 use disk_model::Notes;
 use fc_base::{Fault, Generation};
 use std::alloc::Global;
 
 /// How a client is opened.
-#[derive(Drop)]
+#[derive(Clone, Copy)]
 pub enum Opening {
     Restarted,
     RestartedWithMirror,
@@ -17,22 +16,17 @@ pub enum Opening {
 }
 
 /// What a row says: `restart`, `restart mirror`, or `renew GENERATION`.
-pub fn opening_in(words: &str) -> Result<Opening, Trouble> {
+pub fn opening_in(words: &str) -> Option<Opening> {
     match words {
-        "restart" => Ok(Opening::Restarted),
-        "restart mirror" => Ok(Opening::RestartedWithMirror),
-        _ => match words.strip_prefix("renew ") {
-            Some(generation) => renewal_in(generation),
-            None => Err(Trouble::BadRow),
-        },
+        "restart" => Some(Opening::Restarted),
+        "restart mirror" => Some(Opening::RestartedWithMirror),
+        _ => renewal_in(words),
     }
 }
 
-fn renewal_in(word: &str) -> Result<Opening, Trouble> {
-    match word.parse::<u64>() {
-        Ok(generation) => Ok(Opening::Renewed(Generation(generation))),
-        Err(_) => Err(Trouble::BadRow),
-    }
+fn renewal_in(words: &str) -> Option<Opening> {
+    let generation = words.strip_prefix("renew ")?;
+    Some(Opening::Renewed(Generation(generation.parse::<u64>().ok()?)))
 }
 
 /// A client of so many servers, 1 or 2, that is opened so.

@@ -1,10 +1,9 @@
 //! Every kind of packet in every stage of a request.
 
-use super::life::Life;
 use super::looks::outcome_of;
 use super::stories::stages::{PACKETS, Stage};
-use super::trouble::Trouble;
-use disk_model::MemNotes;
+use super::told::Told;
+use core_stories::{Life, NONE_FAILS, Trouble, failing_notes};
 use std::alloc::Global;
 
 /// Where a stage isn't as it says, or a packet isn't answered as its row says.
@@ -15,20 +14,18 @@ pub struct Unlike {
     pub trouble: Option<Trouble>,
 }
 
+/// A packet that changes how a request stands, and how it stands then.
+#[derive(Clone, Copy)]
+struct Change {
+    row: &'static str,
+    outcome: &'static str,
+}
+
 fn at_row(stage: Stage, row: &'static str, trouble: Option<Trouble>) -> Unlike {
     Unlike {
         stage: stage.name,
         row,
         trouble,
-    }
-}
-
-/// A client in a stage.
-fn life_in(alloc: Global, stage: Stage) -> Result<Life<MemNotes>, Unlike> {
-    let mut life = Life::new(alloc, 1, MemNotes::new(Vec::new(alloc)));
-    match life.first_unlike(stage.before) {
-        None => Ok(life),
-        Some((_, trouble)) => Err(at_row(stage, stage.before, trouble)),
     }
 }
 
@@ -46,19 +43,14 @@ fn changes(stage: Stage, event: &str) -> bool {
 }
 
 /// Takes a row, behind which the request has to stand so.
-fn check(
-    life: &mut Life<MemNotes>,
-    stage: Stage,
-    row: &'static str,
-    outcome: &str,
-) -> Option<Unlike> {
+fn check(life: &mut Life<Told>, stage: Stage, row: &'static str, outcome: &str) -> Option<Unlike> {
     match life.holds(row) {
         Ok(true) => {}
         Ok(false) => return Some(at_row(stage, row, None)),
         Err(trouble) => return Some(at_row(stage, row, Some(trouble))),
     }
-    match &life.client {
-        Some(client) if outcome_of(client, stage.request) == Ok(outcome) => None,
+    match &life.node {
+        Some(told) if outcome_of(&told.client, stage.request) == Ok(outcome) => None,
         _ => Some(at_row(stage, row, None)),
     }
 }
@@ -75,26 +67,22 @@ pub fn unlike_in(alloc: Global, stages: &[Stage]) -> Option<Unlike> {
 }
 
 fn unlike_at(alloc: Global, stage: Stage) -> Option<Unlike> {
-    match first_unlike(alloc, stage) {
+    match unlike_after(alloc, stage, None) {
         None => first_unlike_change(alloc, stage),
         unlike => unlike,
     }
 }
 
-/// The first packet that isn't answered as the rows say, of those that change nothing in a stage. They come
-/// one after the other.
-fn first_unlike(alloc: Global, stage: Stage) -> Option<Unlike> {
-    match life_in(alloc, stage) {
-        Ok(mut life) => first_quiet(&mut life, stage),
-        Err(found) => Some(found),
-    }
-}
-
-/// The first that isn't, of those that change something: each comes to a client of its own.
+/// The first packet that isn't answered as the rows say, of those that change something in a stage: each
+/// comes to a client of its own.
 fn first_unlike_change(alloc: Global, stage: Stage) -> Option<Unlike> {
     for line in stage.changes.lines() {
         if let Some((row, outcome)) = line.split_once(" / ") {
-            let found = unlike_change(alloc, stage, row, outcome.trim());
+            let change = Change {
+                row,
+                outcome: outcome.trim(),
+            };
+            let found = unlike_after(alloc, stage, Some(change));
             if found.is_some() {
                 return found;
             }
@@ -103,8 +91,27 @@ fn first_unlike_change(alloc: Global, stage: Stage) -> Option<Unlike> {
     None
 }
 
+/// What isn't so of a client that is taken to a stage, and then is told of a change, or else of each packet
+/// that changes nothing, one after the other.
+fn unlike_after(alloc: Global, stage: Stage, change: Option<Change>) -> Option<Unlike> {
+    let mut life = Life::new(alloc, 1, failing_notes(Vec::new(alloc), NONE_FAILS));
+    let unlike = unlike_of(&mut life, stage, change);
+    life.end();
+    unlike
+}
+
+fn unlike_of(life: &mut Life<Told>, stage: Stage, change: Option<Change>) -> Option<Unlike> {
+    if let Some((_, trouble)) = life.first_unlike(stage.before) {
+        return Some(at_row(stage, stage.before, trouble));
+    }
+    match change {
+        Some(change) => check(life, stage, change.row, change.outcome),
+        None => first_quiet(life, stage),
+    }
+}
+
 /// The first packet that changes something, and isn't in the rows of the stage.
-fn first_quiet(life: &mut Life<MemNotes>, stage: Stage) -> Option<Unlike> {
+fn first_quiet(life: &mut Life<Told>, stage: Stage) -> Option<Unlike> {
     for row in PACKETS.lines() {
         let (event, _) = parts(row);
         if !event.is_empty() && !changes(stage, event) {
@@ -115,11 +122,4 @@ fn first_quiet(life: &mut Life<MemNotes>, stage: Stage) -> Option<Unlike> {
         }
     }
     None
-}
-
-fn unlike_change(alloc: Global, stage: Stage, row: &'static str, outcome: &str) -> Option<Unlike> {
-    match life_in(alloc, stage) {
-        Ok(mut life) => check(&mut life, stage, row, outcome),
-        Err(found) => Some(found),
-    }
 }

@@ -1,119 +1,39 @@
 //! Notes that are cut short, and notes of which one byte is changed.
 
-use super::notes::is_note;
-use super::trouble::Trouble;
+use super::notes::{NoteReader, put_note};
+use core_stories::{Draft, Trouble, first_note, first_unlike_field};
 use std::alloc::Global;
 
-/// How many bytes a field of a note has, and how many changes of one of them leave a note, of 255 for each:
-/// by hand, from the field's range.
-type Field = (usize, u32);
+/// What stands before the states, field by field: how many bytes, and how many changes of one of them leave
+/// a note, of 255 for each: by hand, from the field's range. A generation of eight bytes fits four.
+const HEAD: &str = "
+    4 0 the magic
+    4 0 the generation's high half
+    4 1020 its low half
+    4 0 the number of states
+";
 
-/// What stands before the states: the magic, a generation of eight bytes that fits four, and the number of
-/// states.
-const HEAD: [Field; 4] = [(4, 0), (4, 0), (4, 1_020), (4, 0)];
-
-/// Each of two states, that of job 0 and that of job 1. Its job has 2 blocks and 2 writes, 2 at a time, which
-/// are issued, and write 0 is done.
-const STATE: [Field; 19] = [
-    // The length, and the magic.
-    (4, 0),
-    (4, 0),
-    // The run: not 0.
-    (8, 2_039),
-    // The server: below 8.
-    (4, 7),
-    // The job: below 16, and not that of the other state.
-    (4, 14),
-    // The kind: 0 to 2.
-    (1, 2),
-    // How it is verified: 0 or 1.
-    (1, 1),
-    // The pattern, and what has to be 0.
-    (1, 0),
-    (1, 0),
-    // Bytes of a block: 512 to 65,536, a multiple of 512.
-    (4, 126),
-    // Blocks: 1 to 65,536.
-    (4, 509),
-    // Writes: 2, which are issued, to 1,000,000.
-    (8, 523),
-    // The seed: any.
-    (8, 2_040),
-    // Writes in flight at most: 1, as many as are, to 2, the window.
-    (4, 1),
-    // The window: 2, the writes in flight, to 256.
-    (4, 253),
-    // Writes issued: 1, since write 0 is done, to 2, all of them.
-    (8, 1),
-    // The place of the generator: any.
-    (32, 8_160),
-    // The floor: 0.
-    (8, 0),
-    // Which writes are done: of two.
-    (32, 3),
-];
-
-/// The first length, above 0, of which the bytes of a note are one.
-pub fn first_note(alloc: Global, note: &[u8]) -> Result<Option<usize>, Trouble> {
-    for len in 1..note.len() {
-        let (front, _) = note.split_at(len);
-        if is_note(alloc, front)? {
-            return Ok(Some(len));
-        }
+/// Puts the bytes of a note. Where memory runs out, it is tried again.
+fn put_again(draft: &mut Draft, words: &str) -> Result<(), Trouble> {
+    put_note(draft, words);
+    if draft.told() == Err(Trouble::NoMemory) {
+        draft.clear();
+        put_note(draft, words);
     }
-    Ok(if is_note(alloc, note)? {
-        Some(note.len())
-    } else {
-        None
-    })
+    draft.told()
 }
 
-/// Where the first field begins of which more or fewer changes leave a note, and how many do; or where the
-/// last one ends, if the note doesn't end there.
-pub fn first_unlike(alloc: Global, note: &mut [u8]) -> Result<Option<(usize, u32)>, Trouble> {
-    let mut start: usize = 0;
-    for fields in [HEAD.as_slice(), STATE.as_slice(), STATE.as_slice()] {
-        for (bytes, wanted) in fields {
-            let end = start.saturating_add(*bytes);
-            let changes = changes_between(alloc, note, start, end)?;
-            if changes != *wanted {
-                return Ok(Some((start, changes)));
-            }
-            start = end;
-        }
-    }
-    Ok(if start == note.len() {
-        None
-    } else {
-        Some((start, 0))
-    })
+/// Whether a note is one, and nothing shorter.
+pub fn is_whole(alloc: Global, words: &str) -> Result<bool, Trouble> {
+    let mut note = Draft::new(alloc);
+    put_again(&mut note, words)?;
+    let len = first_note(&NoteReader { alloc }, note.bytes())?;
+    Ok(len == Some(note.bytes().len()))
 }
 
-/// How many changes of one byte at these places leave a note.
-fn changes_between(
-    alloc: Global,
-    note: &mut [u8],
-    start: usize,
-    end: usize,
-) -> Result<u32, Trouble> {
-    let mut count: u32 = 0;
-    for at in start..end {
-        for change in 1..=u8::MAX {
-            if is_changed_note(alloc, note, at, change)? {
-                count = count.saturating_add(1);
-            }
-        }
-    }
-    Ok(count)
-}
-
-/// Whether a note is one with these bits of a byte changed. It is left as it was.
-fn is_changed_note(alloc: Global, note: &mut [u8], at: usize, bits: u8) -> Result<bool, Trouble> {
-    if at >= note.len() {
-        return Ok(false);
-    }
-    note[at] ^= bits;
-    let answer = is_note(alloc, note);
-    note[at] ^= bits;
-    answer
+/// The first field of a note of which more or fewer changes leave a note.
+pub fn unlike_field(alloc: Global, words: &str) -> Result<Option<(usize, u32)>, Trouble> {
+    let mut note = Draft::new(alloc);
+    put_again(&mut note, words)?;
+    first_unlike_field(&NoteReader { alloc }, note.bytes_mut(), HEAD)
 }

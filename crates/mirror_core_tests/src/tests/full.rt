@@ -1,86 +1,104 @@
 //! A mirror that keeps as many states as it can.
 
-use super::frames::{frame_in, spell_answer};
-use super::life::Life;
-use super::notes::{note_of, put_state};
-use super::spelling::Spelling;
-use super::trouble::Trouble;
-use disk_model::{FaultNotes, MemNotes, Notes};
-use fc_base::Fault;
-use messages::{Frame, Frames};
-use mirror_core::Mirror;
+use super::notes::put_note;
+use super::told::Told;
+use core_stories::{
+    Draft, Failing, Life, NONE_FAILS, Node, Trouble, failing_notes, holds_once_on, put_state,
+};
+use messages::Frames;
 use std::alloc::Global;
 
 /// What a Copy of the mirror has before its state: FC, 1, 18, from 9 to 8, 136 bytes.
 const COPY: &[u8; 16] = b"FC\x01\x12\0\0\0\x09\0\0\0\x08\0\0\0\x88";
 
-/// Whether a mirror is restarted over so many states, and then answers the rows.
-pub fn holds(alloc: Global, count: u32, rows: &str) -> Result<bool, Trouble> {
-    let note = note_of(alloc, count)?;
-    answers_once_on(Life::new(alloc, MemNotes::new(note)), rows)
+/// What it has before: FC, 1, 21, from 9 to 8, 8 bytes, which are those of generation 2.
+const GRANTED: &[u8; 24] = b"FC\x01\x15\0\0\0\x09\0\0\0\x08\0\0\0\x08\0\0\0\0\0\0\0\x02";
+
+/// The first save fails, and leaves the old bytes.
+const FIRST_FAILS: Failing = Failing {
+    at: 0,
+    landed: false,
+};
+
+/// Whether a mirror is restarted over this note, and then answers the rows.
+pub fn holds(alloc: Global, note: &str, rows: &str) -> Result<bool, Trouble> {
+    holds_once_on::<Told>(alloc, note, "restart", NONE_FAILS, rows)
 }
 
-/// Whether a mirror with a full table, whose first save fails, answers the rows. A save that finds no memory
+/// Whether a mirror over this note, whose first save fails, answers the rows. A save that finds no memory
 /// counts as one: then they are told anew.
-pub fn fails(alloc: Global, rows: &str) -> Result<bool, Trouble> {
-    Ok(fails_once(alloc, rows)? || fails_once(alloc, rows)?)
+pub fn fails(alloc: Global, note: &str, rows: &str) -> Result<bool, Trouble> {
+    Ok(fails_once(alloc, note, rows)? || fails_once(alloc, note, rows)?)
 }
 
-fn fails_once(alloc: Global, rows: &str) -> Result<bool, Trouble> {
-    let notes = MemNotes::new(note_of(alloc, 1_024)?);
-    answers_once_on(Life::new(alloc, FaultNotes::new(notes, 0, false)), rows)
-}
-
-/// Whether a mirror that is off is restarted, and then answers the rows.
-fn answers_once_on<N: Notes + Drop>(life: Life<N>, rows: &str) -> Result<bool, Trouble> {
-    let mut life = life;
-    let notes = life.off()?;
-    Ok(life.restart(notes) == 0 && life.first_unlike(rows).is_none())
+fn fails_once(alloc: Global, note: &str, rows: &str) -> Result<bool, Trouble> {
+    holds_once_on::<Told>(alloc, note, "restart", FIRST_FAILS, rows)
 }
 
 /// Asks a mirror over a note of so many states for the generation of its note: whether it is granted, and a
 /// copy of each state follows, in order. Where memory runs out, it is tried again.
-pub fn sends_all(alloc: Global, count: u32) -> Result<bool, Trouble> {
-    match sends_all_once(alloc, count) {
-        Err(Trouble::NoMemory) => sends_all_once(alloc, count),
+pub fn sends_all(alloc: Global, note: &str, count: u32) -> Result<bool, Trouble> {
+    match sends_all_once(alloc, note, count) {
+        Err(Trouble::NoMemory) => sends_all_once(alloc, note, count),
         answer => answer,
     }
 }
 
-fn sends_all_once(alloc: Global, count: u32) -> Result<bool, Trouble> {
-    let mut spelling = Spelling::new(alloc);
-    let frame = frame_in(alloc, &mut spelling, "Fetch 2")?;
-    let frames = answer_of(alloc, count, &frame)?;
-    spell_answer(&mut spelling, "Granted 2")?;
-    if frames.get(0) != Some(spelling.frame()) {
-        return Ok(false);
+fn sends_all_once(alloc: Global, note: &str, count: u32) -> Result<bool, Trouble> {
+    match bytes_in(alloc, note) {
+        Ok(bytes) => sends_all_over(alloc, bytes, count),
+        Err(trouble) => Err(trouble),
     }
-    are_copies(alloc, &frames, count)
 }
 
-fn answer_of(alloc: Global, count: u32, frame: &Frame) -> Result<Frames, Trouble> {
-    let notes = MemNotes::new(note_of(alloc, count)?);
-    match Mirror::restart(alloc, notes) {
-        Ok(mut mirror) => match mirror.deliver(frame) {
-            Ok(frames) => Ok(frames),
-            Err(Fault::NoMemory) => Err(Trouble::NoMemory),
-            Err(_) => Err(Trouble::BadRow),
-        },
-        Err((_, Fault::NoMemory)) => Err(Trouble::NoMemory),
-        Err(_) => Err(Trouble::NoMirror),
+fn bytes_in(alloc: Global, note: &str) -> Result<Vec<u8>, Trouble> {
+    let mut draft = Draft::new(alloc);
+    put_note(&mut draft, note);
+    draft.into_bytes()
+}
+
+fn sends_all_over(alloc: Global, note: Vec<u8>, count: u32) -> Result<bool, Trouble> {
+    let mut life = Life::new(alloc, 1, failing_notes(note, NONE_FAILS));
+    let granted = grants_all(&mut life, alloc, count);
+    life.end();
+    granted
+}
+
+fn grants_all(life: &mut Life<Told>, alloc: Global, count: u32) -> Result<bool, Trouble> {
+    if life.open(&())? != 0 || life.take("Fetch 2")?.is_some() {
+        return Ok(false);
+    }
+    match &life.node {
+        Some(told) => are_granted(alloc, told.sent(), count),
+        None => Ok(false),
+    }
+}
+
+fn are_granted(alloc: Global, sent: Option<&Frames>, count: u32) -> Result<bool, Trouble> {
+    match sent {
+        Some(frames) if frames.get(0) == Some(GRANTED.as_slice()) => {
+            are_copies(alloc, frames, count)
+        }
+        _ => Ok(false),
     }
 }
 
 /// Whether the frames behind the first are the copies of so many states.
 fn are_copies(alloc: Global, frames: &Frames, count: u32) -> Result<bool, Trouble> {
-    let mut wanted = Vec::new(alloc);
+    let mut wanted = Draft::new(alloc);
     for index in 0..count {
-        wanted.clear();
-        wanted.extend_from_slice(COPY)?;
-        put_state(&mut wanted, index)?;
-        if frames.get((index as usize).saturating_add(1)) != Some(wanted.as_slice()) {
+        put_copy(&mut wanted, index)?;
+        let place = (index as usize).saturating_add(1);
+        if frames.get(place) != Some(wanted.bytes()) {
             return Ok(false);
         }
     }
     Ok(frames.len() == (count as usize).saturating_add(1))
+}
+
+fn put_copy(draft: &mut Draft, index: u32) -> Result<(), Trouble> {
+    draft.clear();
+    draft.put(COPY);
+    put_state(draft, index);
+    draft.told()
 }

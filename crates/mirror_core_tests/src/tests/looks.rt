@@ -1,12 +1,10 @@
 //! What a mirror shows, and what rows say of it.
 
-use super::named::put_word;
-use super::trouble::Trouble;
-use disk_model::Notes;
-use fc_base::{JobNo, Key, RunNo, ServerNo};
+use core_stories::{Trouble, is_state, next_key};
+use disk_model::FaultNotes;
+use fc_base::Key;
 use mirror_core::Mirror;
 use std::alloc::Global;
-use verify_state::VerifyState;
 
 /// Whether a row with this word asks for what the mirror shows.
 pub fn is_look(word: &str) -> bool {
@@ -14,9 +12,9 @@ pub fn is_look(word: &str) -> bool {
 }
 
 /// Whether the mirror shows what the words say of this.
-pub fn shows<N: Notes>(
+pub fn shows(
     alloc: Global,
-    mirror: &Mirror<N>,
+    mirror: &Mirror<FaultNotes>,
     word: &str,
     of: &str,
     words: &str,
@@ -31,27 +29,5 @@ pub fn shows<N: Notes>(
 
 /// The key of this run, server and job.
 fn key_in(words: &str) -> Result<Key, Trouble> {
-    let mut words = words.split_whitespace();
-    match (next(words.next()), next(words.next()), next(words.next())) {
-        (Some(run), Some(server), Some(job)) => Ok(Key {
-            run: RunNo(u64::from(run)),
-            server: ServerNo(server),
-            job: JobNo(job),
-        }),
-        _ => Err(Trouble::BadRow),
-    }
-}
-
-fn next(word: Option<&str>) -> Option<u32> {
-    word?.parse::<u32>().ok()
-}
-
-/// The state's bytes are those of the word; `none` says that there is no state.
-fn is_state(alloc: Global, state: Option<&VerifyState>, word: &str) -> Result<bool, Trouble> {
-    let Some(state) = state else {
-        return Ok(word == "none");
-    };
-    let mut wanted = Vec::with_capacity(alloc, 136)?;
-    put_word(&mut wanted, word)?;
-    Ok(state.encode(alloc)? == wanted)
+    next_key(&mut words.split_whitespace()).ok_or(Trouble::BadRow)
 }

@@ -1,31 +1,20 @@
-//! The calls of a server that take what comes to it.
+//! What comes to a server beside frames, and what it answers beside them.
 
-use super::spelling::{Spelling, first_word};
-use super::trouble::Trouble;
-use super::words::{next_u32, next_u64, report_in, ticket_in};
-use disk_model::Notes;
-use fc_base::{Attempt, Fault, JobNo};
-use messages::{Frame, decode_frame};
-use server_core::{Input, Outs, Server, WriteEnd};
-use std::alloc::Global;
+use super::words::{issue_in, report_in, ticket_in};
+use core_stories::{Trouble, is_frame, next_u32, next_u64};
+use engine::Issue;
+use fc_base::{Attempt, JobNo};
+use messages::Act;
+use server_core::{Input, Outs, WriteEnd};
 
-/// The numbers of the client and of the server, in frames.
-const CLIENT: u64 = 8;
-
-const SERVER: u64 = 0;
-
-/// What a row says that comes. A frame goes from the client to the server, where it doesn't say
-/// `from A to B` first.
-pub fn input_in(alloc: Global, spelling: &mut Spelling, words: &str) -> Result<Input, Trouble> {
-    let (word, rest) = first_word(words);
-    let input = match word {
-        "issue" => next_u32(&mut rest.split_whitespace()).map(|job| Input::Issue(JobNo(job))),
-        "done" => end_in(rest, WriteEnd::Done),
-        "fail" => end_in(rest, WriteEnd::Failed),
-        "check" => check_in(rest),
-        _ => return Ok(Input::Deliver(frame_in(alloc, spelling, words)?)),
-    };
-    input.ok_or(Trouble::BadRow)
+/// What a worker asks, or tells.
+pub fn asked_in(word: &str, words: &str) -> Option<Input> {
+    match word {
+        "issue" => Some(Input::Issue(JobNo(words.parse::<u32>().ok()?))),
+        "done" => end_in(words, WriteEnd::Done),
+        "fail" => end_in(words, WriteEnd::Failed),
+        _ => check_in(words),
+    }
 }
 
 fn end_in(words: &str, end: WriteEnd) -> Option<Input> {
@@ -43,54 +32,21 @@ fn check_in(words: &str) -> Option<Input> {
     })
 }
 
-/// The frame that comes. Where memory runs out, it is read again.
-fn frame_in(alloc: Global, spelling: &mut Spelling, words: &str) -> Result<Frame, Trouble> {
-    spell_event(spelling, words)?;
-    match decode_frame(alloc, spelling.frame()) {
-        Err(Fault::FrameNoMemory) => read(decode_frame(alloc, spelling.frame())),
-        answer => read(answer),
+/// Whether the parts of an answer that say no frames say what was told.
+pub fn is_told(outs: &Outs, words: &str) -> Result<bool, Trouble> {
+    let mut issue = None;
+    let mut act = Act::None;
+    for part in words.split('+') {
+        let part = part.trim();
+        if part == "cut" {
+            act = Act::Cut;
+        } else if !part.is_empty() && !is_frame(part) {
+            issue = Some(issue_of(part)?);
+        }
     }
+    Ok(outs.issue == issue && outs.act == act)
 }
 
-fn read(answer: Result<Frame, Fault>) -> Result<Frame, Trouble> {
-    match answer {
-        Ok(frame) => Ok(frame),
-        Err(Fault::FrameNoMemory) => Err(Trouble::NoMemory),
-        Err(fault) => Err(Trouble::BadFrame(fault.number())),
-    }
-}
-
-/// Spells the frame that comes.
-fn spell_event(spelling: &mut Spelling, words: &str) -> Result<(), Trouble> {
-    let Some(rest) = words.strip_prefix("from ") else {
-        return spelling.spell(CLIENT, SERVER, words);
-    };
-    let (from, rest) = first_word(rest);
-    let (_, rest) = first_word(rest);
-    let (to, rest) = first_word(rest);
-    match (from.parse::<u64>(), to.parse::<u64>()) {
-        (Ok(from), Ok(to)) => spelling.spell(from, to, rest),
-        _ => Err(Trouble::BadRow),
-    }
-}
-
-/// Spells the frame of an answer.
-pub fn spell_answer(spelling: &mut Spelling, words: &str) -> Result<(), Trouble> {
-    spelling.spell(SERVER, CLIENT, words)
-}
-
-/// Hands what comes to a server.
-pub fn step<N: Notes>(server: &mut Server<N>, input: Input) -> Result<Outs, Fault> {
-    server.step(input)
-}
-
-/// Whether the delivery of the frame that a row says would make a save.
-pub fn would_save<N: Notes>(
-    alloc: Global,
-    server: &Server<N>,
-    spelling: &mut Spelling,
-    words: &str,
-) -> Result<bool, Trouble> {
-    let frame = frame_in(alloc, spelling, words)?;
-    Ok(server.would_save(&frame))
+fn issue_of(words: &str) -> Result<Issue, Trouble> {
+    issue_in(words).ok_or(Trouble::BadRow)
 }

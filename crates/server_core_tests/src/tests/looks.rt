@@ -1,16 +1,13 @@
 //! What a server shows, and what rows say of it.
 
-use super::named::put_word;
-use super::spelling::first_word;
-use super::trouble::Trouble;
 use super::words::ticket_in;
-use disk_model::Notes;
+use core_stories::{Trouble, first_word, is_state};
+use disk_model::FaultNotes;
 use engine::Ticket;
 use fc_base::{JobNo, Seq};
 use job_file::Job;
 use server_core::{Progress, Server, Stage, Status};
 use std::alloc::Global;
-use verify_state::VerifyState;
 
 /// Whether a row with this word asks for what the server shows.
 pub fn is_look(word: &str) -> bool {
@@ -22,9 +19,9 @@ pub fn is_look(word: &str) -> bool {
 
 /// Whether the server shows what the words say: of a job, its number stands in front, and of a write
 /// its own behind that.
-pub fn shows<N: Notes>(
+pub fn shows(
     alloc: Global,
-    server: &Server<N>,
+    server: &Server<FaultNotes>,
     word: &str,
     job: &str,
     words: &str,
@@ -45,7 +42,6 @@ pub fn shows<N: Notes>(
         _ => Err(Trouble::BadRow),
     }
 }
-
 /// The numbers and the stage are those of the words: boot, last run, staged run, present run, stage
 /// and attempt.
 fn is_status(status: Status, words: &str) -> bool {
@@ -72,16 +68,6 @@ fn stage_name(stage: Stage) -> &'static str {
         Stage::Taken => "taken",
         Stage::Stopped => "stopped",
     }
-}
-
-/// The state's bytes are those of the word; `none` says that there is no state.
-fn is_state(alloc: Global, state: Option<&VerifyState>, word: &str) -> Result<bool, Trouble> {
-    let Some(state) = state else {
-        return Ok(word == "none");
-    };
-    let mut wanted = Vec::with_capacity(alloc, 136)?;
-    put_word(&mut wanted, word)?;
-    Ok(state.encode(alloc)? == wanted)
 }
 
 /// The ticket has these numbers; `none` says that there is no ticket.

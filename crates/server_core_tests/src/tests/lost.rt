@@ -1,96 +1,149 @@
 //! A story up to a save that fails, and what that leaves.
 
-use super::life::Life;
 use super::looks::is_look;
-use super::spelling::first_word;
-use super::trouble::Trouble;
-use super::words::next_u64;
-use disk_model::Notes;
+use super::notes::{Noted, put_noted};
+use super::told::Told;
+use core_stories::{Draft, Life, Trouble, first_word};
 use fc_base::{Attempt, Fault, RunNo};
-use server_core::{Server, Stage, Status};
+use server_core::{Stage, Status};
+use std::alloc::Global;
 
-impl<N: Notes + Drop> Life<N> {
-    /// Goes through the events of a story up to the first save that fails: whether the server then is
-    /// down, and comes back over the old note, or the new one where that `landed`. `None` where no
-    /// save fails.
-    pub fn first_lost(&mut self, story: &str, landed: bool) -> Result<Option<bool>, Trouble> {
-        for row in story.lines() {
-            if let Some((event, _)) = row.split_once("=>") {
-                let lost = self.lost(event.trim(), landed)?;
-                if lost.is_some() {
-                    return Ok(lost);
-                }
-            }
-        }
-        Ok(None)
-    }
-
-    fn lost(&mut self, event: &str, landed: bool) -> Result<Option<bool>, Trouble> {
-        let (word, rest) = first_word(event);
-        let (boot, last_run) = noted(&self.server);
-        match word {
-            _ if is_look(word) || word == "would_save" => Ok(None),
-            "restart" => {
-                let next = boot.saturating_add(1);
-                self.lost_restart(if landed { next } else { boot }, last_run)
-            }
-            _ => {
-                let run = next_u64(&mut rest.split_whitespace()).unwrap_or(0);
-                self.lost_step(event, boot, if landed { run } else { last_run })
-            }
+/// Goes through the events of a story up to the first save that fails: whether the server then is down,
+/// and comes back over the old note, or the new one where that `landed`. `None` where no save fails.
+pub fn first_lost(
+    life: &mut Life<Told>,
+    alloc: Global,
+    story: &str,
+    landed: bool,
+) -> Result<Option<bool>, Trouble> {
+    for row in story.lines() {
+        let lost = lost_at(life, alloc, row, landed)?;
+        if lost.is_some() {
+            return Ok(lost);
         }
     }
+    Ok(None)
+}
 
-    /// Restarts the server. Where that fails, the notes say these numbers.
-    fn lost_restart(&mut self, boot: u64, last_run: u64) -> Result<Option<bool>, Trouble> {
-        let notes = self.off()?;
-        if self.restart(notes) != Fault::SaveFault.number() {
-            return Ok(None);
-        }
-        self.comes_back(boot, last_run).map(Some)
-    }
-
-    /// Takes a step. Where its save fails, the server is down, and the notes say these numbers.
-    fn lost_step(
-        &mut self,
-        event: &str,
-        boot: u64,
-        last_run: u64,
-    ) -> Result<Option<bool>, Trouble> {
-        if self.take(event)?.err() != Some(Fault::SaveFault) {
-            return Ok(None);
-        }
-        let down = self.take(event)?.err() == Some(Fault::Down);
-        let back = self.comes_back(boot, last_run)?;
-        Ok(Some(down && back))
-    }
-
-    /// Whether the notes say these numbers, and the server is restarted over them.
-    fn comes_back(&mut self, boot: u64, last_run: u64) -> Result<bool, Trouble> {
-        let mut notes = self.off()?;
-        let said = self.is_noted(&mut notes, boot, last_run)?;
-        let fault = self.restart(notes);
-        let shown = self.server.as_ref().map(Server::status);
-        Ok(said && fault == 0 && shown == Some(idle(boot.saturating_add(1), last_run)))
+fn lost_at(
+    life: &mut Life<Told>,
+    alloc: Global,
+    row: &str,
+    landed: bool,
+) -> Result<Option<bool>, Trouble> {
+    let Some((event, _)) = row.split_once("=>") else {
+        return Ok(None);
+    };
+    let (word, rest) = first_word(event);
+    let old = note_of(life);
+    match word {
+        "restart" => lost_restart(life, alloc, if landed { restarted(old) } else { old }),
+        _ if is_look(word) || word == "would_save" => Ok(None),
+        _ => lost_step(
+            life,
+            alloc,
+            event.trim(),
+            if landed { started(old, rest) } else { old },
+        ),
     }
 }
 
-/// What the note of a server says that is on: its boot, and its last run.
-fn noted<N: Notes>(server: &Option<Server<N>>) -> (u64, u64) {
-    match server {
-        Some(server) => {
-            let status = server.status();
-            (status.boot, status.last_run.0)
-        }
-        None => (0, 0),
+/// Restarts the server. Where that fails, the notes say this.
+fn lost_restart(
+    life: &mut Life<Told>,
+    alloc: Global,
+    noted: Noted,
+) -> Result<Option<bool>, Trouble> {
+    life.take_off();
+    if life.open(&())? != Fault::SaveFault.number() {
+        return Ok(None);
+    }
+    Ok(Some(comes_back(life, alloc, noted)?))
+}
+
+/// Takes a step. Where its save fails, the server is down, and the notes say this.
+fn lost_step(
+    life: &mut Life<Told>,
+    alloc: Global,
+    event: &str,
+    noted: Noted,
+) -> Result<Option<bool>, Trouble> {
+    if life.take(event)? != Some(Fault::SaveFault) {
+        return Ok(None);
+    }
+    let down = life.take(event)? == Some(Fault::Down);
+    Ok(Some(comes_back(life, alloc, noted)? && down))
+}
+
+/// Whether the notes say this, and the server is restarted over them.
+fn comes_back(life: &mut Life<Told>, alloc: Global, noted: Noted) -> Result<bool, Trouble> {
+    let said = still_says(life, alloc, noted)?;
+    let fault = life.open(&())?;
+    Ok(said && fault == 0 && shown(life) == Some(idle(restarted(noted))))
+}
+
+/// Whether the notes say this. Where memory ran out, they are asked once more.
+fn still_says(life: &mut Life<Told>, alloc: Global, noted: Noted) -> Result<bool, Trouble> {
+    match still_says_once(life, alloc, noted) {
+        Err(Trouble::NoMemory) => still_says_once(life, alloc, noted),
+        answer => answer,
+    }
+}
+
+/// At boot 0 the notes are blank.
+fn still_says_once(life: &mut Life<Told>, alloc: Global, noted: Noted) -> Result<bool, Trouble> {
+    let mut wanted = Draft::new(alloc);
+    if noted.boot > 0 {
+        put_noted(&mut wanted, noted);
+    }
+    wanted.told()?;
+    life.still_has(wanted.bytes())
+}
+
+/// What a server shows that is on.
+fn shown(life: &Life<Told>) -> Option<Status> {
+    match &life.node {
+        Some(told) => Some(told.server.status()),
+        None => None,
+    }
+}
+
+/// What the note of a server says that is on.
+fn note_of(life: &Life<Told>) -> Noted {
+    match shown(life) {
+        Some(status) => Noted {
+            boot: status.boot,
+            last_run: status.last_run.0,
+        },
+        None => Noted {
+            boot: 0,
+            last_run: 0,
+        },
+    }
+}
+
+/// What it says once the server is restarted.
+fn restarted(noted: Noted) -> Noted {
+    Noted {
+        boot: noted.boot.saturating_add(1),
+        last_run: noted.last_run,
+    }
+}
+
+/// What it says once the run is started whose number stands first.
+fn started(noted: Noted, words: &str) -> Noted {
+    let (run, _) = first_word(words);
+    Noted {
+        boot: noted.boot,
+        last_run: run.parse::<u64>().unwrap_or(0),
     }
 }
 
 /// What a server shows that was just restarted.
-fn idle(boot: u64, last_run: u64) -> Status {
+fn idle(noted: Noted) -> Status {
     Status {
-        boot,
-        last_run: RunNo(last_run),
+        boot: noted.boot,
+        last_run: RunNo(noted.last_run),
         staged: RunNo(0),
         run: RunNo(0),
         stage: Stage::Idle,

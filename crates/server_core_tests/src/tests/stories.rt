@@ -3,8 +3,8 @@
 //! An event is a frame from the client (`from A to B` stands before other ends), `issue JOB`, `done` or
 //! `fail` of a ticket (boot, run, server, job, write, block), `check` of a job (boot, attempt, job, and
 //! the numbers of its report), or `restart`, whose answer is what the note said before it: boot and
-//! last run, and a fault's number where the server isn't opened. A frame is its kind's name and its
-//! numbers in their order, and a text or a state that `named` knows, or stands in hexadecimal.
+//! last run, and behind `/` a fault's number where the server isn't opened. A frame is its kind's name and its
+//! numbers in their order, and a text or a state that `core_stories` names, or stands in hexadecimal.
 //!
 //! An answer has the frames that are sent, the answer about a write, and `cut`, joined by `+`; or it is
 //! the number of a fault. `status` shows boot, last run, staged run, present run, stage and attempt;
@@ -19,16 +19,4 @@ pub mod starts;
 pub mod states;
 pub mod triggers;
 
-/// The name of a story, and its rows.
-pub type Story = (&'static str, &'static str);
-
-/// A story in which a save fails.
-#[derive(Clone, Copy)]
-pub struct LostSave {
-    pub name: &'static str,
-    /// The number of the save, from 0.
-    pub at: u64,
-    /// Whether it leaves the new bytes.
-    pub landed: bool,
-    pub rows: &'static str,
-}
+pub use core_stories::{LostSave, Story};

@@ -1,30 +1,15 @@
 //! Tickets, answers and reports that rows say.
 
+use core_stories::{next_key, next_u32, next_u64};
 use engine::{Issue, Ticket};
-use fc_base::{
-    Blocks, CheckReport, JobNo, Key, MAX_LISTED, ReportEnd, ReportParts, RunNo, Seq, ServerNo,
-};
+use fc_base::{Blocks, CheckReport, MAX_LISTED, ReportEnd, ReportParts, Seq};
 use std::str::SplitWhitespace;
-
-/// The next word, as a number.
-pub fn next_u64(words: &mut SplitWhitespace) -> Option<u64> {
-    words.next()?.parse::<u64>().ok()
-}
-
-/// The next word, as a smaller number.
-pub fn next_u32(words: &mut SplitWhitespace) -> Option<u32> {
-    words.next()?.parse::<u32>().ok()
-}
 
 /// The ticket of this boot, run, server, job, write and block.
 pub fn ticket_in(words: &mut SplitWhitespace) -> Option<Ticket> {
     Some(Ticket {
         boot: next_u64(words)?,
-        key: Key {
-            run: RunNo(next_u64(words)?),
-            server: ServerNo(next_u32(words)?),
-            job: JobNo(next_u32(words)?),
-        },
+        key: next_key(words)?,
         seq: Seq(next_u64(words)?),
         block: next_u32(words)?,
     })

@@ -100,7 +100,7 @@ pub const LOST_SAVES: [LostSave; 5] = [
         Fetch 3 => 68
         from 0 to 9 Fetch 3 => 68
         Start 1 => 68
-        piece 1 1 0 0 0 2008 0 of Jobs 1 text => 68
+        piece 1 1 0 0 0 2008 0 of Jobs 1 long_writes => 68
         restart => 3 first first~19=1
         on => 1
         Fetch 3 => Granted 3 + Copy first + Copy first~19=1

@@ -31,9 +31,9 @@ pub const STORIES: [Story; 2] = [
         StateAck 1 0 => 69
         Stop 1 => 69
         from 0 to 9 NoState 1 0 1 => 69
-        would_save piece 1 1 0 0 0 2008 0 of Jobs 1 text => 0
-        piece 1 1 0 0 0 2008 0 of Jobs 1 text => 69
-        piece 1 1 0 0 0 2008 1024 of Jobs 1 text => 69
+        would_save piece 1 1 0 0 0 2008 0 of Jobs 1 long_writes => 0
+        piece 1 1 0 0 0 2008 0 of Jobs 1 long_writes => 69
+        piece 1 1 0 0 0 2008 1024 of Jobs 1 long_writes => 69
         kept 2 0 0 => none
         restart => 2 first
         ",

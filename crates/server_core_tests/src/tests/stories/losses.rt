@@ -57,7 +57,7 @@ pub const LOST_SAVES: [LostSave; 4] = [
         at: 0,
         landed: true,
         rows: "
-        restart => - - 53
+        restart => - / 53
         restart => 1 0
         status => 2 0 0 0 idle 0
         ",
@@ -67,7 +67,7 @@ pub const LOST_SAVES: [LostSave; 4] = [
         at: 0,
         landed: false,
         rows: "
-        restart => - - 53
+        restart => - / 53
         restart => -
         status => 1 0 0 0 idle 0
         ",
@@ -80,7 +80,7 @@ pub const LOST_SAVES: [LostSave; 4] = [
         restart => -
         Jobs 1 writes => JobsOk 1 1
         Start 1 => Started 1
-        restart => 1 1 53
+        restart => 1 1 / 53
         restart => 2 1
         status => 3 1 0 0 idle 0
         ",

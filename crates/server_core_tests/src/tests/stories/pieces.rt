@@ -88,9 +88,9 @@ pub const STORIES: [Story; 6] = [
         piece 11 1 2 0 0 2016 1024 of Verify 1 2 long_reads =>
         piece 11 1 1 0 0 2016 1024 of Verify 1 1 long_reads => WantState 1 1 0
         Verify 1 2 [a]|bs=512|size=1k|io_size=100k|verify_state_load| => WantState 1 2 0
-        piece 13 1 2 0 0 1036 0 of Saved 2 listed =>
+        piece 13 1 2 0 0 1036 0 of Saved 2 listed_116 =>
         check_state 0 => wanting
-        piece 13 1 2 0 0 1036 1024 of Saved 2 listed =>
+        piece 13 1 2 0 0 1036 1024 of Saved 2 listed_116 =>
         check_state 0 => with first~39=200~51=58~55=58~63=116~103=58~104=3~105=255~106=255\
         ~107=255~108=255~109=255~110=255~111=255
         ",

@@ -10,9 +10,9 @@ pub enum Trouble {
     BadFrame(u8),
     /// The row is none.
     BadRow,
-    /// The server is off, or is on.
-    NoServer,
-    /// A refused step has changed the server.
+    /// The node is off, or is on.
+    Off,
+    /// A refused call has changed the node, or a note isn't written as it was read.
     Changed,
 }
 

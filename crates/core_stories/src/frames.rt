@@ -1,0 +1,99 @@
+//! The frames that come to a node, and those that it sends.
+
+use crate::spelling::{Ends, Spelling, is_frame};
+use crate::trouble::Trouble;
+use crate::words::first_word;
+use fc_base::Fault;
+use messages::{Frame, Frames, decode_frame};
+use std::alloc::Global;
+
+/// The frame that comes, between these ends where it doesn't say `from A to B` first. Where memory runs
+/// out, it is read again.
+pub fn frame_in(
+    alloc: Global,
+    spelling: &mut Spelling,
+    ends: Ends,
+    words: &str,
+) -> Result<Frame, Trouble> {
+    let Some((ends, words)) = ends_in(ends, words) else {
+        return Err(Trouble::BadRow);
+    };
+    spelling.spell(ends, words)?;
+    decoded(alloc, spelling.frame())
+}
+
+/// The ends that words say, and what stands behind them.
+fn ends_in(ends: Ends, words: &str) -> Option<(Ends, &str)> {
+    let Some(rest) = words.strip_prefix("from ") else {
+        return Some((ends, words));
+    };
+    let (from, rest) = first_word(rest);
+    let (_, rest) = first_word(rest);
+    let (to, rest) = first_word(rest);
+    let from = from.parse::<u64>().ok()?;
+    let to = to.parse::<u64>().ok()?;
+    Some((Ends { from, to }, rest))
+}
+
+fn decoded(alloc: Global, bytes: &[u8]) -> Result<Frame, Trouble> {
+    match decode_frame(alloc, bytes) {
+        Err(Fault::FrameNoMemory) => read(decode_frame(alloc, bytes)),
+        answer => read(answer),
+    }
+}
+
+fn read(answer: Result<Frame, Fault>) -> Result<Frame, Trouble> {
+    match answer {
+        Ok(frame) => Ok(frame),
+        Err(Fault::FrameNoMemory) => Err(Trouble::NoMemory),
+        Err(fault) => Err(Trouble::BadFrame(fault.number())),
+    }
+}
+
+/// Whether the parts of an answer that say frames say just these. They go between these ends, where they
+/// don't say `to B` first.
+pub fn are_sent(
+    spelling: &mut Spelling,
+    ends: Ends,
+    frames: &Frames,
+    words: &str,
+) -> Result<bool, Trouble> {
+    let mut count: usize = 0;
+    for part in words.split('+') {
+        if is_frame(part) {
+            if !is_sent(spelling, ends, frames.get(count), part.trim())? {
+                return Ok(false);
+            }
+            count = count.saturating_add(1);
+        }
+    }
+    Ok(frames.len() == count)
+}
+
+/// Whether the words say this frame.
+fn is_sent(
+    spelling: &mut Spelling,
+    ends: Ends,
+    frame: Option<&[u8]>,
+    words: &str,
+) -> Result<bool, Trouble> {
+    spell_sent(spelling, ends, words)?;
+    Ok(frame == Some(spelling.frame()))
+}
+
+fn spell_sent(spelling: &mut Spelling, ends: Ends, words: &str) -> Result<(), Trouble> {
+    let Some(rest) = words.strip_prefix("to ") else {
+        return spelling.spell(ends, words);
+    };
+    let (to, rest) = first_word(rest);
+    match to.parse::<u64>() {
+        Ok(to) => spelling.spell(
+            Ends {
+                from: ends.from,
+                to,
+            },
+            rest,
+        ),
+        Err(_) => Err(Trouble::BadRow),
+    }
+}
