@@ -20,9 +20,9 @@ use Rattle.client_core.specs.Refusals.{is_for_client, differs, lacks_room, fault
 use Rattle.client_core.specs.Words.{is_on, noted, kept, peers}
 use Rattle.net_world.specs.Trace.{Step, AtServer, AtClient, IsTrace, of_client, client_opening, opening_of, of_server, packets_of, sent}
 use Rattle.net_world.specs.Holders.{taken_of}
-use Rattle.net_world.specs.Passes.{SentStatesWereTaken, KeptStatesWereSent, NoCopyIsSent}
-use Rattle.net_world.specs.Verdict.{OneTaking}
-use Rattle.net_world.specs.Fresh.{NeverConflicts, StatePacketsAreEqual}
+use Rattle.net_world.specs.Passes.{SentStatesWereTaken, KeptStatesWereSent, NoCopyIsSent, NoPacketConflicts}
+use Rattle.net_world.specs.Claims.{OfEachList, OfEachTrace}
+use Rattle.net_world.specs.Headline.{OneTaking, StatePacketsAreEqual}
 use Rattle.net_world.proofs.ListLemmas.{single}
 use Rattle.net_world.proofs.TraceLemmas.{sent_cases, sent_none}
 use Rattle.net_world.proofs.PassLemmas.{no_state}
@@ -34,13 +34,13 @@ use Rattle.net_world.proofs.SaidLemmas.{Sayings, SaysJobs, sent_by, state_says, 
 one_of : (a b : State) (xs : List State) → xs ≡ a ∷ [] → xs ≡ b ∷ [] → a ≡ b
 one_of a b xs h g = cc
 
-pub same_two : OneTaking → (t : List Step) (key : Key) (a b : State) → Contains (taken_of key t) a → Contains (taken_of key t) b → a ≡ b
-same_two once t key a b h g = one_of a b (taken_of key t) (single (taken_of key t) a (once t key) h) (single (taken_of key t) b (once t key) g)
+pub same_two : OfEachList OneTaking → (n : ℕ) (t : List Step) (key : Key) (a b : State) → Contains (taken_of key t) a → Contains (taken_of key t) b → a ≡ b
+same_two once n t key a b h g = one_of a b (taken_of key t) (single (taken_of key t) a (once n t key) h) (single (taken_of key t) b (once n t key) g)
 
 -- What is kept was taken.
-pub kept_taken : SentStatesWereTaken → KeptStatesWereSent → (n : ℕ) (t : List Step) (key : Key) (state : State) → IsTrace n t → kept (client_opening n) (of_client t) key ≡ Some state → Contains (taken_of key t) state
+pub kept_taken : OfEachList SentStatesWereTaken → OfEachTrace KeptStatesWereSent → (n : ℕ) (t : List Step) (key : Key) (state : State) → IsTrace n t → kept (client_opening n) (of_client t) key ≡ Some state → Contains (taken_of key t) state
 kept_taken taken kept_sent n t key state trace h =
-    let k = kept_sent n t key state trace h in
+    let k = kept_sent n t trace key state h in
     subst (λ i. Contains (taken_of i t) state) k.key_is (taken n t _ k.jobs state k.sent_in refl)
 
 -- ---- a state is the same as itself
@@ -92,21 +92,21 @@ differing n (bodies.State jobs x) h =
 differing n (bodies.Copy x) h = inr (x, refl)
 differing n _ h = absurd cc
 
-differs_not : SentStatesWereTaken → KeptStatesWereSent → OneTaking → (n : ℕ) (t : List Step) (p : PacketParts) → IsTrace n t → Contains (sent n t) p → Differing (noted (client_opening n) (of_client t)) p.body → ⊥
+differs_not : OfEachList SentStatesWereTaken → OfEachTrace KeptStatesWereSent → OfEachList OneTaking → (n : ℕ) (t : List Step) (p : PacketParts) → IsTrace n t → Contains (sent n t) p → Differing (noted (client_opening n) (of_client t)) p.body → ⊥
 differs_not taken kept_sent once n t p trace was d =
     let new = taken n t p d.jobs d.new was d.is in
     let old = kept_taken taken kept_sent n t d.new.key d.old trace d.found in
-    let same : d.old ≡ d.new = same_two once t d.new.key d.old d.new old new in
+    let same : d.old ≡ d.new = same_two once n t d.new.key d.old d.new old new in
     let yes : is_same d.old d.new ≡ true = subst (λ x. is_same d.old x ≡ true) same (is_same_self d.old) in
     let no = d.other in
     absurd cc
 
-pub never_conflicts : SentStatesWereTaken → KeptStatesWereSent → NoCopyIsSent → OneTaking → NeverConflicts
-never_conflicts taken kept_sent none once n t p trace was h =
+pub no_packet_conflicts : OfEachList SentStatesWereTaken → OfEachTrace KeptStatesWereSent → OfEachTrace NoCopyIsSent → OfEachList OneTaking → OfEachTrace NoPacketConflicts
+no_packet_conflicts taken kept_sent none once n t trace p was h =
     let note = noted (client_opening n) (of_client t) in
     elim (differing note p.body (past_the_first (not (is_on (of_client t))) (not (is_for_client (peers (client_opening n) (of_client t)) p)) (faults_of_body note p.body) h)) [
       | inl d ↦ differs_not taken kept_sent once n t p trace was d
-      | inr copy ↦ none n t p copy.0 trace was copy.1
+      | inr copy ↦ none n t trace p copy.0 was copy.1
     ]
 
 -- ---- State packets of one key are equal
@@ -135,12 +135,12 @@ ends_of laws n (step ∷ past) p jobs a h is = elim (sent_cases n step past p h)
   | inr now ↦ ends_now laws n step past p jobs a now is
 ]
 
-pub state_packets_are_equal : Sayings → SentStatesWereTaken → OneTaking → StatePacketsAreEqual
+pub state_packets_are_equal : Sayings → OfEachList SentStatesWereTaken → OfEachList OneTaking → OfEachList StatePacketsAreEqual
 state_packets_are_equal laws taken once n t p q jobs more a b hp ip hq iq keys =
     let fp = ends_of laws n t p jobs a hp ip in
     let fq = ends_of laws n t q more b hq iq in
     let server : a.key.server ≡ b.key.server = ap (λ (k : Key). k.server) keys in
-    let same : a ≡ b = same_two once t a.key a b (taken n t p jobs a hp ip) (subst (λ k. Contains (taken_of k t) b) (sym keys) (taken n t q more b hq iq)) in
+    let same : a ≡ b = same_two once n t a.key a b (taken n t p jobs a hp ip) (subst (λ k. Contains (taken_of k t) b) (sym keys) (taken n t q more b hq iq)) in
     let s = b.key.server in
     let list = of_server s t in
     let says_p : SaysJobs (opening_of s) list a.key.run jobs = state_says laws s list p jobs a (sent_by laws n s t p (fp.0 ∙ ap Server server) hp) ip in

@@ -17,12 +17,12 @@ use Rattle.client_core.specs.Words.{noted, kept}
 use Rattle.client_core.specs.Packets.{to_server}
 use Rattle.client_core.specs.Laws.{FirstKeptStays, AcksAreFor, TriggersEndWell, TellsJobs, HasAnswer, from_server}
 use Rattle.net_world.specs.Trace.{Step, AtServer, AtClient, is_mirrorless, opening_of, client_opening, of_server, of_client, packets_of, sent, IsTrace}
-use Rattle.net_world.specs.Holders.{taken_of}
+use Rattle.net_world.specs.Holders.{taken_of, key_at}
 use Rattle.net_world.specs.Passes.{SentStatesWereTaken, KeptStatesWereSent}
-use Rattle.net_world.specs.Verdict.{OneTaking}
-use Rattle.net_world.specs.Kept.{key_at, EndedWellIsKept, CutsWhereKept}
+use Rattle.net_world.specs.Claims.{OfEachList, OfEachTrace}
+use Rattle.net_world.specs.Headline.{OneTaking, KeptWhereServed, KeptWhereCut}
 use Rattle.net_world.proofs.ListLemmas.{none_in, first_or_rest}
-use Rattle.net_world.proofs.TraceLemmas.{loses_no_note, sent_cases, sent_none, sent_stays, taken_was_sent, came_was_sent, heard_was_sent}
+use Rattle.net_world.proofs.TraceLemmas.{front_is_trace, loses_no_note, sent_cases, sent_none, sent_stays, taken_was_sent, came_was_sent, heard_was_sent}
 use Rattle.net_world.proofs.BegunLemmas.{begun, work_begun, taken_of_set}
 use Rattle.net_world.proofs.SaidLemmas.{Sayings, SaysJobs, SaysNone, sent_by, state_says, none_says, same_count}
 use Rattle.net_world.proofs.ConflictLemmas.{same_two, kept_taken}
@@ -30,9 +30,9 @@ use Rattle.net_world.proofs.ConflictLemmas.{same_two, kept_taken}
 -- The laws on which this rests.
 pub record Ending : Type 0 where
   pub sayings : Sayings
-  pub taken : SentStatesWereTaken
-  pub kept_sent : KeptStatesWereSent
-  pub once : OneTaking
+  pub taken : OfEachList SentStatesWereTaken
+  pub kept_sent : OfEachTrace KeptStatesWereSent
+  pub once : OfEachList OneTaking
 
 said_none : Ending → (n : ℕ) (t : List Step) (run s j jobs : ℕ) → Contains (sent n t) (from_server (bodies.NoState run j jobs) s) → SaysNone (opening_of s) (of_server s t) run j jobs
 said_none laws n t run s j jobs h =
@@ -66,7 +66,7 @@ nothing_in xs x e h = none_in x (subst (λ l. Contains l x) e h)
 kept_of : Ending → (n : ℕ) (t : List Step) (key : Key) (state : State) → IsTrace n t → Contains (taken_of key t) state → KeptOrNone n t key → kept (client_opening n) (of_client t) key ≡ Some state
 unfolding KeptOrNone
 kept_of laws n t key state trace taken (inl k) =
-    k.1 ∙ ap Some (same_two laws.once t key k.0 state (kept_taken laws.taken laws.kept_sent n t key k.0 trace k.1) taken)
+    k.1 ∙ ap Some (same_two laws.once n t key k.0 state (kept_taken laws.taken laws.kept_sent n t key k.0 trace k.1) taken)
 kept_of laws n t key state trace taken (inr k) =
     let says = said_none laws n t key.run key.server key.job k.0 k.1 in
     absurd (nothing_in (taken_of key t) state says.none taken)
@@ -76,8 +76,8 @@ unfolding KeptOrNone
 answer_of n t key trace (inl k) = inl (k.0, k.1)
 answer_of n t key trace (inr k) = inr (k.0, came_was_sent n t (from_server (bodies.NoState key.run key.job k.0) key.server) trace k.1)
 
-pub ended_well_is_kept : Ending → TriggersEndWell → EndedWellIsKept
-ended_well_is_kept laws law n t key state trace h taken =
+pub kept_where_served : Ending → TriggersEndWell → OfEachTrace KeptWhereServed
+kept_where_served laws law n t trace key state h taken =
     let o = opening_of key.server in
     let list = of_server key.server t in
     let ends = law (client_opening n) (of_client t) key.run key.server h in
@@ -134,9 +134,10 @@ some_jobs x y h = cc
 some_work : (x y : Work) → Some x ≡ Some y → x ≡ y
 some_work x y h = cc
 
-pub cuts_where_kept : Ending → FirstKeptStays → AcksAreFor → served.CutsWhenKept → CutsWhereKept
+pub kept_where_cut : Ending → FirstKeptStays → AcksAreFor → served.CutsWhenKept → OfEachTrace KeptWhereCut
 unfolding ack
-cuts_where_kept laws first acks law n t s e left w j state trace is cut taken =
+kept_where_cut laws first acks law n whole whole_is_trace later t s e left w j state split is cut taken =
+    let trace : IsTrace n (AtServer s (Met e left) ∷ t) = front_is_trace n later (AtServer s (Met e left) ∷ t) (subst (IsTrace n) split whole_is_trace) in
     let o = opening_of s in
     let list = of_server s t in
     let k = law o list e cut in

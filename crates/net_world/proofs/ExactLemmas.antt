@@ -14,7 +14,6 @@ use Rattle.net_world.specs.Happenings as happenings
 use Rattle.net_world.specs.declared.told.Answer.TheVariants.{Checked}
 use Rattle.net_world.specs.declared.told.Told.{Told}
 use Rattle.net_world.specs.Trace.{Step, opening_of, of_server, IsTrace}
-use Rattle.net_world.specs.Verdict.{QuietUntilTheCheck}
 use Rattle.net_world.specs.Changes.{Change, steps, trace}
 use Rattle.net_world.specs.Contents.{content}
 use Rattle.net_world.specs.Checks.{key_of, report_of, report_by, report_for, check_end, checked_in, checked}
@@ -22,7 +21,10 @@ use Rattle.net_world.specs.Outcomes.{Outcome, Does, Refuses, Drops, stepped, rep
 use Rattle.net_world.specs.Barred.{barred}
 use Rattle.net_world.specs.Frames.{FrameStep, frames_sent}
 use Rattle.net_world.specs.World.{world, answer, report_in, told_by, told}
-use Rattle.net_world.specs.WorldLaws.{EachWorldIsATrace, IsMadeWith, IsExact, ChecksAreExact}
+use Rattle.net_world.specs.WorldLaws.{EachWorldIsATrace}
+use Rattle.net_world.specs.Exact.{IsMadeWith, IsExact}
+use Rattle.net_world.specs.Claims.{OfEachTrace, OfEachWorld}
+use Rattle.net_world.specs.Headline.{QuietUntilTheCheck, ExactReports}
 
 -- What is told answers what the event answers.
 told_ok : (n : ℕ) (past : List Change) (e : Happening) (r : Outcome) (t : Told) → told_by n past e r ≡ Ok t → (h : Change) × (r ≡ Does h) × (t.answer ≡ answer n past e)
@@ -82,9 +84,9 @@ ready (Some c) j held e h = (c, refl, ready_for c j held (slice_get c.jobs j) e 
 pub progress_is : (o : Opening) (list : List Entry) (j : ℕ) (c : Check) (job : Job) (p : Progress) → check o list ≡ Some c → slice_get c.jobs j ≡ Some job → progress_after c j job c.since ≡ p → progress o list j ≡ Some p
 progress_is o list j c job p a b h = ap (λ x. progress_in x j) a ∙ ap (progress_at c j) b ∙ ap Some h
 
-made_with : QuietUntilTheCheck → (n : ℕ) (t : List Step) (s j : ℕ) (x : Option State) → IsTrace n t → progress (opening_of s) (of_server s t) j ≡ Some (with_or_full x) → IsMadeWith s j (of_server s t) x
+made_with : OfEachTrace QuietUntilTheCheck → (n : ℕ) (t : List Step) (s j : ℕ) (x : Option State) → IsTrace n t → progress (opening_of s) (of_server s t) j ≡ Some (with_or_full x) → IsMadeWith s j (of_server s t) x
 made_with quiet n t s j None trace h = h
-made_with quiet n t s j (Some state) trace h = (h, quiet n t s j state trace h)
+made_with quiet n t s j (Some state) trace h = (h, quiet n t trace s j state h)
 
 -- A check that isn't refused met the end of the check of a job that is ready.
 record Made (n : ℕ) (past : List Change) (s j : ℕ) (t : Told) : Type 0 where
@@ -106,7 +108,7 @@ made n past s j t h =
 answer_of : (c : Check) (j : ℕ) (held : ℕ → List ℕ) (x : Option Job) (e : ServerEvent) → (r : Ready c j held x e) → report_in (Some e) ≡ Checked (report_of (key_of c j) r.job r.state held)
 answer_of c j held x e r = ap (λ f. report_in (Some f)) r.event
 
-exact : QuietUntilTheCheck → (n : ℕ) (past : List Change) (s j : ℕ) (t : Told) → IsTrace n (trace n past) → Made n past s j t → (r : ReportParts) × (t.answer ≡ Checked r) × IsExact n past s j r
+exact : OfEachTrace QuietUntilTheCheck → (n : ℕ) (past : List Change) (s j : ℕ) (t : Told) → IsTrace n (trace n past) → Made n past s j t → (r : ReportParts) × (t.answer ≡ Checked r) × IsExact n past s j r
 exact quiet n past s j t tr m =
     let o = opening_of s in
     let list = of_server s (trace n past) in
@@ -125,5 +127,5 @@ exact quiet n past s j t tr m =
       },
     )
 
-pub checks_are_exact : EachWorldIsATrace → QuietUntilTheCheck → ChecksAreExact
-checks_are_exact traces quiet n events s j t few h = exact quiet n (world n events) s j t (traces n events few) (made n (world n events) s j t h)
+pub checks_are_exact : EachWorldIsATrace → OfEachTrace QuietUntilTheCheck → OfEachWorld ExactReports
+checks_are_exact traces quiet n events few s j t h = exact quiet n (world n events) s j t (traces n events few) (made n (world n events) s j t h)

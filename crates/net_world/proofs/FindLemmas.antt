@@ -30,7 +30,7 @@ use Rattle.net_world.specs.declared.server_node.ServerNode.{ServerNode}
 use Rattle.net_world.specs.declared.world.World.{World}
 use Rattle.net_world.specs.Trace.{of_server, opening_of}
 use Rattle.net_world.specs.Changes.{Change, trace}
-use Rattle.net_world.specs.Kept.{key_at}
+use Rattle.net_world.specs.Holders.{key_at}
 use Rattle.net_world.specs.Contents.{content}
 use Rattle.net_world.specs.Checks.{checked, checked_in, check_end, report_for, report_by}
 use Rattle.net_world.specs.Writes.{open_at}

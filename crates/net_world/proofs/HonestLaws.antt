@@ -17,7 +17,9 @@ use Rattle.net_world.specs.Contents.{content}
 use Rattle.net_world.specs.Checks.{key_of}
 use Rattle.net_world.specs.World.{world}
 use Rattle.net_world.specs.WorldLaws.{EachWorldIsATrace}
-use Rattle.net_world.specs.Honest.{AreHonest, HasAllSectors, AreWhole, IsCheckedWith, FaultsFew, FaultsNone}
+use Rattle.net_world.specs.Honest.{AreHonest, HasAllSectors, AreWhole, IsCheckedWith}
+use Rattle.net_world.specs.Claims.{OfEachWorld}
+use Rattle.net_world.specs.Headline.{FewFaults, NoFaults}
 use Rattle.net_world.proofs.VerdictLemmas.{Passes, held_was_taken}
 use Rattle.net_world.proofs.ExactLemmas.{progress_is}
 use Rattle.net_world.proofs.GroundLemmas.{Ground}
@@ -78,12 +80,12 @@ found laws v n past s j c job state tr honest may is =
       held = (kept laws.ground v n s past honest may).states j state taken;
     }
 
-pub faults_few : Rests → FaultsFew
-faults_few laws n events s j c job state block few_servers honest is faulty =
+pub few_faults : Rests → OfEachWorld FewFaults
+few_faults laws n events few_servers s j c job state block honest is faulty =
     let f = found laws (last_survives laws.ground) n (world n events) s j c job state (laws.traces n events few_servers) honest (any_lands n (world n events)) is in
     few n (world n events) s j c job state block f.key f.same f.held faulty
 
-pub faults_none : Rests → FaultsNone
-faults_none laws n events s j c job state block few_servers honest whole is faulty =
+pub no_faults : Rests → OfEachWorld NoFaults
+no_faults laws n events few_servers s j c job state block honest whole is faulty =
     let f = found laws (current_survives laws.ground) n (world n events) s j c job state (laws.traces n events few_servers) honest (whole_lands n (world n events) whole) is in
     none n (world n events) s j c job state block f.key f.same f.held faulty

@@ -1,4 +1,4 @@
--- The four passes of a verify state: it is sent as it was taken, kept as it was sent, sent back as it is
+-- The four passes of a verify state: it is sent as it was taken, kept as it was sent, sent back as it was
 -- kept, and checked with as it was sent back. And there is no other.
 use Rattle.std.proofs.Common.{◌≡◌, ◌⊎◌, refl, sym, ◌∙◌, ap, subst, inl, inr, ℕ, true, false, List, [], ◌∷◌, Some}
 use Rattle.std.specs.Prelude.{Contains, IsTrue}
@@ -23,11 +23,12 @@ use Rattle.client_core.specs.Packets as clients
 use Rattle.client_core.specs.Laws as asked
 use Rattle.client_core.specs.Laws.{from_server, from_mirror, is_for_mirror, is_for_server}
 use Rattle.client_core.specs.Ranges.{came}
-use Rattle.net_world.specs.Trace.{Step, AtServer, AtClient, is_mirrorless, opening_of, client_opening, of_server, of_client, packets_of}
+use Rattle.net_world.specs.Trace.{Step, AtServer, AtClient, opening_of, client_opening, of_server, of_client, packets_of}
 use Rattle.net_world.specs.Holders.{taken_of}
-use Rattle.net_world.specs.Passes.{SentStatesWereTaken, KeptStatesWereSent, SavedStatesAreKept, NoCopyIsSent, WasSentAs, CheckedStatesWereSent}
+use Rattle.net_world.specs.Passes.{SentStatesWereTaken, KeptStatesWereSent, SavedStatesWereKept, WasKept, NoCopyIsSent, WasSentAs, CheckedStatesWereSent}
+use Rattle.net_world.specs.Claims.{OfEachList, OfEachTrace}
 use Rattle.net_world.proofs.ListLemmas.{first_in}
-use Rattle.net_world.proofs.TraceLemmas.{loses_no_note, no_mirror, own_step, taken_stays, sent_cases, sent_none, came_was_sent, heard_was_sent}
+use Rattle.net_world.proofs.TraceLemmas.{no_mirror, own_step, taken_stays, sent_cases, sent_none, came_was_sent, heard_was_sent}
 
 -- ---- what is sent in a State was taken
 
@@ -60,7 +61,7 @@ sent_now s goes n (AtServer r e) past p jobs state h is =
     (subst (λ m. Contains (takings (opening_of m) state.key.run state.key.job (e ∷ of_server m past)) state) here k.1)
 sent_now s goes n (AtClient e) past p jobs state h is = absurd (no_state goes (client_opening n) (of_client past) e p jobs state h is)
 
-pub sent_states_were_taken : served.SendsTheTaken → asked.PacketsGoToPeers → SentStatesWereTaken
+pub sent_states_were_taken : served.SendsTheTaken → asked.PacketsGoToPeers → OfEachList SentStatesWereTaken
 sent_states_were_taken s goes n [] p jobs state h is = absurd (sent_none n p h)
 sent_states_were_taken s goes n (step ∷ past) p jobs state h is =
     elim (sent_cases n step past p h) [
@@ -70,15 +71,15 @@ sent_states_were_taken s goes n (step ∷ past) p jobs state h is =
 
 -- ---- what is kept was sent in a State
 
-pub kept_states_were_sent : FoundHasItsKey → asked.KeptWasSent → NoCopyIsSent → KeptStatesWereSent
-kept_states_were_sent has k none n t key state trace h = by_source (k (client_opening n) (of_client t) key state h)
+pub kept_states_were_sent : FoundHasItsKey → asked.KeptWasSent → OfEachTrace NoCopyIsSent → OfEachTrace KeptStatesWereSent
+kept_states_were_sent has k none n t trace key state h = by_source (k (client_opening n) (of_client t) key state h)
   where
     by_source : (kept (client_opening n) [] key ≡ Some state) ⊎ (((jobs : ℕ) × Contains (came (of_client t)) (from_server (bodies.State jobs state) key.server)) ⊎ Contains (came (of_client t)) (from_mirror (bodies.Copy state))) → WasSentAs n t key state
     by_source (inl opening) = absurd cc
     by_source (inr (inl in_state)) = record { key_is = has key (noted (client_opening n) (of_client t)).kept state h; jobs = in_state.0; sent_in = came_was_sent n t _ trace in_state.1 }
-    by_source (inr (inr copy)) = absurd (none n t (from_mirror (bodies.Copy state)) state trace (came_was_sent n t _ trace copy) refl)
+    by_source (inr (inr copy)) = absurd (none n t trace (from_mirror (bodies.Copy state)) state (came_was_sent n t _ trace copy) refl)
 
--- ---- what is sent in a Saved is kept
+-- ---- what is sent in a Saved was kept by then
 
 -- A server sends no Saved.
 no_saved : PacketsGoToClient → (o : Opening) (past : List server.Entry) (e : server.Entry) (p : PacketParts) (attempt : ℕ) (state : State) → Contains (servers.packets o past e) p → p.body ≡ bodies.Saved attempt state → ⊥
@@ -86,22 +87,20 @@ no_saved goes o past e p attempt state h is =
     let kind : IsTrue (is_of_server (kind_of (bodies.Saved attempt state))) = subst (λ (b : Body). IsTrue (is_of_server (kind_of b))) is (goes o past e p h).kind in
     cc
 
--- What the client keeps it keeps behind each step.
-kept_stays : asked.FirstKeptStays → (n : ℕ) (step : Step) (past : List Step) (key : Key) (state : State) → is_mirrorless step ≡ true → kept (client_opening n) (of_client past) key ≡ Some state → kept (client_opening n) (of_client (step ∷ past)) key ≡ Some state
-kept_stays first n (AtServer r e) past key state alone h = h
-kept_stays first n (AtClient e) past key state alone h = first (client_opening n) (e ∷ []) (of_client past) key state (loses_no_note e alone) h
-
 saved_now : PacketsGoToClient → asked.SavedIsKept → (n : ℕ) (step : Step) (past : List Step) (p : PacketParts) (attempt : ℕ) (state : State) → Contains (packets_of n past step) p → p.body ≡ bodies.Saved attempt state → kept (client_opening n) (of_client past) state.key ≡ Some state
 saved_now goes k n (AtServer r e) past p attempt state h is = absurd (no_saved goes (opening_of r) (of_server r past) e p attempt state h is)
 saved_now goes k n (AtClient e) past p attempt state h is = k (client_opening n) (of_client past) e p attempt state h is
 
-pub saved_states_are_kept : PacketsGoToClient → asked.SavedIsKept → asked.FirstKeptStays → SavedStatesAreKept
-saved_states_are_kept goes k first n [] p attempt state trace h is = absurd (sent_none n p h)
-saved_states_are_kept goes k first n (step ∷ past) p attempt state trace h is =
-    kept_stays first n step past state.key state trace.2 (elim (sent_cases n step past p h) [
-      | inl before ↦ saved_states_are_kept goes k first n past p attempt state trace.0 before is
-      | inr now ↦ saved_now goes k n step past p attempt state now is
-    ])
+kept_before : (n : ℕ) (step : Step) (past : List Step) (key : Key) (state : State) → WasKept n past key state → WasKept n (step ∷ past) key state
+kept_before n step past key state k = record { later = step ∷ k.later; earlier = k.earlier; split = ap (λ (l : List Step). step ∷ l) k.split; kept_there = k.kept_there }
+
+pub saved_states_were_kept : PacketsGoToClient → asked.SavedIsKept → OfEachList SavedStatesWereKept
+saved_states_were_kept goes k n [] p attempt state h is = absurd (sent_none n p h)
+saved_states_were_kept goes k n (step ∷ past) p attempt state h is =
+    elim (sent_cases n step past p h) [
+      | inl before ↦ kept_before n step past state.key state (saved_states_were_kept goes k n past p attempt state before is)
+      | inr now ↦ record { later = step ∷ []; earlier = past; split = refl; kept_there = saved_now goes k n step past p attempt state now is }
+    ]
 
 -- ---- nobody sends a Copy
 
@@ -114,17 +113,17 @@ no_copy_now served asks n (AtClient e) past p state alone h is = elim (asks (cli
   | inr k ↦ (let clash : true ≡ false = sym k.0 ∙ alone in absurd cc)
 ]
 
-pub no_copy_is_sent : PacketsGoToClient → asked.PacketsGoToPeers → NoCopyIsSent
-no_copy_is_sent served asks n [] p state trace h is = absurd (sent_none n p h)
-no_copy_is_sent served asks n (step ∷ past) p state trace h is =
+pub no_copy_is_sent : PacketsGoToClient → asked.PacketsGoToPeers → OfEachTrace NoCopyIsSent
+no_copy_is_sent served asks n [] trace p state h is = absurd (sent_none n p h)
+no_copy_is_sent served asks n (step ∷ past) trace p state h is =
     elim (sent_cases n step past p h) [
-      | inl before ↦ no_copy_is_sent served asks n past p state trace.0 before is
+      | inl before ↦ no_copy_is_sent served asks n past trace.0 p state before is
       | inr now ↦ no_copy_now served asks n step past p state (no_mirror n past trace.0) now is
     ]
 
 -- ---- what a job is checked with was sent in a Saved
 
-pub checked_states_were_sent : served.WithWasHeard → CheckedStatesWereSent
-checked_states_were_sent with n t s j state trace h =
+pub checked_states_were_sent : served.WithWasHeard → OfEachTrace CheckedStatesWereSent
+checked_states_were_sent with n t trace s j state h =
     let k = with (opening_of s) (of_server s t) j state h in
     (k.attempt, heard_was_sent n s t _ trace k.sent)

@@ -8,15 +8,16 @@ use Rattle.messages.specs.Assemblies.{Look, Waits, Gives, look}
 use Rattle.messages.specs.PieceLaws.{ArePackets, OneBodyOfEachTag, WasSent, OnlySentComesTogether, all_taken}
 use Rattle.net_world.specs.Trace.{sent}
 use Rattle.net_world.specs.Holders.{ByPacket}
-use Rattle.net_world.specs.Verdict.{HeldIsTheTaken}
 use Rattle.net_world.specs.Frames.{trace_heard}
 use Rattle.net_world.specs.InRange.{SentAreInRange}
-use Rattle.net_world.specs.FrameLaws.{FramesAreOfPackets, TagsNameOneBody, OnlySentIsHeard, HeardIsTheTaken, PiecesHoldTheTaken}
+use Rattle.net_world.specs.FrameLaws.{FramesAreOfPackets, TagsNameOneBody, OnlySentIsHeard}
+use Rattle.net_world.specs.Claims.{OfEachTrace, OfEachFrameTrace, OfTheHeard}
+use Rattle.net_world.specs.Headline.{HeldIsTheTaken, PiecesHoldTheTaken}
 use Rattle.net_world.proofs.ListLemmas.{first_in, later_in}
 use Rattle.net_world.proofs.OnlySentLemmas.{IsFrameOf, frame_is, heard_fits}
 
-pub heard_is_the_taken : OnlySentIsHeard → HeldIsTheTaken → HeardIsTheTaken
-heard_is_the_taken heard one n t key state h fits holds = one n (trace_heard n t) key state (heard n t h fits) holds
+pub heard_is_the_taken : OnlySentIsHeard → OfEachTrace HeldIsTheTaken → OfEachFrameTrace (OfTheHeard HeldIsTheTaken)
+heard_is_the_taken heard one n t h fits = one n (trace_heard n t) (heard n t h fits)
 
 all_sent : OnlySentComesTogether → (ps : List PacketParts) → ArePackets ps → OneBodyOfEachTag ps → (qs : List PieceParts) → ((q : PieceParts) → Contains qs q → IsFrameOf ps (Piece q)) → WasSent ps (all_taken [] qs)
 all_sent law ps are one [] f = tt
@@ -29,8 +30,8 @@ given_sent : (ps : List PacketParts) (p q : PacketParts) → Contains ps p → (
 given_sent ps p q i x (inl e) g = let no : Waits ≡ Gives q = sym e ∙ g in absurd cc
 given_sent ps p q i x (inr e) g = let same : Gives p ≡ Gives q = sym e ∙ g in let p_is : p ≡ q = cc in subst (Contains ps) p_is i
 
-pub pieces_hold_the_taken : OnlySentComesTogether → FramesAreOfPackets → TagsNameOneBody → SentAreInRange → OnlySentIsHeard → HeldIsTheTaken → PiecesHoldTheTaken
-pieces_hold_the_taken law frames tags ranges heard one n t key state h fits k =
+pub pieces_hold_the_taken : OnlySentComesTogether → FramesAreOfPackets → TagsNameOneBody → SentAreInRange → OnlySentIsHeard → OfEachTrace HeldIsTheTaken → OfEachFrameTrace PiecesHoldTheTaken
+pieces_hold_the_taken law frames tags ranges heard one n t h fits key state k =
     let ps = sent n (trace_heard n t) in
     let trace = heard n t h fits in
     let are = ranges n (trace_heard n t) trace (heard_fits n t fits) in
@@ -39,4 +40,4 @@ pieces_hold_the_taken law frames tags ranges heard one n t key state h fits k =
     let i = frame_is frames n t (Piece k.last) (k.each k.last (first_in k.last k.others)) in
     let told = law ps are single (all_taken [] k.others) w i.0 i.1 k.last i.2 in
     let was : Contains ps k.packet = given_sent ps i.0 k.packet i.1 (look (all_taken [] k.others) k.last) told.0 k.together in
-    one n (trace_heard n t) key state trace (ByPacket k.packet was k.state_is k.key_is)
+    one n (trace_heard n t) trace key state (ByPacket k.packet was k.state_is k.key_is)

@@ -5,15 +5,9 @@ use Rattle.std.proofs.Math.Seq.{take-suc}
 use Rattle.std.proofs.lemmas.List.{reverse-append}
 use Rattle.net_world.specs.declared.event.Event.{Event}
 use Rattle.net_world.specs.Events.{happening}
-use Rattle.net_world.specs.Trace.{Step, IsTrace}
 
 pub next_is_newest : (es : List Event) (i : ℕ) (e : Event) → i < length es → e ≡ get_or es i e → (happening e ∷ map happening (reverse (take i es))) ≡ map happening (reverse (take (i + 1) es))
 next_is_newest es i e lt is =
     let more : i + 1 ≡ suc i = omega arith in
     let one : take (i + 1) es ≡ take i es ++ e ∷ [] = ap (λ k. take k es) more ∙ (take-suc es i e lt ∙ ap (λ x. take i es ++ x ∷ []) (sym is)) in
     sym (ap (λ l. map happening (reverse l)) one ∙ ap (map happening) (reverse-append (take i es) (e ∷ [])))
-
--- Each front of a trace is one.
-pub front_is_trace : (n : ℕ) (later t : List Step) → IsTrace n (later ++ t) → IsTrace n t
-front_is_trace n [] t h = h
-front_is_trace n (step ∷ later) t h = front_is_trace n later t h.0

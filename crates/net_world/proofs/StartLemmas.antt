@@ -13,7 +13,9 @@ use Rattle.server_core.specs.Request.{Request, ToStage, ToStart, ToTrigger, ToMa
 use Rattle.server_core.specs.Run.{Work, is_open}
 use Rattle.server_core.specs.Words.{Staged, for_run, is_on, is_due, last_run, work, staged, due}
 use Rattle.server_core.specs.Laws.{NumbersGrow}
-use Rattle.net_world.specs.Fresh.{started_by, started, StartsAreAcceptedOnce}
+use Rattle.net_world.specs.Started.{started_by, started}
+use Rattle.net_world.specs.Claims.{OfEachList}
+use Rattle.net_world.specs.Headline.{StartsAreAcceptedOnce}
 use Rattle.net_world.specs.Trace.{opening_of, of_server}
 
 -- Both tests hold where the whole gives something.
@@ -98,5 +100,5 @@ started_distinct grow o (Met e left ∷ past) = distinct_after o past e left (du
 started_distinct grow o (Cut ∷ past) = started_distinct grow o past
 started_distinct grow o (Restart left ∷ past) = started_distinct grow o past
 
-pub starts_are_accepted_once : NumbersGrow → StartsAreAcceptedOnce
-starts_are_accepted_once grow t s = started_distinct grow (opening_of s) (of_server s t)
+pub starts_are_accepted_once : NumbersGrow → OfEachList StartsAreAcceptedOnce
+starts_are_accepted_once grow n t s = started_distinct grow (opening_of s) (of_server s t)

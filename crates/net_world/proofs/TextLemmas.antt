@@ -11,7 +11,8 @@ use Rattle.server_core.specs.Sent.{PacketsGoToClient}
 use Rattle.client_core.specs.Packets as clients
 use Rattle.client_core.specs.Laws.{OneTextOfARun, OneTextOfAnAttempt}
 use Rattle.net_world.specs.Trace.{Step, AtServer, AtClient, opening_of, client_opening, of_server, of_client, packets_of, sent}
-use Rattle.net_world.specs.Fresh.{OneTextOfEachRun, OneTextOfEachAttempt}
+use Rattle.net_world.specs.Claims.{OfEachTrace}
+use Rattle.net_world.specs.Headline.{OneTextOfEachRun, OneTextOfEachAttempt}
 use Rattle.net_world.proofs.TraceLemmas.{loses_none, sent_cases, sent_none}
 
 BySelf : ℕ → List Step → PacketParts → Type 0
@@ -42,16 +43,16 @@ client_sent goes n (step ∷ past) p own h = elim (sent_cases n step past p h) [
 of_kind : (b c : Body) → b ≡ c → is_of_server (kind_of c) ≡ false → is_of_server (kind_of b) ≡ false
 of_kind b c is h = subst (λ x. is_of_server (kind_of x) ≡ false) (sym is) h
 
-pub one_text_of_each_run : PacketsGoToClient → OneTextOfARun → OneTextOfEachRun
+pub one_text_of_each_run : PacketsGoToClient → OneTextOfARun → OfEachTrace OneTextOfEachRun
 unfolding BySelf
-one_text_of_each_run goes law n t p q run text other trace hp ip hq iq =
+one_text_of_each_run goes law n t trace p q run text other hp ip hq iq =
     law (client_opening n) (of_client t) p q run text other (inl (loses_none n t trace))
     (client_sent goes n t p (of_kind p.body (bodies.Jobs run text) ip refl) hp) ip
     (client_sent goes n t q (of_kind q.body (bodies.Jobs run other) iq refl) hq) iq
 
-pub one_text_of_each_attempt : PacketsGoToClient → OneTextOfAnAttempt → OneTextOfEachAttempt
+pub one_text_of_each_attempt : PacketsGoToClient → OneTextOfAnAttempt → OfEachTrace OneTextOfEachAttempt
 unfolding BySelf
-one_text_of_each_attempt goes law n t p q attempt run run_there text other trace hp ip hq iq =
+one_text_of_each_attempt goes law n t trace p q attempt run run_there text other hp ip hq iq =
     law (client_opening n) (of_client t) p q attempt run run_there text other (inl (loses_none n t trace))
     (client_sent goes n t p (of_kind p.body (bodies.Verify run attempt text) ip refl) hp) ip
     (client_sent goes n t q (of_kind q.body (bodies.Verify run_there attempt other) iq refl) hq) iq

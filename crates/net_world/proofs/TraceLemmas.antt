@@ -1,6 +1,6 @@
 -- Traces: what was sent stays sent, what came was sent, and what was taken stays taken.
 use Rattle.std.proofs.Common.{◌≡◌, refl, subst, ◌⊎◌, inl, inr, ℕ, arith, Bool, true, false, ◌==◌, List, [], ◌∷◌, Option, Some, None}
-use Rattle.std.specs.Prelude.{if◌then◌else◌, not, Contains}
+use Rattle.std.specs.Prelude.{if◌then◌else◌, not, ◌++◌, Contains}
 use Rattle.std.specs.List.{AllByRecursion}
 use Rattle.std.proofs.lemmas.Bool.Decides.{nat_tests}
 use Rattle.std.proofs.lemmas.List.Elements.{Contains-append_cases, Contains-append_left}
@@ -89,6 +89,16 @@ stays_if key false e past state h = h
 pub taken_stays : (key : Key) (step : Step) (past : List Step) (state : State) → Contains (taken_of key past) state → Contains (taken_of key (step ∷ past)) state
 taken_stays key (AtServer r e) past state h = stays_if key (r == key.server) e past state h
 taken_stays key (AtClient e) past state h = h
+
+pub taken_stays_so : (key : Key) (later past : List Step) (state : State) → Contains (taken_of key past) state → Contains (taken_of key (later ++ past)) state
+taken_stays_so key [] past state h = h
+taken_stays_so key (step ∷ later) past state h = taken_stays key step (later ++ past) state (taken_stays_so key later past state h)
+
+-- ---- each front of a trace is one
+
+pub front_is_trace : (n : ℕ) (later t : List Step) → IsTrace n (later ++ t) → IsTrace n t
+front_is_trace n [] t h = h
+front_is_trace n (step ∷ later) t h = front_is_trace n later t h.0
 
 -- ---- what was sent stays sent
 

@@ -29,14 +29,16 @@ use Rattle.net_world.specs.Frames as frames
 use Rattle.net_world.specs.Frames.{FrameStep, OfServer, OfClient, at_client, frames_sent, to_of, IsFrameTrace, trace_heard}
 use Rattle.net_world.specs.InRange.{FitsFrames, SentAreInRange}
 use Rattle.net_world.specs.FrameLaws.{FramesAreOfPackets, TagsNameOneBody}
-use Rattle.net_world.specs.Fresh.{NeverConflicts}
+use Rattle.net_world.specs.Passes.{NoPacketConflicts}
 use Rattle.net_world.specs.Changes.{Change, steps, trace}
 use Rattle.net_world.specs.Writes.{open_at}
 use Rattle.net_world.specs.Checks.{checked}
 use Rattle.net_world.specs.Barred.{barred}
 use Rattle.net_world.specs.Outcomes.{Outcome, Does, Refuses, Drops, met_by_server, met_by_client, comes_to_server, comes_to_client, said_to_server, said_to_client, comes_to, delivered, ended, reported, has_boot, cut, restarted, cut_in, server_frame_cut, client_frame_cut, frame_cut, delivery_cut_in, restart_cut_in, brings, outcome}
 use Rattle.net_world.specs.World.{told_by, world}
-use Rattle.net_world.specs.WorldLaws.{EachWorldIsAFrameTrace, NoneIsAConflict}
+use Rattle.net_world.specs.WorldLaws.{EachWorldIsAFrameTrace}
+use Rattle.net_world.specs.Claims.{OfEachTrace, OfEachWorld}
+use Rattle.net_world.specs.Headline.{NoConflict}
 use Rattle.net_world.proofs.OnlySentLemmas.{frame_is, keeps, stands, heard_fits, SaysSent}
 use Rattle.net_world.proofs.WorldFitLemmas.{Reports, world_fits}
 use Rattle.net_world.proofs.CalmLemmas.{Fine, FineStep, FineCome, fine_step, fine_unless, fine_save, fine_barred, fine_bar, fine_server, NoPacket, fine_call}
@@ -48,7 +50,7 @@ pub record Peace : Type 0 where
   pub frames : FramesAreOfPackets
   pub tags : TagsNameOneBody
   pub ranges : SentAreInRange
-  pub never : NeverConflicts
+  pub never : OfEachTrace NoPacketConflicts
   pub reports : Reports
 
 -- ---- a frame that comes
@@ -82,7 +84,7 @@ unfolding Fine FineCome
 fine_to laws n past steps_are fits t (Server s) f i to = fine_to_server (trace n past) s f (said_to_server (steps past) s f)
 fine_to laws n past steps_are fits t Client f i to =
     fine_to_client n (trace n past) f (said_to_client n (steps past) f)
-    (λ p is. laws.never n (trace n past) p t (said_was_sent laws n (steps past) steps_are fits f i to p is))
+    (λ p is. laws.never n (trace n past) t p (said_was_sent laws n (steps past) steps_are fits f i to p is))
 fine_to laws n past steps_are fits t Mirror f i to = λ h. cc
 
 sent_at : (fs : List Frame) (i : ℕ) (f : Frame) → slice_get fs i ≡ Some f → Contains fs f
@@ -198,9 +200,9 @@ told_is n past e (Refuses fault) h = let same : fault ≡ Conflict = cc in ap Re
 told_is n past e (Drops step) h = absurd cc
 told_is n past e (Does change) h = absurd cc
 
-pub none_is_a_conflict : Peace → NoneIsAConflict
+pub none_is_a_conflict : Peace → OfEachWorld NoConflict
 unfolding FineCome
-none_is_a_conflict laws n events e few h =
+none_is_a_conflict laws n events few e h =
     let past = world n events in
     let steps_are = laws.traces n events in
     let fits = world_fits laws.reports n events few in

@@ -16,7 +16,7 @@ use Rattle.server_core.specs.Hearing.{heard_at}
 use Rattle.server_core.specs.FrameAnswers as answers
 use Rattle.net_world.specs.Trace as packets
 use Rattle.net_world.specs.Trace.{Step, IsTrace, sent, opening_of}
-use Rattle.net_world.specs.Holders.{Holds, carried, taken_of}
+use Rattle.net_world.specs.Holders.{carried}
 use Rattle.net_world.specs.Frames.{FrameStep, OfServer, of_server, of_client, at_server, at_client, frames_of_step, frames_sent, IsFrameTrace, trace_heard, frame_entry, server_entries}
 use Rattle.net_world.specs.InRange.{FitsFrames}
 
@@ -43,12 +43,6 @@ abbrev pub OnlySentIsHeard : Type 0
 OnlySentIsHeard =
     (n : ℕ) (t : List FrameStep) → IsFrameTrace n t → FitsFrames n t → IsTrace n (trace_heard n t)
 
--- Whoever holds a state in the trace that is heard holds the one that was taken.
-abbrev pub HeardIsTheTaken : Type 0
-HeardIsTheTaken =
-    (n : ℕ) (t : List FrameStep) (key : Key) (state : State) → IsFrameTrace n t → FitsFrames n t →
-    Holds n (trace_heard n t) key state → taken_of key (trace_heard n t) ≡ state ∷ []
-
 -- Pieces that were sent give a packet with this state, taken in this order.
 pub record PiecesHold (n : ℕ) (t : List FrameStep) (key : Key) (state : State) : Type 0 where
   pub last : PieceParts
@@ -58,12 +52,6 @@ pub record PiecesHold (n : ℕ) (t : List FrameStep) (key : Key) (state : State)
   pub together : look (all_taken [] others) last ≡ Gives packet
   pub state_is : carried packet.body ≡ Some state
   pub key_is : state.key ≡ key
-
--- A state that sent pieces hold is the one that was taken.
-abbrev pub PiecesHoldTheTaken : Type 0
-PiecesHoldTheTaken =
-    (n : ℕ) (t : List FrameStep) (key : Key) (state : State) → IsFrameTrace n t → FitsFrames n t →
-    PiecesHold n t key state → taken_of key (trace_heard n t) ≡ state ∷ []
 
 -- A server's list of frames says what the server hears in the trace, and it sends what the trace sends.
 pub record ServerStands (n s : ℕ) (t : List FrameStep) : Type 0 where

@@ -1,79 +1,65 @@
--- What holds of each world, part by part.
-use Rattle.std.specs.Prelude.{◌≡◌, ℕ, ◌≤◌, List, [], ◌∷◌, ◌++◌, length, map, reverse, Contains, Ok, Err, Some, IsTrue}
-use Rattle.fc_base.specs.declared.numbers.Key.{Key}
+-- The headline: what is claimed of each trace, and of each world.
+use Rattle.std.specs.Prelude.{◌≡◌, ℕ, ◌≤◌, List, [], ◌∷◌, ◌++◌, length, Contains, Ok, Err, Some, IsTrue}
 use Rattle.fc_base.specs.declared.fault.Fault.TheVariants.{Conflict}
+use Rattle.fc_base.specs.declared.numbers.Key.{Key}
 use Rattle.fc_base.specs.declared.report.ReportParts.{ReportParts}
 use Rattle.fc_base.specs.Counted.{is_distinct}
 use Rattle.job_file.specs.declared.job.Job.{Job}
 use Rattle.verify_state.specs.State.{State}
-use Rattle.server_core.specs.Accepted.{IsTaking}
 use Rattle.messages.specs.declared.packet.PacketParts.{PacketParts}
 use Rattle.messages.specs.declared.body.Body.TheVariants as bodies
 use Rattle.messages.specs.declared.refusal.Act.TheVariants as acts
 use Rattle.disk_model.specs.declared.left.Left.{Left}
-use Rattle.server_core.specs.declared.event.Event.{Event as ServerEvent}
+use Rattle.server_core.specs.declared.event.Event.{Event}
 use Rattle.server_core.specs.History.{Met}
 use Rattle.server_core.specs.Run.{Work}
 use Rattle.server_core.specs.Words.{work}
 use Rattle.server_core.specs.Answers.{act}
+use Rattle.server_core.specs.Accepted.{IsTaking}
 use Rattle.server_core.specs.Check.{Check, With, progress}
 use Rattle.client_core.specs.Life.{life, done}
 use Rattle.client_core.specs.Requests.{Served, trigger_at}
 use Rattle.client_core.specs.Words.{kept}
 use Rattle.client_core.specs.Laws.{runs_in, attempts_in}
-use Rattle.net_world.specs.declared.config.Config.{Config}
-use Rattle.net_world.specs.declared.event.Event.{Event}
 use Rattle.net_world.specs.declared.told.Answer.TheVariants.{Checked}
 use Rattle.net_world.specs.declared.told.Told.{Told}
 use Rattle.net_world.specs.Trace.{Step, AtServer, opening_of, of_server, of_client, client_opening, sent}
-use Rattle.net_world.specs.Holders.{Holds, taken_of}
-use Rattle.net_world.specs.Verdict.{IsBased}
+use Rattle.net_world.specs.Holders.{Holds, taken_of, key_at}
+use Rattle.net_world.specs.Started.{started}
+use Rattle.net_world.specs.Frames.{FrameStep, trace_heard}
+use Rattle.net_world.specs.FrameLaws.{PiecesHold}
 use Rattle.net_world.specs.Happenings.{Happening}
 use Rattle.net_world.specs.Happenings as happenings
-use Rattle.net_world.specs.Changes.{Change, steps, trace}
-use Rattle.net_world.specs.Events.{happening}
-use Rattle.net_world.specs.FrameLaws.{PiecesHold}
-use Rattle.net_world.specs.World.{world, told}
-use Rattle.net_world.specs.WorldLaws.{IsExact}
+use Rattle.net_world.specs.Changes.{Change}
+use Rattle.net_world.specs.World.{told}
+use Rattle.net_world.specs.Exact.{IsBased, IsExact}
 use Rattle.net_world.specs.Honest.{AreHonest, AreWhole, IsCheckedWith, IsFaulty, WasInFlight}
-use Rattle.net_world.specs.Fresh.{started}
-use Rattle.net_world.specs.Kept.{key_at}
 
--- What has happened once these events came, the first of them first: it is told newest first.
-abbrev pub happened : List Event → List Happening
-happened events = map happening (reverse events)
+-- Of a job of a run one state is taken at most.
+abbrev pub OneTaking : ℕ → List Step → Type 0
+OneTaking n t = (key : Key) → length (taken_of key t) ≤ 1
 
--- The world in which they came.
-abbrev pub played : Config → List Event → List Change
-played config events = world config.servers (happened events)
+-- Whoever holds a state of a job of a run holds the one that was taken.
+abbrev pub HeldIsTheTaken : ℕ → List Step → Type 0
+HeldIsTheTaken n t = (key : Key) (state : State) → Holds n t key state → taken_of key t ≡ state ∷ []
 
--- It holds of the world at each moment of the list: behind each event, and before the first.
-abbrev pub AtEachMoment : (ℕ → List Change → Type 0) → Config → List Event → Type 0
-AtEachMoment Holds config events =
-    (newer older : List Happening) → happened events ≡ newer ++ older →
-    Holds config.servers (world config.servers older)
+-- So do pieces that were sent and hold one together.
+abbrev pub PiecesHoldTheTaken : ℕ → List FrameStep → Type 0
+PiecesHoldTheTaken n t =
+    (key : Key) (state : State) → PiecesHold n t key state → taken_of key (trace_heard n t) ≡ state ∷ []
 
--- Of a job of a run one state was taken at most.
-abbrev pub TakesOnce : ℕ → List Change → Type 0
-TakesOnce n past = (key : Key) → length (taken_of key (trace n past)) ≤ 1
-
--- Whoever holds a state of the job holds the one that was taken.
-abbrev pub HoldsTheTaken : ℕ → List Change → Type 0
-HoldsTheTaken n past =
-    (key : Key) (state : State) → Holds n (trace n past) key state → taken_of key (trace n past) ≡ state ∷ []
-
--- It was taken at its server, and counts exactly the writes that were completed between the accepted
--- Start of its run and its Trigger.
-abbrev pub CountsTheDone : ℕ → List Change → Type 0
-CountsTheDone n past =
-    (key : Key) (state : State) → Holds n (trace n past) key state →
-    IsTaking (opening_of key.server) key.run key.job (of_server key.server (trace n past)) state
+-- A state that is held was taken at its server, by a Trigger behind the accepted Start of its run, and
+-- counts exactly the writes that were completed between the two.
+abbrev pub CountsTheCompleted : ℕ → List Step → Type 0
+CountsTheCompleted n t =
+    (key : Key) (state : State) → Holds n t key state →
+    IsTaking (opening_of key.server) key.run key.job (of_server key.server t) state
 
 -- A state with which a job is checked was taken at this server, which has issued no write since.
-abbrev pub QuietChecks : ℕ → List Change → Type 0
-QuietChecks n past =
-    (s j : ℕ) (state : State) → progress (opening_of s) (of_server s (trace n past)) j ≡ Some (With state) →
-    IsBased s j (of_server s (trace n past)) state
+abbrev pub QuietUntilTheCheck : ℕ → List Step → Type 0
+QuietUntilTheCheck n t =
+    (s j : ℕ) (state : State) → progress (opening_of s) (of_server s t) j ≡ Some (With state) →
+    IsBased s j (of_server s t) state
 
 -- A check that isn't refused answers the exact report.
 abbrev pub ExactReports : ℕ → List Change → Type 0
@@ -95,64 +81,56 @@ NoFaults n past =
     AreHonest n past → AreWhole n past → IsCheckedWith n past s j c job state
     → IsFaulty n past s j c job state block → ⊥
 
--- Nothing is refused as another state of a kept key.
+-- Nothing that happens is refused as another state of a kept key.
 abbrev pub NoConflict : ℕ → List Change → Type 0
 NoConflict n past = (e : Happening) → told n past e ≡ Err Conflict → ⊥
 
+-- Two State packets of one key are equal, and so are their bytes.
+abbrev pub StatePacketsAreEqual : ℕ → List Step → Type 0
+StatePacketsAreEqual n t =
+    (p q : PacketParts) (jobs more : ℕ) (a b : State) →
+    Contains (sent n t) p → p.body ≡ bodies.State jobs a →
+    Contains (sent n t) q → q.body ≡ bodies.State more b → a.key ≡ b.key → p ≡ q
+
 -- Where a trigger has ended well at a server, each state that this server took in the run is kept.
-abbrev pub KeptWhereServed : ℕ → List Change → Type 0
-KeptWhereServed n past =
+abbrev pub KeptWhereServed : ℕ → List Step → Type 0
+KeptWhereServed n t =
     (key : Key) (state : State) →
-    trigger_at key.run key.server (life (client_opening n) (of_client (trace n past))) ≡ Served →
-    Contains (taken_of key (trace n past)) state →
-    kept (client_opening n) (of_client (trace n past)) key ≡ Some state
+    trigger_at key.run key.server (life (client_opening n) (of_client t)) ≡ Served →
+    Contains (taken_of key t) state → kept (client_opening n) (of_client t) key ≡ Some state
 
 -- Where a server asked for the cut, each state that it took in its run was kept by then.
-abbrev pub KeptWhereCut : ℕ → List Change → Type 0
-KeptWhereCut n past =
-    (later earlier : List Step) (s : ℕ) (e : ServerEvent) (left : Left) (w : Work) (j : ℕ) (state : State) →
-    trace n past ≡ later ++ AtServer s (Met e left) ∷ earlier
-    → work (opening_of s) (of_server s earlier) ≡ Some w
+abbrev pub KeptWhereCut : ℕ → List Step → Type 0
+KeptWhereCut n t =
+    (later earlier : List Step) (s : ℕ) (e : Event) (left : Left) (w : Work) (j : ℕ) (state : State) →
+    t ≡ later ++ AtServer s (Met e left) ∷ earlier → work (opening_of s) (of_server s earlier) ≡ Some w
     → act (opening_of s) (of_server s earlier) e ≡ acts.Cut
     → Contains (taken_of (key_at w.run s j) earlier) state
     → kept (client_opening n) (of_client earlier) (key_at w.run s j) ≡ Some state
 
--- Two State packets of one key that were sent are equal, and so are their bytes.
-abbrev pub EqualStates : ℕ → List Change → Type 0
-EqualStates n past =
-    (p q : PacketParts) (jobs more : ℕ) (a b : State) →
-    Contains (sent n (trace n past)) p → p.body ≡ bodies.State jobs a →
-    Contains (sent n (trace n past)) q → q.body ≡ bodies.State more b → a.key ≡ b.key → p ≡ q
+-- No run is given twice, whatever was cut and lost.
+abbrev pub RunsAreGivenOnce : ℕ → List Step → Type 0
+RunsAreGivenOnce n t = IsTrue (is_distinct (runs_in (done (client_opening n) (of_client t))))
 
--- A state that pieces hold together, each of which was sent, is the one that was taken.
-abbrev pub PiecesHoldTheTaken : ℕ → List Change → Type 0
-PiecesHoldTheTaken n past =
-    (key : Key) (state : State) → PiecesHold n (steps past) key state →
-    taken_of key (trace n past) ≡ state ∷ []
-
--- All Jobs packets of a run that were sent carry one text.
-abbrev pub OneTextOfEachRun : ℕ → List Change → Type 0
-OneTextOfEachRun n past =
-    (p q : PacketParts) (run : ℕ) (text other : List ℕ) →
-    Contains (sent n (trace n past)) p → p.body ≡ bodies.Jobs run text →
-    Contains (sent n (trace n past)) q → q.body ≡ bodies.Jobs run other → text ≡ other
-
--- All Verify packets of an attempt that were sent carry one run and text.
-abbrev pub OneTextOfEachAttempt : ℕ → List Change → Type 0
-OneTextOfEachAttempt n past =
-    (p q : PacketParts) (attempt run run_there : ℕ) (text other : List ℕ) →
-    Contains (sent n (trace n past)) p → p.body ≡ bodies.Verify run attempt text →
-    Contains (sent n (trace n past)) q → q.body ≡ bodies.Verify run_there attempt other →
-    (run ≡ run_there) × (text ≡ other)
-
--- No run was given twice, whatever was cut and lost.
-abbrev pub FreshRuns : ℕ → List Change → Type 0
-FreshRuns n past = IsTrue (is_distinct (runs_in (done (client_opening n) (of_client (trace n past)))))
-
--- No attempt was given twice.
-abbrev pub FreshAttempts : ℕ → List Change → Type 0
-FreshAttempts n past = IsTrue (is_distinct (attempts_in (done (client_opening n) (of_client (trace n past)))))
+-- No attempt is given twice.
+abbrev pub AttemptsAreGivenOnce : ℕ → List Step → Type 0
+AttemptsAreGivenOnce n t = IsTrue (is_distinct (attempts_in (done (client_opening n) (of_client t))))
 
 -- A server accepts a Start of a run once.
-abbrev pub FreshStarts : ℕ → List Change → Type 0
-FreshStarts n past = (s : ℕ) → IsTrue (is_distinct (started (opening_of s) (of_server s (trace n past))))
+abbrev pub StartsAreAcceptedOnce : ℕ → List Step → Type 0
+StartsAreAcceptedOnce n t = (s : ℕ) → IsTrue (is_distinct (started (opening_of s) (of_server s t)))
+
+-- All Jobs packets of a run carry one text, to whichever servers they go.
+abbrev pub OneTextOfEachRun : ℕ → List Step → Type 0
+OneTextOfEachRun n t =
+    (p q : PacketParts) (run : ℕ) (text other : List ℕ) →
+    Contains (sent n t) p → p.body ≡ bodies.Jobs run text →
+    Contains (sent n t) q → q.body ≡ bodies.Jobs run other → text ≡ other
+
+-- All Verify packets of an attempt carry one run and text.
+abbrev pub OneTextOfEachAttempt : ℕ → List Step → Type 0
+OneTextOfEachAttempt n t =
+    (p q : PacketParts) (attempt run run_there : ℕ) (text other : List ℕ) →
+    Contains (sent n t) p → p.body ≡ bodies.Verify run attempt text →
+    Contains (sent n t) q → q.body ≡ bodies.Verify run_there attempt other →
+    (run ≡ run_there) × (text ≡ other)

@@ -14,6 +14,10 @@ use Rattle.server_core.specs.Check.{With, progress}
 use Rattle.client_core.specs.Words.{kept}
 use Rattle.net_world.specs.Trace.{Step, opening_of, client_opening, of_server, of_client, sent}
 
+-- The key of job j of a run at this server.
+abbrev pub key_at : ℕ → ℕ → ℕ → Key
+key_at run s j = record { run = run; server = s; job = j }
+
 -- The states of a key that its server took, over all its lives.
 abbrev pub taken_of : Key → List Step → List State
 taken_of key t = takings (opening_of key.server) key.run key.job (of_server key.server t)

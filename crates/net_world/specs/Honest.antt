@@ -1,5 +1,5 @@
 -- Honest disks: what is told as done is in the file, and no sector changes by itself.
-use Rattle.std.specs.Prelude.{◌≡◌, ℕ, ◌<◌, ◌≤◌, ◌/◌, true, false, List, [], ◌∷◌, Some, slice_get}
+use Rattle.std.specs.Prelude.{◌≡◌, ℕ, ◌<◌, ◌/◌, true, false, List, [], ◌∷◌, Some, slice_get}
 use Rattle.fc_base.specs.Counted.{has}
 use Rattle.fc_base.specs.declared.numbers.Key.{Key}
 use Rattle.fc_base.specs.declared.record.JobParts.{JobParts}
@@ -15,7 +15,6 @@ use Rattle.server_core.specs.declared.event.Event.TheVariants.{WriteDone}
 use Rattle.server_core.specs.declared.event.WriteEnd.TheVariants.{Done}
 use Rattle.server_core.specs.History as server
 use Rattle.server_core.specs.Check.{Check, With, check, progress_after}
-use Rattle.net_world.specs.Happenings.{Happening}
 use Rattle.messages.specs.Hearing.{Happens}
 use Rattle.net_world.specs.Trace.{opening_of, of_server}
 use Rattle.net_world.specs.Frames.{FrameStep, OfServer}
@@ -23,7 +22,6 @@ use Rattle.net_world.specs.Changes.{Change, Met, Landed, Rotted, trace}
 use Rattle.net_world.specs.Writes.{open_at}
 use Rattle.net_world.specs.Contents.{content}
 use Rattle.net_world.specs.Checks.{key_of}
-use Rattle.net_world.specs.World.{world}
 
 -- The block of write k holds all its bytes.
 abbrev pub HoldsWrite : (ℕ → List ℕ) → Key → JobParts → ℕ → Type 0
@@ -75,18 +73,3 @@ abbrev pub IsFaulty : ℕ → List Change → ℕ → ℕ → Check → Job → 
 IsFaulty n past s j c job state block =
     is_fault (expected_by (key_of c j) job.rec (Some state))
     (λ b. block_bytes (content n past s j) job.rec.bs b) block ≡ true
-
--- On honest disks a check with a state faults only blocks to which a write was in flight at the taking.
-abbrev pub FaultsFew : Type 0
-FaultsFew =
-    (n : ℕ) (events : List Happening) (s j : ℕ) (c : Check) (job : Job) (state : State) (block : ℕ) →
-    n ≤ 8 → AreHonest n (world n events) → IsCheckedWith n (world n events) s j c job state
-    → IsFaulty n (world n events) s j c job state block → WasInFlight state block
-
--- Where writes are whole besides, it faults none.
-abbrev pub FaultsNone : Type 0
-FaultsNone =
-    (n : ℕ) (events : List Happening) (s j : ℕ) (c : Check) (job : Job) (state : State) (block : ℕ) →
-    n ≤ 8 → AreHonest n (world n events) → AreWhole n (world n events)
-    → IsCheckedWith n (world n events) s j c job state
-    → IsFaulty n (world n events) s j c job state block → ⊥

@@ -1,7 +1,6 @@
 pub mod Trace
 pub mod Holders
 pub mod Passes
-pub mod Verdict
 pub mod Happenings
 pub mod Changes
 pub mod Writes
@@ -10,9 +9,9 @@ pub mod Checks
 pub mod Barred
 pub mod Outcomes
 pub mod World
+pub mod Exact
 pub mod WorldLaws
-pub mod Fresh
-pub mod Kept
+pub mod Started
 pub mod Honest
 pub mod Examples
 pub mod Frames
@@ -30,4 +29,5 @@ pub mod Asking
 pub mod Finding
 pub mod Telling
 pub mod Events
+pub mod Claims
 pub mod Headline

@@ -1,21 +1,23 @@
 -- How a verify state goes round, in four passes: from its server to the client, into the client's
 -- table, back in a Saved, and into a check. No other packet carries one.
-use Rattle.std.specs.Prelude.{◌≡◌, ℕ, List, Some, Contains}
+use Rattle.std.specs.Prelude.{◌≡◌, ℕ, List, ◌++◌, Some, Contains}
+use Rattle.fc_base.specs.declared.fault.Fault.TheVariants.{Conflict}
 use Rattle.fc_base.specs.declared.numbers.Key.{Key}
 use Rattle.verify_state.specs.State.{State}
 use Rattle.messages.specs.declared.packet.PacketParts.{PacketParts}
 use Rattle.messages.specs.declared.body.Body.TheVariants as bodies
 use Rattle.server_core.specs.Check.{With, progress}
-use Rattle.client_core.specs.Words.{kept}
+use Rattle.client_core.specs.declared.call.Call.TheVariants.{Deliver}
+use Rattle.client_core.specs.Words.{kept, refusal}
 use Rattle.client_core.specs.Laws.{from_server}
 use Rattle.client_core.specs.Packets.{to_server}
-use Rattle.net_world.specs.Trace.{Step, IsTrace, opening_of, client_opening, of_server, of_client, sent}
+use Rattle.net_world.specs.Trace.{Step, opening_of, client_opening, of_server, of_client, sent}
 use Rattle.net_world.specs.Holders.{taken_of}
 
 -- Each state that was sent in a State was taken by the server that its key names.
-abbrev pub SentStatesWereTaken : Type 0
-SentStatesWereTaken =
-    (n : ℕ) (t : List Step) (p : PacketParts) (jobs : ℕ) (state : State) →
+abbrev pub SentStatesWereTaken : ℕ → List Step → Type 0
+SentStatesWereTaken n t =
+    (p : PacketParts) (jobs : ℕ) (state : State) →
     Contains (sent n t) p → p.body ≡ bodies.State jobs state → Contains (taken_of state.key t) state
 
 -- A state of this key was sent to the client, by the server that the key names.
@@ -25,27 +27,37 @@ pub record WasSentAs (n : ℕ) (t : List Step) (key : Key) (state : State) : Typ
   pub sent_in : Contains (sent n t) (from_server (bodies.State jobs state) key.server)
 
 -- Each state that the client keeps was sent to it.
-abbrev pub KeptStatesWereSent : Type 0
-KeptStatesWereSent =
-    (n : ℕ) (t : List Step) (key : Key) (state : State) →
-    IsTrace n t → kept (client_opening n) (of_client t) key ≡ Some state → WasSentAs n t key state
+abbrev pub KeptStatesWereSent : ℕ → List Step → Type 0
+KeptStatesWereSent n t =
+    (key : Key) (state : State) →
+    kept (client_opening n) (of_client t) key ≡ Some state → WasSentAs n t key state
 
--- Each state that was sent in a Saved is the kept one of its key.
-abbrev pub SavedStatesAreKept : Type 0
-SavedStatesAreKept =
-    (n : ℕ) (t : List Step) (p : PacketParts) (attempt : ℕ) (state : State) →
-    IsTrace n t → Contains (sent n t) p → p.body ≡ bodies.Saved attempt state
-    → kept (client_opening n) (of_client t) state.key ≡ Some state
+-- There was a moment at which the client kept the state.
+pub record WasKept (n : ℕ) (t : List Step) (key : Key) (state : State) : Type 0 where
+  pub later : List Step
+  pub earlier : List Step
+  pub split : t ≡ later ++ earlier
+  pub kept_there : kept (client_opening n) (of_client earlier) key ≡ Some state
+
+-- Each state that was sent in a Saved was by then the kept one of its key.
+abbrev pub SavedStatesWereKept : ℕ → List Step → Type 0
+SavedStatesWereKept n t =
+    (p : PacketParts) (attempt : ℕ) (state : State) →
+    Contains (sent n t) p → p.body ≡ bodies.Saved attempt state → WasKept n t state.key state
 
 -- No state is sent in a Copy: there is no mirror.
-abbrev pub NoCopyIsSent : Type 0
-NoCopyIsSent =
-    (n : ℕ) (t : List Step) (p : PacketParts) (state : State) →
-    IsTrace n t → Contains (sent n t) p → p.body ≡ bodies.Copy state → ⊥
+abbrev pub NoCopyIsSent : ℕ → List Step → Type 0
+NoCopyIsSent n t =
+    (p : PacketParts) (state : State) → Contains (sent n t) p → p.body ≡ bodies.Copy state → ⊥
 
 -- Each state that a job is checked with was sent to its server.
-abbrev pub CheckedStatesWereSent : Type 0
-CheckedStatesWereSent =
-    (n : ℕ) (t : List Step) (s j : ℕ) (state : State) →
-    IsTrace n t → progress (opening_of s) (of_server s t) j ≡ Some (With state)
-    → (attempt : ℕ) × Contains (sent n t) (to_server (bodies.Saved attempt state) s)
+abbrev pub CheckedStatesWereSent : ℕ → List Step → Type 0
+CheckedStatesWereSent n t =
+    (s j : ℕ) (state : State) → progress (opening_of s) (of_server s t) j ≡ Some (With state) →
+    (attempt : ℕ) × Contains (sent n t) (to_server (bodies.Saved attempt state) s)
+
+-- No packet that was sent is refused by the client as another state of a kept key.
+abbrev pub NoPacketConflicts : ℕ → List Step → Type 0
+NoPacketConflicts n t =
+    (p : PacketParts) → Contains (sent n t) p →
+    refusal (client_opening n) (of_client t) (Deliver p) ≡ Some Conflict → ⊥

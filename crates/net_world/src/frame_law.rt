@@ -2,7 +2,9 @@
 //! run.
 
 ghost use Rattle.net_world.specs.InRange.{SentAreInRange};
-ghost use Rattle.net_world.specs.FrameLaws.{NodesHearTheirOwn, ServersStand, FramesAreOfPackets, TagsNameOneBody, OnlySentIsHeard, HeardIsTheTaken, PiecesHoldTheTaken};
+ghost use Rattle.net_world.specs.FrameLaws.{NodesHearTheirOwn, ServersStand, FramesAreOfPackets, TagsNameOneBody, OnlySentIsHeard};
+ghost use Rattle.net_world.specs.Claims.{OfEachFrameTrace, OfTheHeard};
+ghost use Rattle.net_world.specs.Headline.{HeldIsTheTaken, PiecesHoldTheTaken};
 
 use crate::fresh::one_text_of_each;
 use crate::verdict::one_state_of_each_job;
@@ -44,8 +46,8 @@ pub fn only_sent_is_heard()
 /// Whoever holds a state of a job in a trace of frames, pieces that were sent included, holds the one
 /// that was taken.
 pub fn frames_hold_the_taken()
-    ensures held { HeardIsTheTaken }
-    ensures together { PiecesHoldTheTaken }
+    ensures held { OfEachFrameTrace (OfTheHeard HeldIsTheTaken) }
+    ensures together { OfEachFrameTrace PiecesHoldTheTaken }
 {
     only_sent_comes_together();
     tags_name_one_body();

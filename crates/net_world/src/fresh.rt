@@ -1,8 +1,9 @@
 //! What is given once, what never differs, and when states are kept, as laws of every trace. The
 //! functions have nothing to run.
 
-ghost use Rattle.net_world.specs.Fresh.{NeverConflicts, StatePacketsAreEqual, OneTextOfEachRun, OneTextOfEachAttempt, RunsAreGivenOnce, AttemptsAreGivenOnce, StartsAreAcceptedOnce};
-ghost use Rattle.net_world.specs.Kept.{EndedWellIsKept, CutsWhereKept};
+ghost use Rattle.net_world.specs.Claims.{OfEachList, OfEachTrace};
+ghost use Rattle.net_world.specs.Passes.{NoPacketConflicts};
+ghost use Rattle.net_world.specs.Headline.{StatePacketsAreEqual, OneTextOfEachRun, OneTextOfEachAttempt, RunsAreGivenOnce, AttemptsAreGivenOnce, StartsAreAcceptedOnce, KeptWhereServed, KeptWhereCut};
 
 use crate::passes::{kept_states_were_sent, no_copy_is_sent, sent_states_were_taken};
 use crate::verdict::one_state_of_each_job;
@@ -16,8 +17,8 @@ use server_core::{
 
 /// No state that was sent differs from the kept one of its key, or from another that was sent.
 pub fn nothing_differs()
-    ensures kept { NeverConflicts }
-    ensures packets { StatePacketsAreEqual }
+    ensures kept { OfEachTrace NoPacketConflicts }
+    ensures packets { OfEachList StatePacketsAreEqual }
 {
     sent_states_were_taken();
     kept_states_were_sent();
@@ -33,8 +34,8 @@ pub fn nothing_differs()
 
 /// All Jobs packets of a run carry one text, and all Verify packets of an attempt one run and text.
 pub fn one_text_of_each()
-    ensures runs { OneTextOfEachRun }
-    ensures attempts { OneTextOfEachAttempt }
+    ensures runs { OfEachTrace OneTextOfEachRun }
+    ensures attempts { OfEachTrace OneTextOfEachAttempt }
 {
     one_text();
     packets_go_to_client();
@@ -44,9 +45,9 @@ pub fn one_text_of_each()
 /// Runs and attempts are given once, and each server accepts a Start of a run once, over cuts and
 /// restarts.
 pub fn numbers_are_given_once()
-    ensures runs { RunsAreGivenOnce }
-    ensures attempts { AttemptsAreGivenOnce }
-    ensures starts { StartsAreAcceptedOnce }
+    ensures runs { OfEachTrace RunsAreGivenOnce }
+    ensures attempts { OfEachTrace AttemptsAreGivenOnce }
+    ensures starts { OfEachList StartsAreAcceptedOnce }
 {
     numbers_are_fresh();
     numbers_grow();
@@ -55,8 +56,8 @@ pub fn numbers_are_given_once()
 /// Where a trigger has ended well at a server, or the server asks for the cut, each state that it took
 /// in the run is kept.
 pub fn ends_are_kept()
-    ensures ended { EndedWellIsKept }
-    ensures cut { CutsWhereKept }
+    ensures served { OfEachTrace KeptWhereServed }
+    ensures cut { OfEachTrace KeptWhereCut }
 {
     sent_states_were_taken();
     kept_states_were_sent();

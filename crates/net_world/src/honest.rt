@@ -1,9 +1,10 @@
 //! What a check finds on honest disks. The function has nothing to run.
 
-ghost use Rattle.net_world.specs.Honest.{FaultsFew, FaultsNone};
+ghost use Rattle.net_world.specs.Claims.{OfEachWorld};
+ghost use Rattle.net_world.specs.Headline.{FewFaults, NoFaults};
 
 use crate::passes::{
-    checked_states_were_sent, kept_states_were_sent, no_copy_is_sent, saved_states_are_kept,
+    checked_states_were_sent, kept_states_were_sent, no_copy_is_sent, saved_states_were_kept,
     sent_states_were_taken,
 };
 use crate::world_law::each_world_is_a_trace;
@@ -17,13 +18,13 @@ use write_order::{writes_fill_their_blocks, writes_stay_in_the_region};
 /// state faults only blocks to which a write was in flight at the taking; where each write that lands
 /// has landed with all its sectors, it faults none.
 pub fn honest_disks()
-    ensures few { FaultsFew }
-    ensures none { FaultsNone }
+    ensures few { OfEachWorld FewFaults }
+    ensures none { OfEachWorld NoFaults }
 {
     each_world_is_a_trace();
     sent_states_were_taken();
     kept_states_were_sent();
-    saved_states_are_kept();
+    saved_states_were_kept();
     no_copy_is_sent();
     checked_states_were_sent();
     counts_the_done();

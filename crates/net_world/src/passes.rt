@@ -1,14 +1,15 @@
 //! How a verify state goes round, as laws of every trace: it is taken by a server, sent, kept by the
 //! client, sent back, and held by a check. The functions have nothing to run.
 
-ghost use Rattle.net_world.specs.Passes.{SentStatesWereTaken, KeptStatesWereSent, SavedStatesAreKept, NoCopyIsSent, CheckedStatesWereSent};
+ghost use Rattle.net_world.specs.Claims.{OfEachList, OfEachTrace};
+ghost use Rattle.net_world.specs.Passes.{SentStatesWereTaken, KeptStatesWereSent, SavedStatesWereKept, NoCopyIsSent, CheckedStatesWereSent};
 
-use client_core::{first_kept_stays, kept_was_sent, packets_go_to_peers, saved_is_kept};
+use client_core::{kept_was_sent, packets_go_to_peers, saved_is_kept};
 use server_core::{packets_go_to_client, the_taken, with_was_heard};
 
 /// Each state that was sent in a State was taken, by the server that its key names.
 pub fn sent_states_were_taken()
-    ensures { SentStatesWereTaken }
+    ensures { OfEachList SentStatesWereTaken }
 {
     the_taken();
     packets_go_to_peers();
@@ -16,25 +17,24 @@ pub fn sent_states_were_taken()
 
 /// Each state that the client keeps was sent to it, by the server that its key names.
 pub fn kept_states_were_sent()
-    ensures { KeptStatesWereSent }
+    ensures { OfEachTrace KeptStatesWereSent }
 {
     state_table::found_states();
     kept_was_sent();
     no_copy_is_sent();
 }
 
-/// Each state that was sent in a Saved is one that the client keeps.
-pub fn saved_states_are_kept()
-    ensures { SavedStatesAreKept }
+/// Each state that was sent in a Saved is one that the client kept by then.
+pub fn saved_states_were_kept()
+    ensures { OfEachList SavedStatesWereKept }
 {
     saved_is_kept();
-    first_kept_stays();
     packets_go_to_client();
 }
 
 /// No state is sent in a Copy.
 pub fn no_copy_is_sent()
-    ensures { NoCopyIsSent }
+    ensures { OfEachTrace NoCopyIsSent }
 {
     packets_go_to_peers();
     packets_go_to_client();
@@ -42,7 +42,7 @@ pub fn no_copy_is_sent()
 
 /// Each state that a job is checked with was sent to its server in a Saved.
 pub fn checked_states_were_sent()
-    ensures { CheckedStatesWereSent }
+    ensures { OfEachTrace CheckedStatesWereSent }
 {
     with_was_heard();
 }

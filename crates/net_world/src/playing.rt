@@ -2,7 +2,8 @@
 
 ghost use Rattle.std.specs.Prelude.{◌≤◌, IfOk, OnOk};
 ghost use Rattle.net_world.specs.Stands.{StandsFor};
-ghost use Rattle.net_world.specs.Headline.{played, AtEachMoment, TakesOnce, HoldsTheTaken, PiecesHoldTheTaken, CountsTheDone, QuietChecks, ExactReports, FewFaults, NoFaults, NoConflict, EqualStates, KeptWhereServed, KeptWhereCut, OneTextOfEachRun, OneTextOfEachAttempt, FreshRuns, FreshAttempts, FreshStarts};
+ghost use Rattle.net_world.specs.Claims.{played, AtEachMoment, OfItsTrace, OfItsFrames};
+ghost use Rattle.net_world.specs.Headline.{OneTaking, HeldIsTheTaken, PiecesHoldTheTaken, CountsTheCompleted, QuietUntilTheCheck, ExactReports, FewFaults, NoFaults, NoConflict, StatePacketsAreEqual, KeptWhereServed, KeptWhereCut, RunsAreGivenOnce, AttemptsAreGivenOnce, StartsAreAcceptedOnce, OneTextOfEachRun, OneTextOfEachAttempt};
 
 use crate::config::Config;
 use crate::event::Event;
@@ -21,23 +22,23 @@ pub fn play(alloc: Global, config: Config, events: &[Event]) -> Result<World, Al
     requires some { 1 ≤ config.servers }
     requires few { config.servers ≤ 8 }
     ensures stands { IfOk result (StandsFor config.servers (played config events.now)) }
-    ensures one_taking { OnOk result (AtEachMoment TakesOnce config events.now) }
-    ensures one_state { OnOk result (AtEachMoment HoldsTheTaken config events.now) }
-    ensures pieces { OnOk result (AtEachMoment PiecesHoldTheTaken config events.now) }
-    ensures counts { OnOk result (AtEachMoment CountsTheDone config events.now) }
-    ensures quiet { OnOk result (AtEachMoment QuietChecks config events.now) }
+    ensures one_taking { OnOk result (AtEachMoment (OfItsTrace OneTaking) config events.now) }
+    ensures one_state { OnOk result (AtEachMoment (OfItsTrace HeldIsTheTaken) config events.now) }
+    ensures pieces { OnOk result (AtEachMoment (OfItsFrames PiecesHoldTheTaken) config events.now) }
+    ensures counts { OnOk result (AtEachMoment (OfItsTrace CountsTheCompleted) config events.now) }
+    ensures quiet { OnOk result (AtEachMoment (OfItsTrace QuietUntilTheCheck) config events.now) }
     ensures exact { OnOk result (AtEachMoment ExactReports config events.now) }
     ensures few_faults { OnOk result (AtEachMoment FewFaults config events.now) }
     ensures no_faults { OnOk result (AtEachMoment NoFaults config events.now) }
     ensures conflict { OnOk result (AtEachMoment NoConflict config events.now) }
-    ensures equal { OnOk result (AtEachMoment EqualStates config events.now) }
-    ensures served { OnOk result (AtEachMoment KeptWhereServed config events.now) }
-    ensures cut { OnOk result (AtEachMoment KeptWhereCut config events.now) }
-    ensures runs { OnOk result (AtEachMoment FreshRuns config events.now) }
-    ensures attempts { OnOk result (AtEachMoment FreshAttempts config events.now) }
-    ensures starts { OnOk result (AtEachMoment FreshStarts config events.now) }
-    ensures run_texts { OnOk result (AtEachMoment OneTextOfEachRun config events.now) }
-    ensures attempt_texts { OnOk result (AtEachMoment OneTextOfEachAttempt config events.now) }
+    ensures equal { OnOk result (AtEachMoment (OfItsTrace StatePacketsAreEqual) config events.now) }
+    ensures served { OnOk result (AtEachMoment (OfItsTrace KeptWhereServed) config events.now) }
+    ensures cut { OnOk result (AtEachMoment (OfItsTrace KeptWhereCut) config events.now) }
+    ensures runs { OnOk result (AtEachMoment (OfItsTrace RunsAreGivenOnce) config events.now) }
+    ensures attempts { OnOk result (AtEachMoment (OfItsTrace AttemptsAreGivenOnce) config events.now) }
+    ensures starts { OnOk result (AtEachMoment (OfItsTrace StartsAreAcceptedOnce) config events.now) }
+    ensures run_texts { OnOk result (AtEachMoment (OfItsTrace OneTextOfEachRun) config events.now) }
+    ensures attempt_texts { OnOk result (AtEachMoment (OfItsTrace OneTextOfEachAttempt) config events.now) }
 {
     each_world_is_a_trace();
     one_state_of_each_job();

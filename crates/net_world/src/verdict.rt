@@ -1,9 +1,10 @@
 //! The verdict theorem, over every trace. The function has nothing to run.
 
-ghost use Rattle.net_world.specs.Verdict.{OneTaking, HeldIsTheTaken, CountsTheCompleted, QuietUntilTheCheck};
+ghost use Rattle.net_world.specs.Claims.{OfEachList, OfEachTrace};
+ghost use Rattle.net_world.specs.Headline.{OneTaking, HeldIsTheTaken, CountsTheCompleted, QuietUntilTheCheck};
 
 use crate::passes::{
-    checked_states_were_sent, kept_states_were_sent, no_copy_is_sent, saved_states_are_kept,
+    checked_states_were_sent, kept_states_were_sent, no_copy_is_sent, saved_states_were_kept,
     sent_states_were_taken,
 };
 use server_core::{counts_the_done, one_taking, quiet, with_was_heard};
@@ -12,15 +13,15 @@ use server_core::{counts_the_done, one_taking, quiet, with_was_heard};
 /// exactly the writes that were completed by then; and where a job is checked with it, no write was
 /// issued at that server since, of any job or run.
 pub fn one_state_of_each_job()
-    ensures once { OneTaking }
-    ensures held { HeldIsTheTaken }
-    ensures counted { CountsTheCompleted }
-    ensures quiet { QuietUntilTheCheck }
+    ensures once { OfEachList OneTaking }
+    ensures held { OfEachTrace HeldIsTheTaken }
+    ensures counted { OfEachTrace CountsTheCompleted }
+    ensures quiet { OfEachTrace QuietUntilTheCheck }
 {
     one_taking();
     sent_states_were_taken();
     kept_states_were_sent();
-    saved_states_are_kept();
+    saved_states_were_kept();
     no_copy_is_sent();
     checked_states_were_sent();
     counts_the_done();

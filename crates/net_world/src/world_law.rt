@@ -1,6 +1,8 @@
 //! What holds of every world. The functions have nothing to run.
 
-ghost use Rattle.net_world.specs.WorldLaws.{EachWorldIsAFrameTrace, EachWorldIsATrace, ChecksAreExact, NoneIsAConflict, SentAreFrames, SentFramesAreRead};
+ghost use Rattle.net_world.specs.WorldLaws.{EachWorldIsAFrameTrace, EachWorldIsATrace, SentAreFrames, SentFramesAreRead};
+ghost use Rattle.net_world.specs.Claims.{OfEachWorld};
+ghost use Rattle.net_world.specs.Headline.{ExactReports, NoConflict};
 
 use crate::frame_law::{
     frames_are_of_packets, only_sent_is_heard, sent_are_in_range, tags_name_one_body,
@@ -24,7 +26,7 @@ pub fn each_world_is_a_trace()
 /// The report of each check is that of the job, the state that it is made with, and what the file holds
 /// then.
 pub fn checks_are_exact()
-    ensures { ChecksAreExact }
+    ensures { OfEachWorld ExactReports }
 {
     each_world_is_a_trace();
     one_state_of_each_job();
@@ -32,7 +34,7 @@ pub fn checks_are_exact()
 
 /// Nothing that happens is refused as another state of a key than the one that the client keeps.
 pub fn none_is_a_conflict()
-    ensures { NoneIsAConflict }
+    ensures { OfEachWorld NoConflict }
 {
     each_world_is_a_trace();
     only_sent_comes_together();

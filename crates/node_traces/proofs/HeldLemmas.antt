@@ -14,7 +14,9 @@ use Rattle.net_world.specs.Trace.{Step, AtServer, AtClient, IsTrace, of_server, 
 use Rattle.net_world.specs.Frames.{at_server, at_client, trace_heard}
 use Rattle.net_world.specs.FrameLaws.{NodesHearTheirOwn, OnlySentIsHeard}
 use Rattle.net_world.specs.Holders.{ByClient}
-use Rattle.net_world.specs.Verdict.{OneTaking, HeldIsTheTaken, CountsTheCompleted, QuietUntilTheCheck, IsBased}
+use Rattle.net_world.specs.Exact.{IsBased}
+use Rattle.net_world.specs.Claims.{OfEachList, OfEachTrace}
+use Rattle.net_world.specs.Headline.{OneTaking, HeldIsTheTaken, CountsTheCompleted, QuietUntilTheCheck}
 use Rattle.node_traces.specs.Laws.{AssembledAreHeard, AssembledNodesHoldOneState}
 
 -- Of a trace there is the part in which a server's list was this one, which isn't empty.
@@ -74,24 +76,24 @@ assembled_are_heard only own n frames servers list trace is = record {
 
 -- The verdict theorem of all traces.
 pub record Laws : Type 0 where
-  pub once : OneTaking
-  pub held : HeldIsTheTaken
-  pub counted : CountsTheCompleted
-  pub quiet : QuietUntilTheCheck
+  pub once : OfEachList OneTaking
+  pub held : OfEachTrace HeldIsTheTaken
+  pub counted : OfEachTrace CountsTheCompleted
+  pub quiet : OfEachTrace QuietUntilTheCheck
 
 pub hold_one_state : Laws → AssembledAreHeard → AssembledNodesHoldOneState
 hold_one_state laws are n frames servers list trace is =
     let heard = are n frames servers list trace is in
     let t = trace_heard n trace in
     record {
-      once = λ key. subst (λ (past : List server.Entry). length (takings (opening_of key.server) key.run key.job past) ≤ 1) (heard.servers_are key.server) (laws.once t key);
+      once = λ key. subst (λ (past : List server.Entry). length (takings (opening_of key.server) key.run key.job past) ≤ 1) (heard.servers_are key.server) (laws.once n t key);
       keeps = λ key state h. ByClient (subst (λ (past : List client.Entry). kept (client_opening n) past key ≡ Some state) (sym heard.client_is) h);
-      held = λ key state h. subst (λ (past : List server.Entry). takings (opening_of key.server) key.run key.job past ≡ state ∷ []) (heard.servers_are key.server) (laws.held n t key state heard.legal h);
-      counted = λ key state h. subst (λ (past : List server.Entry). IsTaking (opening_of key.server) key.run key.job past state) (heard.servers_are key.server) (laws.counted n t key state heard.legal h);
+      held = λ key state h. subst (λ (past : List server.Entry). takings (opening_of key.server) key.run key.job past ≡ state ∷ []) (heard.servers_are key.server) (laws.held n t heard.legal key state h);
+      counted = λ key state h. subst (λ (past : List server.Entry). IsTaking (opening_of key.server) key.run key.job past state) (heard.servers_are key.server) (laws.counted n t heard.legal key state h);
       quiet = λ s j state later past split h.
           let split_heard = heard.servers_are s ∙ split in
           let part = older n s t later past heard.legal split_heard (unchecked s j state past h) in
           let checked = subst (λ (list : List server.Entry). progress (opening_of s) list j ≡ Some (With state)) (sym part.list) h in
           subst (λ (list : List server.Entry). IsBased s j list state) part.list
-          (laws.quiet n part.part s j state part.legal checked);
+          (laws.quiet n part.part part.legal s j state checked);
     }

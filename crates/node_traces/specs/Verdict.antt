@@ -13,7 +13,7 @@ use Rattle.client_core.specs.Words.{kept}
 use Rattle.net_world.specs.Trace.{opening_of, client_opening, of_server, of_client, IsTrace}
 use Rattle.net_world.specs.Frames.{FrameStep, trace_heard}
 use Rattle.net_world.specs.Holders.{Holds}
-use Rattle.net_world.specs.Verdict.{IsBased}
+use Rattle.net_world.specs.Exact.{IsBased}
 
 -- The packets that a server hears in its list of frames.
 abbrev pub server_hears : (ℕ → List ServerEntry) → ℕ → List server_history.Entry

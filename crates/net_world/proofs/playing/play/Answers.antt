@@ -1,12 +1,10 @@
-use Rattle.std.proofs.Common.{subst, ◌∷◌, take, reverse}
+use Rattle.std.proofs.Common.{subst, take, reverse}
 use Rattle.std.specs.Prelude.{map}
-use Rattle.server_core.specs.History.{Met}
 use Rattle.net_world.specs.Events.{happening}
-use Rattle.net_world.specs.Trace.{IsTrace, AtServer}
 use Rattle.net_world.specs.Changes.{steps, trace}
 use Rattle.net_world.specs.World.{world}
 use Rattle.net_world.specs.Stands.{StandsFor}
-use Rattle.net_world.proofs.PlayLemmas.{next_is_newest, front_is_trace}
+use Rattle.net_world.proofs.PlayLemmas.{next_is_newest}
 use Rattle.net_world.proofs.WorldFitLemmas.{world_fits}
 use Rattle.net_world.proofs.playing.play.Goals as goal
 
@@ -18,50 +16,49 @@ loop-event-preserved c =
     (c.in_ok-pass.ensures.passed n (map happening (reverse (take c.loop-event.event-index c.args.events.now))) c.loop-event.invariant)
 
 pub returns-clause-one_taking : goal.returns-clause-one_taking
-returns-clause-one_taking c newer older split key =
+returns-clause-one_taking c newer older split =
     let n = c.args.config.servers in
-    c.one_state_of_each_job.ensures.once (trace n (world n older)) key
+    c.one_state_of_each_job.ensures.once n (trace n (world n older))
 
 pub returns-clause-one_state : goal.returns-clause-one_state
-returns-clause-one_state c newer older split key state held =
+returns-clause-one_state c newer older split =
     let n = c.args.config.servers in
-    c.one_state_of_each_job.ensures.held n (trace n (world n older)) key state
-    (c.each_world_is_a_trace.ensures.packets n older c.requires.few) held
+    c.one_state_of_each_job.ensures.held n (trace n (world n older))
+    (c.each_world_is_a_trace.ensures.packets n older c.requires.few)
 
 pub returns-clause-pieces : goal.returns-clause-pieces
-returns-clause-pieces c newer older split key state hold =
+returns-clause-pieces c newer older split =
     let n = c.args.config.servers in
-    c.frames_hold_the_taken.ensures.together n (steps (world n older)) key state
-    (c.each_world_is_a_trace.ensures.frames n older)
-    (world_fits (record { fit = c.reports_fit.ensures; sets = c.legal_histories.ensures.checks }) n older c.requires.few) hold
+    c.frames_hold_the_taken.ensures.together n (steps (world n older)) (c.each_world_is_a_trace.ensures.frames n older)
+    (world_fits (record { fit = c.reports_fit.ensures; sets = c.legal_histories.ensures.checks }) n older c.requires.few)
 
 pub returns-clause-counts : goal.returns-clause-counts
-returns-clause-counts c newer older split key state held =
+returns-clause-counts c newer older split =
     let n = c.args.config.servers in
-    c.one_state_of_each_job.ensures.counted n (trace n (world n older)) key state
-    (c.each_world_is_a_trace.ensures.packets n older c.requires.few) held
+    c.one_state_of_each_job.ensures.counted n (trace n (world n older))
+    (c.each_world_is_a_trace.ensures.packets n older c.requires.few)
 
 pub returns-clause-quiet : goal.returns-clause-quiet
-returns-clause-quiet c newer older split s j state made =
+returns-clause-quiet c newer older split =
     let n = c.args.config.servers in
-    c.one_state_of_each_job.ensures.quiet n (trace n (world n older)) s j state
-    (c.each_world_is_a_trace.ensures.packets n older c.requires.few) made
+    c.one_state_of_each_job.ensures.quiet n (trace n (world n older))
+    (c.each_world_is_a_trace.ensures.packets n older c.requires.few)
 
 pub returns-clause-exact : goal.returns-clause-exact
-returns-clause-exact c newer older split s j t is =
-    c.checks_are_exact.ensures c.args.config.servers older s j t c.requires.few is
+returns-clause-exact c newer older split =
+    c.checks_are_exact.ensures c.args.config.servers older c.requires.few
 
 pub returns-clause-few_faults : goal.returns-clause-few_faults
-returns-clause-few_faults c newer older split s j now job state block =
-    c.honest_disks.ensures.few c.args.config.servers older s j now job state block c.requires.few
+returns-clause-few_faults c newer older split =
+    c.honest_disks.ensures.few c.args.config.servers older c.requires.few
 
 pub returns-clause-no_faults : goal.returns-clause-no_faults
-returns-clause-no_faults c newer older split s j now job state block =
-    c.honest_disks.ensures.none c.args.config.servers older s j now job state block c.requires.few
+returns-clause-no_faults c newer older split =
+    c.honest_disks.ensures.none c.args.config.servers older c.requires.few
 
 pub returns-clause-conflict : goal.returns-clause-conflict
-returns-clause-conflict c newer older split e =
-    c.none_is_a_conflict.ensures c.args.config.servers older e c.requires.few
+returns-clause-conflict c newer older split =
+    c.none_is_a_conflict.ensures c.args.config.servers older c.requires.few
 
 pub returns-clause-equal : goal.returns-clause-equal
 returns-clause-equal c newer older split =
@@ -69,17 +66,16 @@ returns-clause-equal c newer older split =
     c.nothing_differs.ensures.packets n (trace n (world n older))
 
 pub returns-clause-served : goal.returns-clause-served
-returns-clause-served c newer older split key state =
+returns-clause-served c newer older split =
     let n = c.args.config.servers in
-    c.ends_are_kept.ensures.ended n (trace n (world n older)) key state
+    c.ends_are_kept.ensures.served n (trace n (world n older))
     (c.each_world_is_a_trace.ensures.packets n older c.requires.few)
 
 pub returns-clause-cut : goal.returns-clause-cut
-returns-clause-cut c newer older split later earlier s e left w j state is =
+returns-clause-cut c newer older split =
     let n = c.args.config.servers in
-    c.ends_are_kept.ensures.cut n earlier s e left w j state
-    (front_is_trace n later (AtServer s (Met e left) ∷ earlier)
-    (subst (IsTrace n) is (c.each_world_is_a_trace.ensures.packets n older c.requires.few)))
+    c.ends_are_kept.ensures.cut n (trace n (world n older))
+    (c.each_world_is_a_trace.ensures.packets n older c.requires.few)
 
 pub returns-clause-runs : goal.returns-clause-runs
 returns-clause-runs c newer older split =
@@ -94,18 +90,18 @@ returns-clause-attempts c newer older split =
     (c.each_world_is_a_trace.ensures.packets n older c.requires.few)
 
 pub returns-clause-starts : goal.returns-clause-starts
-returns-clause-starts c newer older split s =
+returns-clause-starts c newer older split =
     let n = c.args.config.servers in
-    c.numbers_are_given_once.ensures.starts (trace n (world n older)) s
+    c.numbers_are_given_once.ensures.starts n (trace n (world n older))
 
 pub returns-clause-run_texts : goal.returns-clause-run_texts
-returns-clause-run_texts c newer older split p q run text other =
+returns-clause-run_texts c newer older split =
     let n = c.args.config.servers in
-    c.one_text_of_each.ensures.runs n (trace n (world n older)) p q run text other
+    c.one_text_of_each.ensures.runs n (trace n (world n older))
     (c.each_world_is_a_trace.ensures.packets n older c.requires.few)
 
 pub returns-clause-attempt_texts : goal.returns-clause-attempt_texts
-returns-clause-attempt_texts c newer older split p q attempt run run_there text other =
+returns-clause-attempt_texts c newer older split =
     let n = c.args.config.servers in
-    c.one_text_of_each.ensures.attempts n (trace n (world n older)) p q attempt run run_there text other
+    c.one_text_of_each.ensures.attempts n (trace n (world n older))
     (c.each_world_is_a_trace.ensures.packets n older c.requires.few)

@@ -1,0 +1,18 @@
+-- Which Starts a server has accepted.
+use Rattle.std.specs.Prelude.{ℕ, List, [], ◌∷◌, ◌++◌, Option, Some}
+use Rattle.disk_model.specs.declared.left.Left.{Left}
+use Rattle.disk_model.specs.declared.left.Left.TheVariants.{Saved}
+use Rattle.server_core.specs.History.{Opening, Entry, Met, Cut, Restart}
+use Rattle.server_core.specs.Words.{Staged, due}
+
+-- The run that an event starts: one that was due, where its save answered Ok.
+abbrev pub started_by : Left → Option Staged → List ℕ
+started_by Saved (Some s) = s.run ∷ []
+started_by _ _ = []
+
+-- The runs of which a server has accepted a Start, over all its lives, the newest first.
+abbrev pub started : Opening → List Entry → List ℕ
+started o [] = []
+started o (Met e left ∷ past) = started_by left (due o past e) ++ started o past
+started o (Cut ∷ past) = started o past
+started o (Restart left ∷ past) = started o past
