@@ -1,6 +1,7 @@
 //! What no clause shows: that lines ask for what the manual says.
 
 mod running;
+mod scripts;
 
 use net_script::line_of;
 use std::alloc::{AllocGlobal, Global};

@@ -1,5 +1,6 @@
 //! What no clause shows: that scripts print what the manual says, and how a run ends that fails.
 
+use super::scripts::{ANSWERS, ANSWERS_LINES, PIECES, PIECES_LINES, STORED, STORED_LINES};
 use fake_io::{Source, failing_at, held_output, in_steps, interrupted, page_with, source_of};
 use net_script::{MAX_SCRIPT, ScriptFault, run_script};
 use std::alloc::{AllocError, AllocGlobal, Global};
@@ -62,80 +63,9 @@ const SCRIPTS: &[(&str, &str, u8)] = &[
         "ok\nok\nok\nok run 2\nsent 0 client 0 Jobs 24\n",
         0,
     ),
+    (PIECES, PIECES_LINES, 0),
+    (ANSWERS, ANSWERS_LINES, 1),
 ];
-
-/// The stored run: a trigger with the cut, and a check that finds nothing.
-const STORED: &str = "\
-servers 1\n\
-begin\n\
-[a]\n\
-rw=write\n\
-bs=512\n\
-size=1k\n\
-iodepth=2\n\
-.\n\
-deliver 0\n\
-deliver 1\n\
-deliver 2\n\
-deliver 3\n\
-issue 0 0\n\
-issue 0 0\n\
-land 0 0 0 all\n\
-done 0 0 0\n\
-trigger 1 cut\n\
-deliver 4\n\
-deliver 5\n\
-deliver 6\n\
-cut 0\n\
-restart 0\n\
-verify 1\n\
-[a]\n\
-rw=read\n\
-bs=512\n\
-size=1k\n\
-verify_state_load=1\n\
-.\n\
-deliver 7\n\
-deliver 8\n\
-deliver 9\n\
-check 0 0\n\
-deliver 10\n";
-
-const STORED_LINES: &str = "\
-ok\n\
-ok run 1\n\
-sent 0 client 0 Jobs 62\n\
-ok\n\
-sent 1 0 client JobsOk 28\n\
-ok\n\
-sent 2 client 0 Start 24\n\
-ok\n\
-sent 3 0 client Started 24\n\
-ok\n\
-ok write 0 block 0\n\
-ok write 1 block 1\n\
-ok\n\
-ok\n\
-ok\n\
-sent 4 client 0 Trigger 25\n\
-ok\n\
-sent 5 0 client State 156\n\
-ok\n\
-sent 6 client 0 StateAck 28\n\
-ok\n\
-act cut 0\n\
-ok\n\
-ok\n\
-ok attempt 1\n\
-sent 7 client 0 Verify 79\n\
-ok\n\
-sent 8 0 client WantState 36\n\
-ok\n\
-sent 9 client 0 Saved 160\n\
-ok\n\
-ok report checked 1 faults 0 end whole first -\n\
-sent 10 0 client Report 57\n\
-ok\n";
 
 /// Checks what a script prints, and its status.
 fn expect<R: Abort + AllocGlobal>(rt: &R, source: &mut Source<'_>, printed: &[u8], status: u8) {
@@ -240,4 +170,13 @@ fn lines_are_flushed(rt: HostRuntime) {
     let ended = run_script(rt.alloc(), &mut source_of(STORED.as_bytes()), &mut output);
     assert!(rt; ended == Ok(0));
     assert!(rt; output.shown.as_slice() == STORED_LINES.as_bytes() && output.flushes == 1);
+}
+
+#[test]
+fn failed_flush(rt: HostRuntime) {
+    let mut output = held_output(rt.alloc());
+    output.fails = true;
+    let ended = run_script(rt.alloc(), &mut source_of(STORED.as_bytes()), &mut output);
+    assert!(rt; ended == Err(ScriptFault::WriteError), "{ended:?}");
+    assert!(rt; output.flushes == 1);
 }
