@@ -7,11 +7,12 @@ use Rattle.std.proofs.lemmas.Option.{slice_get_within, slice_get-get_or, get_or_
 use Rattle.messages.specs.declared.node.Node.{Node}
 use Rattle.messages.specs.declared.node.Node.TheVariants.{Server, Client, Mirror}
 use Rattle.node_history.specs.declared.logged.Logged.{Logged}
-use Rattle.node_history.specs.Seated.{Seated}
+use Rattle.server_cell.specs.Seated.{Seated}
 use Rattle.node_history.specs.Seats.{times}
 use Rattle.server_core.specs.History.{Opening}
 use Rattle.server_cell.specs.Cells.{ServerLog, is_blank}
 use Rattle.server_cell.specs.Calls.{is_right}
+use Rattle.client_core.specs.Note.{is_blank as says_nothing}
 use Rattle.client_cell.specs.Cells.{ClientLog}
 use Rattle.net_world.specs.Trace.{opening_of}
 use Rattle.assembly.specs.Ran.{Ran, ran, history_of}
@@ -59,7 +60,7 @@ opened_more servers n cell opened is e s low = by (s == n) refl
     by false apart = opened s (grind (arith, nat_tests))
 
 -- All are, and the client.
-pub all_opened : (client : ClientLog) (servers : List ServerLog) (n : ℕ) → client.is_blank ≡ true → client.servers ≡ length servers → length servers ≤ 8 → length servers ≤ n → AreOpened servers n
+pub all_opened : (client : ClientLog) (servers : List ServerLog) (n : ℕ) → says_nothing client.opening.noted ≡ true → client.opening.servers ≡ length servers → length servers ≤ 8 → length servers ≤ n → AreOpened servers n
     → (node : Node) → IsOpened (ran client servers) node
 all_opened client servers n blank drives few all opened Client = (blank, drives, few)
 all_opened client servers n blank drives few all opened Mirror = tt

@@ -1,7 +1,7 @@
 -- Why there is no list of events.
 use Rattle.std.proofs.Common.{inr, List}
 use Rattle.hub.specs.Network.{Network}
-use Rattle.node_history.specs.Seated.{Seated}
+use Rattle.server_cell.specs.Seated.{Seated}
 use Rattle.node_traces.specs.Marks.{marks_in, marks_of}
 use Rattle.assembly.specs.declared.fault.AssembleFault.{AssembleFault}
 use Rattle.assembly.specs.declared.fault.AssembleFault.TheVariants.{Unlike, NoMemory}

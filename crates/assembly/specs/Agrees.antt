@@ -4,7 +4,8 @@ use Rattle.std.specs.Option.{ForSome}
 use Rattle.messages.specs.declared.node.Node.{Node}
 use Rattle.messages.specs.declared.node.Node.TheVariants.{Server, Client, Mirror}
 use Rattle.hub.specs.Network.{Network}
-use Rattle.node_history.specs.Seated.{Seated}
+use Rattle.client_core.specs.Note.{is_blank}
+use Rattle.server_cell.specs.Seated.{Seated}
 use Rattle.node_history.specs.Seats.{times}
 use Rattle.net_world.specs.Trace.{opening_of}
 use Rattle.node_traces.specs.Marks.{marks_in, marks_of}
@@ -14,7 +15,7 @@ use Rattle.assembly.specs.Ran.{Ran, history_of}
 -- at each place is the server of that number, opened over a note that says of no boot and no run. There is
 -- no mirror to be opened.
 abbrev pub IsOpened : Ran → Node → Type 0
-IsOpened r Client = (r.client.is_blank ≡ true) × (r.client.servers ≡ length r.servers) × (length r.servers ≤ 8)
+IsOpened r Client = (is_blank r.client.opening.noted ≡ true) × (r.client.opening.servers ≡ length r.servers) × (length r.servers ≤ 8)
 IsOpened r Mirror = Unit {0}
 IsOpened r (Server s) = ForSome (slice_get r.servers s) (λ cell. cell.opening ≡ opening_of s)
 

@@ -14,9 +14,8 @@ use crate::told::told;
 use client_cell::ClientCell;
 use disk_model::Notes;
 use hub::Hub;
-use node_history::Seat;
 use node_traces::{Place, agreeing_nodes_are_a_trace, assembled_nodes_hold_one_state};
-use server_cell::ServerCell;
+use server_cell::{Seat, ServerCell};
 use std::alloc::Global;
 
 /// All events that stand in the nodes' lists, the oldest first.

@@ -11,8 +11,7 @@ use client_cell::ClientCell;
 use disk_model::Notes;
 use fc_base::{MAX_SERVERS, ServerNo};
 use messages::Node;
-use node_history::Seat;
-use server_cell::ServerCell;
+use server_cell::{Seat, ServerCell};
 
 /// A node that wasn't opened rightly, if there is one.
 pub(crate) fn wrongly_opened<N: Notes + Drop>(

@@ -1,6 +1,6 @@
 -- What comes to the client at the hub is entered, or left out.
 use Rattle.std.proofs.Common.{◌≡◌, refl, sym, ◌∙◌, ap, subst, inl, inr, ℕ, ◌+◌, ◌<◌, ◌≤◌, arith, Bool, true, false, List, [], ◌∷◌, ◌++◌, length, take, Option, Some, None, Result, Ok, Err}
-use Rattle.std.specs.Prelude.{◌⊎◌, map, not, ◌||◌, slice_get, is_ok, is_some, All, IfErr, IfSome, OnOk}
+use Rattle.std.specs.Prelude.{◌⊎◌, map, not, ◌||◌, if◌then◌else◌, slice_get, is_ok, is_some, All, IfErr, IfSome, OnOk}
 use Rattle.std.specs.Borrow.{Bor}
 use Rattle.std.specs.List.{AllByRecursion, flat_map, sum_by}
 use Rattle.std.proofs.lemmas.List.{map-append, take_more, take_all}
@@ -8,7 +8,7 @@ use Rattle.std.proofs.lemmas.List.Elements.{All-nil, All-append}
 use Rattle.std.proofs.lemmas.List.Sums.{sum_by-append, sum_by-cons}
 use Rattle.std.proofs.lemmas.Option.{slice_get_within, get_or_from_slice_get}
 use Rattle.fc_base.specs.declared.fault.Fault.{Fault}
-use Rattle.fc_base.specs.declared.fault.Fault.TheVariants.{NoMemory, NodeOff, NoFrame, LoadFault, FrameBadField}
+use Rattle.fc_base.specs.declared.fault.Fault.TheVariants.{NoMemory, NodeOff, LoadFault, FrameBadField}
 use Rattle.fc_base.specs.declared.fault.FaultSort.{FaultSort}
 use Rattle.fc_base.specs.declared.fault.FaultSort.TheVariants as sorts
 use Rattle.fc_base.specs.Fault.{sort_of}
@@ -42,6 +42,7 @@ use Rattle.node_history.specs.declared.logged.Logged.{Logged}
 use Rattle.node_history.specs.Rules.{Meets}
 use Rattle.node_history.specs.Replay.{Ends, Stops, Passes}
 use Rattle.node_history.specs.ClientRules.{asked, rules, is_up}
+use Rattle.node_history.specs.Failures.{Counts}
 use Rattle.node_history.specs.AtHub.{is_save, is_drop, is_left_out, told_at, IsWhy, IsWhyBy, Hears, Posts, Comes}
 use Rattle.client_cell.specs.declared.outs.Outs.{Outs}
 use Rattle.client_cell.specs.declared.power.Power.{Power}
@@ -50,7 +51,10 @@ use Rattle.client_cell.specs.declared.request.Request.TheVariants as requests
 use Rattle.client_cell.specs.Stands.{Stands, Moves, Faults, StepEnds}
 use Rattle.client_cell.specs.Cells.{ClientLog, IsReplay, IsCell}
 use Rattle.client_cell.specs.Tasks.{came_of, input_of}
-use Rattle.client_cell.specs.Hearing.{outcome_of, HasWhy, IsWhyWhere, IsWhyNot, Delivers}
+use Rattle.client_cell.proofs.CellLemmas.{with_history}
+use Rattle.client_cell.specs.Hearing.{outcome_of}
+use Rattle.node_history.specs.Calls.{says_off, is_off, HasWhy, IsWhyNot}
+use Rattle.node_history.proofs.CallLemmas.{why_off, why_on, why_not_there}
 
 -- ---- nothing happens
 
@@ -99,10 +103,10 @@ short : {T : Type 0} (note : T → Note) (o : Opening) (past : List FrameEntry) 
 short note o past e new (Ok outs) eight i h f = subst (λ most. AreShort most outs.frames) eight (f.short i h)
 short note o past e new (Err fault) eight i h f = record { few = omega arith; short = omega arith }
 
-pub has_room : {T : Type 0} (note : T → Note) (log : ClientLog) (power : Power T) (cell : IsCell note log power) (e : Input) (new : Power T) (step : Result Outs Fault) (room : Room) → most_packets cell.o cell.past e ≡ 8 → StepEnds note cell.o cell.past e new step → HasRoom room 136 137864
+pub has_room : {T : Type 0} (note : T → Note) (log : ClientLog) (power : Power T) (cell : IsCell note log power) (e : Input) (new : Power T) (step : Result Outs Fault) (room : Room) → most_packets log.opening cell.past e ≡ 8 → StepEnds note log.opening cell.past e new step → HasRoom room 136 137864
     → HasRoom room (length (outcome_of step).1) (sum_by (λ (frame : List ℕ). length frame) (outcome_of step).1)
 has_room note log power cell e new step room eight f has =
-    let few = short note cell.o cell.past e new step eight cell.opens cell.ranges f in
+    let few = short note log.opening cell.past e new step eight cell.opens cell.ranges f in
     record {
       frames_fit = omega (arith, has.frames_fit, few.few);
       bytes_fit = omega (arith, has.bytes_fit, few.short);
@@ -162,14 +166,11 @@ answer_spelled note o past e said sent new law ranges i h m =
     same_entry : (x y : FrameEntry) → Some x ≡ Some y → y ≡ x
     same_entry x y h = cc
 
-pub sent_spelled : {T : Type 0} (note : T → Note) (log : ClientLog) (power : Power T) (cell : IsCell note log power) (e : Input) (new : Power T) (step : Result Outs Fault) → FramesAreSpelled → PacketsAreInRange → StepEnds note cell.o cell.past e new step → All IsSpelled (outcome_of step).1
-sent_spelled note log power cell e new (Ok outs) law ranges f = answer_spelled note cell.o cell.past e _ outs.frames new law ranges cell.opens cell.ranges f.moves
+pub sent_spelled : {T : Type 0} (note : T → Note) (log : ClientLog) (power : Power T) (cell : IsCell note log power) (e : Input) (new : Power T) (step : Result Outs Fault) → FramesAreSpelled → PacketsAreInRange → StepEnds note log.opening cell.past e new step → All IsSpelled (outcome_of step).1
+sent_spelled note log power cell e new (Ok outs) law ranges f = answer_spelled note log.opening cell.past e _ outs.frames new law ranges cell.opens cell.ranges f.moves
 sent_spelled note log power cell e new (Err fault) law ranges f = All-nil IsSpelled
 
 -- ---- what came is entered
-
-abbrev pub with_history : ClientLog → List Logged → ClientLog
-with_history log history = record { servers = log.servers; is_blank = log.is_blank; history = history }
 
 -- What was left out is told without frames.
 pub told_left_out : (first sent : ℕ) (answer : Result Said Fault) → is_left_out answer ≡ true → told_at 0 0 answer ≡ told_at first sent answer
@@ -177,46 +178,44 @@ told_left_out first sent (Ok said) h = cc
 told_left_out first sent (Err fault) h = refl
 
 -- A cell behind what came.
-pub heard_cell : {T : Type 0} (note : T → Note) (log : ClientLog) (power new : Power T) (cell : IsCell note log power) (e : Input) (step : Result Outs Fault) (came : Came) (taken : Option ℕ) (net after : Network) (history : List Logged) → asked came ≡ Meets e → StepEnds note cell.o cell.past e new step
-    → Hears (is_left_out (outcome_of step).0) nodes.Client came taken (outcome_of step).0 (outcome_of step).1 net after log.history history → IsCell note (with_history log history) new
-heard_cell note log power new cell e step came taken net after history asks f h = by_test (is_left_out (outcome_of step).0) refl h
+pub heard_cell : {T : Type 0} (note : T → Note) (log : ClientLog) (power new : Power T) (cell : IsCell note log power) (e : Input) (step : Result Outs Fault) (came : Came) (taken : Option ℕ) (net after : Network) (history : List Logged) (failures : ℕ) → asked came ≡ Meets e → StepEnds note log.opening cell.past e new step
+    → Hears (is_left_out (outcome_of step).0) nodes.Client came taken (outcome_of step).0 (outcome_of step).1 net after log.history history → IsCell note (with_history log history failures) new
+heard_cell note log power new cell e step came taken net after history failures asks f h = by_test (is_left_out (outcome_of step).0) refl h
   where
-    same : Stands note cell.o cell.past new → history ≡ log.history → IsCell note (with_history log history) new
-    same s is = rw is (record { o = cell.o; past = cell.past; replay = cell.replay; stands = s; some = cell.some; opens = cell.opens; ranges = cell.ranges })
+    same : Stands note log.opening cell.past new → history ≡ log.history → IsCell note (with_history log history failures) new
+    same s is = rw is (record { past = cell.past; replay = cell.replay; stands = s; some = cell.some; opens = cell.opens; ranges = cell.ranges })
 
-    more : (m : Moves note cell.o cell.past (Meets e) (outcome_of step).0 (outcome_of step).1 new) → history ≡ record { by = None; came = came; answer = (outcome_of step).0; sent = (outcome_of step).1 } ∷ log.history → IsCell note (with_history log history) new
+    more : (m : Moves note log.opening cell.past (Meets e) (outcome_of step).0 (outcome_of step).1 new) → history ≡ record { by = None; came = came; answer = (outcome_of step).0; sent = (outcome_of step).1 } ∷ log.history → IsCell note (with_history log history failures) new
     more m is = rw is (record {
-      o = cell.o;
       past = m.after;
-      replay = record {
-        servers_are = cell.replay.servers_are;
-        is_blank = cell.replay.is_blank;
-        made = (cell.past, cell.replay.made, subst (λ ask. Ends (rules cell.o) cell.past ask (outcome_of step).0 (outcome_of step).1 m.after) (sym asks) m.ends);
-      };
+      replay = (cell.past, cell.replay, subst (λ ask. Ends (rules log.opening) cell.past ask (outcome_of step).0 (outcome_of step).1 m.after) (sym asks) m.ends);
       stands = m.stands;
       some = cell.some;
       opens = cell.opens;
       ranges = m.ranges cell.ranges;
     })
 
-    by_test : (b : Bool) → is_left_out (outcome_of step).0 ≡ b → Hears b nodes.Client came taken (outcome_of step).0 (outcome_of step).1 net after log.history history → IsCell note (with_history log history) new
-    by_test true t h = same (unmoved note cell.o cell.past e new step t f) h.history
-    by_test false t h = more (moved note cell.o cell.past e new step t f) h.entry
+    by_test : (b : Bool) → is_left_out (outcome_of step).0 ≡ b → Hears b nodes.Client came taken (outcome_of step).0 (outcome_of step).1 net after log.history history → IsCell note (with_history log history failures) new
+    by_test true t h = same (unmoved note log.opening cell.past e new step t f) h.history
+    by_test false t h = more (moved note log.opening cell.past e new step t f) h.entry
 
-pub replayed : {T : Type 0} (note : T → Note) (log : ClientLog) (power : Power T) → IsCell note log power → (o : Opening) × (past : List FrameEntry) × IsReplay log o past
-replayed note log power cell = (cell.o, cell.past, cell.replay)
+pub replayed : {T : Type 0} (note : T → Note) (log : ClientLog) (power : Power T) → IsCell note log power → (past : List FrameEntry) × IsReplay log past
+replayed note log power cell = (cell.past, cell.replay)
 
 -- ---- why it was refused
 
-why_up : (log : ClientLog) (o : Opening) (past : List FrameEntry) (came : Came) (fault : Fault) → IsReplay log o past → is_up o past ≡ true → IsWhy (rules o) past (asked came) fault → HasWhy log came fault
-why_up log o past came fault replay up why = record { o = o; past = past; replay = replay; why = subst (λ b. IsWhyWhere b o past came fault) (sym up) why }
+off_where : (o : Opening) (past : List FrameEntry) (up : Bool) → is_up o past ≡ up → is_off (rules o) past ≡ not up
+off_where o past up h = ap (λ b. says_off (if b then None else Some NodeOff)) h ∙ by_up up
+  where
+    by_up : (b : Bool) → says_off (if b then None else Some NodeOff) ≡ not b
+    by_up true = refl
+    by_up false = refl
 
-pub lacks_why : {T : Type 0} (note : T → Note) (log : ClientLog) (power : Power T) (cell : IsCell note log power) (came : Came) (shown : ClientLog) → is_up cell.o cell.past ≡ true → log ≡ shown → HasWhy shown came NoMemory
-lacks_why note log power cell came shown up view = subst (λ (l : ClientLog). HasWhy l came NoMemory) view (why_up log cell.o cell.past came NoMemory cell.replay up refl)
+pub lacks_why : {T : Type 0} (note : T → Note) (log : ClientLog) (power : Power T) (cell : IsCell note log power) (e : Input) (shown : ClientLog) → is_up log.opening cell.past ≡ true → log ≡ shown → HasWhy (rules shown.opening) shown.history (Meets e) NoMemory
+lacks_why note log power cell e shown up view = subst (λ (l : ClientLog). HasWhy (rules l.opening) l.history (Meets e) NoMemory) view (why_on (rules log.opening) log.history cell.past (Meets e) NoMemory cell.replay (off_where log.opening cell.past true up) refl)
 
-pub off_why : {T : Type 0} (note : T → Note) (log : ClientLog) (power : Power T) (cell : IsCell note log power) (came : Came) (shown : ClientLog) → is_up cell.o cell.past ≡ false → log ≡ shown → HasWhy shown came NodeOff
-off_why note log power cell came shown down view =
-    subst (λ (l : ClientLog). HasWhy l came NodeOff) view (record { o = cell.o; past = cell.past; replay = cell.replay; why = subst (λ b. IsWhyWhere b cell.o cell.past came NodeOff) (sym down) refl })
+pub off_why : {T : Type 0} (note : T → Note) (log : ClientLog) (power : Power T) (cell : IsCell note log power) (e : Input) (shown : ClientLog) → is_up log.opening cell.past ≡ false → log ≡ shown → HasWhy (rules shown.opening) shown.history (Meets e) NodeOff
+off_why note log power cell e shown down view = subst (λ (l : ClientLog). HasWhy (rules l.opening) l.history (Meets e) NodeOff) view (why_off (rules log.opening) log.history cell.past (Meets e) cell.replay (off_where log.opening cell.past false down))
 
 fault_why : {T : Type 0} (note : T → Note) (o : Opening) (past : List FrameEntry) (e : Input) (fault : Fault) (new : Power T) → (sort : FaultSort) → sort_of fault ≡ sort → Faults note o past e sort fault new → IsWhyBy (rules o) past (Meets e) sort fault
 fault_why note o past e fault new sorts.Memory is f = f.0
@@ -235,41 +234,37 @@ fault_why note o past e fault new sorts.Refusal is f = by_why (passes f.moves.af
     by_why : {after : List FrameEntry} → Passes (rules o) past (Meets e) fault [] after → (rules o).refusal past (Meets e) ≡ Some fault
     by_why p = by_sum p.why
 
-heard_why : {T : Type 0} (note : T → Note) (log : ClientLog) (power new : Power T) (cell : IsCell note log power) (e : Input) (step : Result Outs Fault) (came : Came) (first sent : ℕ) → is_up cell.o cell.past ≡ true → asked came ≡ Meets e → StepEnds note cell.o cell.past e new step
-    → IfErr (told_at first sent (outcome_of step).0) (HasWhy log came)
-heard_why note log power new cell e (Ok outs) came first sent up asks f = tt
-heard_why note log power new cell e (Err fault) came first sent up asks f =
-    why_up log cell.o cell.past came fault cell.replay up (subst (λ ask. IsWhy (rules cell.o) cell.past ask fault) (sym asks) (fault_why note cell.o cell.past e fault new (sort_of fault) refl f))
+heard_why : {T : Type 0} (note : T → Note) (log : ClientLog) (power new : Power T) (cell : IsCell note log power) (e : Input) (step : Result Outs Fault) (first sent : ℕ) → is_up log.opening cell.past ≡ true → StepEnds note log.opening cell.past e new step
+    → IfErr (told_at first sent (outcome_of step).0) (HasWhy (rules log.opening) log.history (Meets e))
+heard_why note log power new cell e (Ok outs) first sent up f = tt
+heard_why note log power new cell e (Err fault) first sent up f =
+    why_on (rules log.opening) log.history cell.past (Meets e) fault cell.replay (off_where log.opening cell.past true up) (fault_why note log.opening cell.past e fault new (sort_of fault) refl f)
 
-pub told_why : {T : Type 0} (note : T → Note) (log : ClientLog) (power new : Power T) (cell : IsCell note log power) (e : Input) (step : Result Outs Fault) (came : Came) (first sent : ℕ) (result : Result Told Fault) (shown : ClientLog) → is_up cell.o cell.past ≡ true → asked came ≡ Meets e → StepEnds note cell.o cell.past e new step
-    → result ≡ told_at first sent (outcome_of step).0 → log ≡ shown → IfErr result (HasWhy shown came)
-told_why note log power new cell e step came first sent result shown up asks f is view =
-    rw is (subst (λ (l : ClientLog). IfErr (told_at first sent (outcome_of step).0) (HasWhy l came)) view (heard_why note log power new cell e step came first sent up asks f))
+pub told_why : {T : Type 0} (note : T → Note) (log : ClientLog) (power new : Power T) (cell : IsCell note log power) (e : Input) (step : Result Outs Fault) (first sent : ℕ) (result : Result Told Fault) (shown : ClientLog) → is_up log.opening cell.past ≡ true → StepEnds note log.opening cell.past e new step → result ≡ told_at first sent (outcome_of step).0 → log ≡ shown
+    → IfErr result (HasWhy (rules shown.opening) shown.history (Meets e))
+told_why note log power new cell e step first sent result shown up f is view =
+    rw is (subst (λ (l : ClientLog). IfErr (told_at first sent (outcome_of step).0) (HasWhy (rules l.opening) l.history (Meets e))) view (heard_why note log power new cell e step first sent up f))
 
 -- ---- a delivery
 
-pub not_delivered : (position : ℕ) (frame : Option (List ℕ)) (net : Network) (history : List Logged) (fault : Fault) → is_left_out (Err fault) ≡ true → Delivers position frame net net history history (Err fault)
-not_delivered position None net history fault h = record { net = refl; history = refl }
-not_delivered position (Some bytes) net history fault h =
-    (Err fault, [], refl, subst (λ b. Hears b nodes.Client (came.Frame bytes) (Some position) (Err fault) [] net net history history) (sym h) (record { net = refl; history = refl }))
+-- Whether it is on, by a list that its history makes.
+abbrev pub IsUp : ClientLog → Bool → Type 0
+IsUp log up = (past : List FrameEntry) × IsReplay log past × (is_up log.opening past ≡ up)
 
-pub within : (net : Network) (position : ℕ) (it : Came × Frame) → Comes net position (Ok it) → position < length net.frames
-within net position it (bytes, is, came, frame) = slice_get_within net.frames position bytes is
-
-pub not_there : (net : Network) (position : ℕ) (history : List Logged) (fault : Fault) → Comes net position (Err fault) → Delivers position (slice_get net.frames position) net net history history (Err fault)
-not_there net position history NoFrame h = not_delivered position (slice_get net.frames position) net history NoFrame refl
-not_there net position history NoMemory h = not_delivered position (slice_get net.frames position) net history NoMemory refl
-not_there net position history _ h = absurd h
-
--- It is on, by a list that its history makes.
-abbrev pub IsUp : ClientLog → Type 0
-IsUp log = (o : Opening) × (past : List FrameEntry) × IsReplay log o past × (is_up o past ≡ true)
-
-pub is_there : {T : Type 0} (note : T → Note) (log : ClientLog) (shown : Option (Bor (Client T))) → IfSome shown (λ client. (o : Opening) × (past : List FrameEntry) × IsReplay log o past × StandsFor note client.now o past × (is_up o past ≡ true)) → is_some shown ≡ true → IsUp log
+pub is_there : {T : Type 0} (note : T → Note) (log : ClientLog) (shown : Option (Bor (Client T))) → IfSome shown (λ client. (past : List FrameEntry) × IsReplay log past × StandsFor note client.now log.opening past × (is_up log.opening past ≡ true)) → is_some shown ≡ true → IsUp log true
 is_there note log None h some = cc
-is_there note log (Some client) (o, past, replay, stands, up) some = (o, past, replay, up)
+is_there note log (Some client) (past, replay, stands, up) some = (past, replay, up)
 
-pub why_not : (log : ClientLog) (net : Network) (position : ℕ) (fault : Fault) → IsUp log → Comes net position (Err fault) → IsWhyNot log (slice_get net.frames position) fault
-why_not log net position NoFrame (o, past, replay, up) h = rw h (record { o = o; past = past; replay = replay; why = inr (refl, up) })
-why_not log net position NoMemory (o, past, replay, up) (bytes, is) = rw is (why_up log o past (came.Frame bytes) NoMemory replay up refl)
-why_not log net position _ up h = absurd h
+pub deliver_none : (log : ClientLog) (net : Network) (position : ℕ) (fault : Fault) → IsUp log true → Comes net position (Err fault) → IsWhyNot (rules log.opening) log.history (slice_get net.frames position) fault
+deliver_none log net position fault (past, replay, up) h = why_not_there (rules log.opening) log.history past net position fault replay (off_where log.opening past true up) h
+
+-- ---- the device's failures
+
+told_counts : (old new first sent : ℕ) (step : Result Outs Fault) → Counts false old new step → Counts false old new (told_at first sent (outcome_of step).0)
+told_counts old new first sent (Ok outs) h = tt
+told_counts old new first sent (Err fault) h = h
+
+-- A cell counts what its client does.
+pub hear_counts : (log : ClientLog) (old new first sent : ℕ) (step : Result Outs Fault) (result : Result Told Fault) → old ≡ log.failures → result ≡ told_at first sent (outcome_of step).0 → Counts false old new step → Counts false log.failures new result
+hear_counts log old new first sent step result same is h =
+    subst (λ (n : ℕ). Counts false n new result) same (subst (Counts false old new) (sym is) (told_counts old new first sent step h))

@@ -1,6 +1,6 @@
 -- A client that may have no power takes what comes as the rules have it.
 use Rattle.std.proofs.Common.{◌≡◌, refl, sym, ◌∙◌, ap, subst, inl, inr, ℕ, Bool, true, false, List, [], ◌∷◌, Option, Some, None, Result, Ok, Err}
-use Rattle.std.specs.Prelude.{if◌then◌else◌, not, is_some}
+use Rattle.std.specs.Prelude.{◌&&◌, ◌||◌, if◌then◌else◌, not, is_some}
 use Rattle.std.specs.Borrow.{Bor}
 use Rattle.std.specs.Option.{option_map, option_copied}
 use Rattle.fc_base.specs.declared.fault.Fault.{Fault}
@@ -31,7 +31,9 @@ use Rattle.client_core.specs.HeardRange.{SenseInRange, UnlessMemory, HearsInRang
 use Rattle.client_core.specs.FrameEnds as ends
 use Rattle.client_core.specs.FrameEnds.{StandsFor}
 use Rattle.node_history.specs.declared.answer.Answer.TheVariants.{Plain, Run, Attempt}
-use Rattle.node_history.specs.AtHub.{is_drop as says_drop}
+use Rattle.node_history.specs.declared.answer.Said.{Said}
+use Rattle.node_history.specs.AtHub.{is_save, is_drop as says_drop}
+use Rattle.node_history.specs.Failures.{is_load, CountsBy, Counts}
 use Rattle.node_history.specs.Rules.{Meets}
 use Rattle.node_history.specs.Replay.{Stops}
 use Rattle.node_history.specs.ServerRules.{left_by}
@@ -263,3 +265,37 @@ hidden note o past (Some client) s h = cc
 pub there : {T : Type 0} (note : T → Note) (o : Opening) (past : List FrameEntry) (shown : Option (Bor (Client T))) → Shows note o past (option_copied shown) → is_some shown ≡ true → is_up o past ≡ true
 there note o past None s h = cc
 there note o past (Some client) s h = s.1
+
+-- ---- the device's failures
+
+no_load : (load : Bool) (old new : ℕ) → new ≡ old → CountsBy (load && false) old new
+no_load true old new h = h
+no_load false old new h = h
+
+faults_count : {T : Type 0} (note : T → Note) (o : Opening) (past : List FrameEntry) (e : Input) (old client : Client T) (fault : Fault) (sort : FaultSort) → ends.Faults note o past e sort fault old client → CountsBy (is_save sort || (is_load fault && false)) (note old.core.notes).failures (note client.core.notes).failures
+faults_count note o past e old client fault sorts.Memory f = no_load (is_load fault) (note old.core.notes).failures (note client.core.notes).failures (ap (λ (n : Note). n.failures) f.same_note)
+faults_count note o past e old client fault sorts.Save f = f.cause
+faults_count note o past e old client fault sorts.Refusal f = no_load (is_load fault) (note old.core.notes).failures (note client.core.notes).failures (ap (λ (n : Note). n.failures) f.same_note)
+
+-- A call counts a failed save.
+pub sent_counts : {T : Type 0} (note : T → Note) (o : Opening) (past : List FrameEntry) (e : Input) (old client : Client T) (sent : Result (List (List ℕ)) Fault) (result : Result Outs Fault) → result ≡ outs_of sent → ends.Ends note o past e old client sent
+    → Counts false (note old.core.notes).failures (note client.core.notes).failures result
+sent_counts note o past e old client (Ok sent) result is a = subst (Counts false (note old.core.notes).failures (note client.core.notes).failures) (sym is) tt
+sent_counts note o past e old client (Err fault) result is f = subst (Counts false (note old.core.notes).failures (note client.core.notes).failures) (sym is) (faults_count note o past e old client fault (sort_of fault) f)
+
+pub run_counts : {T : Type 0} (note : T → Note) (o : Opening) (past : List FrameEntry) (e : Input) (used : ℕ) (old client : Client T) (given : Result (ℕ × List (List ℕ)) Fault) (result : Result Outs Fault) → result ≡ outs_of_run given → ends.Gives note o past e used old client given
+    → Counts false (note old.core.notes).failures (note client.core.notes).failures result
+run_counts note o past e used old client (Ok given) result is a = subst (Counts false (note old.core.notes).failures (note client.core.notes).failures) (sym is) tt
+run_counts note o past e used old client (Err fault) result is f = subst (Counts false (note old.core.notes).failures (note client.core.notes).failures) (sym is) (faults_count note o past e old client fault (sort_of fault) f)
+
+pub attempt_counts : {T : Type 0} (note : T → Note) (o : Opening) (past : List FrameEntry) (e : Input) (used : ℕ) (old client : Client T) (given : Result (ℕ × List (List ℕ)) Fault) (result : Result Outs Fault) → result ≡ outs_of_attempt given → ends.Gives note o past e used old client given
+    → Counts false (note old.core.notes).failures (note client.core.notes).failures result
+attempt_counts note o past e used old client (Ok given) result is a = subst (Counts false (note old.core.notes).failures (note client.core.notes).failures) (sym is) tt
+attempt_counts note o past e used old client (Err fault) result is f = subst (Counts false (note old.core.notes).failures (note client.core.notes).failures) (sym is) (faults_count note o past e old client fault (sort_of fault) f)
+
+-- A restart that fails counts why.
+pub unstarted_counts : (old new : Note) (fault : Fault) → NotOpened false old new fault → Counts {X = Said} true old.failures new.failures (Err fault)
+unstarted_counts old new LoadFault h = h.0
+unstarted_counts old new BadNote h = ap (λ (n : Note). n.failures) h.0
+unstarted_counts old new NoMemory h = ap (λ (n : Note). n.failures) h
+unstarted_counts old new _ h = absurd h

@@ -9,9 +9,10 @@ use Rattle.node_history.specs.declared.answer.Said.{Said}
 use Rattle.node_history.specs.declared.answer.Told.{Told}
 use Rattle.node_history.specs.declared.came.Came.{Came}
 use Rattle.node_history.specs.declared.logged.Logged.{Logged}
+use Rattle.node_history.specs.Failures.{Counts}
 use Rattle.client_cell.specs.declared.task.Task.{Task}
 use Rattle.client_cell.specs.Cells.{ClientLog}
-use Rattle.client_cell.specs.Tasks.{came_by}
+use Rattle.client_cell.specs.Tasks.{came_by, loads_note}
 
 -- What is told of an answer that sends nothing.
 abbrev pub told_by : Result Said Fault → Result Told Fault
@@ -22,9 +23,11 @@ told_by (Err fault) = Err fault
 abbrev pub logged_by : Came → Result Said Fault → Logged
 logged_by came answer = record { by = None; came = came; answer = answer; sent = [] }
 
--- The history has one entry more.
-abbrev pub with_entry : Logged → ClientLog → ClientLog
-with_entry entry cell = record { servers = cell.servers; is_blank = cell.is_blank; history = entry ∷ cell.history }
+-- The history has one entry more, and a fault of the device has been counted.
+pub record IsAdded (old : ClientLog) (task : Task) (answer : Result Said Fault) (new : ClientLog) : Type 0 where
+  pub opening : new.opening ≡ old.opening
+  pub history : new.history ≡ logged_by (came_by task) answer ∷ old.history
+  pub failures : Counts (loads_note task) old.failures new.failures answer
 
 -- Memory ran out.
 abbrev pub is_memory : FaultSort → Bool
@@ -40,7 +43,7 @@ lacks_memory (Err fault) = is_memory (sort_of fault)
 -- entered.
 abbrev pub Enters : Bool → ClientLog → Task → ClientLog → Result Said Fault → Type 0
 Enters true old task new answer = (new ≡ old) × (answer ≡ Err NoMemory)
-Enters false old task new answer = new ≡ with_entry (logged_by (came_by task) answer) old
+Enters false old task new answer = IsAdded old task answer new
 
 -- How a task ends: its answer is told, and sends nothing.
 abbrev pub Applies : ClientLog → Task → ClientLog → Result Told Fault → Type 0

@@ -1,8 +1,8 @@
 -- What the client's cell shows, and what is true of every one.
-use Rattle.std.specs.Prelude.{◌≡◌, ℕ, ◌≤◌, Bool, true, List}
+use Rattle.std.specs.Prelude.{ℕ, ◌≤◌, List}
 use Rattle.disk_model.specs.Notes.{Note}
+use Rattle.client_core.specs.declared.client.Client.{Client}
 use Rattle.client_core.specs.History.{Opening}
-use Rattle.client_core.specs.Note.{blank}
 use Rattle.client_core.specs.Ranges.{OpensInRange, CameInRange}
 use Rattle.client_core.specs.Hearing.{FrameEntry, packets_heard}
 use Rattle.node_history.specs.declared.logged.Logged.{Logged}
@@ -11,27 +11,27 @@ use Rattle.node_history.specs.ClientRules.{rules}
 use Rattle.client_cell.specs.declared.power.Power.{Power}
 use Rattle.client_cell.specs.Stands.{Stands}
 
--- The client under its lock: how many servers it drives, whether it was opened over a blank note, and its
--- history, newest first.
+-- The client under its lock: what it was opened with, its history, newest first, and how often the device of
+-- its note has failed.
 pub record ClientLog : Type 0 where
-  pub servers : ℕ
-  pub is_blank : Bool
+  pub opening : Opening
   pub history : List Logged
+  pub failures : ℕ
 
--- The history makes this list by the rules of a client that was opened so: with as many servers, and over
--- a blank note where it was blank.
-pub record IsReplay (cell : ClientLog) (o : Opening) (past : List FrameEntry) : Type 0 where
-  pub servers_are : o.servers ≡ cell.servers
-  pub is_blank : cell.is_blank ≡ true → o.noted ≡ blank
-  pub made : Makes (rules o) cell.history past
+-- With how many servers, and over what note, a client was opened that was then so.
+abbrev pub opening_of : {T : Type 0} → ℕ → Client T → Opening
+opening_of servers client = record { servers = servers; noted = client.core.noted }
+
+-- The history makes this list by the rules.
+abbrev pub IsReplay : ClientLog → List FrameEntry → Type 0
+IsReplay cell past = Makes (rules cell.opening) cell.history past
 
 -- What is true of every cell: the client stands for a list that its history makes, in which all is in its
 -- ranges.
 pub record IsCell {T : Type 0} (note : T → Note) (cell : ClientLog) (power : Power T) : Type 0 where
-  pub o : Opening
   pub past : List FrameEntry
-  pub replay : IsReplay cell o past
-  pub stands : Stands note o past power
-  pub some : 1 ≤ cell.servers
-  pub opens : OpensInRange o
-  pub ranges : CameInRange (packets_heard o past)
+  pub replay : IsReplay cell past
+  pub stands : Stands note cell.opening past power
+  pub some : 1 ≤ cell.opening.servers
+  pub opens : OpensInRange cell.opening
+  pub ranges : CameInRange (packets_heard cell.opening past)

@@ -1,3 +1,4 @@
+pub mod Asks
 pub mod Calls
 pub mod Cells
 pub mod Hearing

@@ -1,4 +1,5 @@
 -- What is asked of the client, as what comes to it.
+use Rattle.std.specs.Prelude.{Bool, true, false}
 use Rattle.client_core.specs.declared.input.Input.{Input}
 use Rattle.client_core.specs.declared.input.Input.TheVariants as inputs
 use Rattle.node_history.specs.declared.came.Came.{Came}
@@ -12,6 +13,11 @@ use Rattle.client_cell.specs.declared.request.Request.TheVariants.{Begin, Trigge
 abbrev pub came_by : Task → Came
 came_by Cut = came.Cut
 came_by Restart = came.Restart
+
+-- It loads the note.
+abbrev pub loads_note : Task → Bool
+loads_note Cut = false
+loads_note Restart = true
 
 -- What comes to the client by a request.
 abbrev pub came_of : Request → Came

@@ -1,14 +1,13 @@
 //! The client under its lock.
 
 ghost use Rattle.std.specs.Prelude.{◌≡◌, ◌≤◌, [], true, false, List, IfOk, IfErr, IfSome, IfNone, reverse};
-ghost use Rattle.client_core.specs.declared.noted.Noted.{Noted};
-ghost use Rattle.client_core.specs.History.{Opening};
 ghost use Rattle.client_core.specs.Hearing.{FrameEntry};
 ghost use Rattle.node_history.specs.ClientRules.{is_up};
 
 mod apply;
 mod enter;
 mod hear;
+mod node;
 
 use crate::power::Power;
 use client_core::Client;
@@ -17,12 +16,15 @@ use fc_base::Fault;
 use node_history::Logged;
 use std::alloc::Global;
 use std::marker::Model;
+use std::snapshot::Snapshot;
 
 /// The client, and the history of all that came to it. Its state is always the replay of that history.
 #[derive(Drop)]
 pub struct ClientCell<N: Notes + Drop> {
     alloc: Global,
     servers: u32,
+    /// The client as it was when it was opened. It has no bytes: only the proofs read it.
+    opened: Snapshot<Client<N>>,
     /// It was opened over a blank note.
     is_blank: bool,
     power: Power<N>,
@@ -30,14 +32,16 @@ pub struct ClientCell<N: Notes + Drop> {
 }
 
 impl<N: Notes + Drop> Model for ClientCell<N> {
-    ghost use Rattle.std.specs.Prelude.{reverse};
-    ghost use Rattle.client_cell.specs.Cells.{ClientLog, IsCell};
+    ghost use Rattle.std.specs.Prelude.{◌≡◌, reverse};
+    ghost use Rattle.client_core.specs.Note.{is_blank as says_nothing};
+    ghost use Rattle.client_cell.specs.Stands.{failures_of};
+    ghost use Rattle.client_cell.specs.Cells.{opening_of, ClientLog, IsCell};
 
     ghost Value = { ClientLog };
 
-    ghost view = { λ c. record { servers = c.servers; is_blank = c.is_blank; history = reverse c.history.items } };
+    ghost view = { λ c. record { opening = opening_of c.servers c.opened.value; history = reverse c.history.items; failures = failures_of N.note c.power } };
 
-    ghost invariant = { λ c. IsCell N.note (record { servers = c.servers; is_blank = c.is_blank; history = reverse c.history.items }) c.power };
+    ghost invariant = { λ c. IsCell N.note (record { opening = opening_of c.servers c.opened.value; history = reverse c.history.items; failures = failures_of N.note c.power }) c.power × (c.is_blank ≡ says_nothing c.opened.value.core.noted) };
 }
 
 impl<N: Notes + Drop> ClientCell<N> {
@@ -53,8 +57,8 @@ impl<N: Notes + Drop> ClientCell<N> {
     pub fn new(alloc: Global, servers: u32, notes: N) -> Result<ClientCell<N>, (N, Fault)>
         requires some { 1 ≤ servers }
         requires few { servers ≤ 8 }
-        ensures opened { IfOk result (λ cell. (said : Noted) × Says (N.note notes).bytes said
-            × (cell ≡ record { servers = servers; is_blank = is_blank said; history = [] })) }
+        ensures opened { IfOk result (λ cell. (cell.opening.servers ≡ servers) × Says (N.note notes).bytes cell.opening.noted
+            × (cell.history ≡ []) × (cell.failures ≡ (N.note notes).failures)) }
         ensures refused { IfErr result (λ back. NotOpened false (N.note notes) (N.note back.0) back.1) }
     {
         let client = Client::restart(alloc, servers, false, notes)?;
@@ -62,6 +66,7 @@ impl<N: Notes + Drop> ClientCell<N> {
         Ok(ClientCell {
             alloc,
             servers,
+            opened: Snapshot::of(&client),
             is_blank,
             power: Power::On(client),
             history: Vec::new(alloc),
@@ -70,14 +75,14 @@ impl<N: Notes + Drop> ClientCell<N> {
 
     /// How many servers it drives.
     pub fn servers(&self) -> u32
-        ensures { result ≡ self.now.servers }
+        ensures { result ≡ self.now.opening.servers }
     {
         self.servers
     }
 
     /// Whether it was opened over a blank note.
     pub fn is_blank(&self) -> bool
-        ensures { result ≡ self.now.is_blank }
+        ensures { result ≡ is_blank self.now.opening.noted }
     {
         self.is_blank
     }
@@ -85,17 +90,17 @@ impl<N: Notes + Drop> ClientCell<N> {
     /// All that came to it, the oldest first.
     pub fn history(&self) -> &[Logged]
         ensures entries { result.now ≡ reverse self.now.history }
-        ensures replay { (o : Opening) × (past : List FrameEntry) × IsReplay self.now o past }
+        ensures replay { (past : List FrameEntry) × IsReplay self.now past }
     {
         self.history.as_slice()
     }
 
     /// The client, where it is on: not off, and not down.
     pub fn client(&self) -> Option<&Client<N>>
-        ensures on { IfSome result (λ client. (o : Opening) × (past : List FrameEntry) × IsReplay self.now o past
-            × StandsFor N.note client.now o past × (is_up o past ≡ true)) }
-        ensures off { IfNone result ((o : Opening) × (past : List FrameEntry) × IsReplay self.now o past
-            × (is_up o past ≡ false)) }
+        ensures on { IfSome result (λ client. (past : List FrameEntry) × IsReplay self.now past
+            × StandsFor N.note client.now self.now.opening past × (is_up self.now.opening past ≡ true)) }
+        ensures off { IfNone result ((past : List FrameEntry) × IsReplay self.now past
+            × (is_up self.now.opening past ≡ false)) }
     {
         match self.power.client() {
             Some(client) => Some(client),

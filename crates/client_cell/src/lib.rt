@@ -2,11 +2,13 @@
 #![tactic(auto)]
 
 mod cell;
+mod command;
 mod outs;
 mod power;
 mod request;
 mod task;
 
 pub use cell::ClientCell;
+pub use command::Command;
 pub use request::Request;
 pub use task::Task;

@@ -1,12 +1,14 @@
 //! A client that has power, or none.
 
-ghost use Rattle.std.specs.Prelude.{◌≡◌, ◌≤◌, false, List, IfSome, IfNone};
+ghost use Rattle.std.specs.Prelude.{◌≡◌, ◌≤◌, true, false, List, IfSome, IfNone};
 ghost use Rattle.std.specs.Option.{option_copied};
 ghost use Rattle.client_core.specs.History.{Opening};
 ghost use Rattle.client_core.specs.Words.{noted};
 ghost use Rattle.client_core.specs.Hearing.{FrameEntry, packets_heard};
 ghost use Rattle.node_history.specs.ClientRules.{is_up};
+ghost use Rattle.node_history.specs.Failures.{Counts};
 ghost use Rattle.client_cell.specs.Stands.{plain};
+ghost use Rattle.client_cell.specs.Tasks.{loads_note};
 ghost use Rattle.client_cell.specs.declared.task.Task.TheVariants as tasks;
 
 mod step;
@@ -31,7 +33,7 @@ pub enum Power<N> {
 
 impl<N: Notes + Drop> Power<N> {
     ghost use Rattle.client_core.specs.Note.{Says};
-    ghost use Rattle.client_cell.specs.Stands.{Stands, Shows, TaskEnds};
+    ghost use Rattle.client_cell.specs.Stands.{failures_of, Stands, Shows, TaskEnds};
 
     /// The client, where it is on: it has power, and isn't down.
     pub(crate) fn client(&self) -> Option<&Client<N>>
@@ -53,8 +55,10 @@ impl<N: Notes + Drop> Power<N> {
     ) -> Result<Said, Fault>
         requires some { 1 ≤ servers }
         requires few { servers ≤ 8 }
-        ensures { (o : Opening) (past : List FrameEntry) → o.servers ≡ servers → Stands N.note o past self.old →
+        ensures ends { (o : Opening) (past : List FrameEntry) → o.servers ≡ servers → Stands N.note o past self.old →
             TaskEnds N.note o past task.now self.new result }
+        ensures count { (o : Opening) (past : List FrameEntry) → o.servers ≡ servers → Stands N.note o past self.old →
+            Counts (loads_note task.now) (failures_of N.note self.old) (failures_of N.note self.new) result }
     {
         match task {
             Task::Cut => self.cut(),
@@ -64,8 +68,10 @@ impl<N: Notes + Drop> Power<N> {
 
     /// Loses its power. `NodeOff`: it isn't on, and nothing changes.
     fn cut(&mut self) -> Result<Said, Fault>
-        ensures { (o : Opening) (past : List FrameEntry) → Stands N.note o past self.old →
+        ensures ends { (o : Opening) (past : List FrameEntry) → Stands N.note o past self.old →
             TaskEnds N.note o past tasks.Cut self.new result }
+        ensures count { (o : Opening) (past : List FrameEntry) → Stands N.note o past self.old →
+            Counts false (failures_of N.note self.old) (failures_of N.note self.new) result }
     {
         if self.client().is_none() {
             return Err(Fault::NodeOff);
@@ -85,8 +91,10 @@ impl<N: Notes + Drop> Power<N> {
     fn restart(&mut self, alloc: Global, servers: u32) -> Result<Said, Fault>
         requires some { 1 ≤ servers }
         requires few { servers ≤ 8 }
-        ensures { (o : Opening) (past : List FrameEntry) → o.servers ≡ servers → Stands N.note o past self.old →
+        ensures ends { (o : Opening) (past : List FrameEntry) → o.servers ≡ servers → Stands N.note o past self.old →
             TaskEnds N.note o past tasks.Restart self.new result }
+        ensures count { (o : Opening) (past : List FrameEntry) → o.servers ≡ servers → Stands N.note o past self.old →
+            Counts true (failures_of N.note self.old) (failures_of N.note self.new) result }
     {
         if !self.client().is_none() {
             return Err(Fault::NodeOn);
@@ -101,9 +109,10 @@ impl<N: Notes + Drop> Power<N> {
     fn start(&mut self, alloc: Global, servers: u32, notes: N) -> Result<Said, Fault>
         requires some { 1 ≤ servers }
         requires few { servers ≤ 8 }
-        ensures { (o : Opening) (past : List FrameEntry) → o.servers ≡ servers → is_up o past ≡ false →
+        ensures ends { (o : Opening) (past : List FrameEntry) → o.servers ≡ servers → is_up o past ≡ false →
             Says (N.note notes).bytes (noted o (packets_heard o past)) →
             TaskEnds N.note o past tasks.Restart self.new result }
+        ensures count { Counts true (N.note notes).failures (failures_of N.note self.new) result }
     {
         match Client::restart(alloc, servers, false, notes) {
             Ok(client) => {
@@ -119,6 +128,7 @@ impl<N: Notes + Drop> Power<N> {
 
     /// Its notes, which are lent until they are put back; `None` where they are lent already.
     fn lend(&mut self) -> Option<N>
+        ensures count { IfSome result (λ notes. (N.note notes).failures ≡ failures_of N.note self.old) }
         ensures some { (o : Opening) (past : List FrameEntry) → Stands N.note o past self.old →
             IfSome result (λ notes. Says (N.note notes).bytes (noted o (packets_heard o past))) }
         ensures none { (o : Opening) (past : List FrameEntry) → Stands N.note o past self.old → IfNone result ⊥ }

@@ -1,11 +1,11 @@
 //! What no clause shows: that each call answers where memory is there, and what it refuses.
 
-use client_cell::{ClientCell, Request, Task};
+use client_cell::{ClientCell, Command, Request, Task};
 use disk_model::{FaultNotes, MemNotes};
 use fc_base::{Fault, RunNo};
 use hub::Hub;
 use messages::{Act, Text};
-use node_history::{Answer, Came, Logged, Told};
+use node_history::{Answer, Came, Logged, Node, Told};
 use std::alloc::{AllocGlobal, Global};
 
 const DONE: Result<Told, Fault> = Ok(Told {
@@ -106,7 +106,7 @@ fn sent(answer: Answer, first: u64) -> Result<Told, Fault> {
 
 fn begin(cell: &mut ClientCell<FaultNotes>, hub: &mut Hub, alloc: Global) -> Result<Told, Fault> {
     match Text::copied(alloc, b"[a]") {
-        Ok(text) => cell.post(hub, Request::Begin(text)),
+        Ok(text) => cell.post(hub, Command::Request(Request::Begin(text))),
         Err(_) => Err(Fault::NoMemory),
     }
 }
@@ -127,7 +127,8 @@ fn goes_down(
     alloc: Global,
 ) -> Result<bool, Fault> {
     let lost = is(begin(cell, hub, alloc), Err(Fault::SaveFault))?;
-    let off = is(cell.post(hub, Request::Stop(RunNo(1))), Err(Fault::NodeOff))?;
+    let stop = Command::Request(Request::Stop(RunNo(1)));
+    let off = is(cell.post(hub, stop), Err(Fault::NodeOff))?;
     let unheard = is(cell.deliver(hub, 0), Err(Fault::NodeOff))?;
     let again = is(cell.apply(Task::Restart), DONE)?;
     let on = is(cell.apply(Task::Restart), Err(Fault::NodeOn))?;
@@ -144,9 +145,9 @@ fn goes_on(
     let none = is(cell.deliver(hub, 0), Err(Fault::NoFrame))?;
     let begun = is(begin(cell, hub, alloc), sent(Answer::Run(run), 0))?;
     let astray = is(cell.deliver(hub, 1), Err(Fault::Misdirected))?;
-    let asked = is(cell.tick(hub), sent(Answer::Plain, 2))?;
+    let asked = is(cell.post(hub, Command::Tick), sent(Answer::Plain, 2))?;
     let cut = is(cell.apply(Task::Cut), DONE)?;
-    let late = is(cell.tick(hub), Err(Fault::NodeOff))?;
+    let late = is(cell.post(hub, Command::Tick), Err(Fault::NodeOff))?;
     Ok(none && begun && astray && asked && cut && late)
 }
 

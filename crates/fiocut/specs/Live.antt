@@ -1,7 +1,6 @@
 -- What the program answers to the two texts of a live run.
 use Rattle.std.specs.Prelude.{◌≡◌, ◌⊎◌, ◌<◌, ◌≤◌, ℕ, Bool, true, false, nat_lt, if◌then◌else◌, List, [], ◌∷◌, ◌++◌, length, Option, Some, None, codes, decimal}
 use Rattle.std.specs.List.{flat_map, list_any}
-use Rattle.fc_base.specs.declared.fault.Fault.{Fault}
 use Rattle.fc_base.specs.declared.fault.Fault.TheVariants.{JobTooLong, JobNoMemory, WrongPhase, ReadError, Misfit}
 use Rattle.fc_base.specs.Fault.{number_of, name_of}
 use Rattle.fc_base.specs.declared.report.ReportParts.{ReportParts}
@@ -10,13 +9,14 @@ use Rattle.job_file.specs.declared.job.Phase.TheVariants.{Write, Read}
 use Rattle.job_file.specs.JobSet.{refusal_of, phase_in}
 use Rattle.net_script.specs.Printed.{report_words}
 use Rattle.net_script.specs.Runs.{Finishes}
+use Rattle.fleet_threads.specs.declared.fault.FleetFault.{FleetFault}
 use Rattle.fleet.specs.declared.ends.End.{End}
 use Rattle.fleet.specs.Heard.{AreOfOneRun}
 use Rattle.fiocut.specs.declared.live.FleetSize.{FleetSize}
 use Rattle.fiocut.specs.declared.live.TheConstants.{MAX_INPUT}
 use Rattle.fiocut.specs.declared.refusal.Refusal.{Refusal}
 use Rattle.fiocut.specs.Lines.{spaced, ended}
-use Rattle.fiocut.specs.Refusal.{plain, refusal_line, RefusesText}
+use Rattle.fiocut.specs.Refusal.{plain, of_fleet, refusal_line, RefusesText}
 use Rattle.fiocut.specs.Texts.{AreTexts}
 
 -- There are 1 to 8 servers, of 1 to 16 workers each.
@@ -82,12 +82,12 @@ IsUnfit phase text refusal =
     ⊎ ((IsOfOther phase text × (refusal ≡ plain WrongPhase)) ⊎ (refusal ≡ plain JobNoMemory))
 
 -- Why two texts don't come to a report: the writing text isn't taken; or, where it is sound, the reading
--- text isn't; or, where both are, the run ended with a fault.
+-- text isn't; or, where both are, the fleet that ran them ended with a fault.
 abbrev pub IsRefusedFor : List ℕ → List ℕ → Refusal → Type 0
 IsRefusedFor writing reading refusal =
     IsUnfit Write writing refusal
     ⊎ (IsSound Write writing × (IsUnfit Read reading refusal
-    ⊎ (IsSound Read reading × ((fault : Fault) × (refusal ≡ plain fault)))))
+    ⊎ (IsSound Read reading × ((fault : FleetFault) × (refusal ≡ of_fleet fault)))))
 
 -- Why an input comes to no reports: it couldn't be read, or there was no memory to read it; or it is too
 -- long; or else one of its texts, or their run, is refused.

@@ -8,6 +8,8 @@ use Rattle.job_file.specs.Fault.{fault_of, line_or_job_of}
 use Rattle.job_file.specs.JobSet.{refusal_of}
 use Rattle.bounded_input.specs.declared.input.InputFault.{InputFault as Unread}
 use Rattle.bounded_input.specs.declared.input.InputFault.TheVariants as unread
+use Rattle.fleet_threads.specs.declared.fault.FleetFault.{FleetFault}
+use Rattle.fleet_threads.specs.declared.fault.FleetFault.TheVariants as fleet
 use Rattle.fiocut.specs.declared.refusal.Refusal.{Refusal}
 use Rattle.fiocut.specs.Lines.{spaced}
 
@@ -19,6 +21,11 @@ plain row = record { fault = row; line_or_job = None }
 abbrev pub of_input : Unread → Refusal
 of_input unread.ReadError = plain base.ReadError
 of_input unread.NoMemory = plain base.JobNoMemory
+
+-- A fault of a fleet is the one by which it was refused; one that is astray is told as nodes that are unlike.
+abbrev pub of_fleet : FleetFault → Refusal
+of_fleet (fleet.Refused fault) = plain fault
+of_fleet _ = plain base.Unlike
 
 -- A fault of a job file, with its line or its job.
 abbrev pub refusal_for : JobFault → Refusal

@@ -15,15 +15,14 @@ use bounded_input::read_input;
 use ends::{status_of, write_ends};
 use fc_base::{Fault, MAX_TEXT};
 pub use file_trigger::FileTrigger;
-use fleet::{End, Trigger, run_fleet};
 use job_file::{Phase, parse};
+use node_threads::{End, OpenGate, Trigger, run_fleet};
 use std::alloc::Global;
 use std::io;
 use std::io::{Read, Write};
 use std::sync::Wait;
 use std::thread::Threads;
 use texts::texts_of;
-use workers::OpenGate;
 
 /// The exit status where no report has faults.
 const PRINTED: u8 = 0;

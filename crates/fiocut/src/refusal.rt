@@ -9,6 +9,7 @@ ghost use Rattle.fiocut.specs.Refusal.{refusal_line};
 use bounded_input::InputFault;
 use fc_base::Fault;
 use job_file::JobFault;
+use node_threads::FleetFault;
 use std::alloc::AllocError;
 use std::io::Write;
 use std::{fmt, io};
@@ -73,6 +74,19 @@ impl From<JobFault> for Refusal {
         Refusal {
             fault: found.fault(),
             line_or_job: again.line_or_job(),
+        }
+    }
+}
+
+impl From<FleetFault> for Refusal {
+    ghost use Rattle.fiocut.specs.Refusal.{of_fleet};
+
+    ghost from_gives = { λ fault refusal. refusal ≡ of_fleet fault };
+
+    fn from(fault: FleetFault) -> Refusal {
+        match fault {
+            FleetFault::Refused(fault) => Refusal::from(fault),
+            _ => Refusal::from(Fault::Unlike),
         }
     }
 }

@@ -1,7 +1,6 @@
 -- What the client of a fleet has heard of its checks.
 use Rattle.std.specs.Prelude.{◌≡◌, ℕ, List}
 use Rattle.client_core.specs.declared.received.Received.{Received}
-use Rattle.client_core.specs.History.{Opening}
 use Rattle.client_core.specs.Hearing.{FrameEntry, packets_heard}
 use Rattle.client_core.specs.Life.{life}
 use Rattle.client_core.specs.Reports.{reports}
@@ -15,11 +14,10 @@ use Rattle.fleet.specs.OneRun.{IsOneRun}
 
 -- By its history, a client has begun this attempt last, and these reports have come.
 pub record HasHeard (client : ClientLog) (attempt : ℕ) (came : List Received) : Type 0 where
-  pub o : Opening
   pub past : List FrameEntry
-  pub replay : IsReplay client o past
-  pub attempt_is : attempt ≡ (noted o (looked (packets_heard o past))).attempts
-  pub reports_are : came ≡ reports (life o (looked (packets_heard o past)))
+  pub replay : IsReplay client past
+  pub attempt_is : attempt ≡ (noted client.opening (looked (packets_heard client.opening past))).attempts
+  pub reports_are : came ≡ reports (life client.opening (looked (packets_heard client.opening past)))
 
 -- The ends of so many servers are what the client that is left has heard in its last attempt.
 pub record AreHeard (left : Left) (servers : ℕ) (ends : List End) : Type 0 where

@@ -3,28 +3,28 @@
 ghost use Rattle.std.specs.Prelude.{◌≡◌, IsTrue, Some, OnOk, slice_get};
 ghost use Rattle.fleet.specs.Asked.{IsAsked, is_frame, asked, errand};
 
-use fc_base::{Fault, RunNo};
-use fleet_threads::Client;
+use fc_base::RunNo;
+use fleet_threads::{Client, FleetFault};
 use messages::Act;
-use node_threads::{Came, Logged};
+use node_history::{Came, Logged};
 
 /// How many requests an errand has.
 const REQUESTS: usize = 3;
 
 /// Looks that a client was asked for this and nothing more: to begin the run by the text `write`, to
-/// trigger it with a cut, and to verify it by the text `read`. `NoSuchRun`: it was asked for something else.
+/// trigger it with a cut, and to verify it by the text `read`. `OtherErrand`: it was asked for something else.
 pub(crate) fn look_for_errand(
     client: &Client,
     run: RunNo,
     write: &[u8],
     read: &[u8],
-) -> Result<(), Fault>
+) -> Result<(), FleetFault>
     ensures { OnOk result (IsAsked client.now write.now read.now) }
 {
     if is_errand(client.history(), run, write, read) {
         Ok(())
     } else {
-        Err(Fault::NoSuchRun)
+        Err(FleetFault::OtherErrand)
     }
 }
 

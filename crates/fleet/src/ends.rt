@@ -12,8 +12,8 @@ ghost use Rattle.fleet.specs.Heard.{AreHeard};
 use crate::left::Left;
 use client_core::Received;
 use disk_model::MemNotes;
-use fc_base::{Attempt, CheckReport, Fault, JobNo, MAX_JOBS, ServerNo};
-use fleet_threads::{Server, add};
+use fc_base::{Attempt, CheckReport, JobNo, MAX_JOBS, ServerNo};
+use fleet_threads::{FleetFault, Server, add};
 use server_core::Progress;
 use std::alloc::Global;
 
@@ -29,13 +29,13 @@ pub struct End {
 /// The ends of the last attempt that the client has begun, by server and job, from so many servers which
 /// are left with it: of each job of a server's open check the report that the client has heard.
 ///
-/// `NodeOff`: a node is off. `NotInFlight`: a server has no open check of that attempt, or one whose job has
-/// no report and wasn't refused. `NoServer`: a server isn't there. `NoMemory`.
-pub(crate) fn ends_of(alloc: Global, left: &Left, servers: u32) -> Result<Vec<End>, Fault>
+/// `NoMemory`; that a node is off, a server isn't there or has no open check of that attempt, or a job of it
+/// neither a report nor a refusal, is astray.
+pub(crate) fn ends_of(alloc: Global, left: &Left, servers: u32) -> Result<Vec<End>, FleetFault>
     ensures { IfOk result (λ ends. AreHeard left.now servers ends.items) }
 {
     let Some(core) = left.client.client() else {
-        return Err(Fault::NodeOff);
+        return Err(FleetFault::NodeOff);
     };
     let (attempt, reports) = (Attempt(core.attempts_used()), core.reports());
     let mut ends = Vec::new(alloc);
@@ -52,11 +52,11 @@ fn add_ends(
     attempt: Attempt,
     number: u32,
     ends: &mut Vec<End>,
-) -> Result<(), Fault>
+) -> Result<(), FleetFault>
     ensures { OnOk result (AddsEnds servers.now reports.now attempt number ends.old.items ends.new.items) }
 {
     let Some(server) = servers.get(number as usize) else {
-        return Err(Fault::NoServer);
+        return Err(FleetFault::NoServer);
     };
     let jobs = jobs_in(server, attempt)?;
     for job in 0..jobs {
@@ -67,15 +67,15 @@ fn add_ends(
 }
 
 /// How many jobs the open check of a server has, which is of this attempt.
-fn jobs_in(server: &Server, attempt: Attempt) -> Result<u32, Fault>
+fn jobs_in(server: &Server, attempt: Attempt) -> Result<u32, FleetFault>
     ensures { IfOk result (λ jobs. Checks attempt jobs server.now) }
 {
     let Some(core) = server.server() else {
-        return Err(Fault::NodeOff);
+        return Err(FleetFault::NodeOff);
     };
     let jobs = count_of(core);
     if jobs == 0 || core.status().attempt != attempt {
-        return Err(Fault::NotInFlight);
+        return Err(FleetFault::NoCheck(server.me()));
     }
     Ok(jobs)
 }
@@ -100,7 +100,7 @@ fn end_of(
     attempt: Attempt,
     number: ServerNo,
     job: JobNo,
-) -> Result<End, Fault>
+) -> Result<End, FleetFault>
     ensures place { IfOk result (λ end. place_of end ≡ (number, job)) }
     ensures end { IfOk result (IsEndAt server.now reports.now attempt) }
 {
@@ -131,14 +131,14 @@ fn report_of(
 }
 
 /// Looks that a server has refused the state that came for a job.
-fn look_for_refusal(server: &Server, job: JobNo) -> Result<(), Fault>
+fn look_for_refusal(server: &Server, job: JobNo) -> Result<(), FleetFault>
     ensures { OnOk result (Refuses job server.now) }
 {
     let Some(core) = server.server() else {
-        return Err(Fault::NodeOff);
+        return Err(FleetFault::NodeOff);
     };
     match core.check_progress(job) {
         Some(Progress::Refused(_)) => Ok(()),
-        _ => Err(Fault::NotInFlight),
+        _ => Err(FleetFault::NoEnd(server.me(), job)),
     }
 }

@@ -9,7 +9,7 @@ use crate::asked::look_for_errand;
 use crate::ends::{End, ends_of};
 use crate::left::{Left, take_apart};
 use fc_base::{Fault, MAX_TEXT, RunNo};
-use fleet_threads::{Opened, Plan, Ran, Trigger, open, run_threads};
+use fleet_threads::{FleetFault, Opened, Plan, Ran, Trigger, open, run_threads};
 use std::alloc::Global;
 use std::sync::Wait;
 use std::thread::Threads;
@@ -24,8 +24,8 @@ use workers::Gate;
 /// `JobTooLong`: a text is too long. A server that refuses a request ends the run with that fault, as
 /// `BadJobs` for a text that isn't a job file of its phase. So does a worker or the post that ends with
 /// one, as `TurnsSpent` of a gate that doesn't open. `NoMemory` is want of memory, or of a thread.
-/// `Unlike`: the nodes' histories and the network's journal aren't one list of events. `NoSuchRun`: the
-/// client was asked for something else than this run. Neither ever comes of what is here.
+/// `Unlike`, the nodes' histories and the network's journal aren't one list of events, and what is
+/// astray never come of what is here.
 pub fn run_fleet<R: Threads + Wait + Sync, T: Trigger, G: Gate + Sync>(
     rt: &R,
     alloc: Global,
@@ -35,7 +35,7 @@ pub fn run_fleet<R: Threads + Wait + Sync, T: Trigger, G: Gate + Sync>(
     read: &[u8],
     trigger: &mut T,
     gate: &G,
-) -> Result<Vec<End>, Fault>
+) -> Result<Vec<End>, FleetFault>
     requires servers { (1 ≤ servers) × (servers ≤ 8) }
     requires workers { (1 ≤ workers) × (workers ≤ 16) }
     ensures { IfOk result (λ ends. AreOfOneRun servers write.now read.now ends.items) }
@@ -54,7 +54,7 @@ pub fn run_and_leave<R: Threads + Wait + Sync, T: Trigger, G: Gate + Sync>(
     read: &[u8],
     trigger: &mut T,
     gate: &G,
-) -> Result<(Vec<End>, Left), Fault>
+) -> Result<(Vec<End>, Left), FleetFault>
     requires servers { (1 ≤ servers) × (servers ≤ 8) }
     requires workers { (1 ≤ workers) × (workers ≤ 16) }
     ensures heard { IfOk result (λ ran. AreHeard ran.1 servers ran.0.items) }
@@ -62,7 +62,7 @@ pub fn run_and_leave<R: Threads + Wait + Sync, T: Trigger, G: Gate + Sync>(
     ensures asked { IfOk result (λ ran. IsAsked ran.1.client write.now read.now) }
 {
     if write.len() > MAX_TEXT || read.len() > MAX_TEXT {
-        return Err(Fault::JobTooLong);
+        return Err(FleetFault::Refused(Fault::JobTooLong));
     }
     let plan = Plan {
         workers,
@@ -83,7 +83,7 @@ fn run_to_the_end<R: Threads + Wait + Sync, T: Trigger, G: Gate + Sync>(
     plan: Plan<'_, '_>,
     trigger: &mut T,
     gate: &G,
-) -> Result<(Left, Result<RunNo, Fault>), Fault>
+) -> Result<(Left, Result<RunNo, FleetFault>), FleetFault>
     requires servers { (1 ≤ servers) × (servers ≤ 8) }
     requires workers { (1 ≤ plan.workers) × (plan.workers ≤ 16) }
     ensures { IfOk result (λ ran. IsOneRun ran.0) }
@@ -110,7 +110,7 @@ fn ends_of_run(
     servers: u32,
     write: &[u8],
     read: &[u8],
-) -> Result<Vec<End>, Fault>
+) -> Result<Vec<End>, FleetFault>
     ensures heard { IfOk result (λ ends. AreHeard left.now servers ends.items) }
     ensures asked { IfOk result (λ _. IsAsked left.now.client write.now read.now) }
 {

@@ -6,7 +6,8 @@ ghost use Rattle.fleet.specs.OneRun.{IsOneRun};
 use assembly::{Assembled, Place, assemble};
 use fc_base::Fault;
 use fleet_threads::{Client, Hand, Nodes, Server, add};
-use node_threads::{Hub, Seat};
+use hub::Hub;
+use server_cell::Seat;
 use std::alloc::Global;
 
 /// What is left of a fleet that has ended: the network, the nodes with their histories, the seats of all

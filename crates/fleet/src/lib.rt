@@ -17,6 +17,6 @@ mod left;
 pub use assembly::Place;
 pub use ends::End;
 pub use fleet::{run_and_leave, run_fleet};
-pub use fleet_threads::{Client, Server, Trigger, run_post};
+pub use fleet_threads::{Client, FleetFault, Server, Trigger, run_post};
 pub use left::Left;
 pub use workers::{Gate, OpenGate};

@@ -6,7 +6,7 @@ mod replay;
 mod story;
 
 use fc_base::Fault;
-use fleet::{End, Left, OpenGate, run_and_leave};
+use fleet::{End, FleetFault, Left, OpenGate, run_and_leave};
 use gates::{Always, Behind, Shut, Write};
 use replay::sends_the_same;
 use std::alloc::Global;
@@ -126,18 +126,19 @@ fn texts_that_are_refused(rt: HostRuntime) {
     ];
     for (texts, wanted) in rows {
         let fault = fault_of(&rt, rt.alloc(), &Story { texts, ..STORED }, &OpenGate);
-        assert!(rt; fault == Some(wanted), "{fault:?}");
+        assert!(rt; fault == Some(FleetFault::Refused(wanted)), "{fault:?}");
     }
 }
 
 #[test]
 fn a_gate_that_stays_shut(rt: HostRuntime) {
     let fault = fault_of(&rt, rt.alloc(), &STORED, &Shut);
-    assert!(rt; fault == Some(Fault::TurnsSpent), "{fault:?}");
+    let wanted = FleetFault::Refused(Fault::TurnsSpent);
+    assert!(rt; fault == Some(wanted), "{fault:?}");
 }
 
 /// What is left of the stored run.
-fn ran<R: Threads + Wait + Sync>(rt: &R, alloc: Global) -> Result<Left, Fault> {
+fn ran<R: Threads + Wait + Sync>(rt: &R, alloc: Global) -> Result<Left, FleetFault> {
     let mut trigger = Always(false);
     let (_ends, left) = run_and_leave(rt, alloc, 2, 2, WRITING, READING, &mut trigger, &OpenGate)?;
     Ok(left)
@@ -172,7 +173,7 @@ fn applied(left: &Left) -> u64 {
 #[test]
 fn what_is_left(rt: HostRuntime) {
     let ran = match ran(&rt, rt.alloc()) {
-        Err(Fault::NoMemory) => ran(&rt, rt.alloc()),
+        Err(FleetFault::Refused(Fault::NoMemory)) => ran(&rt, rt.alloc()),
         ran => ran,
     };
     match ran {
@@ -187,16 +188,16 @@ fn what_is_left(rt: HostRuntime) {
 }
 
 /// Whether a world sends the frames of the stored run.
-fn is_a_world<R: Threads + Wait + Sync>(rt: &R, alloc: Global) -> Result<bool, Fault> {
+fn is_a_world<R: Threads + Wait + Sync>(rt: &R, alloc: Global) -> Result<bool, FleetFault> {
     let left = ran(rt, alloc)?;
-    sends_the_same(alloc, &left)
+    Ok(sends_the_same(alloc, &left)?)
 }
 
 /// The events of both servers and of the client, one after the other in a world.
 #[test]
 fn one_list_of_events(rt: HostRuntime) {
     let same = match is_a_world(&rt, rt.alloc()) {
-        Err(Fault::NoMemory) => is_a_world(&rt, rt.alloc()),
+        Err(FleetFault::Refused(Fault::NoMemory)) => is_a_world(&rt, rt.alloc()),
         same => same,
     };
     assert!(rt; same == Ok(true), "{same:?}");

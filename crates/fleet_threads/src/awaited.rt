@@ -1,10 +1,11 @@
 //! What the calling thread waits for.
 
+use crate::fault::FleetFault;
 use crate::flags::Flags;
 use crate::nodes::{Client, Nodes, Server};
 use client_core::{Outcome, RequestKind};
 use disk_model::MemNotes;
-use fc_base::{Attempt, Fault, JobNo, MAX_JOBS, RunNo, ServerNo};
+use fc_base::{Attempt, JobNo, MAX_JOBS, RunNo, ServerNo};
 use messages::Reason;
 use server_core::{Progress, Stage};
 use std::sync::Wait;
@@ -30,10 +31,10 @@ pub(crate) fn wait_for<R: Wait>(
     nodes: &Nodes,
     flags: &Flags,
     awaited: &Awaited,
-) -> Result<(), Fault> {
+) -> Result<(), FleetFault> {
     for _ in rt.forever() {
         if let Some(fault) = flags.fault(rt) {
-            return Err(fault);
+            return Err(FleetFault::Refused(fault));
         }
         if has_come(rt, nodes, awaited)? {
             return Ok(());
@@ -44,7 +45,7 @@ pub(crate) fn wait_for<R: Wait>(
 }
 
 /// Whether that has come at every server. One lock is taken at a time.
-fn has_come<R: Wait>(rt: &R, nodes: &Nodes, awaited: &Awaited) -> Result<bool, Fault> {
+fn has_come<R: Wait>(rt: &R, nodes: &Nodes, awaited: &Awaited) -> Result<bool, FleetFault> {
     let is_told = is_told(&nodes.client.lock(rt), awaited)?;
     for server in &nodes.servers {
         if !is_so(&server.lock(rt), awaited) {
@@ -81,9 +82,9 @@ fn wants(server: &server_core::Server<MemNotes>) -> bool {
 
 /// Whether the client has heard what it has to hear of it. A server's refusal is the answer, but for a
 /// state that doesn't fit, which ends the check of its job.
-fn is_told(client: &Client, awaited: &Awaited) -> Result<bool, Fault> {
+fn is_told(client: &Client, awaited: &Awaited) -> Result<bool, FleetFault> {
     let Some(core) = client.client() else {
-        return Err(Fault::NodeOff);
+        return Err(FleetFault::NodeOff);
     };
     let (kind, number) = awaited.request();
     let mut told = true;
@@ -91,7 +92,7 @@ fn is_told(client: &Client, awaited: &Awaited) -> Result<bool, Fault> {
         let outcome = core.outcome(kind, number, ServerNo(server));
         match outcome {
             Outcome::Refused(Reason::Misfit) => {}
-            Outcome::Refused(reason) => return Err(reason.fault()),
+            Outcome::Refused(reason) => return Err(FleetFault::Refused(reason.fault())),
             outcome => told = told && outcome.has_ended(),
         }
     }

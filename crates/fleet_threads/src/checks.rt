@@ -3,11 +3,13 @@
 ghost use Rattle.std.specs.Prelude.{◌≤◌};
 
 use crate::cut::done;
+use crate::fault::FleetFault;
 use crate::nodes::{Nodes, Server, add};
 use disk_model::MemDisk;
 use fc_base::{Attempt, CheckReport, Fault, JobNo, JobRecord, Key, MAX_JOBS};
-use node_threads::{Node, Report};
+use node_history::Node;
 use parallel_checks::{Task, check_jobs};
+use server_cell::Report;
 use server_core::Progress;
 use std::alloc::Global;
 use std::mem;
@@ -35,7 +37,7 @@ pub(crate) fn check_all<R: Threads + Wait + Sync>(
     nodes: &Nodes,
     attempt: Attempt,
     workers: u32,
-) -> Result<(), Fault>
+) -> Result<(), FleetFault>
     requires some { 1 ≤ workers }
     requires few { workers ≤ 16 }
 {
@@ -97,7 +99,7 @@ fn tasks_of<R: Wait>(
     alloc: Global,
     nodes: &Nodes,
     dues: &[Due],
-) -> Result<Vec<Task<MemDisk>>, Fault> {
+) -> Result<Vec<Task<MemDisk>>, FleetFault> {
     let mut tasks = Vec::new(alloc);
     for due in dues {
         let state = if due.has_state {
@@ -118,30 +120,35 @@ fn tasks_of<R: Wait>(
 }
 
 /// The state by which a job is checked.
-fn state_of<R: Wait>(rt: &R, nodes: &Nodes, due: &Due) -> Result<VerifyState, Fault> {
+fn state_of<R: Wait>(rt: &R, nodes: &Nodes, due: &Due) -> Result<VerifyState, FleetFault> {
     match nodes.servers.get(due.place) {
         Some(server) => state_at(&server.lock(rt), due.key.job),
-        None => Err(Fault::NoServer),
+        None => Err(FleetFault::NoServer),
     }
 }
 
-fn state_at(server: &Server, job: JobNo) -> Result<VerifyState, Fault> {
+fn state_at(server: &Server, job: JobNo) -> Result<VerifyState, FleetFault> {
     let Some(core) = server.server() else {
-        return Err(Fault::NodeOff);
+        return Err(FleetFault::NodeOff);
     };
     match core.check_progress(job) {
         Some(Progress::With(state)) => Ok(state.copy()),
-        _ => Err(Fault::NotInFlight),
+        _ => Err(FleetFault::NoState(server.me(), job)),
     }
 }
 
 /// Takes the file of a job, and leaves a blank one, which is off.
-fn take_file<R: Wait>(rt: &R, alloc: Global, nodes: &Nodes, due: &Due) -> Result<MemDisk, Fault> {
+fn take_file<R: Wait>(
+    rt: &R,
+    alloc: Global,
+    nodes: &Nodes,
+    due: &Due,
+) -> Result<MemDisk, FleetFault> {
     let Some(files) = nodes.files.get(due.place) else {
-        return Err(Fault::NoServer);
+        return Err(FleetFault::NoServer);
     };
     let Some(file) = files.get(due.key.job.0 as usize) else {
-        return Err(Fault::NoWrite);
+        return Err(FleetFault::NoServer);
     };
     let mut file = file.lock(rt);
     Ok(mem::replace(&mut *file, MemDisk::new(alloc)))
@@ -154,9 +161,9 @@ fn tell<R: Wait>(
     attempt: Attempt,
     due: &Due,
     report: CheckReport,
-) -> Result<(), Fault> {
+) -> Result<(), FleetFault> {
     let Some(server) = nodes.servers.get(due.place) else {
-        return Err(Fault::NoServer);
+        return Err(FleetFault::NoServer);
     };
     let report = Report {
         boot: due.boot,
@@ -166,5 +173,6 @@ fn tell<R: Wait>(
     };
     let mut server = server.lock(rt);
     let mut hub = nodes.hub.lock(rt);
-    done(server.post(&mut hub, report))
+    done(server.post(&mut hub, report))?;
+    Ok(())
 }

@@ -2,7 +2,7 @@
 
 use crate::flags::Flags;
 use crate::nodes::Nodes;
-use node_threads::Seat;
+use server_cell::Seat;
 use std::alloc::Global;
 use std::sync::Wait;
 use std::thread;

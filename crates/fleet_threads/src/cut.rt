@@ -4,9 +4,13 @@ ghost use Rattle.std.specs.Prelude.{◌≡◌, length};
 
 use disk_model::{MemDisk, Notes};
 use fc_base::Fault;
-use node_threads::{Seat, ServerCell, ServerTask, Told};
+use node_history::Told;
+use server_cell::{Seat, ServerCell, Task};
 use std::sync::{Mutex, Wait};
 use std::thread;
+
+/// How often a server is cut off for which there is no memory.
+const CUTS: u32 = 1_000_000;
 
 /// Cuts a server off and starts it again: its files are off from before its cut until it has started,
 /// and then take writes of the new boot alone.
@@ -39,16 +43,16 @@ pub(crate) fn cut_all<R: Wait, N: Notes + Drop>(
     }
 }
 
-/// Cuts a server off, unless it is off already. Where there is no memory, it tries again.
+/// Cuts a server off, unless it is off already. Where there is no memory for that, it tries again, at most
+/// [`CUTS`] times: a server that then is still on refuses its workers' requests for want of memory, too.
 fn cut_off<R: Wait, N: Notes + Drop>(rt: &R, server: &Mutex<ServerCell<N>>, seat: &mut Seat) {
-    for _ in rt.forever() {
-        let cut = done(server.lock(rt).apply(seat, ServerTask::Cut));
+    for _ in 0..CUTS {
+        let cut = done(server.lock(rt).apply(seat, Task::Cut));
         if cut != Err(Fault::NoMemory) {
             return;
         }
         thread::yield_now();
     }
-    unreachable!()
 }
 
 fn turn_off<R: Wait>(rt: &R, files: &[Mutex<MemDisk>]) {
@@ -70,8 +74,8 @@ fn start_again<R: Wait, N: Notes + Drop>(
     seat: &mut Seat,
 ) -> Result<u64, Fault> {
     let mut cell = server.lock(rt);
-    done(cell.apply(seat, ServerTask::Cut))?;
-    done(cell.apply(seat, ServerTask::Restart))?;
+    done(cell.apply(seat, Task::Cut))?;
+    done(cell.apply(seat, Task::Restart))?;
     match cell.server() {
         Some(server) => Ok(server.status().boot),
         None => Err(Fault::NodeOff),

@@ -4,12 +4,14 @@ ghost use Rattle.std.specs.Prelude.{◌≤◌};
 
 use crate::awaited::{Awaited, wait_for};
 use crate::checks::check_all;
+use crate::fault::FleetFault;
 use crate::flags::Flags;
 use crate::nodes::Nodes;
 use crate::trigger::Trigger;
+use client_cell::{Command, Request};
 use fc_base::{Attempt, Fault, MAX_TEXT, RunNo};
 use messages::{Act, Text};
-use node_threads::{Answer, ClientCommand, Node, Request};
+use node_history::{Answer, Node};
 use std::alloc::Global;
 use std::sync::Wait;
 use std::thread;
@@ -35,7 +37,7 @@ pub(crate) fn run<R: Threads + Wait + Sync, T: Trigger>(
     flags: &Flags,
     plan: Plan<'_, '_>,
     trigger: &mut T,
-) -> Result<RunNo, Fault>
+) -> Result<RunNo, FleetFault>
     requires some { 1 ≤ plan.workers }
     requires few { plan.workers ≤ 16 }
 {
@@ -71,10 +73,10 @@ fn wait_for_trigger<R: Wait, T: Trigger>(
     rt: &R,
     flags: &Flags,
     trigger: &mut T,
-) -> Result<(), Fault> {
+) -> Result<(), FleetFault> {
     for _ in rt.forever() {
         if let Some(fault) = flags.fault(rt) {
-            return Err(fault);
+            return Err(FleetFault::Refused(fault));
         }
         if trigger.pulled() || flags.has_worked() {
             return Ok(());
@@ -85,10 +87,10 @@ fn wait_for_trigger<R: Wait, T: Trigger>(
 }
 
 /// Has the client begin a run.
-fn begin<R: Wait>(rt: &R, nodes: &Nodes, text: Text) -> Result<RunNo, Fault> {
+fn begin<R: Wait>(rt: &R, nodes: &Nodes, text: Text) -> Result<RunNo, FleetFault> {
     match ask(rt, nodes, Request::Begin(text))? {
         Answer::Run(run) => Ok(run),
-        _ => Err(Fault::NoSuchRun),
+        _ => Err(FleetFault::OtherAnswer),
     }
 }
 
@@ -99,10 +101,10 @@ fn cut_all<R: Wait>(rt: &R, nodes: &Nodes, run: RunNo) -> Result<(), Fault> {
 }
 
 /// Has the client verify the run.
-fn verify<R: Wait>(rt: &R, nodes: &Nodes, run: RunNo, text: Text) -> Result<Attempt, Fault> {
+fn verify<R: Wait>(rt: &R, nodes: &Nodes, run: RunNo, text: Text) -> Result<Attempt, FleetFault> {
     match ask(rt, nodes, Request::Verify(run, text))? {
         Answer::Attempt(attempt) => Ok(attempt),
-        _ => Err(Fault::NoSuchRun),
+        _ => Err(FleetFault::OtherAnswer),
     }
 }
 
@@ -110,7 +112,7 @@ fn verify<R: Wait>(rt: &R, nodes: &Nodes, run: RunNo, text: Text) -> Result<Atte
 fn ask<R: Wait>(rt: &R, nodes: &Nodes, request: Request) -> Result<Answer, Fault> {
     let mut client = nodes.client.lock(rt);
     let mut hub = nodes.hub.lock(rt);
-    match Node::post(&mut *client, &mut hub, ClientCommand::Request(request)) {
+    match client.post(&mut hub, Command::Request(request)) {
         Ok(told) => Ok(told.answer),
         Err(fault) => Err(fault),
     }

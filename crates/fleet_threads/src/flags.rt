@@ -1,5 +1,6 @@
 //! What the threads of a fleet tell each other.
 
+use crate::fault::FleetFault;
 use fc_base::{Fault, RunNo};
 use std::sync::atomic::{AtomicBool, Ordering};
 use std::sync::{Mutex, Wait};
@@ -10,6 +11,8 @@ pub(crate) struct Flags {
     start: AtomicBool,
     stop: AtomicBool,
     has_worked: AtomicBool,
+    /// The errand has failed, and no thread had before.
+    is_given_up: AtomicBool,
     fault: Mutex<Option<Fault>>,
 }
 
@@ -20,6 +23,7 @@ impl Flags {
             start: AtomicBool::new(false),
             stop: AtomicBool::new(false),
             has_worked: AtomicBool::new(false),
+            is_given_up: AtomicBool::new(false),
             fault: Mutex::new(None),
         }
     }
@@ -44,17 +48,24 @@ impl Flags {
     }
 
     /// The errand has ended so, and with it the fleet.
-    pub fn stop_after<R: Wait>(&self, rt: &R, ended: &Result<RunNo, Fault>) {
-        if let Err(fault) = ended {
-            self.fail(rt, *fault);
+    pub fn stop_after<R: Wait>(&self, rt: &R, ended: &Result<RunNo, FleetFault>) {
+        if ended.is_err() && self.fault(rt).is_none() {
+            self.is_given_up.store(true, Ordering::SeqCst);
         }
         self.stop();
     }
 
-    /// How the errand has ended, or the first fault with which a thread has.
-    pub fn or_fault<R: Wait>(&self, rt: &R, ended: Result<RunNo, Fault>) -> Result<RunNo, Fault> {
+    /// How the errand has ended; or, unless it failed first, the fault with which a thread has.
+    pub fn or_fault<R: Wait>(
+        &self,
+        rt: &R,
+        ended: Result<RunNo, FleetFault>,
+    ) -> Result<RunNo, FleetFault> {
+        if self.has_given_up() {
+            return ended;
+        }
         match self.fault(rt) {
-            Some(fault) => Err(fault),
+            Some(fault) => Err(FleetFault::Refused(fault)),
             None => ended,
         }
     }
@@ -71,6 +82,15 @@ impl Flags {
 
     pub fn has_worked(&self) -> bool {
         self.has_worked.load(Ordering::SeqCst)
+    }
+
+    fn has_given_up(&self) -> bool {
+        self.is_given_up.load(Ordering::SeqCst)
+    }
+
+    /// The errand has failed, or a thread.
+    pub fn has_failed<R: Wait>(&self, rt: &R) -> bool {
+        self.has_given_up() || self.fault(rt).is_some()
     }
 
     /// A thread has ended with this fault. The first is kept.

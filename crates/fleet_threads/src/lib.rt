@@ -17,6 +17,7 @@ mod checks;
 mod crew;
 mod cut;
 mod errand;
+mod fault;
 mod flags;
 mod nodes;
 mod post;
@@ -25,6 +26,7 @@ mod trigger;
 
 pub use crew::Hand;
 pub use errand::Plan;
+pub use fault::FleetFault;
 pub use nodes::{Client, Nodes, Opened, Server, add, open};
 pub use post::run_post;
 pub use threads::{Ran, run_threads};

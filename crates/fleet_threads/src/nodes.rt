@@ -3,9 +3,12 @@
 ghost use Rattle.std.specs.Prelude.{◌≡◌, ◌<◌, ◌≤◌, ◌+◌, ◌++◌, ◌∷◌, [], length, IfOk, OnOk};
 
 use crate::crew::Hand;
+use crate::fault::FleetFault;
+use client_cell::ClientCell;
 use disk_model::{MemDisk, MemNotes};
 use fc_base::{Fault, MAX_JOBS, ServerNo};
-use node_threads::{ClientCell, Hub, Seat, ServerCell};
+use hub::Hub;
+use server_cell::{Seat, ServerCell};
 use std::alloc::Global;
 use std::sync::Mutex;
 
@@ -36,7 +39,7 @@ pub struct Opened {
 
 /// A client and so many servers, of so many workers each, over blank notes and blank files: 1 to 8 servers,
 /// 1 to 16 workers. `NoMemory` is want of memory.
-pub fn open(alloc: Global, servers: u32, workers: u32) -> Result<Opened, Fault>
+pub fn open(alloc: Global, servers: u32, workers: u32) -> Result<Opened, FleetFault>
     requires some { 1 ≤ servers }
     requires few { servers ≤ 8 }
     requires crew { workers ≤ 16 }
@@ -72,7 +75,7 @@ impl Opened {
     }
 
     /// Opens one server more, of this number.
-    fn add_server(&mut self, alloc: Global, number: u32, workers: u32) -> Result<(), Fault>
+    fn add_server(&mut self, alloc: Global, number: u32, workers: u32) -> Result<(), FleetFault>
         requires server { number < 8 }
         requires crew { workers ≤ 16 }
         ensures servers { OnOk result (length self.new.nodes.servers.items ≡ length self.old.nodes.servers.items + 1) }
@@ -81,19 +84,21 @@ impl Opened {
     {
         let (cell, seats) = open_server(alloc, number, workers)?;
         deal(number as usize, seats, &mut self.posts, &mut self.hands)?;
-        self.nodes.add_server(alloc, cell)
+        self.nodes.add_server(alloc, cell)?;
+        Ok(())
     }
 }
 
 impl Nodes {
     /// Adds a server, with its files.
-    fn add_server(&mut self, alloc: Global, cell: Server) -> Result<(), Fault>
+    fn add_server(&mut self, alloc: Global, cell: Server) -> Result<(), FleetFault>
         ensures servers { OnOk result (length self.new.servers.items ≡ length self.old.servers.items + 1) }
         ensures files { OnOk result (length self.new.files.items ≡ length self.old.files.items + 1) }
     {
         let files = blank_files(alloc, boot_of(&cell)?)?;
         add(&mut self.files, files)?;
-        add(&mut self.servers, Mutex::new(cell))
+        add(&mut self.servers, Mutex::new(cell))?;
+        Ok(())
     }
 }
 
@@ -121,10 +126,10 @@ fn open_server(alloc: Global, number: u32, workers: u32) -> Result<(Server, Vec<
 }
 
 /// The boot of a server that is on.
-pub(crate) fn boot_of(server: &Server) -> Result<u64, Fault> {
+fn boot_of(server: &Server) -> Result<u64, FleetFault> {
     match server.server() {
         Some(server) => Ok(server.status().boot),
-        None => Err(Fault::NodeOff),
+        None => Err(FleetFault::NodeOff),
     }
 }
 
@@ -146,11 +151,11 @@ fn deal(
     mut seats: Vec<Seat>,
     posts: &mut Vec<Seat>,
     hands: &mut Vec<Hand>,
-) -> Result<(), Fault>
+) -> Result<(), FleetFault>
     ensures { OnOk result (length posts.new.items ≡ length posts.old.items + 1) }
 {
     let Some(post) = seats.pop() else {
-        return Err(Fault::WrongSeat);
+        return Err(FleetFault::NoServer);
     };
     add(posts, post)?;
     for seat in seats {

@@ -6,12 +6,13 @@ use crate::crew::{Hand, work_all};
 use crate::cut::cut_all;
 use crate::errand;
 use crate::errand::Plan;
+use crate::fault::FleetFault;
 use crate::flags::Flags;
 use crate::nodes::Nodes;
 use crate::post::run_post;
 use crate::trigger::Trigger;
 use fc_base::{Fault, RunNo};
-use node_threads::Seat;
+use server_cell::Seat;
 use std::alloc::Global;
 use std::sync::Wait;
 use std::thread;
@@ -24,7 +25,7 @@ const SEED: u64 = 1;
 /// How the threads of a fleet have ended, by the first fault of one; and the seats, which come back.
 #[derive(Drop)]
 pub struct Ran {
-    pub ended: Result<RunNo, Fault>,
+    pub ended: Result<RunNo, FleetFault>,
     pub posts: Vec<Seat>,
     pub hands: Vec<Hand>,
 }
@@ -101,7 +102,7 @@ fn deliver_all<R: Wait>(rt: &R, nodes: &Nodes, mut posts: Vec<Seat>, flags: &Fla
     if let Err(fault) = done {
         flags.fail(rt, fault);
     }
-    if flags.fault(rt).is_some() {
+    if flags.has_failed(rt) {
         cut_all(rt, &nodes.servers, &mut posts, &nodes.files);
     }
     posts

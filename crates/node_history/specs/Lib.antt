@@ -1,7 +1,8 @@
 pub mod AtHub
+pub mod Calls
 pub mod ClientRules
+pub mod Failures
 pub mod Replay
 pub mod Rules
-pub mod Seated
 pub mod Seats
 pub mod ServerRules

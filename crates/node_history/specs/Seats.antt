@@ -1,17 +1,7 @@
 -- The seats in a history. Histories are newest first.
-use Rattle.std.specs.Prelude.{◌≡◌, ℕ, ◌==◌, ◌+◌, if◌then◌else◌, List, [], ◌∷◌, map, Option, None, Some}
-use Rattle.fc_base.specs.Counted.{numbers_below}
+use Rattle.std.specs.Prelude.{◌≡◌, ℕ, ◌==◌, ◌+◌, if◌then◌else◌, List, [], ◌∷◌, Option, None, Some}
 use Rattle.node_history.specs.declared.logged.Turn.{Turn}
 use Rattle.node_history.specs.declared.logged.Logged.{Logged}
-use Rattle.node_history.specs.Seated.{Seated}
-
--- A seat that has applied nothing.
-abbrev pub new_seat : ℕ → ℕ → Seated
-new_seat server number = record { server = server; number = number; applied = 0; last = None }
-
--- So many seats of a server, numbered from 0 on.
-abbrev pub new_seats : ℕ → ℕ → List Seated
-new_seats server count = map (new_seat server) (numbers_below count)
 
 -- How many events of this seat there are, with this turn.
 abbrev pub with_turn : ℕ → Option Turn → ℕ → ℕ

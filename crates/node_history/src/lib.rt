@@ -6,10 +6,10 @@ mod answer;
 mod at_hub;
 mod came;
 mod logged;
-mod seat;
+mod node;
 
 pub use answer::{Answer, Said, Told};
 pub use at_hub::{frame_came, is_left_out, told_at};
 pub use came::{Came, FrameBytes};
 pub use logged::{Logged, Turn};
-pub use seat::Seat;
+pub use node::Node;

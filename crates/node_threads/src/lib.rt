@@ -1,27 +1,31 @@
-//! Nodes under locks: the network, each server and the client, each of them to be put under a lock of its
-//! own. Whatever threads do with them, each node's state is the replay of the history that it keeps, and
-//! the hub's journal says who took and sent which frame.
+//! Running nodes: the crate to import for whoever runs a client and its servers by threads. The network,
+//! each server and the client stand under locks of their own; whatever threads do with them, each node's
+//! state is the replay of the history that it keeps, and the hub's journal says who took and sent which
+//! frame.
 //!
 //! ```text
-//! let hub = Mutex::new(Hub::new(alloc));
-//! let (cell, seats) = ServerCell::new(alloc, ServerNo(0), notes, workers)?;
-//! let told = cell.apply(&mut seat, ServerTask::Issue(job))?;   // under the server's lock alone
-//! if let Some(position) = hub.pick(cell.number(), word) {
-//!     cell.deliver(&mut hub, position)?;                       // under the server's lock, then the hub's
+//! let mut hub = Hub::new(alloc);
+//! let mut client = ClientCell::new(alloc, 1, notes)?;
+//! let (mut server, mut seats) = ServerCell::new(alloc, ServerNo(0), notes, workers)?;
+//! let told = post(&mut hub, &mut client, ClientCommand::Request(Request::Begin(text)))?;
+//! if let Some(position) = pick(&hub, server.number(), word) {
+//!     deliver(&mut hub, &mut server, position)?;
 //! }
+//! let told = server.apply(&mut seats[0], ServerTask::Issue(job))?;
 //! ```
 //!
-//! Begin with `node`: what holds of both kinds of node. Nothing here waits.
+//! `run_worker`, `run_post` and `check_jobs` are the work of a thread each, `run_fleet` is all of it, and
+//! `assemble` makes one list of events of what threads have left.
 #![tactic(auto)]
 
-mod client;
-mod command;
-mod node;
-mod server;
+mod calls;
 
-pub use client_cell::{ClientCell, Request, Task as ClientTask};
-pub use command::{ClientCommand, Report};
+pub use assembly::{AssembleFault, Assembled, Place, assemble};
+pub use calls::{deliver, pick, post};
+pub use client_cell::{ClientCell, Command as ClientCommand, Request, Task as ClientTask};
+pub use fleet::{End, FleetFault, Left, Trigger, run_and_leave, run_fleet, run_post};
 pub use hub::{Hub, Line};
-pub use node::Node;
-pub use node_history::{Answer, Came, FrameBytes, Logged, Said, Seat, Told, Turn};
-pub use server_cell::{ServerCell, Task as ServerTask};
+pub use node_history::{Answer, Came, FrameBytes, Logged, Node, Said, Told, Turn};
+pub use parallel_checks::{Task as CheckTask, check_jobs};
+pub use server_cell::{Report, Seat, ServerCell, Task as ServerTask};
+pub use workers::{Gate, OpenGate, TURNS, run_worker};

@@ -15,9 +15,11 @@ use Rattle.server_core.specs.FrameEnds.{StandsFor, Restarts}
 use Rattle.node_history.specs.declared.logged.Logged.{Logged}
 use Rattle.node_history.specs.declared.came.Came.{Came}
 use Rattle.node_history.specs.declared.answer.Said.{Said}
+use Rattle.node_history.specs.declared.answer.Told.{Told}
 use Rattle.node_history.specs.declared.logged.Turn.{Turn}
-use Rattle.node_history.specs.Seated.{Seated}
+use Rattle.server_cell.specs.Seated.{Seated}
 use Rattle.node_history.specs.ServerRules.{asked}
+use Rattle.node_history.specs.Failures.{Counts}
 use Rattle.node_history.specs.Seats.{times, with_turn}
 use Rattle.fc_base.specs.declared.fault.Fault.{Fault}
 use Rattle.fc_base.specs.declared.fault.Fault.TheVariants.{NoMemory}
@@ -27,10 +29,10 @@ use Rattle.fc_base.specs.Fault.{sort_of}
 use Rattle.server_cell.specs.declared.power.Power.{Power}
 use Rattle.server_cell.specs.declared.power.Power.TheVariants.{On}
 use Rattle.server_cell.specs.declared.task.Task.{Task}
-use Rattle.server_cell.specs.Tasks.{came_by}
+use Rattle.server_cell.specs.Tasks.{came_by, loads_note}
 use Rattle.server_cell.specs.Stands.{Stands, Moves, Fails, TaskEnds}
-use Rattle.server_cell.specs.Calls.{is_right, is_memory, lacks_memory, logged_by, entry_of, Applies, AppliesBy}
-use Rattle.server_cell.specs.Cells.{ServerLog, IsReplay, IsCell, AreCounted}
+use Rattle.server_cell.specs.Calls.{is_right, is_memory, lacks_memory, logged_by, entry_of, told_by, Enters, Applies, AppliesBy}
+use Rattle.server_cell.specs.Cells.{ServerLog, Replays, IsCell, AreCounted}
 
 -- The opening with these numbers.
 abbrev pub opening_with : ℕ → ℕ → ℕ → Opening
@@ -100,6 +102,20 @@ pub count_fits : (applied : List ℕ) (items : List Logged) (seat : ℕ) → Are
 count_fits applied items seat counted few small =
     omega (arith, counted.each seat few, times_few seat (reverse items), length-reverse items, small)
 
+-- Memory ran out.
+pub is_lack : {T : Type 0} (note : T → Note) (o : Opening) (past : List FrameEntry) (task : Task) (new : Power T) (answer : Result Said Fault) → lacks_memory answer ≡ true → TaskEnds note o past task new answer → answer ≡ Err NoMemory
+is_lack note o past task new (Ok said) h e = cc
+is_lack note o past task new (Err fault) h e = ap (λ (f : Fault). Err f) (by_sort (sort_of fault) h e)
+  where
+    by_sort : (sort : FaultSort) → is_memory sort ≡ true → Fails note o past (asked (came_by task)) sort fault new → fault ≡ NoMemory
+    by_sort sorts.Memory h e = e.0
+    by_sort sorts.Save h e = cc
+    by_sort sorts.Refusal h e = cc
+
+-- Then no device has failed.
+pub lack_counts : (loads : Bool) (old new : ℕ) (answer : Result Said Fault) → answer ≡ Err NoMemory → Counts loads old new answer → new ≡ old
+lack_counts loads old new answer is counted = subst (Counts loads old new) is counted
+
 -- For want of memory nothing changes.
 pub lacks : (old new : ServerLog) (seat : Seated) (task : Task) → is_right old seat ≡ true → new ≡ old → Applies old seat task new seat (Err NoMemory)
 lacks old new seat task right same =
@@ -149,9 +165,9 @@ counted_once_more applied history seat came answer few counted = record {
 }
 
 -- What was asked is entered.
-pub entered : {T : Type 0} (note : T → Note) (o : Opening) (power new : Power T) (history : List Logged) (applied : List ℕ) (seat : Seated) (task : Task) (answer : Result Said Fault) → (cell : IsCell note o power history applied) → is_right (record { opening = o; history = history }) seat ≡ true → seat.number < 17
+pub entered : {T : Type 0} (note : T → Note) (o : Opening) (power new : Power T) (history : List Logged) (applied : List ℕ) (failures : ℕ) (seat : Seated) (task : Task) (answer : Result Said Fault) → (cell : IsCell note o power history applied) → is_right (record { opening = o; history = history; failures = failures }) seat ≡ true → seat.number < 17
     → Moves note o cell.past (asked (came_by task)) answer [] new → IsCell note o new (entry_of seat task answer ∷ history) (slice_set applied seat.number (slice_index_or applied seat.number 0 + 1))
-entered note o power new history applied seat task answer cell right few m = record {
+entered note o power new history applied failures seat task answer cell right few m = record {
   past = m.after;
   replay = record {
     numbered = (cell.replay.numbered, eqb-true seat.applied (times seat.number history) (and_parts (seat.server == o.me) (seat.applied == times seat.number history) right).1);
@@ -163,9 +179,9 @@ entered note o power new history applied seat task answer cell right few m = rec
   counted = counted_once_more applied history seat (came_by task) answer few cell.counted;
 }
 
-pub replayed : {T : Type 0} (note : T → Note) (o : Opening) {power new : Power T} {history : List Logged} {applied : List ℕ} (cell : IsCell note o power history applied) (seat : Seated) (task : Task) (answer : Result Said Fault) → is_right (record { opening = o; history = history }) seat ≡ true
-    → Moves note o cell.past (asked (came_by task)) answer [] new → (past : List FrameEntry) × IsReplay (record { opening = o; history = entry_of seat task answer ∷ history }) past
-replayed note o {history = history} cell seat task answer right m = (
+pub replayed : {T : Type 0} (note : T → Note) (o : Opening) {power new : Power T} {history : List Logged} {applied : List ℕ} (cell : IsCell note o power history applied) (failures : ℕ) (seat : Seated) (task : Task) (answer : Result Said Fault) → is_right (record { opening = o; history = history; failures = failures }) seat ≡ true
+    → Moves note o cell.past (asked (came_by task)) answer [] new → (past : List FrameEntry) × Replays o (entry_of seat task answer ∷ history) past
+replayed note o {history = history} cell failures seat task answer right m = (
   m.after,
   record {
     numbered = (cell.replay.numbered, eqb-true seat.applied (times seat.number history) (and_parts (seat.server == o.me) (seat.applied == times seat.number history) right).1);
@@ -176,6 +192,13 @@ replayed note o {history = history} cell seat task answer right m = (
 pub seat_fits : (items : List Logged) (cell : ServerLog) (seat : Seated) → is_right cell seat ≡ true → cell.history ≡ reverse items → length items + 1 < 2 ^ 64 → seat.applied + 1 < 2 ^ 64
 seat_fits items cell seat right is small =
     omega (arith, eqb-true seat.applied (times seat.number cell.history) (and_parts (seat.server == cell.opening.me) (seat.applied == times seat.number cell.history) right).1, times_few seat.number cell.history, ap length is, length-reverse items, small)
+
+-- So a call ends that was entered.
+pub applied : (old : ServerLog) (seat : Seated) (task : Task) (answer : Result Said Fault) (new : ServerLog) (after : Seated) (result : Result Told Fault) → is_right old seat ≡ true → lacks_memory answer ≡ false → new.opening ≡ old.opening → new.history ≡ entry_of seat task answer ∷ old.history
+    → Counts (loads_note task) old.failures new.failures answer → after ≡ record { server = seat.server; number = seat.number; applied = seat.applied + 1; last = Some answer } → result ≡ told_by answer → Applies old seat task new after result
+applied old seat task answer new after result right kept opening history counted seat_is told =
+    subst (λ b. AppliesBy b old seat task new after result) (sym right)
+    (answer, told, subst (λ b. Enters b old seat task new after answer) (sym kept) (record { opening = opening; history = history; failures = counted; seat_is = seat_is }))
 
 -- The newest entry is the last of the items.
 pub pushed : (items : List Logged) (l : Logged) → reverse (items ++ l ∷ []) ≡ l ∷ reverse items

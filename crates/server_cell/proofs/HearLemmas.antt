@@ -1,6 +1,6 @@
 -- What comes to a server at the hub is entered, or left out.
-use Rattle.std.proofs.Common.{◌≡◌, refl, sym, ◌∙◌, ap, subst, inl, inr, ℕ, ◌≤◌, arith, true, false, List, [], ◌∷◌, ◌++◌, length, Option, Some, None, Result, Ok, Err}
-use Rattle.std.specs.Prelude.{◌⊎◌, map, not, ◌||◌, All, OnOk, is_ok}
+use Rattle.std.proofs.Common.{◌≡◌, refl, sym, ◌∙◌, ap, subst, inl, inr, ℕ, ◌≤◌, arith, Bool, true, false, List, [], ◌∷◌, ◌++◌, length, Option, Some, None, Result, Ok, Err}
+use Rattle.std.specs.Prelude.{◌⊎◌, map, not, ◌||◌, if◌then◌else◌, slice_get, All, IfErr, OnOk, is_ok}
 use Rattle.std.specs.List.{AllByRecursion, flat_map, sum_by}
 use Rattle.std.proofs.lemmas.List.{map-append}
 use Rattle.std.proofs.lemmas.List.Elements.{All-nil, All-append}
@@ -39,11 +39,14 @@ use Rattle.node_history.specs.declared.logged.Logged.{Logged}
 use Rattle.node_history.specs.Rules.{Ask, Meets}
 use Rattle.node_history.specs.Replay.{Ends, Stops}
 use Rattle.node_history.specs.ServerRules.{asked, rules, is_up}
-use Rattle.node_history.specs.AtHub.{is_save, is_drop, is_left_out, told_at, Hears, Posts, IsWhyBy}
+use Rattle.node_history.specs.AtHub.{is_save, is_drop, is_left_out, told_at, Hears, Posts, IsWhyBy, Comes}
+use Rattle.node_history.specs.Failures.{Counts}
 use Rattle.server_cell.specs.declared.power.Power.{Power}
 use Rattle.server_cell.specs.Stands.{Stands, Moves, Faults, StepEnds}
-use Rattle.server_cell.specs.Cells.{ServerLog, IsReplay, IsCell}
-use Rattle.server_cell.specs.Hearing.{outcome_of, Explains, ExplainsBy, ExplainsHeard}
+use Rattle.server_cell.specs.Cells.{ServerLog, IsReplay, Replays, IsCell}
+use Rattle.server_cell.specs.Hearing.{outcome_of}
+use Rattle.node_history.specs.Calls.{says_off, is_off, HasWhy}
+use Rattle.node_history.proofs.CallLemmas.{why_off, why_on}
 
 -- ---- nothing happens
 
@@ -147,7 +150,7 @@ entered note o new came e answer sent cell asks m = record {
   counted = record { long = cell.counted.long; each = cell.counted.each };
 }
 
-pub replayed : {T : Type 0} (note : T → Note) (o : Opening) (power : Power T) (history : List Logged) (applied : List ℕ) → IsCell note o power history applied → (past : List FrameEntry) × IsReplay (record { opening = o; history = history }) past
+pub replayed : {T : Type 0} (note : T → Note) (o : Opening) (power : Power T) (history : List Logged) (applied : List ℕ) → IsCell note o power history applied → (past : List FrameEntry) × Replays o history past
 replayed note o power history applied cell = (cell.past, cell.replay)
 
 -- ---- how it ends
@@ -175,15 +178,26 @@ journal_by me me' at at' taken n old mid new m a j h = h ∙ ap (λ k. line_of (
 
 -- ---- why it isn't done
 
--- A server that isn't on says so, and nothing changes.
-pub off_posts : (node : Node) (came : Came) (taken : Option ℕ) (old new : Network) (before after : List Logged) → new ≡ old → after ≡ before → Posts node came taken old new before after (Err NodeOff)
-off_posts node came taken old new before after net same = (Err NodeOff, [], refl, record { net = net; history = same })
+off_where : (o : Opening) (past : List FrameEntry) (up : Bool) → is_up o past ≡ up → is_off (rules o) past ≡ not up
+off_where o past up h = ap (λ b. says_off (if b then None else Some NodeOff)) h ∙ by_up up
+  where
+    by_up : (b : Bool) → says_off (if b then None else Some NodeOff) ≡ not b
+    by_up true = refl
+    by_up false = refl
 
-pub explained_off : (o : Opening) (past : List FrameEntry) (ask : Option (Ask Input)) → is_up o past ≡ false → ExplainsHeard o past ask (Err NodeOff)
-explained_off o past ask off = subst (λ b. ExplainsBy b o past ask (Err NodeOff)) (sym off) refl
+-- By its history a server is on, or isn't.
+abbrev pub IsUp : ServerLog → Bool → Type 0
+IsUp log up = (past : List FrameEntry) × IsReplay log past × (is_up log.opening past ≡ up)
 
-pub explained_lack : (o : Opening) (past : List FrameEntry) (ask : Ask Input) → is_up o past ≡ true → ExplainsHeard o past (Some ask) (Err NoMemory)
-explained_lack o past ask on = subst (λ b. ExplainsBy b o past (Some ask) (Err NoMemory)) (sym on) refl
+pub post_off : (log : ServerLog) (ask : Ask Input) → IsUp log false → HasWhy (rules log.opening) log.history ask NodeOff
+post_off log ask (past, replay, up) = why_off (rules log.opening) log.history past ask replay.made (off_where log.opening past false up)
+
+pub post_lack : (log : ServerLog) (ask : Ask Input) → IsUp log true → HasWhy (rules log.opening) log.history ask NoMemory
+post_lack log ask (past, replay, up) = why_on (rules log.opening) log.history past ask NoMemory replay.made (off_where log.opening past true up) refl
+
+-- The cell shows its history.
+pub is_shown : {T : Type 0} (note : T → Note) (o : Opening) (power : Power T) (history : List Logged) (applied : List ℕ) (cell : IsCell note o power history applied) (failures : ℕ) (log : ServerLog) (up : Bool) → record { opening = o; history = history; failures = failures } ≡ log → is_up o cell.past ≡ up → IsUp log up
+is_shown note o power history applied cell failures log up same h = subst (λ (l : ServerLog). IsUp l up) same (cell.past, cell.replay, h)
 
 refused_for : {T : Type 0} (note : T → Note) (o : Opening) (past : List FrameEntry) (e : Input) (fault : Fault) (new : Power T) → (sort : FaultSort) → sort_of fault ≡ sort → Faults note o past e sort fault new → IsWhyBy (rules o) past (Meets e) sort fault
 refused_for note o past e fault new sorts.Memory is f = f.0
@@ -198,14 +212,25 @@ refused_for note o past e fault new sorts.Refusal is f =
     by_stop : Stops (rules o) past (Meets e) sorts.Refusal fault [] f.moves.after → (rules o).refusal past (Meets e) ≡ Some fault
     by_stop p = by_why p.why
 
-pub explained : {T : Type 0} (note : T → Note) (o : Opening) (past : List FrameEntry) (e : Input) (new : Power T) (step : Result Outs Fault) (first sent : ℕ) → is_up o past ≡ true → StepEnds note o past e new step → ExplainsHeard o past (Some (Meets e)) (told_at first sent (outcome_of step).0)
-explained note o past e new step first sent on f = subst (λ b. ExplainsBy b o past (Some (Meets e)) (told_at first sent (outcome_of step).0)) (sym on) (by_step step f)
+-- What a step is refused for is by the rules.
+pub step_why : {T : Type 0} (note : T → Note) (o : Opening) (power : Power T) (history : List Logged) (applied : List ℕ) (cell : IsCell note o power history applied) (failures : ℕ) (log : ServerLog) (e : Input) (new : Power T) (step : Result Outs Fault) (first sent : ℕ) (said : Result Said Fault × List (List ℕ)) (result : Result Told Fault)
+    → record { opening = o; history = history; failures = failures } ≡ log → is_up o cell.past ≡ true → StepEnds note o cell.past e new step → said ≡ outcome_of step → result ≡ told_at first sent said.0 → IfErr result (HasWhy (rules log.opening) log.history (Meets e))
+step_why note o power history applied cell failures log e new step first sent said result same on f said_is is =
+    subst (λ (r : Result Told Fault). IfErr r (HasWhy (rules log.opening) log.history (Meets e))) (sym (is ∙ ap (λ (r : Result Said Fault × List (List ℕ)). told_at first sent r.0) said_is))
+    (subst (λ (l : ServerLog). IfErr (told_at first sent (outcome_of step).0) (HasWhy (rules l.opening) l.history (Meets e))) same (by_step step f))
   where
-    by_step : (step : Result Outs Fault) → StepEnds note o past e new step → Explains o past (Meets e) (told_at first sent (outcome_of step).0)
+    by_step : (step : Result Outs Fault) → StepEnds note o cell.past e new step → IfErr (told_at first sent (outcome_of step).0) (HasWhy (rules o) history (Meets e))
     by_step (Ok outs) f = tt
-    by_step (Err fault) f = refused_for note o past e fault new (sort_of fault) refl f
+    by_step (Err fault) f = why_on (rules o) history cell.past (Meets e) fault cell.replay.made (off_where o cell.past true on) (refused_for note o cell.past e fault new (sort_of fault) refl f)
 
-pub why_with : {T : Type 0} (note : T → Note) (o : Opening) (power : Power T) (history : List Logged) (applied : List ℕ) (cell : IsCell note o power history applied) (log : ServerLog) (ask : Option (Ask Input)) (result : Result Told Fault) → record { opening = o; history = history } ≡ log → ExplainsHeard o cell.past ask result
-    → (past : List FrameEntry) × IsReplay log past × ExplainsHeard log.opening past ask result
-why_with note o power history applied cell log ask result same h =
-    subst (λ (l : ServerLog). (past : List FrameEntry) × IsReplay l past × ExplainsHeard l.opening past ask result) same (cell.past, cell.replay, h)
+-- ---- the device's failures
+
+pub told_counts : (old new first sent : ℕ) (step : Result Outs Fault) → Counts false old new step → Counts false old new (told_at first sent (outcome_of step).0)
+told_counts old new first sent (Ok outs) h = tt
+told_counts old new first sent (Err fault) h = h
+
+-- A cell counts what its server does.
+pub hear_counts : (log : ServerLog) (old new first sent : ℕ) (step : Result Outs Fault) (said : Result Said Fault × List (List ℕ)) (result : Result Told Fault) → old ≡ log.failures → said ≡ outcome_of step → result ≡ told_at first sent said.0 → Counts false old new step → Counts false log.failures new result
+hear_counts log old new first sent step said result same said_is is h =
+    subst (λ (n : ℕ). Counts false n new result) same
+    (subst (Counts false old new) (sym (is ∙ ap (λ (r : Result Said Fault × List (List ℕ)). told_at first sent r.0) said_is)) (told_counts old new first sent step h))

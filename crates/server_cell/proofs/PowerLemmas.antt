@@ -1,6 +1,6 @@
 -- A server that may have no power takes what comes as the rules have it.
 use Rattle.std.proofs.Common.{◌≡◌, refl, sym, ◌∙◌, ap, subst, inl, inr, ℕ, ◌+◌, ◌-◌, ◌^◌, ◌<◌, arith, Bool, true, false, List, [], ◌∷◌, Option, Some, None, Result, Ok, Err}
-use Rattle.std.specs.Prelude.{◌⊎◌, if◌then◌else◌, map, nat_lt, not, is_some}
+use Rattle.std.specs.Prelude.{◌⊎◌, ◌&&◌, ◌||◌, if◌then◌else◌, map, nat_lt, not, is_some}
 use Rattle.std.specs.Borrow.{Bor}
 use Rattle.std.specs.List.{flat_map}
 use Rattle.std.specs.Option.{option_map, option_copied}
@@ -40,7 +40,8 @@ use Rattle.server_core.specs.HeardRange.{SenseInRange, UnlessMemory, HearsInRang
 use Rattle.server_core.specs.FrameEnds as ends
 use Rattle.server_core.specs.FrameEnds.{StandsFor, is_drop}
 use Rattle.node_history.specs.declared.answer.Said.{Said}
-use Rattle.node_history.specs.AtHub.{is_drop as says_drop}
+use Rattle.node_history.specs.AtHub.{is_save, is_drop as says_drop}
+use Rattle.node_history.specs.Failures.{is_load, CountsBy, Counts}
 use Rattle.node_history.specs.Rules.{Meets}
 use Rattle.node_history.specs.Replay.{Stops}
 use Rattle.node_history.specs.ServerRules.{rules, is_up, has_boot, left_by}
@@ -70,9 +71,9 @@ up : (b : Bool) (x : Option Fault) (y : Option Fault) → b ≡ true → (if b t
 up true x y h = refl
 up false x y h = cc
 
-answers_step : {T : Type 0} (note : T → Note) (o : Opening) (past : List FrameEntry) (e : Input) (server : Server T) (outs : Outs) → is_up o past ≡ true
-    → ends.Answers note o past e server outs → SenseInRange (sense o past e) → Answers note o past e (On server) outs
-answers_step note o past e server outs on a h = record {
+answers_step : {T : Type 0} (note : T → Note) (o : Opening) (past : List FrameEntry) (e : Input) (old server : Server T) (outs : Outs) → is_up o past ≡ true
+    → ends.Answers note o past e old server outs → SenseInRange (sense o past e) → Answers note o past e (On server) outs
+answers_step note o past e old server outs on a h = record {
   moves = record {
     after = answers.answered o past e ∷ past;
     ends = record {
@@ -161,7 +162,7 @@ faults_step note o past e old server fault on sorts.Refusal f h is = record {
 -- A server that is on takes what comes.
 pub step_ends : {T : Type 0} (note : T → Note) (o : Opening) (past : List FrameEntry) (e : Input) (old server : Server T) (result : Result Outs Fault) → is_up o past ≡ true
     → ends.Ends note o past e old server result → HearsInRange o past e result → StepEnds note o past e (On server) result
-step_ends note o past e old server (Ok outs) on a h = answers_step note o past e server outs on a h
+step_ends note o past e old server (Ok outs) on a h = answers_step note o past e old server outs on a h
 step_ends note o past e old server (Err fault) on f h = faults_step note o past e old server fault on (sort_of fault) f h refl
 
 -- What comes to a server that isn't on is refused, and nothing changes.
@@ -349,3 +350,33 @@ hidden note o past (Some server) s h = cc
 pub there : {T : Type 0} (note : T → Note) (o : Opening) (past : List FrameEntry) (shown : Option (Bor (Server T))) → Shows note o past (option_copied shown) → is_some shown ≡ true → is_up o past ≡ true
 there note o past None s h = cc
 there note o past (Some server) s h = s.1
+
+-- ---- the device's failures
+
+no_load : (load : Bool) (old new : ℕ) → new ≡ old → CountsBy (load && false) old new
+no_load true old new h = h
+no_load false old new h = h
+
+-- A step counts a failed save.
+pub step_counts : {T : Type 0} (note : T → Note) (o : Opening) (past : List FrameEntry) (e : Input) (old server : Server T) (result : Result Outs Fault) → ends.Ends note o past e old server result → Counts false (note old.core.notes).failures (note server.core.notes).failures result
+step_counts note o past e old server (Ok outs) a = tt
+step_counts note o past e old server (Err fault) f = by_sort (sort_of fault) f
+  where
+    by_sort : (sort : FaultSort) → ends.Faults note o past e sort fault old server → CountsBy (is_save sort || (is_load fault && false)) (note old.core.notes).failures (note server.core.notes).failures
+    by_sort sorts.Memory f = no_load (is_load fault) (note old.core.notes).failures (note server.core.notes).failures (ap (λ (n : Note). n.failures) f.same_note)
+    by_sort sorts.Save f = f.cause
+    by_sort sorts.Refusal f = no_load (is_load fault) (note old.core.notes).failures (note server.core.notes).failures (ap (λ (n : Note). n.failures) f.same_note)
+
+-- What is told of a step counts it, too.
+pub said_counts : (old new : ℕ) (said : Result Said Fault) (result : Result Outs Fault) → said ≡ said_by result → Counts false old new result → Counts false old new said
+said_counts old new said (Ok outs) is h = subst (Counts false old new) (sym is) tt
+said_counts old new said (Err fault) is h = subst (Counts false old new) (sym is) h
+
+-- A restart that fails counts why.
+pub unstarted_counts : (old new : Note) (fault : Fault) → NotOpened old new fault → Counts {X = Said} true old.failures new.failures (Err fault)
+unstarted_counts old new LoadFault h = h.0
+unstarted_counts old new BadNote h = ap (λ (n : Note). n.failures) h.0
+unstarted_counts old new NumbersSpent h = ap (λ (n : Note). n.failures) h.0
+unstarted_counts old new NoMemory h = ap (λ (n : Note). n.failures) h
+unstarted_counts old new SaveFault h = h.0
+unstarted_counts old new _ h = absurd h

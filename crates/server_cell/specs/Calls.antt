@@ -9,11 +9,12 @@ use Rattle.node_history.specs.declared.answer.Said.{Said}
 use Rattle.node_history.specs.declared.answer.Told.{Told}
 use Rattle.node_history.specs.declared.came.Came.{Came}
 use Rattle.node_history.specs.declared.logged.Logged.{Logged}
-use Rattle.node_history.specs.Seated.{Seated}
+use Rattle.server_cell.specs.Seated.{Seated}
+use Rattle.node_history.specs.Failures.{Counts}
 use Rattle.node_history.specs.Seats.{times}
 use Rattle.server_cell.specs.declared.task.Task.{Task}
 use Rattle.server_cell.specs.Cells.{ServerLog}
-use Rattle.server_cell.specs.Tasks.{came_by}
+use Rattle.server_cell.specs.Tasks.{came_by, loads_note}
 
 -- The seat is of this server, and the history has just as many events of it as it has applied.
 abbrev pub is_right : ServerLog → Seated → Bool
@@ -38,9 +39,12 @@ logged_by seat came answer = record {
 abbrev pub entry_of : Seated → Task → Result Said Fault → Logged
 entry_of seat task answer = logged_by seat (came_by task) answer
 
--- The history has one entry more, and the seat has applied one event more and keeps its answer.
+-- The history has one entry more, a fault of the device has been counted, and the seat has applied one
+-- event more and keeps its answer.
 pub record IsAdded (old : ServerLog) (seat : Seated) (task : Task) (answer : Result Said Fault) (new : ServerLog) (after : Seated) : Type 0 where
-  pub cell : new ≡ record { opening = old.opening; history = entry_of seat task answer ∷ old.history }
+  pub opening : new.opening ≡ old.opening
+  pub history : new.history ≡ entry_of seat task answer ∷ old.history
+  pub failures : Counts (loads_note task) old.failures new.failures answer
   pub seat_is : after ≡ record { server = seat.server; number = seat.number; applied = seat.applied + 1; last = Some answer }
 
 -- Neither changes.

@@ -11,19 +11,25 @@ use Rattle.node_history.specs.ServerRules.{rules}
 use Rattle.server_cell.specs.declared.power.Power.{Power}
 use Rattle.server_cell.specs.Stands.{Stands}
 
--- A server under its lock: what it was opened with, and its history, newest first.
+-- A server under its lock: what it was opened with, its history, newest first, and how often the device of
+-- its note has failed.
 pub record ServerLog : Type 0 where
   pub opening : Opening
   pub history : List Logged
+  pub failures : ℕ
 
 -- It was opened over a note that says of no boot and no run.
 abbrev pub is_blank : Opening → Bool
 is_blank o = (o.boot == 0) && (o.last == 0)
 
--- The history is numbered, and makes this list by the rules.
-pub record IsReplay (cell : ServerLog) (past : List FrameEntry) : Type 0 where
-  pub numbered : IsNumbered cell.history
-  pub made : Makes (rules cell.opening) cell.history past
+-- A history is numbered, and makes this list by the rules of a server that was opened so.
+pub record Replays (o : Opening) (history : List Logged) (past : List FrameEntry) : Type 0 where
+  pub numbered : IsNumbered history
+  pub made : Makes (rules o) history past
+
+-- That of the cell does.
+abbrev pub IsReplay : ServerLog → List FrameEntry → Type 0
+IsReplay cell past = Replays cell.opening cell.history past
 
 -- For each of 17 seats its events are counted.
 pub record AreCounted (applied : List ℕ) (history : List Logged) : Type 0 where
@@ -34,7 +40,7 @@ pub record AreCounted (applied : List ℕ) (history : List Logged) : Type 0 wher
 -- its ranges, and the events of each seat are counted.
 pub record IsCell {T : Type 0} (note : T → Note) (o : Opening) (power : Power T) (history : List Logged) (applied : List ℕ) : Type 0 where
   pub past : List FrameEntry
-  pub replay : IsReplay (record { opening = o; history = history }) past
+  pub replay : Replays o history past
   pub stands : Stands note o past power
   pub opens : OpensInRange o
   pub ranges : CameInRange (packets_heard o past)

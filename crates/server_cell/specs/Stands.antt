@@ -41,6 +41,12 @@ Stands note o past (Off notes) =
     Says (note notes).bytes (noted o (packets_heard o past)) × (is_up o past ≡ false)
 Stands note o past Lent = ⊥
 
+-- How often the device of its note has failed.
+abbrev pub failures_of : {T : Type 0} → (T → Note) → Power T → ℕ
+failures_of note (On server) = (note server.core.notes).failures
+failures_of note (Off notes) = (note notes).failures
+failures_of note Lent = 0
+
 -- A server that stands for the list is there where it is on.
 abbrev pub Shows : {T : Type 0} → (T → Note) → Opening → List FrameEntry → Option (Server T) → Type 0
 Shows note o past (Some server) = StandsFor note server o past × (is_up o past ≡ true)

@@ -1,4 +1,5 @@
 -- What a seat asks of a server, as what comes to it.
+use Rattle.std.specs.Prelude.{Bool, true, false}
 use Rattle.node_history.specs.declared.came.Came.{Came}
 use Rattle.node_history.specs.declared.came.Came.TheVariants as came
 use Rattle.server_cell.specs.declared.task.Task.{Task}
@@ -10,3 +11,10 @@ came_by (Issue j) = came.Issue j
 came_by (WriteDone ticket end) = came.WriteDone ticket end
 came_by Cut = came.Cut
 came_by Restart = came.Restart
+
+-- It loads the note.
+abbrev pub loads_note : Task → Bool
+loads_note (Issue j) = false
+loads_note (WriteDone ticket end) = false
+loads_note Cut = false
+loads_note Restart = true

@@ -3,16 +3,18 @@
 ghost use Rattle.std.specs.Prelude.{◌≡◌, ◌<◌, ◌≤◌, [], true, false, List, IfOk, IfErr, IfSome, IfNone, reverse};
 ghost use Rattle.server_core.specs.Hearing.{FrameEntry};
 ghost use Rattle.node_history.specs.ServerRules.{is_up};
-ghost use Rattle.node_history.specs.Seats.{new_seats};
+ghost use Rattle.server_cell.specs.Seated.{new_seats};
 
 mod apply;
 mod hear;
+mod node;
 
 use crate::power::Power;
+use crate::seat::Seat;
 use crate::seats::{SEATS, new_seats};
 use disk_model::Notes;
 use fc_base::{Fault, RunNo, ServerNo};
-use node_history::{Logged, Seat};
+use node_history::Logged;
 use server_core::{Server, Status};
 use std::alloc::Global;
 use std::marker::Model;
@@ -32,11 +34,12 @@ pub struct ServerCell<N: Notes + Drop> {
 
 impl<N: Notes + Drop> Model for ServerCell<N> {
     ghost use Rattle.std.specs.Prelude.{reverse};
+    ghost use Rattle.server_cell.specs.Stands.{failures_of};
     ghost use Rattle.server_cell.specs.Cells.{ServerLog, IsCell};
 
     ghost Value = { ServerLog };
 
-    ghost view = { λ c. record { opening = record { me = c.me; boot = c.boot; last = c.last_run }; history = reverse c.history.items } };
+    ghost view = { λ c. record { opening = record { me = c.me; boot = c.boot; last = c.last_run }; history = reverse c.history.items; failures = failures_of N.note c.power } };
 
     ghost invariant = { λ c. IsCell N.note (record { me = c.me; boot = c.boot; last = c.last_run }) c.power (reverse c.history.items) c.applied };
 }

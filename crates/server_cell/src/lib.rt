@@ -3,8 +3,12 @@
 
 mod cell;
 mod power;
+mod report;
+mod seat;
 mod seats;
 mod task;
 
 pub use cell::ServerCell;
+pub use report::Report;
+pub use seat::Seat;
 pub use task::Task;

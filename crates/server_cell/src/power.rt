@@ -1,11 +1,13 @@
 //! A server that has power, or none.
 
-ghost use Rattle.std.specs.Prelude.{◌≡◌, ◌<◌, false, List, IfSome, IfNone};
+ghost use Rattle.std.specs.Prelude.{◌≡◌, ◌<◌, true, false, List, IfSome, IfNone};
 ghost use Rattle.std.specs.Option.{option_copied};
 ghost use Rattle.server_core.specs.History.{Opening};
 ghost use Rattle.server_core.specs.Hearing.{FrameEntry, packets_heard};
+ghost use Rattle.node_history.specs.Failures.{Counts};
 ghost use Rattle.node_history.specs.ServerRules.{is_up};
 ghost use Rattle.server_cell.specs.Stands.{plain, said_by};
+ghost use Rattle.server_cell.specs.Tasks.{loads_note};
 ghost use Rattle.server_cell.specs.declared.task.Task.TheVariants as tasks;
 
 use crate::task::Task;
@@ -28,7 +30,7 @@ pub enum Power<N> {
 
 impl<N: Notes + Drop> Power<N> {
     ghost use Rattle.server_core.specs.Note.{Says};
-    ghost use Rattle.server_cell.specs.Stands.{noted, Stands, Shows, StepEnds, TaskEnds};
+    ghost use Rattle.server_cell.specs.Stands.{failures_of, noted, Stands, Shows, StepEnds, TaskEnds};
 
     /// The server, where it is on: it has power, and isn't down.
     pub(crate) fn server(&self) -> Option<&Server<N>>
@@ -43,8 +45,10 @@ impl<N: Notes + Drop> Power<N> {
 
     /// Takes what comes. `NodeOff`: it isn't on, and nothing changes. Any other fault is the server's.
     pub(crate) fn step(&mut self, input: Input) -> Result<Outs, Fault>
-        ensures { (o : Opening) (past : List FrameEntry) → Stands N.note o past self.old →
+        ensures ends { (o : Opening) (past : List FrameEntry) → Stands N.note o past self.old →
             StepEnds N.note o past input self.new result }
+        ensures count { (o : Opening) (past : List FrameEntry) → Stands N.note o past self.old →
+            Counts false (failures_of N.note self.old) (failures_of N.note self.new) result }
     {
         match self {
             Power::On(server) => {
@@ -66,8 +70,10 @@ impl<N: Notes + Drop> Power<N> {
         task: &Task,
     ) -> Result<Said, Fault>
         requires { me < 8 }
-        ensures { (o : Opening) (past : List FrameEntry) → o.me ≡ me → Stands N.note o past self.old →
+        ensures ends { (o : Opening) (past : List FrameEntry) → o.me ≡ me → Stands N.note o past self.old →
             TaskEnds N.note o past task.now self.new result }
+        ensures count { (o : Opening) (past : List FrameEntry) → o.me ≡ me → Stands N.note o past self.old →
+            Counts (loads_note task.now) (failures_of N.note self.old) (failures_of N.note self.new) result }
     {
         match task {
             Task::Issue(job) => said(self.step(Input::Issue(*job))),
@@ -79,8 +85,10 @@ impl<N: Notes + Drop> Power<N> {
 
     /// Loses its power. `NodeOff`: it isn't on, and nothing changes.
     fn cut(&mut self) -> Result<Said, Fault>
-        ensures { (o : Opening) (past : List FrameEntry) → Stands N.note o past self.old →
+        ensures ends { (o : Opening) (past : List FrameEntry) → Stands N.note o past self.old →
             TaskEnds N.note o past tasks.Cut self.new result }
+        ensures count { (o : Opening) (past : List FrameEntry) → Stands N.note o past self.old →
+            Counts false (failures_of N.note self.old) (failures_of N.note self.new) result }
     {
         if self.server().is_none() {
             return Err(Fault::NodeOff);
@@ -100,8 +108,10 @@ impl<N: Notes + Drop> Power<N> {
     /// `SaveFault`: it stays off, and its note says the old boot or the next.
     fn restart(&mut self, alloc: Global, me: ServerNo) -> Result<Said, Fault>
         requires { me < 8 }
-        ensures { (o : Opening) (past : List FrameEntry) → o.me ≡ me → Stands N.note o past self.old →
+        ensures ends { (o : Opening) (past : List FrameEntry) → o.me ≡ me → Stands N.note o past self.old →
             TaskEnds N.note o past tasks.Restart self.new result }
+        ensures count { (o : Opening) (past : List FrameEntry) → o.me ≡ me → Stands N.note o past self.old →
+            Counts true (failures_of N.note self.old) (failures_of N.note self.new) result }
     {
         if !self.server().is_none() {
             return Err(Fault::NodeOn);
@@ -115,9 +125,10 @@ impl<N: Notes + Drop> Power<N> {
     /// Starts a server over these notes.
     fn start(&mut self, alloc: Global, me: ServerNo, notes: N) -> Result<Said, Fault>
         requires { me < 8 }
-        ensures { (o : Opening) (past : List FrameEntry) → o.me ≡ me → is_up o past ≡ false →
+        ensures ends { (o : Opening) (past : List FrameEntry) → o.me ≡ me → is_up o past ≡ false →
             Says (N.note notes).bytes (noted o (packets_heard o past)) →
             TaskEnds N.note o past tasks.Restart self.new result }
+        ensures count { Counts true (N.note notes).failures (failures_of N.note self.new) result }
     {
         one_note();
         match Server::restart(alloc, me, notes) {
@@ -134,6 +145,7 @@ impl<N: Notes + Drop> Power<N> {
 
     /// Its notes, which are lent until they are put back; `None` where they are lent already.
     fn lend(&mut self) -> Option<N>
+        ensures count { IfSome result (λ notes. (N.note notes).failures ≡ failures_of N.note self.old) }
         ensures some { (o : Opening) (past : List FrameEntry) → Stands N.note o past self.old →
             IfSome result (λ notes. Says (N.note notes).bytes (noted o (packets_heard o past))) }
         ensures none { (o : Opening) (past : List FrameEntry) → Stands N.note o past self.old → IfNone result ⊥ }

@@ -1,10 +1,10 @@
 //! The seats of a server.
 
 ghost use Rattle.std.specs.Prelude.{◌≡◌, ◌≤◌, IfOk};
-ghost use Rattle.node_history.specs.Seats.{new_seats};
+ghost use Rattle.server_cell.specs.Seated.{new_seats};
 
+use crate::seat::Seat;
 use fc_base::ServerNo;
-use node_history::Seat;
 use std::alloc::{AllocError, Global};
 
 /// How many seats a server has at most.

@@ -3,8 +3,8 @@
 use disk_model::{FaultNotes, MemNotes, Notes};
 use engine::Issue;
 use fc_base::{Fault, JobNo, ServerNo};
-use node_history::{Answer, Logged, Seat, Told};
-use server_cell::{ServerCell, Task};
+use node_history::{Answer, Logged, Told};
+use server_cell::{Seat, ServerCell, Task};
 use std::alloc::Global;
 
 /// The number of a seat, what is asked from it, and its answer, or the number of its fault.

@@ -4,7 +4,7 @@ use Rattle.fc_base.specs.declared.fault.Fault.{Fault}
 use Rattle.fc_base.specs.declared.fault.Fault.TheVariants.{NoMemory, WrongSeat}
 use Rattle.node_history.specs.declared.answer.Said.{Said}
 use Rattle.node_history.specs.declared.answer.Told.{Told}
-use Rattle.node_history.specs.Seated.{Seated}
+use Rattle.server_cell.specs.Seated.{Seated}
 use Rattle.server_cell.specs.declared.task.Task.{Task}
 use Rattle.server_cell.specs.Cells.{ServerLog}
 use Rattle.server_cell.specs.Calls.{is_right, lacks_memory, told_by, Enters, AppliesBy, Applies}

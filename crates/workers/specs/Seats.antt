@@ -7,7 +7,7 @@ use Rattle.engine.specs.declared.issue.Issue.TheVariants.{Finished, Stopped}
 use Rattle.node_history.specs.declared.answer.Answer.{Answer}
 use Rattle.node_history.specs.declared.answer.Answer.TheVariants.{Issued}
 use Rattle.node_history.specs.declared.answer.Said.{Said}
-use Rattle.node_history.specs.Seated.{Seated}
+use Rattle.server_cell.specs.Seated.{Seated}
 
 -- It is the same seat, which may have applied more.
 pub record IsSeatOf (seat back : Seated) : Type 0 where

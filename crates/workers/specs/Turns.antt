@@ -4,7 +4,7 @@ use Rattle.fc_base.specs.declared.fault.Fault.{Fault}
 use Rattle.engine.specs.declared.issue.Issue.TheVariants.{Write}
 use Rattle.node_history.specs.declared.answer.Answer.{Answer}
 use Rattle.node_history.specs.declared.answer.Answer.TheVariants.{Issued}
-use Rattle.node_history.specs.Seated.{Seated}
+use Rattle.server_cell.specs.Seated.{Seated}
 use Rattle.workers.specs.declared.server.Asked.{Asked}
 use Rattle.workers.specs.declared.server.Asked.TheVariants as asks
 use Rattle.workers.specs.declared.turn.Turn.{Turn}

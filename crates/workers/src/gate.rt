@@ -3,7 +3,8 @@
 use engine::Ticket;
 use std::thread;
 
-/// How often a worker asks a gate for one write before it gives up.
+/// How often a worker asks a gate for one write, and how often it tells that a write has ended where there
+/// is no memory for that, before it gives up.
 pub const TURNS: u32 = 1_000_000;
 
 /// What a worker asks before each write, and tells behind it. No lock is held meanwhile.

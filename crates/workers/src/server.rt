@@ -8,13 +8,15 @@ ghost use Rattle.server_cell.specs.Calls.{Applies};
 ghost use Rattle.workers.specs.Seats.{says_final};
 ghost use Rattle.workers.specs.Turns.{is_last_asked, IsIssued, HasAsked, HasTold};
 
+use crate::gate::TURNS;
 use disk_model::Notes;
 use engine::{Issue, Ticket};
 use fc_base::{Fault, JobNo, JobRecord};
-use node_history::{Answer, Seat, Told};
-use server_cell::{ServerCell, Task};
+use node_history::{Answer, Told};
+use server_cell::{Seat, ServerCell, Task};
 use server_core::WriteEnd;
 use std::sync::{Mutex, Wait};
+use std::thread;
 
 /// What a worker is told that asks for the next write of a job.
 #[derive(Clone, Copy, Debug, PartialEq, Eq)]
@@ -78,9 +80,31 @@ fn record_of<N: Notes + Drop>(server: &ServerCell<N>, job: JobNo) -> Option<JobR
     }
 }
 
+/// Tells how a write has ended, and tells it again where there is no memory for the server's entry of it:
+/// a write of which nobody tells stays open. Whether the server is on.
+///
+/// `NoMemory`: there was none each of [`TURNS`] times.
+pub(crate) fn tell<R: Wait, N: Notes + Drop>(
+    rt: &R,
+    cell: &Mutex<ServerCell<N>>,
+    seat: &mut Seat,
+    ticket: &Ticket,
+    end: WriteEnd,
+) -> Result<bool, Fault>
+    ensures { HasTold seat.old seat.new result }
+{
+    for _ in 0..TURNS {
+        match tell_once(rt, cell, seat, ticket, end) {
+            Err(Fault::NoMemory) => thread::yield_now(),
+            told => return told,
+        }
+    }
+    Err(Fault::NoMemory)
+}
+
 /// Tells how a write has ended, under the server's lock. Whether the server is on: the write of an earlier
 /// boot is nothing to it.
-pub(crate) fn tell<R: Wait, N: Notes + Drop>(
+fn tell_once<R: Wait, N: Notes + Drop>(
     rt: &R,
     cell: &Mutex<ServerCell<N>>,
     seat: &mut Seat,

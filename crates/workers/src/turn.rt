@@ -10,8 +10,7 @@ use crate::server::{Asked, ask, tell};
 use disk_model::{Disk, Notes};
 use engine::Ticket;
 use fc_base::{Fault, JobNo, JobRecord};
-use node_history::Seat;
-use server_cell::ServerCell;
+use server_cell::{Seat, ServerCell};
 use server_core::WriteEnd;
 use std::sync::{Mutex, Wait};
 

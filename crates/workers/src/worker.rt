@@ -9,8 +9,7 @@ use crate::gate::Gate;
 use crate::turn::{Turn, take};
 use disk_model::{Disk, Notes};
 use fc_base::{Fault, JobNo, MAX_BLOCK_SIZE};
-use node_history::Seat;
-use server_cell::ServerCell;
+use server_cell::{Seat, ServerCell};
 use std::alloc::{AllocError, Global};
 use std::sync::{Mutex, Wait};
 use std::thread;
@@ -31,7 +30,8 @@ pub(crate) enum Round {
 /// one waits for the gate and carries it out; it tells the server how the write has ended, and then
 /// the gate. A write that its disk refuses has failed.
 ///
-/// `NoMemory`; `WrongSeat`, the seat isn't one of this server, or is stale; `TurnsSpent`, the gate has
+/// `NoMemory`, also where the server found none for the end of a write, [`TURNS`](crate::TURNS) times;
+/// `WrongSeat`, the seat isn't one of this server, or is stale; `TurnsSpent`, the gate has
 /// refused a write [`TURNS`](crate::TURNS) times, and that write has failed.
 pub fn run_worker<R: Wait, N: Notes + Drop, D: Disk, G: Gate>(
     rt: &R,

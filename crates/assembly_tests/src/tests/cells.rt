@@ -4,8 +4,8 @@ use super::play::Play;
 use client_cell::ClientCell;
 use disk_model::{FaultNotes, MemNotes};
 use fc_base::{Fault, ServerNo};
-use node_history::{Seat, Told};
-use server_cell::{ServerCell, Task as ServerTask};
+use node_history::Told;
+use server_cell::{Seat, ServerCell, Task as ServerTask};
 use server_core::Server as Core;
 use std::alloc::Global;
 

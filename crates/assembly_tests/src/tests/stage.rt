@@ -3,12 +3,12 @@
 use super::cells::{Cells, Clients, Sides, both_sides, two_clients};
 use super::play::{Handed, Play, Step};
 use assembly::{AssembleFault, Assembled, assemble};
-use client_cell::{Request, Task as ClientTask};
+use client_cell::{Command, Request, Task as ClientTask};
 use engine::Ticket;
 use fc_base::{Fault, JobNo, Key, MAX_TEXT, RunNo, Seq, ServerNo};
 use hub::Hub;
-use messages::{Frames, Node, Text};
-use node_history::Told;
+use messages::{Frames, Node as Name, Text};
+use node_history::{Node, Told};
 use server_cell::Task as ServerTask;
 use server_core::WriteEnd;
 use std::alloc::Global;
@@ -73,7 +73,7 @@ impl Stage {
     fn take_step(&mut self, step: Step) -> Result<(), Fault> {
         let answer = match step {
             Step::Begin => self.begin(),
-            Step::Tick => self.clients.client.tick(&mut self.hub),
+            Step::Tick => self.clients.client.post(&mut self.hub, Command::Tick),
             Step::ToClient => self.to_client(),
             Step::ToServer(number) => self.to_server(number),
             Step::CutClient => self.clients.client.apply(ClientTask::Cut),
@@ -82,7 +82,7 @@ impl Stage {
             Step::Done(number) => self.ask(number, done(number)),
             Step::Cut(number) => self.ask(number, ServerTask::Cut),
             Step::Restart(number) => self.ask(number, ServerTask::Restart),
-            Step::TickElsewhere => self.clients.client.tick(&mut self.elsewhere),
+            Step::TickElsewhere => self.clients.client.post(&mut self.elsewhere, Command::Tick),
             Step::RivalBegins => self.rival_begins(LONGER),
             Step::RivalBeginsAlike => self.rival_begins(WRITING),
             Step::ToTwinElsewhere => self.to_twin_elsewhere(),
@@ -108,7 +108,7 @@ impl Stage {
     }
 
     fn to_client(&mut self) -> Result<Told, Fault> {
-        match self.hub.pick(Node::Client, 0) {
+        match self.hub.pick(Name::Client, 0) {
             Some(position) => self.clients.client.deliver(&mut self.hub, position),
             None => Err(Fault::NoFrame),
         }
@@ -118,7 +118,7 @@ impl Stage {
         let Some(server) = self.sides.cells.servers.get_mut(number as usize) else {
             return Err(Fault::NoServer);
         };
-        match self.hub.pick(Node::Server(ServerNo(number)), 0) {
+        match self.hub.pick(Name::Server(ServerNo(number)), 0) {
             Some(position) => server.deliver(&mut self.hub, position),
             None => Err(Fault::NoFrame),
         }
@@ -140,9 +140,9 @@ impl Stage {
             return Err(Fault::NoMemory);
         }
         let node = if node == 8 {
-            Node::Client
+            Name::Client
         } else {
-            Node::Server(ServerNo(node))
+            Name::Server(ServerNo(node))
         };
         self.hub
             .note(node, at, Some(frame), &Frames::new(self.alloc));
@@ -203,12 +203,12 @@ fn first_other(assembled: &Assembled, order: &[(u32, u64)]) -> Option<usize> {
     }
 }
 
-fn begin(alloc: Global, bytes: &[u8]) -> Result<Request, Fault> {
+fn begin(alloc: Global, bytes: &[u8]) -> Result<Command, Fault> {
     if bytes.len() > MAX_TEXT {
         return Err(Fault::OutOfLimits);
     }
     match Text::copied(alloc, bytes) {
-        Ok(text) => Ok(Request::Begin(text)),
+        Ok(text) => Ok(Command::Request(Request::Begin(text))),
         Err(_) => Err(Fault::NoMemory),
     }
 }

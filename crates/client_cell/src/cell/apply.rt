@@ -1,7 +1,6 @@
 //! What happens to the client without the network.
 
 ghost use Rattle.std.specs.Prelude.{◌≡◌, List};
-ghost use Rattle.client_core.specs.History.{Opening};
 ghost use Rattle.client_core.specs.Hearing.{FrameEntry};
 ghost use Rattle.client_cell.specs.Cells.{IsReplay};
 ghost use Rattle.client_cell.specs.Calls.{lacks_memory, logged_by, told_by, Applies};
@@ -22,7 +21,7 @@ impl<N: Notes + Drop> ClientCell<N> {
     /// restart whose note wasn't loaded.
     pub fn apply(&mut self, task: Task) -> Result<Told, Fault>
         ensures ends { Applies self.old task self.new result }
-        ensures replay { (o : Opening) × (past : List FrameEntry) × IsReplay self.new o past }
+        ensures replay { (past : List FrameEntry) × IsReplay self.new past }
     {
         if self.history.reserve(1).is_err() {
             return Err(Fault::NoMemory);

@@ -1,17 +1,17 @@
 //! What comes to the client at the hub.
 
-ghost use Rattle.std.specs.Prelude.{◌≡◌, ◌<◌, List, length, None, Some, slice_get, IfErr};
+ghost use Rattle.std.specs.Prelude.{◌≡◌, ◌<◌, false, List, length, None, Some, IfErr};
 ghost use Rattle.messages.specs.declared.node.Node.TheVariants.{Client};
-ghost use Rattle.client_core.specs.declared.input.Input.TheVariants.{Deliver};
-ghost use Rattle.client_core.specs.History.{Opening};
+ghost use Rattle.client_core.specs.declared.input.Input.TheVariants.{Deliver, Tick};
 ghost use Rattle.client_core.specs.Hearing.{FrameEntry};
 ghost use Rattle.node_history.specs.Rules.{Meets};
 ghost use Rattle.node_history.specs.declared.came.Came.TheVariants as kinds;
-ghost use Rattle.node_history.specs.ClientRules.{asked};
+ghost use Rattle.node_history.specs.ClientRules.{asked, rules};
 ghost use Rattle.node_history.specs.AtHub.{Posts};
+ghost use Rattle.node_history.specs.Calls.{HasWhy};
+ghost use Rattle.node_history.specs.Failures.{Counts};
 ghost use Rattle.client_cell.specs.Cells.{IsReplay};
-ghost use Rattle.client_cell.specs.Tasks.{came_of};
-ghost use Rattle.client_cell.specs.Hearing.{Delivers, HasWhy, IsOpenedAlike, IsWhyNot};
+ghost use Rattle.client_cell.specs.Tasks.{came_of, input_of};
 
 use super::ClientCell;
 use super::enter::{bytes_of, enter, make_room, outcome};
@@ -21,7 +21,7 @@ use disk_model::Notes;
 use fc_base::Fault;
 use hub::{Hub, frames_are_spelled};
 use messages::Frame;
-use node_history::{Came, Told, frame_came};
+use node_history::{Came, Told};
 
 /// The most frames that the client sends at once, but for a tick, and the most bytes that they have
 /// together.
@@ -30,29 +30,8 @@ const FRAMES: usize = 136;
 const BYTES: usize = 137_864;
 
 impl<N: Notes + Drop> ClientCell<N> {
-    /// Takes the frame at this position of the hub.
-    ///
-    /// In this order: `NodeOff`, it isn't on; `NoFrame`, the hub has no such frame; the client's own. Where
-    /// a save fails, or a piece completes a body that isn't the packet of its tag, that is entered in the
-    /// history and in the hub's journal, as what is answered is; any other refusal, and `NoMemory`,
-    /// changes nothing.
-    pub fn deliver(&mut self, hub: &mut Hub, position: u64) -> Result<Told, Fault>
-        ensures opening { IsOpenedAlike self.old self.new }
-        ensures why { IfErr result (IsWhyNot self.old (slice_get hub.old.net.frames position)) }
-        ensures ends { Delivers position (slice_get hub.old.net.frames position) hub.old.net hub.new.net self.old.history self.new.history result }
-        ensures replay { (o : Opening) × (past : List FrameEntry) × IsReplay self.new o past }
-    {
-        if self.client().is_none() {
-            return Err(Fault::NodeOff);
-        }
-        match frame_came(self.alloc, hub, position) {
-            Ok((came, frame)) => self.hear(hub, came, position, frame),
-            Err(fault) => Err(fault),
-        }
-    }
-
     /// Takes a frame that came from this position of the hub.
-    fn hear(
+    pub(super) fn hear(
         &mut self,
         hub: &mut Hub,
         came: Came,
@@ -61,10 +40,11 @@ impl<N: Notes + Drop> ClientCell<N> {
     ) -> Result<Told, Fault>
         requires taken { position < length hub.old.net.frames }
         requires asks { asked came ≡ Meets (Deliver frame) }
-        ensures opening { IsOpenedAlike self.old self.new }
-        ensures why { IfErr result (HasWhy self.old came) }
+        ensures opening { self.new.opening ≡ self.old.opening }
+        ensures failures { Counts false self.old.failures self.new.failures result }
+        ensures why { IfErr result (HasWhy (rules self.old.opening) self.old.history (Meets (Deliver frame))) }
         ensures ends { Posts Client came (Some position) hub.old.net hub.new.net self.old.history self.new.history result }
-        ensures replay { (o : Opening) × (past : List FrameEntry) × IsReplay self.new o past }
+        ensures replay { (past : List FrameEntry) × IsReplay self.new past }
     {
         packets_are_in_range();
         frames_are_spelled();
@@ -82,11 +62,12 @@ impl<N: Notes + Drop> ClientCell<N> {
     ///
     /// `NodeOff`, it isn't on; the client's own. A save that fails is entered in the history, as what is
     /// answered is; any other refusal, and `NoMemory`, changes nothing.
-    pub fn post(&mut self, hub: &mut Hub, request: Request) -> Result<Told, Fault>
-        ensures opening { IsOpenedAlike self.old self.new }
-        ensures why { IfErr result (HasWhy self.old (came_of request)) }
+    pub(super) fn ask(&mut self, hub: &mut Hub, request: Request) -> Result<Told, Fault>
+        ensures opening { self.new.opening ≡ self.old.opening }
+        ensures failures { Counts false self.old.failures self.new.failures result }
+        ensures why { IfErr result (HasWhy (rules self.old.opening) self.old.history (Meets (input_of request))) }
         ensures ends { Posts Client (came_of request) None hub.old.net hub.new.net self.old.history self.new.history result }
-        ensures replay { (o : Opening) × (past : List FrameEntry) × IsReplay self.new o past }
+        ensures replay { (past : List FrameEntry) × IsReplay self.new past }
     {
         packets_are_in_range();
         frames_are_spelled();
@@ -103,11 +84,12 @@ impl<N: Notes + Drop> ClientCell<N> {
     /// Has the client ask again for all that isn't answered.
     ///
     /// `NodeOff`, it isn't on; `NoMemory`: nothing changes.
-    pub fn tick(&mut self, hub: &mut Hub) -> Result<Told, Fault>
-        ensures opening { IsOpenedAlike self.old self.new }
-        ensures why { IfErr result (HasWhy self.old kinds.Tick) }
+    pub(super) fn tick(&mut self, hub: &mut Hub) -> Result<Told, Fault>
+        ensures opening { self.new.opening ≡ self.old.opening }
+        ensures failures { Counts false self.old.failures self.new.failures result }
+        ensures why { IfErr result (HasWhy (rules self.old.opening) self.old.history (Meets Tick)) }
         ensures ends { Posts Client kinds.Tick None hub.old.net hub.new.net self.old.history self.new.history result }
-        ensures replay { (o : Opening) × (past : List FrameEntry) × IsReplay self.new o past }
+        ensures replay { (past : List FrameEntry) × IsReplay self.new past }
     {
         packets_are_in_range();
         frames_are_spelled();

@@ -8,8 +8,8 @@ ghost use Rattle.fiocut.specs.Live.{end_line, end_lines, ends_text, ends_status,
 use super::{FAULTY, PRINTED};
 use crate::jobs::REFUSED;
 use fc_base::{CheckReport, Fault};
-use fleet::End;
 use net_script::write_report_words;
+use node_threads::End;
 use std::io;
 use std::io::Write;
 

@@ -3,7 +3,7 @@
 use super::text_of_length;
 use crate::live::{FleetSize, MAX_INPUT, run_live};
 use fake_io::{Source, failing, page_with, source_of};
-use fleet::Trigger;
+use node_threads::Trigger;
 use std::alloc::Global;
 use std::process::Abort;
 use std::sync::Wait;
@@ -152,6 +152,15 @@ fn pulled_from_the_start(rt: HostRuntime) {
         .ok()
         .expect(&rt, "a text");
     assert!(rt; tell_of_no_fault(text), "{text}");
+}
+
+/// A full pass over four blocks, of which the last two were never written.
+const UNWRITTEN: &[u8] = b"[a]\nrw=write\nbs=512\nsize=1k\n.\n[a]\nrw=read\nbs=512\nsize=2k\n";
+
+#[test]
+fn blocks_that_were_never_written(rt: HostRuntime) {
+    let lines = "report 0 0 checked 4 faults 2 end whole first 2 3\nassembled\n";
+    expect(&rt, (1, 2), UNWRITTEN, 1, lines);
 }
 
 const OTHER_JOB: &[u8] = b"\

@@ -2,8 +2,8 @@
 
 use super::gates::Always;
 use engine::Ticket;
-use fc_base::{Fault, ReportEnd};
-use fleet::{End, Gate, OpenGate, Trigger, run_fleet};
+use fc_base::ReportEnd;
+use fleet::{End, FleetFault, Gate, OpenGate, Trigger, run_fleet};
 use std::alloc::Global;
 use std::sync::Wait;
 use std::sync::atomic::{AtomicBool, Ordering};
@@ -25,7 +25,7 @@ const KINDS: [(u32, &[u32], ReportEnd); 3] = [
 ];
 
 /// Whether each job of two servers ends as its kind.
-pub fn end_by_kind<R: Threads + Wait + Sync>(rt: &R, alloc: Global) -> Result<bool, Fault> {
+pub fn end_by_kind<R: Threads + Wait + Sync>(rt: &R, alloc: Global) -> Result<bool, FleetFault> {
     let mut trigger = Always(false);
     let ends = run_fleet(rt, alloc, 2, 2, WRITING, READING, &mut trigger, &OpenGate)?;
     let all = ends
@@ -68,7 +68,7 @@ impl Trigger for Notes<'_> {
 }
 
 /// Whether all is written behind a gate that the trigger opens.
-pub fn is_asked<R: Threads + Wait + Sync>(rt: &R, alloc: Global) -> Result<bool, Fault> {
+pub fn is_asked<R: Threads + Wait + Sync>(rt: &R, alloc: Global) -> Result<bool, FleetFault> {
     let asked = AtomicBool::new(false);
     let mut trigger = Notes(&asked);
     let ends = run_fleet(

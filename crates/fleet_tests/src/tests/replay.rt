@@ -2,9 +2,10 @@
 
 use fc_base::{Fault, ServerNo};
 use fleet::{Left, Place};
+use hub::Hub;
 use messages::{Node, Text};
 use net_world::{Config, Event, PlainEvent, World};
-use node_threads::{Came, Hub, Logged};
+use node_history::{Came, Logged};
 use server_core::WriteEnd;
 use std::alloc::Global;
 

@@ -4,7 +4,7 @@ ghost use Rattle.std.specs.Prelude.{◌≤◌};
 
 use super::gates::Always;
 use fc_base::{CheckReport, Fault, ReportEnd};
-use fleet::{End, Gate, run_fleet};
+use fleet::{End, FleetFault, Gate, run_fleet};
 use std::alloc::Global;
 use std::sync::Wait;
 use std::thread::Threads;
@@ -41,12 +41,12 @@ pub fn told<R: Threads + Wait + Sync, G: Gate + Sync>(
     alloc: Global,
     story: &Story,
     gate: &G,
-) -> Result<Vec<End>, Fault>
+) -> Result<Vec<End>, FleetFault>
     requires servers { (1 ≤ story.now.servers) × (story.now.servers ≤ 8) }
     requires workers { (1 ≤ story.now.workers) × (story.now.workers ≤ 16) }
 {
     match tell(rt, alloc, story, gate) {
-        Err(Fault::NoMemory) => tell(rt, alloc, story, gate),
+        Err(FleetFault::Refused(Fault::NoMemory)) => tell(rt, alloc, story, gate),
         ends => ends,
     }
 }
@@ -56,7 +56,7 @@ fn tell<R: Threads + Wait + Sync, G: Gate + Sync>(
     alloc: Global,
     story: &Story,
     gate: &G,
-) -> Result<Vec<End>, Fault>
+) -> Result<Vec<End>, FleetFault>
     requires servers { (1 ≤ story.now.servers) × (story.now.servers ≤ 8) }
     requires workers { (1 ≤ story.now.workers) × (story.now.workers ≤ 16) }
 {
@@ -111,7 +111,7 @@ pub fn unlike<R: Threads + Wait + Sync, G: Gate + Sync>(
     story: &Story,
     gate: &G,
     rows: &[Row],
-) -> Result<Option<usize>, Fault>
+) -> Result<Option<usize>, FleetFault>
     requires servers { (1 ≤ story.now.servers) × (story.now.servers ≤ 8) }
     requires workers { (1 ≤ story.now.workers) × (story.now.workers ≤ 16) }
 {
@@ -125,12 +125,9 @@ pub fn fault_of<R: Threads + Wait + Sync, G: Gate + Sync>(
     alloc: Global,
     story: &Story,
     gate: &G,
-) -> Option<Fault>
+) -> Option<FleetFault>
     requires servers { (1 ≤ story.now.servers) × (story.now.servers ≤ 8) }
     requires workers { (1 ≤ story.now.workers) × (story.now.workers ≤ 16) }
 {
-    match told(rt, alloc, story, gate) {
-        Ok(_) => None,
-        Err(fault) => Some(fault),
-    }
+    told(rt, alloc, story, gate).err()
 }

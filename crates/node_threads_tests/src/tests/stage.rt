@@ -11,7 +11,7 @@ use fc_base::{
 use messages::{Act, Text};
 use node_threads::{
     ClientCell, ClientCommand, ClientTask, Hub, Node, Report, Request, Seat, ServerCell,
-    ServerTask, Told, Turn,
+    ServerTask, Told, Turn, deliver, post,
 };
 use server_core::WriteEnd;
 use std::alloc::Global;
@@ -128,9 +128,9 @@ impl<'a> Stage<'a> {
             Step::Verify => self.request(Request::Verify(RunNo(1), text(self.alloc, READING)?)),
             Step::Trigger => self.request(Request::Trigger(RunNo(1), Act::Cut)),
             Step::Stop(run) => self.request(Request::Stop(RunNo(run))),
-            Step::Tick => Node::post(self.client, self.hub, ClientCommand::Tick),
-            Step::ToClient(position) => self.client.deliver(self.hub, position),
-            Step::ToServer(position) => self.server.deliver(self.hub, position),
+            Step::Tick => post(self.hub, self.client, ClientCommand::Tick),
+            Step::ToClient(position) => deliver(self.hub, self.client, position),
+            Step::ToServer(position) => deliver(self.hub, self.server, position),
             Step::Checked(boot) => self.checked(boot),
             Step::CutClient => self.client.apply(ClientTask::Cut),
             Step::RestartClient => self.client.apply(ClientTask::Restart),
@@ -142,7 +142,7 @@ impl<'a> Stage<'a> {
     }
 
     fn request(&mut self, request: Request) -> Result<Told, Fault> {
-        Node::post(self.client, self.hub, ClientCommand::Request(request))
+        post(self.hub, self.client, ClientCommand::Request(request))
     }
 
     /// The check of the one job in this boot found nothing in its one block.
@@ -162,7 +162,7 @@ impl<'a> Stage<'a> {
             job: JobNo(0),
             report,
         };
-        self.server.post(self.hub, report)
+        post(self.hub, self.server, report)
     }
 
     fn ask(&mut self, seat: usize, task: ServerTask) -> Result<Told, Fault> {

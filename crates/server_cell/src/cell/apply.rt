@@ -6,11 +6,12 @@ ghost use Rattle.server_cell.specs.Cells.{IsReplay};
 ghost use Rattle.server_cell.specs.Calls.{is_right, lacks_memory, logged_by, told_by, Applies};
 
 use super::ServerCell;
+use crate::seat::Seat;
 use crate::task::Task;
 use disk_model::Notes;
 use fc_base::{Fault, FaultSort};
 use messages::Frames;
-use node_history::{Came, Logged, Said, Seat, Told, Turn};
+use node_history::{Came, Logged, Said, Told, Turn};
 use std::alloc::Global;
 
 impl<N: Notes + Drop> ServerCell<N> {

@@ -4,14 +4,14 @@ ghost use Rattle.std.specs.Prelude.{◌<◌};
 
 use super::hands::{Ended, Hand, end_of};
 use assembly::{AssembleFault, assemble};
-use client_cell::{ClientCell, Request};
+use client_cell::{ClientCell, Command, Request};
 use disk_model::{FaultDisk, MemDisk, MemNotes};
 use fc_base::{Fault, JobNo, Key, MAX_TEXT, RunNo, ServerNo};
 use hub::Hub;
 use messages::{Act, Text};
-use node_history::{Came, Seat, Told};
+use node_history::{Came, Node, Told};
 use recheck::check_disk;
-use server_cell::{ServerCell, Task};
+use server_cell::{Seat, ServerCell, Task};
 use server_core::WriteEnd;
 use std::alloc::Global;
 use std::sync::{Mutex, Wait};
@@ -74,7 +74,8 @@ impl Site {
     pub fn begin<R: Wait>(&mut self, rt: &R, jobs: &[u8]) -> Result<(), Fault> {
         let text = text(self.alloc, jobs)?;
         let mut server = self.cell.lock(rt);
-        told(self.client.post(&mut self.hub, Request::Begin(text)))?;
+        let request = Command::Request(Request::Begin(text));
+        told(self.client.post(&mut self.hub, request))?;
         told(server.deliver(&mut self.hub, 0))?;
         told(self.client.deliver(&mut self.hub, 1))?;
         told(server.deliver(&mut self.hub, 2))?;
@@ -84,7 +85,7 @@ impl Site {
     /// Frame 4 is the trigger.
     pub fn trigger<R: Wait>(&mut self, rt: &R) -> Result<(), Fault> {
         let mut server = self.cell.lock(rt);
-        let request = Request::Trigger(RunNo(1), Act::None);
+        let request = Command::Request(Request::Trigger(RunNo(1), Act::None));
         told(self.client.post(&mut self.hub, request))?;
         told(server.deliver(&mut self.hub, 4))
     }

@@ -1,5 +1,5 @@
 use Rattle.std.proofs.Common.{◌≡◌}
-use Rattle.node_history.specs.Seats.{new_seats}
+use Rattle.server_cell.specs.Seated.{new_seats}
 use Rattle.server_cell.proofs.seats.new_seats.Given as goal
 
 abbrev pub invariant-loop-number : goal.invariant-loop-number

@@ -4,9 +4,10 @@ use Rattle.fc_base.specs.declared.fault.Fault.{Fault}
 use Rattle.hub.specs.Network.{IsSpelled}
 use Rattle.client_core.specs.declared.input.Input.TheVariants.{Deliver}
 use Rattle.node_history.specs.declared.answer.Said.{Said}
-use Rattle.client_cell.specs.Cells.{ClientLog}
+use Rattle.client_cell.specs.Cells.{ClientLog, opening_of}
+use Rattle.client_cell.specs.Stands.{failures_of}
 use Rattle.client_cell.proofs.PowerLemmas.{hidden, there}
-use Rattle.client_cell.proofs.HearLemmas.{lacking, lacks_why, off, off_why, where_ok, has_room, sent_spelled, heard_cell, told_why, replayed}
+use Rattle.client_cell.proofs.HearLemmas.{lacking, lacks_why, off, off_why, where_ok, has_room, sent_spelled, heard_cell, told_why, replayed, hear_counts}
 use Rattle.client_cell.proofs.cell.ClientCell.hear.Goals as goal
 
 pub returns-then-is_err-clause-ends : goal.returns-then-is_err-clause-ends
@@ -16,46 +17,59 @@ returns-then-is_err-clause-ends g c =
 
 pub enter-requires-clause-room : goal.enter-requires-clause-room
 enter-requires-clause-room g c =
-    let cell = c.self.invariant in
+    let cell = c.self.invariant.0 in
+    let o = opening_of c.self.inside.servers c.self.inside.opened.value in
     rw c.outcome-done.ensures
-    (has_room g.N.Notes.note _ c.self.inside.power cell (Deliver c.args.frame) c.deliver.new.self c.deliver.result c.make_room.new.hub.room refl (c.deliver.ensures cell.o cell.past cell.stands)
+    (has_room g.N.Notes.note _ c.self.inside.power cell (Deliver c.args.frame) c.deliver.new.self c.deliver.result c.make_room.new.hub.room refl (c.deliver.ensures.ends o cell.past cell.stands)
     (where_ok c.make_room.result c.make_room.ensures.room c.if-is_err.ensures.negation))
 
 pub enter-requires-clause-spelled : goal.enter-requires-clause-spelled
 enter-requires-clause-spelled g c =
-    let cell = c.self.invariant in
-    let ends = c.deliver.ensures cell.o cell.past cell.stands in
+    let cell = c.self.invariant.0 in
+    let o = opening_of c.self.inside.servers c.self.inside.opened.value in
+    let ends = c.deliver.ensures.ends o cell.past cell.stands in
     subst (λ (r : Result Said Fault × List (List ℕ)). All IsSpelled r.1) (sym c.outcome-done.ensures)
     (sent_spelled g.N.Notes.note _ c.self.inside.power cell (Deliver c.args.frame) c.deliver.new.self c.deliver.result c.frames_are_spelled.ensures c.packets_are_in_range.ensures ends)
 
 pub invariant_of-self-2 : goal.invariant_of-self-2
 invariant_of-self-2 g c =
-    let cell = c.self.invariant in
-    let ends = c.deliver.ensures cell.o cell.past cell.stands in
-    heard_cell g.N.Notes.note _ c.self.inside.power c.deliver.new.self cell (Deliver c.args.frame) c.deliver.result c.args.came (Some c.args.position) c.make_room.new.hub.net c.enter.new.hub.net _ c.requires.asks ends (rw (c.outcome-done.ensures, c.make_room.ensures.items) at c.enter.ensures.heard)
+    let cell = c.self.invariant.0 in
+    let o = opening_of c.self.inside.servers c.self.inside.opened.value in
+    let ends = c.deliver.ensures.ends o cell.past cell.stands in
+    (heard_cell g.N.Notes.note _ c.self.inside.power c.deliver.new.self cell (Deliver c.args.frame) c.deliver.result c.args.came (Some c.args.position) c.make_room.new.hub.net c.enter.new.hub.net _ (failures_of g.N.Notes.note c.deliver.new.self) c.requires.asks ends (rw (c.outcome-done.ensures, c.make_room.ensures.items) at c.enter.ensures.heard), c.self.invariant.1)
 
 pub returns-clause-why : goal.returns-clause-why
 returns-clause-why g c =
-    let cell = c.self.invariant in
-    let ends = c.deliver.ensures cell.o cell.past cell.stands in
-    told_why g.N.Notes.note _ c.self.inside.power c.deliver.new.self cell (Deliver c.args.frame) c.deliver.result c.args.came _ _ c.enter.result c.args.self.now (there g.N.Notes.note cell.o cell.past c.client.result (c.client.ensures cell.o cell.past cell.stands) c.if-is_none.ensures) c.requires.asks ends (rw c.outcome-done.ensures at c.enter.ensures.told) c.self.view_is
+    let cell = c.self.invariant.0 in
+    let o = opening_of c.self.inside.servers c.self.inside.opened.value in
+    let ends = c.deliver.ensures.ends o cell.past cell.stands in
+    told_why g.N.Notes.note _ c.self.inside.power c.deliver.new.self cell (Deliver c.args.frame) c.deliver.result _ _ c.enter.result c.args.self.now (there g.N.Notes.note o cell.past c.client.result (c.client.ensures o cell.past cell.stands) c.if-is_none.ensures) ends (rw c.outcome-done.ensures at c.enter.ensures.told) c.self.view_is
 
 pub returns-clause-replay : goal.returns-clause-replay
 returns-clause-replay g c =
-    let cell = c.self.invariant in
-    let ends = c.deliver.ensures cell.o cell.past cell.stands in
+    let cell = c.self.invariant.0 in
+    let o = opening_of c.self.inside.servers c.self.inside.opened.value in
+    let ends = c.deliver.ensures.ends o cell.past cell.stands in
     replayed g.N.Notes.note _ c.deliver.new.self
-    (heard_cell g.N.Notes.note _ c.self.inside.power c.deliver.new.self cell (Deliver c.args.frame) c.deliver.result c.args.came (Some c.args.position) c.make_room.new.hub.net c.enter.new.hub.net _ c.requires.asks ends (rw (c.outcome-done.ensures, c.make_room.ensures.items) at c.enter.ensures.heard))
+    (heard_cell g.N.Notes.note _ c.self.inside.power c.deliver.new.self cell (Deliver c.args.frame) c.deliver.result c.args.came (Some c.args.position) c.make_room.new.hub.net c.enter.new.hub.net _ (failures_of g.N.Notes.note c.deliver.new.self) c.requires.asks ends (rw (c.outcome-done.ensures, c.make_room.ensures.items) at c.enter.ensures.heard))
 
 pub returns-then-is_none-clause-ends : goal.returns-then-is_none-clause-ends
 returns-then-is_none-clause-ends g c = off c.args.came (Some c.args.position) c.args.hub.now.net c.args.self.now.history
 
 pub returns-then-is_none-clause-why : goal.returns-then-is_none-clause-why
 returns-then-is_none-clause-why g c =
-    let cell = c.self.invariant in
-    off_why g.N.Notes.note _ c.self.inside.power cell c.args.came c.args.self.now (hidden g.N.Notes.note cell.o cell.past c.client.result (c.client.ensures cell.o cell.past cell.stands) c.if-is_none.ensures) c.self.view_is
+    let cell = c.self.invariant.0 in
+    let o = opening_of c.self.inside.servers c.self.inside.opened.value in
+    off_why g.N.Notes.note _ c.self.inside.power cell (Deliver c.args.frame) c.args.self.now (hidden g.N.Notes.note o cell.past c.client.result (c.client.ensures o cell.past cell.stands) c.if-is_none.ensures) c.self.view_is
 
 pub returns-then-is_err-clause-why : goal.returns-then-is_err-clause-why
 returns-then-is_err-clause-why g c =
-    let cell = c.self.invariant in
-    lacks_why g.N.Notes.note _ c.self.inside.power cell c.args.came c.args.self.now (there g.N.Notes.note cell.o cell.past c.client.result (c.client.ensures cell.o cell.past cell.stands) c.if-is_none.ensures) c.self.view_is
+    let cell = c.self.invariant.0 in
+    let o = opening_of c.self.inside.servers c.self.inside.opened.value in
+    lacks_why g.N.Notes.note _ c.self.inside.power cell (Deliver c.args.frame) c.args.self.now (there g.N.Notes.note o cell.past c.client.result (c.client.ensures o cell.past cell.stands) c.if-is_none.ensures) c.self.view_is
+
+pub returns-clause-failures : goal.returns-clause-failures
+returns-clause-failures g c =
+    let cell = c.self.invariant.0 in
+    let o = opening_of c.self.inside.servers c.self.inside.opened.value in
+    hear_counts c.args.self.now (failures_of g.N.Notes.note c.self.inside.power) (failures_of g.N.Notes.note c.deliver.new.self) _ _ c.deliver.result c.enter.result (ap (λ (log : ClientLog). log.failures) c.self.view_is) (rw c.outcome-done.ensures at c.enter.ensures.told) (c.deliver.ensures.count o cell.past cell.stands)

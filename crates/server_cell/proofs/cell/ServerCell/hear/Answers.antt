@@ -1,20 +1,20 @@
-use Rattle.std.proofs.Common.{refl, sym, ◌∙◌, ap, subst, ◌∷◌, ◌++◌, ℕ, List, Some, Err}
+use Rattle.std.proofs.Common.{refl, sym, ◌∙◌, ap, subst, ◌∷◌, ◌++◌, ℕ, true, false, List}
 use Rattle.std.proofs.lemmas.List.{length-reverse}
 use Rattle.std.specs.Prelude.{reverse, length, All, Result}
 use Rattle.fc_base.specs.declared.fault.Fault.{Fault}
-use Rattle.fc_base.specs.declared.fault.Fault.TheVariants.{NodeOff, NoMemory}
 use Rattle.hub.specs.Network.{Network, IsSpelled}
 use Rattle.server_core.specs.Bounds.{AreShort}
 use Rattle.node_history.specs.declared.answer.Said.{Said}
 use Rattle.node_history.specs.Rules.{Meets}
 use Rattle.node_history.specs.AtHub.{is_left_out, told_at}
-use Rattle.server_cell.specs.Stands.{Moves}
+use Rattle.server_cell.specs.Stands.{failures_of, Moves}
 use Rattle.messages.specs.declared.node.Node.TheVariants.{Server as ServerNode}
 use Rattle.server_cell.specs.Cells.{ServerLog}
 use Rattle.server_cell.proofs.CellLemmas.{opening_with, same_cell, pushed}
-use Rattle.server_cell.proofs.HearLemmas.{lacking, unmoved, moved, short, has_room, sent_spelled, heard_as, entered, replayed, left_out, told_all, journal_by, where_ok, off_posts, explained_off, explained_lack, explained, why_with}
+use Rattle.server_cell.proofs.HearLemmas.{lacking, unmoved, moved, short, has_room, sent_spelled, heard_as, entered, replayed, left_out, told_all, journal_by, where_ok, post_off, post_lack, is_shown, step_why, hear_counts}
 use Rattle.server_cell.proofs.PowerLemmas.{hidden, there}
-use Rattle.server_cell.specs.Hearing.{ExplainsHeard}
+use Rattle.node_history.proofs.CallLemmas.{left_out_posts}
+use Rattle.fc_base.specs.declared.fault.Fault.TheVariants.{NodeOff}
 use Rattle.server_cell.proofs.cell.ServerCell.hear.Goals as goal
 
 pub returns-then-is_err-clause-ends : goal.returns-then-is_err-clause-ends
@@ -32,7 +32,7 @@ invariant_of-self-then-is_left_out g c =
     let note = g.N.Notes.note in
     let cell = c.self.invariant in
     let o = opening_with c.self.inside.me c.self.inside.boot c.self.inside.last_run in
-    let ends = c.step.ensures o cell.past cell.stands in
+    let ends = c.step.ensures.ends o cell.past cell.stands in
     let out = ap (λ (r : Result Said Fault × List (List ℕ)). is_left_out r.0) (sym c.outcome-answer.ensures) ∙ sym c.is_left_out.ensures ∙ c.if-is_left_out.true in
     rw c.reserve.ensures.items
     (same_cell note o c.self.inside.power c.step.new.self (reverse c.self.inside.history.items) c.self.inside.applied cell
@@ -48,7 +48,7 @@ note-requires-clause-room g c =
     let note = g.N.Notes.note in
     let cell = c.self.invariant in
     let o = opening_with c.self.inside.me c.self.inside.boot c.self.inside.last_run in
-    let ends = c.step.ensures o cell.past cell.stands in
+    let ends = c.step.ensures.ends o cell.past cell.stands in
     has_room c.reserve-2.new.self.room c.outcome-answer.result.1 (where_ok c.reserve-2.result c.reserve-2.ensures.room c.if-is_err-2.ensures.negation)
     (subst (λ (r : Result Said Fault × List (List ℕ)). AreShort r.1) (sym c.outcome-answer.ensures) (short note o cell.past c.args.input c.step.new.self c.step.result cell.opens cell.ranges ends))
 
@@ -57,7 +57,7 @@ note-requires-clause-spelled g c =
     let note = g.N.Notes.note in
     let cell = c.self.invariant in
     let o = opening_with c.self.inside.me c.self.inside.boot c.self.inside.last_run in
-    let ends = c.step.ensures o cell.past cell.stands in
+    let ends = c.step.ensures.ends o cell.past cell.stands in
     subst (λ (r : Result Said Fault × List (List ℕ)). All IsSpelled r.1) (sym c.outcome-answer.ensures)
     (sent_spelled note o cell.past c.args.input c.step.new.self c.step.result c.frames_are_spelled.ensures c.packets_are_in_range.ensures cell.opens cell.ranges ends)
 
@@ -66,7 +66,7 @@ invariant_of-self-2 g c =
     let note = g.N.Notes.note in
     let cell = c.self.invariant in
     let o = opening_with c.self.inside.me c.self.inside.boot c.self.inside.last_run in
-    let ends = c.step.ensures o cell.past cell.stands in
+    let ends = c.step.ensures.ends o cell.past cell.stands in
     let out = ap (λ (r : Result Said Fault × List (List ℕ)). is_left_out r.0) (sym c.outcome-answer.ensures) ∙ sym c.is_left_out.ensures ∙ c.if-is_left_out.false in
     let m = subst (λ (r : Result Said Fault × List (List ℕ)). Moves note o cell.past (Meets c.args.input) r.0 r.1 c.step.new.self) (sym c.outcome-answer.ensures) (moved note o cell.past c.args.input c.step.new.self c.step.result out ends) in
     rw (c.push_reserved.ensures.items, c.reserve.ensures.items, pushed c.self.inside.history.items (heard_as c.args.came c.outcome-answer.result.0 c.outcome-answer.result.1))
@@ -77,7 +77,7 @@ returns-clause-replay g c =
     let note = g.N.Notes.note in
     let cell = c.self.invariant in
     let o = opening_with c.self.inside.me c.self.inside.boot c.self.inside.last_run in
-    let ends = c.step.ensures o cell.past cell.stands in
+    let ends = c.step.ensures.ends o cell.past cell.stands in
     let out = ap (λ (r : Result Said Fault × List (List ℕ)). is_left_out r.0) (sym c.outcome-answer.ensures) ∙ sym c.is_left_out.ensures ∙ c.if-is_left_out.false in
     let m = subst (λ (r : Result Said Fault × List (List ℕ)). Moves note o cell.past (Meets c.args.input) r.0 r.1 c.step.new.self) (sym c.outcome-answer.ensures) (moved note o cell.past c.args.input c.step.new.self c.step.result out ends) in
     rw (c.push_reserved.ensures.items, c.reserve.ensures.items, pushed c.self.inside.history.items (heard_as c.args.came c.outcome-answer.result.0 c.outcome-answer.result.1))
@@ -95,33 +95,31 @@ returns-clause-ends g c =
 
 pub returns-then-is_none-clause-ends : goal.returns-then-is_none-clause-ends
 returns-then-is_none-clause-ends g c =
-    off_posts (ServerNode c.args.self.now.opening.me) c.args.came c.args.taken c.args.hub.now.net c.args.hub.now.net c.args.self.now.history _ refl refl
+    left_out_posts (ServerNode c.args.self.now.opening.me) c.args.came c.args.taken c.args.hub.now.net c.args.self.now.history NodeOff refl
 
 pub returns-then-is_none-clause-why : goal.returns-then-is_none-clause-why
 returns-then-is_none-clause-why g c =
     let note = g.N.Notes.note in
     let cell = c.self.invariant in
     let o = opening_with c.self.inside.me c.self.inside.boot c.self.inside.last_run in
-    why_with note o c.self.inside.power (reverse c.self.inside.history.items) c.self.inside.applied cell c.args.self.now (Some (Meets c.args.input)) (Err NodeOff) c.self.view_is
-    (explained_off o cell.past (Some (Meets c.args.input)) (hidden note o cell.past c.server.result (c.server.ensures o cell.past cell.stands) c.if-is_none.ensures))
+    post_off c.args.self.now (Meets c.args.input)
+    (is_shown note o c.self.inside.power (reverse c.self.inside.history.items) c.self.inside.applied cell (failures_of note c.self.inside.power) c.args.self.now false c.self.view_is (hidden note o cell.past c.server.result (c.server.ensures o cell.past cell.stands) c.if-is_none.ensures))
 
 pub returns-then-is_err-clause-why : goal.returns-then-is_err-clause-why
 returns-then-is_err-clause-why g c =
     let note = g.N.Notes.note in
     let cell = c.self.invariant in
     let o = opening_with c.self.inside.me c.self.inside.boot c.self.inside.last_run in
-    let on = there note o cell.past c.server.result (c.server.ensures o cell.past cell.stands) c.if-is_none.ensures in
-    why_with note o c.self.inside.power (reverse c.self.inside.history.items) c.self.inside.applied cell c.args.self.now (Some (Meets c.args.input)) (Err NoMemory) c.self.view_is
-    (explained_lack o cell.past (Meets c.args.input) on)
+    post_lack c.args.self.now (Meets c.args.input)
+    (is_shown note o c.self.inside.power (reverse c.self.inside.history.items) c.self.inside.applied cell (failures_of note c.self.inside.power) c.args.self.now true c.self.view_is (there note o cell.past c.server.result (c.server.ensures o cell.past cell.stands) c.if-is_none.ensures))
 
 pub returns-then-is_err-2-clause-why : goal.returns-then-is_err-2-clause-why
 returns-then-is_err-2-clause-why g c =
     let note = g.N.Notes.note in
     let cell = c.self.invariant in
     let o = opening_with c.self.inside.me c.self.inside.boot c.self.inside.last_run in
-    let on = there note o cell.past c.server.result (c.server.ensures o cell.past cell.stands) c.if-is_none.ensures in
-    why_with note o c.self.inside.power (reverse c.self.inside.history.items) c.self.inside.applied cell c.args.self.now (Some (Meets c.args.input)) (Err NoMemory) c.self.view_is
-    (explained_lack o cell.past (Meets c.args.input) on)
+    post_lack c.args.self.now (Meets c.args.input)
+    (is_shown note o c.self.inside.power (reverse c.self.inside.history.items) c.self.inside.applied cell (failures_of note c.self.inside.power) c.args.self.now true c.self.view_is (there note o cell.past c.server.result (c.server.ensures o cell.past cell.stands) c.if-is_none.ensures))
 
 pub returns-then-is_left_out-clause-why : goal.returns-then-is_left_out-clause-why
 returns-then-is_left_out-clause-why g c =
@@ -129,9 +127,7 @@ returns-then-is_left_out-clause-why g c =
     let cell = c.self.invariant in
     let o = opening_with c.self.inside.me c.self.inside.boot c.self.inside.last_run in
     let on = there note o cell.past c.server.result (c.server.ensures o cell.past cell.stands) c.if-is_none.ensures in
-    why_with note o c.self.inside.power (reverse c.self.inside.history.items) c.self.inside.applied cell c.args.self.now (Some (Meets c.args.input)) c.told_at.result c.self.view_is
-    (subst (ExplainsHeard o cell.past (Some (Meets c.args.input))) (ap (λ (r : Result Said Fault × List (List ℕ)). told_at 0 0 r.0) (sym c.outcome-answer.ensures) ∙ sym c.told_at.ensures)
-    (explained note o cell.past c.args.input c.step.new.self c.step.result 0 0 on (c.step.ensures o cell.past cell.stands)))
+    step_why note o c.self.inside.power (reverse c.self.inside.history.items) c.self.inside.applied cell (failures_of note c.self.inside.power) c.args.self.now c.args.input c.step.new.self c.step.result 0 0 c.outcome-answer.result c.told_at.result c.self.view_is on (c.step.ensures.ends o cell.past cell.stands) c.outcome-answer.ensures c.told_at.ensures
 
 pub returns-clause-why : goal.returns-clause-why
 returns-clause-why g c =
@@ -139,6 +135,18 @@ returns-clause-why g c =
     let cell = c.self.invariant in
     let o = opening_with c.self.inside.me c.self.inside.boot c.self.inside.last_run in
     let on = there note o cell.past c.server.result (c.server.ensures o cell.past cell.stands) c.if-is_none.ensures in
-    why_with note o c.self.inside.power (reverse c.self.inside.history.items) c.self.inside.applied cell c.args.self.now (Some (Meets c.args.input)) c.told_at-told.result c.self.view_is
-    (subst (ExplainsHeard o cell.past (Some (Meets c.args.input))) (ap (λ (r : Result Said Fault × List (List ℕ)). told_at c.len.result c.len-2.result r.0) (sym c.outcome-answer.ensures) ∙ sym c.told_at-told.ensures)
-    (explained note o cell.past c.args.input c.step.new.self c.step.result c.len.result c.len-2.result on (c.step.ensures o cell.past cell.stands)))
+    step_why note o c.self.inside.power (reverse c.self.inside.history.items) c.self.inside.applied cell (failures_of note c.self.inside.power) c.args.self.now c.args.input c.step.new.self c.step.result c.len.result c.len-2.result c.outcome-answer.result c.told_at-told.result c.self.view_is on (c.step.ensures.ends o cell.past cell.stands) c.outcome-answer.ensures c.told_at-told.ensures
+
+pub returns-then-is_left_out-clause-failures : goal.returns-then-is_left_out-clause-failures
+returns-then-is_left_out-clause-failures g c =
+    let note = g.N.Notes.note in
+    let cell = c.self.invariant in
+    let o = opening_with c.self.inside.me c.self.inside.boot c.self.inside.last_run in
+    hear_counts c.args.self.now (failures_of note c.self.inside.power) (failures_of note c.step.new.self) 0 0 c.step.result c.outcome-answer.result c.told_at.result (ap (λ (log : ServerLog). log.failures) c.self.view_is) c.outcome-answer.ensures c.told_at.ensures (c.step.ensures.count o cell.past cell.stands)
+
+pub returns-clause-failures : goal.returns-clause-failures
+returns-clause-failures g c =
+    let note = g.N.Notes.note in
+    let cell = c.self.invariant in
+    let o = opening_with c.self.inside.me c.self.inside.boot c.self.inside.last_run in
+    hear_counts c.args.self.now (failures_of note c.self.inside.power) (failures_of note c.step.new.self) c.len.result c.len-2.result c.step.result c.outcome-answer.result c.told_at-told.result (ap (λ (log : ServerLog). log.failures) c.self.view_is) c.outcome-answer.ensures c.told_at-told.ensures (c.step.ensures.count o cell.past cell.stands)

@@ -1,0 +1,63 @@
+//! The client under its lock is a node.
+
+ghost use Rattle.messages.specs.declared.node.Node.TheVariants.{Client};
+ghost use Rattle.client_core.specs.History.{Opening as ClientOpening};
+ghost use Rattle.client_core.specs.Hearing.{FrameEntry};
+ghost use Rattle.client_core.specs.declared.input.Input.{Input as ClientInput};
+ghost use Rattle.node_history.specs.ClientRules.{rules as client_rules};
+ghost use Rattle.client_cell.specs.Asks.{asks_of};
+
+use super::ClientCell;
+use crate::command::Command;
+use disk_model::Notes;
+use fc_base::Fault;
+use hub::Hub;
+use messages::Node as NodeName;
+use node_history::{Logged, Node, Told, frame_came};
+
+impl<N: Notes + Drop> Node for ClientCell<N> {
+    type Command = Command;
+
+    ghost Opening = { ClientOpening };
+
+    ghost Input = { ClientInput };
+
+    ghost Past = { FrameEntry };
+
+    ghost rules = { client_rules };
+
+    ghost name = { λ o. Client };
+
+    ghost asks = { asks_of };
+
+    ghost opening = { λ cell. cell.opening };
+
+    ghost log = { λ cell. cell.history };
+
+    ghost failures = { λ cell. cell.failures };
+
+    fn number(&self) -> NodeName {
+        NodeName::Client
+    }
+
+    fn history(&self) -> &[Logged] {
+        ClientCell::history(self)
+    }
+
+    fn deliver(&mut self, hub: &mut Hub, position: u64) -> Result<Told, Fault> {
+        if self.client().is_none() {
+            return Err(Fault::NodeOff);
+        }
+        match frame_came(self.alloc, hub, position) {
+            Ok((came, frame)) => self.hear(hub, came, position, frame),
+            Err(fault) => Err(fault),
+        }
+    }
+
+    fn post(&mut self, hub: &mut Hub, command: Command) -> Result<Told, Fault> {
+        match command {
+            Command::Request(request) => self.ask(hub, request),
+            Command::Tick => self.tick(hub),
+        }
+    }
+}

@@ -1,3 +1,0 @@
-mod ClientLemmas
-mod EndLemmas
-mod ServerLemmas

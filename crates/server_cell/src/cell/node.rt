@@ -1,0 +1,88 @@
+//! A server under its lock is a node.
+
+ghost use Rattle.std.specs.Prelude.{List};
+ghost use Rattle.messages.specs.declared.node.Node.TheVariants.{Server};
+ghost use Rattle.server_core.specs.History.{Opening as ServerOpening};
+ghost use Rattle.server_core.specs.Hearing.{FrameEntry};
+ghost use Rattle.server_core.specs.declared.input.Input.{Input as ServerInput};
+ghost use Rattle.node_history.specs.ServerRules.{rules as server_rules};
+ghost use Rattle.server_cell.specs.Asks.{asks_of};
+ghost use Rattle.server_cell.specs.Cells.{IsReplay};
+
+use super::ServerCell;
+use crate::report::Report;
+use disk_model::Notes;
+use fc_base::Fault;
+use hub::Hub;
+use messages::Node as NodeName;
+use node_history::{Came, Logged, Node, Told, frame_came};
+use server_core::Input;
+
+impl<N: Notes + Drop> Node for ServerCell<N> {
+    type Command = Report;
+
+    ghost Opening = { ServerOpening };
+
+    ghost Input = { ServerInput };
+
+    ghost Past = { FrameEntry };
+
+    ghost rules = { server_rules };
+
+    ghost name = { λ o. Server o.me };
+
+    ghost asks = { asks_of };
+
+    ghost opening = { λ cell. cell.opening };
+
+    ghost log = { λ cell. cell.history };
+
+    ghost failures = { λ cell. cell.failures };
+
+    fn number(&self) -> NodeName {
+        NodeName::Server(self.me())
+    }
+
+    fn history(&self) -> &[Logged] {
+        ServerCell::history(self)
+    }
+
+    fn deliver(&mut self, hub: &mut Hub, position: u64) -> Result<Told, Fault> {
+        if !self.is_on() {
+            return Err(Fault::NodeOff);
+        }
+        match frame_came(self.alloc, hub, position) {
+            Ok((came, frame)) => self.hear(hub, came, Some(position), Input::Deliver(frame)),
+            Err(fault) => Err(fault),
+        }
+    }
+
+    /// Takes the report of a job's check, and sends it to the client.
+    fn post(&mut self, hub: &mut Hub, command: Report) -> Result<Told, Fault> {
+        if !self.is_on() {
+            return Err(Fault::NodeOff);
+        }
+        let Report {
+            boot,
+            attempt,
+            job,
+            report,
+        } = command;
+        let Ok(kept) = Box::new(self.alloc, report) else {
+            return Err(Fault::NoMemory);
+        };
+        let came = Came::CheckDone {
+            boot,
+            attempt,
+            job,
+            report: kept,
+        };
+        let input = Input::CheckDone {
+            boot,
+            attempt,
+            job,
+            report,
+        };
+        self.hear(hub, came, None, input)
+    }
+}
