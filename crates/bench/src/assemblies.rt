@@ -1,85 +1,80 @@
 //! One list of all events of nodes under locks: medians of five, in processor time.
 
-use crate::cells::{Begun, Client, Server, begin_run};
+use crate::clock::{nanos_since, now};
+use crate::nodes::{Begun, Network, new_network, new_server};
 use crate::rounds::{ROUNDS, median};
 use crate::servers::writes::TEXT;
 use crate::trouble::Trouble;
 use assembly::assemble;
-use node_threads::{Hub, Seat};
-use std::alloc::Global;
+use std::slice;
 use std::time::CpuClock;
 
 /// How many writes a server asks for and ends.
 const WRITES: [u32; 2] = [50_000, 500_000];
 
-/// The nodes of a run at one server.
-#[derive(Drop)]
-struct Ran {
-    hub: Hub,
-    client: Client,
-    servers: Vec<Server>,
-    seats: Vec<Seat>,
-}
-
 /// Prints a line for each number of writes.
 pub fn measure<R: AllocGlobal + Print + CpuClock>(rt: &R) -> Result<(), Trouble> {
     for writes in WRITES {
-        let ran = run(rt.alloc(), writes)?;
-        print(rt, &ran, u128::from(writes) * 2)?;
+        measure_writes(rt, writes)?;
     }
     Ok(())
 }
 
-/// Prints what an event of this run takes, of which there are about so many.
-fn print<R: AllocGlobal + Print + CpuClock>(
+/// Prints what an event takes of a run in which so many writes were asked for and ended, of which there
+/// are about twice as many.
+fn measure_writes<R: AllocGlobal + Print + CpuClock>(rt: &R, writes: u32) -> Result<(), Trouble> {
+    let events = u128::from(writes) * 2;
+    let nanos = time(rt, writes)? / events.max(1);
+    println!(rt; "assemble of {events} events: {nanos} ns each")?;
+    Ok(())
+}
+
+/// The median time of an assembly, in nanoseconds.
+fn time<R: AllocGlobal + CpuClock>(rt: &R, writes: u32) -> Result<u128, Trouble> {
+    let mut network = new_network(rt.alloc())?;
+    time_in(rt, &mut network, writes)
+}
+
+/// The same in this network, with a new server.
+fn time_in<R: AllocGlobal + CpuClock>(
     rt: &R,
-    ran: &Ran,
-    events: u128,
-) -> Result<(), Trouble> {
+    network: &mut Network,
+    writes: u32,
+) -> Result<u128, Trouble> {
+    let mut begun = new_server(rt.alloc(), 1)?;
+    time_run(rt, network, &mut begun, writes)
+}
+
+/// The same, once a run has begun and these writes are done.
+fn time_run<R: AllocGlobal + CpuClock>(
+    rt: &R,
+    network: &mut Network,
+    begun: &mut Begun,
+    writes: u32,
+) -> Result<u128, Trouble> {
+    network.begin(rt.alloc(), &mut begun.server, TEXT)?;
+    begun.write(writes)?;
     let mut times = [0; ROUNDS];
     for round in 0..ROUNDS {
-        times[round] = time(rt, ran)?;
+        times[round] = time_round(rt, network, begun)?;
     }
-    println!(rt;
-        "assemble of {events} events: {} ns each",
-        median(times) / events.max(1)
-    )?;
-    Ok(())
+    Ok(median(times))
 }
 
 /// The nanoseconds of an assembly.
-fn time<R: AllocGlobal + CpuClock>(rt: &R, ran: &Ran) -> Result<u128, Trouble> {
-    let start = rt.process_cpu_time()?;
-    let assembled = assemble(rt.alloc(), &ran.hub, &ran.client, &ran.servers, &ran.seats)?;
-    let took = rt.process_cpu_time()?.saturating_sub(start).as_nanos();
+fn time_round<R: AllocGlobal + CpuClock>(
+    rt: &R,
+    network: &Network,
+    begun: &Begun,
+) -> Result<u128, Trouble> {
+    let Network { hub, client } = network;
+    let Begun { server, seats } = begun;
+    let start = now(rt)?;
+    let assembled = assemble(rt.alloc(), hub, client, slice::from_ref(server), seats)?;
+    let took = nanos_since(rt, start)?;
     if assembled.order.is_empty() {
         Err(Trouble::Differs)
     } else {
         Ok(took)
     }
-}
-
-/// A run in which so many writes were asked for and ended.
-fn run(alloc: Global, writes: u32) -> Result<Ran, Trouble> {
-    let mut begun = begin_run(alloc, 1, TEXT)?;
-    begun.write(writes)?;
-    let Begun {
-        hub,
-        client,
-        server,
-        seats,
-    } = begun;
-    Ok(Ran {
-        servers: alone(alloc, server)?,
-        hub,
-        client,
-        seats,
-    })
-}
-
-/// This server and no other.
-fn alone(alloc: Global, server: Server) -> Result<Vec<Server>, Trouble> {
-    let mut servers = Vec::new(alloc);
-    servers.push(server)?;
-    Ok(servers)
 }

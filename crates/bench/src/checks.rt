@@ -1,9 +1,12 @@
 //! A check of a whole disk, beside a copy of as many bytes: medians of five, in processor time.
 
+use crate::clock::{nanos_since, now};
+use crate::copies::copy;
+use crate::jobs::{KEY, record_of};
 use crate::rounds::{ROUNDS, median};
 use crate::trouble::Trouble;
 use disk_model::{Disk, MemDisk, is_block};
-use fc_base::{JobNo, JobParts, JobRecord, Key, Kind, RunNo, Seq, ServerNo, Verify};
+use fc_base::{CheckReport, JobParts, JobRecord, Kind, Seq, Verify};
 use recheck::check_disk;
 use std::alloc::Global;
 use std::time::CpuClock;
@@ -12,59 +15,63 @@ use write_order::fill_block;
 /// How many bytes are checked and copied.
 pub const BYTES: u64 = 64 << 20;
 
-/// The key of the job.
-pub const KEY: Key = Key {
-    run: RunNo(1),
-    server: ServerNo(0),
-    job: JobNo(0),
-};
+/// What is checked: the name of a verify method, the method, and the size of a block.
+const CHECKS: [(&str, Verify, u64); 4] = [
+    ("stamp", Verify::Stamp, 4096),
+    ("stamp", Verify::Stamp, 65_536),
+    ("pattern", Verify::Pattern, 4096),
+    ("pattern", Verify::Pattern, 65_536),
+];
 
 /// Prints a line for each verify method and block size, and one for the copy.
 pub fn measure<R: AllocGlobal + Print + CpuClock>(rt: &R) -> Result<(), Trouble> {
-    for (name, verify) in [("stamp", Verify::Stamp), ("pattern", Verify::Pattern)] {
-        for bs in [4096, 65_536] {
-            let micros = time_check(rt, verify, bs)?;
-            println!(rt; "check of {name} at {bs}: {micros} us for {BYTES} bytes")?;
-        }
+    for (name, verify, bs) in CHECKS {
+        let micros = time_check(rt, verify, bs)? / 1_000;
+        println!(rt; "check of {name} at {bs}: {micros} us for {BYTES} bytes")?;
     }
-    let micros = time_copy(rt)?;
+    let micros = time_copy(rt)? / 1_000;
     println!(rt; "copy: {micros} us for {BYTES} bytes")?;
     Ok(())
 }
 
-/// The median time of a check of a disk that holds all writes of a job, in microseconds.
+/// The median time of a check of a disk that holds all writes of a job, in nanoseconds.
 fn time_check<R: AllocGlobal + CpuClock>(rt: &R, verify: Verify, bs: u64) -> Result<u128, Trouble> {
     let job = job_of(verify, bs)?;
     let mut disk = written(rt.alloc(), &job)?;
-    let mut times = [0; ROUNDS];
-    for round in 0..ROUNDS {
-        times[round] = time_one_check(rt, &job, &mut disk)?;
-    }
-    Ok(median(times))
+    time_checks(rt, &job, &mut disk)
 }
 
-/// The time of one check.
-fn time_one_check<R: AllocGlobal + CpuClock>(
+/// The same of this disk.
+fn time_checks<R: AllocGlobal + CpuClock>(
     rt: &R,
     job: &JobRecord,
     disk: &mut MemDisk,
 ) -> Result<u128, Trouble> {
-    let start = rt.process_cpu_time()?;
-    check_all(rt.alloc(), job, disk)?;
-    Ok(rt.process_cpu_time()?.saturating_sub(start).as_micros())
+    let mut times = [0; ROUNDS];
+    for round in 0..ROUNDS {
+        let start = now(rt)?;
+        check_all(rt.alloc(), job, disk)?;
+        times[round] = nanos_since(rt, start)?;
+    }
+    Ok(median(times))
 }
 
 /// Checks a disk that holds all writes of a job.
 fn check_all(alloc: Global, job: &JobRecord, disk: &mut MemDisk) -> Result<(), Trouble> {
     let report = check_disk(alloc, job, KEY, None, false, disk)?;
-    if report.faults() == 0 && report.checked() == job.blocks() {
+    if is_sound(&report, job) {
         Ok(())
     } else {
         Err(Trouble::FaultFound)
     }
 }
 
-/// The median time of a copy between two buffers, in microseconds.
+/// Whether all blocks were checked, and none has a fault.
+pub fn is_sound(report: &CheckReport, job: &JobRecord) -> bool {
+    report.faults() == 0 && report.checked() == job.blocks()
+}
+
+/// The median time of a copy between two buffers, in nanoseconds.
 fn time_copy<R: AllocGlobal + CpuClock>(rt: &R) -> Result<u128, Trouble> {
     let mut times = [0; ROUNDS];
     for round in 0..ROUNDS {
@@ -77,27 +84,25 @@ fn time_copy<R: AllocGlobal + CpuClock>(rt: &R) -> Result<u128, Trouble> {
 fn time_one_copy<R: AllocGlobal + CpuClock>(rt: &R, byte: u8) -> Result<u128, Trouble> {
     let source = vec![in rt.alloc(); byte; BYTES as usize]?;
     let mut target = vec![in rt.alloc(); !byte; BYTES as usize]?;
-    let start = rt.process_cpu_time()?;
-    copy(&mut target, &source);
-    let time = rt.process_cpu_time()?.saturating_sub(start).as_micros();
-    if target.as_slice() == source.as_slice() {
-        Ok(time)
-    } else {
-        Err(Trouble::Differs)
-    }
+    time_between(rt, &source, &mut target)
 }
 
-/// Copies the bytes between two buffers of one length.
-fn copy(target: &mut [u8], source: &[u8]) {
-    if target.len() == source.len() {
-        target.copy_from_slice(source);
+/// The time of a copy between these buffers.
+fn time_between<R: CpuClock>(rt: &R, source: &[u8], target: &mut [u8]) -> Result<u128, Trouble> {
+    let start = now(rt)?;
+    copy(target, source);
+    let nanos = nanos_since(rt, start)?;
+    if *target == *source {
+        Ok(nanos)
+    } else {
+        Err(Trouble::Differs)
     }
 }
 
 /// A job that writes each block of a disk once.
 pub fn job_of(verify: Verify, bs: u64) -> Result<JobRecord, Trouble> {
     let blocks = BYTES / bs.max(1);
-    let job = JobRecord::make(JobParts {
+    record_of(JobParts {
         kind: Kind::Sequential,
         verify,
         pattern: if verify == Verify::Pattern { 0xa5 } else { 0 },
@@ -107,17 +112,19 @@ pub fn job_of(verify: Verify, bs: u64) -> Result<JobRecord, Trouble> {
         seed: 1,
         depth: 16,
         window: 16,
-    });
-    match job {
-        Some(job) => Ok(job),
-        None => Err(Trouble::NoJob),
-    }
+    })
 }
 
 /// A disk to which each write of the job was written.
 pub fn written(alloc: Global, job: &JobRecord) -> Result<MemDisk, Trouble> {
     let mut disk = MemDisk::new(alloc);
     disk.power_on(1);
+    write_all(alloc, &mut disk, job)?;
+    Ok(disk)
+}
+
+/// Writes each block of the job to this disk.
+fn write_all(alloc: Global, disk: &mut MemDisk, job: &JobRecord) -> Result<(), Trouble> {
     let mut bytes = vec![in alloc; 0u8; job.bs() as usize]?;
     for block in 0..job.blocks() {
         fill_block(KEY, job, Seq(u64::from(block)), block, &mut bytes);
@@ -126,5 +133,5 @@ pub fn written(alloc: Global, job: &JobRecord) -> Result<MemDisk, Trouble> {
         }
         disk.write(1, block, &bytes)?;
     }
-    Ok(disk)
+    Ok(())
 }

@@ -1,12 +1,12 @@
 //! Workers that write to files in memory: how many blocks of 4 KiB they write in a second, by the clock,
 //! at one server and at four: medians of five.
 
-use crate::cells::{Begun, Server, begin_run};
+use crate::nodes::{Begun, Server, begin_run};
 use crate::rounds::{ROUNDS, median};
 use crate::trouble::Trouble;
 use disk_model::MemDisk;
 use fc_base::Fault;
-use node_threads::Seat;
+use server_cell::Seat;
 use std::alloc::Global;
 use std::sync::{Mutex, Wait};
 use std::thread;
@@ -50,25 +50,25 @@ pub fn measure<R: AllocGlobal + Clock + Print + Threads + Wait + Sync>(
     rt: &R,
 ) -> Result<(), Trouble> {
     for (servers, workers) in SIZES {
-        let mut times = [0; ROUNDS];
-        for round in 0..ROUNDS {
-            times[round] = time(rt, servers, workers)?;
-        }
-        let writes = WRITES * u128::from(servers);
-        let rate = writes * 1_000_000_000 / median(times).max(1);
+        let nanos = time(rt, servers, workers)?;
+        let rate = WRITES * u128::from(servers) * 1_000_000_000 / nanos.max(1);
         println!(rt; "{servers} servers of {workers} workers: {rate} writes a second")?;
     }
     Ok(())
 }
 
-/// The nanoseconds of all writes of so many servers of so many workers.
+/// The median time of all writes of so many servers of so many workers, in nanoseconds.
 fn time<R: AllocGlobal + Clock + Threads + Wait + Sync>(
     rt: &R,
     servers: u32,
     workers: u32,
 ) -> Result<u128, Trouble> {
-    let mut crew = Crew::new(rt.alloc(), servers, workers)?;
-    crew.time(rt, rt.alloc())
+    let mut times = [0; ROUNDS];
+    for round in 0..ROUNDS {
+        let mut crew = Crew::new(rt.alloc(), servers, workers)?;
+        times[round] = crew.time(rt, rt.alloc())?;
+    }
+    Ok(median(times))
 }
 
 /// Servers that write, and their workers.
@@ -90,27 +90,16 @@ impl Crew {
 
     fn fill(&mut self, alloc: Global, servers: u32, workers: u32) -> Result<(), Trouble> {
         for place in 0..servers as usize {
-            let files = files(alloc)?;
             let begun = begin_run(alloc, workers.clamp(1, 16), TEXT)?;
-            self.add(place, begun, files)?;
+            self.add(alloc, place, begun)?;
         }
         Ok(())
     }
 
-    fn add(
-        &mut self,
-        place: usize,
-        begun: Begun,
-        files: Vec<Mutex<MemDisk>>,
-    ) -> Result<(), Trouble> {
-        let Begun { server, seats, .. } = begun;
-        self.add_hands(place, seats)?;
-        let site = Site {
-            cell: Mutex::new(server),
-            files,
-        };
-        self.sites.push(site)?;
-        Ok(())
+    fn add(&mut self, alloc: Global, place: usize, begun: Begun) -> Result<(), Trouble> {
+        let Begun { server, seats } = begun;
+        self.sites.push(new_site(alloc, server)?)?;
+        self.add_hands(place, seats)
     }
 
     fn add_hands(&mut self, place: usize, seats: Vec<Seat>) -> Result<(), Trouble> {
@@ -146,6 +135,14 @@ impl Crew {
             None => Ok(took),
         }
     }
+}
+
+/// This server, with new files.
+fn new_site(alloc: Global, server: Server) -> Result<Site, Trouble> {
+    Ok(Site {
+        cell: Mutex::new(server),
+        files: files(alloc)?,
+    })
 }
 
 /// The files of a server, turned on, to which nothing was written yet.

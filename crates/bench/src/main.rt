@@ -14,8 +14,13 @@ mod assemblies;
 mod cells;
 mod checks;
 mod clients;
+mod clock;
+mod copies;
 mod hands;
 mod issues;
+mod jobs;
+mod nodes;
+mod packets;
 mod parallel;
 mod pieces;
 mod rot;
@@ -48,18 +53,26 @@ fn run<R: Env + AllocGlobal + Print + Clock + CpuClock + Threads + Wait + Sync>(
     rt: &R,
 ) -> Result<(), Trouble> {
     let words = env::args(rt)?.collect::<Vec<String>>(rt.alloc())?;
-    match words.get(1).map(String::as_str) {
-        Some("assemblies") => assemblies::measure(rt),
-        Some("cells") => cells::measure(rt),
-        Some("checks") => checks::measure(rt),
-        Some("clients") => clients::measure(rt),
-        Some("issues") => issues::measure(rt),
-        Some("parallel") => parallel::measure(rt),
-        Some("pieces") => pieces::measure(rt),
-        Some("rot") => rot::measure(rt),
-        Some("servers") => servers::measure(rt),
-        Some("workers") => hands::measure(rt),
-        Some("worlds") => worlds::measure(rt),
+    measure(rt, words.get(1).map_or("", String::as_str))
+}
+
+/// Measures what this word asks for.
+fn measure<R: AllocGlobal + Print + Clock + CpuClock + Threads + Wait + Sync>(
+    rt: &R,
+    word: &str,
+) -> Result<(), Trouble> {
+    match word {
+        "assemblies" => assemblies::measure(rt),
+        "cells" => cells::measure(rt),
+        "checks" => checks::measure(rt),
+        "clients" => clients::measure(rt),
+        "issues" => issues::measure(rt),
+        "parallel" => parallel::measure(rt),
+        "pieces" => pieces::measure(rt),
+        "rot" => rot::measure(rt),
+        "servers" => servers::measure(rt),
+        "workers" => hands::measure(rt),
+        "worlds" => worlds::measure(rt),
         _ => {
             println!(rt;
                 "give a word: assemblies, cells, checks, clients, issues, parallel, pieces, rot, servers, workers or worlds"

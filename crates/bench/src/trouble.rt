@@ -5,7 +5,7 @@ use fc_base::Fault;
 use std::alloc::{AllocError, AllocFailed};
 use std::{fmt, io};
 
-#[derive(Drop)]
+#[derive(Clone, Copy)]
 pub enum Trouble {
     Io(io::Error),
     NoMemory,
@@ -31,21 +31,32 @@ pub enum Trouble {
     Differs,
 }
 
+impl Trouble {
+    /// What it says, where it says no more than its name.
+    fn words(self) -> &'static str {
+        match self {
+            Trouble::Io(_) => "input or output failed",
+            Trouble::NoMemory => "no memory",
+            Trouble::Refused(_) => "refused",
+            Trouble::NoJob => "the settings make no job",
+            Trouble::NoKey => "no job has the key",
+            Trouble::NoBlock => "the disk has no such block",
+            Trouble::NoWrite => "no write was issued",
+            Trouble::NoSeat => "the server has no such seat",
+            Trouble::FaultFound => "the check found a fault",
+            Trouble::NoPacket => "no packet was given",
+            Trouble::NoPiece => "no piece was given",
+            Trouble::Differs => "the copy differs",
+        }
+    }
+}
+
 impl fmt::Display for Trouble {
     fn fmt<W: fmt::Write>(&self, f: &mut fmt::Formatter<W>) -> fmt::Result {
         match self {
             Trouble::Io(error) => write!(f, "{error}"),
-            Trouble::NoMemory => f.write_str("no memory"),
             Trouble::Refused(fault) => write!(f, "refused {fault}"),
-            Trouble::NoJob => f.write_str("the settings make no job"),
-            Trouble::NoKey => f.write_str("no job has the key"),
-            Trouble::NoBlock => f.write_str("the disk has no such block"),
-            Trouble::NoWrite => f.write_str("no write was issued"),
-            Trouble::NoSeat => f.write_str("the server has no such seat"),
-            Trouble::FaultFound => f.write_str("the check found a fault"),
-            Trouble::NoPacket => f.write_str("no packet was given"),
-            Trouble::NoPiece => f.write_str("no piece was given"),
-            Trouble::Differs => f.write_str("the copy differs"),
+            _ => f.write_str(self.words()),
         }
     }
 }

@@ -32,11 +32,7 @@ pub fn measure<R: AllocGlobal + Print + CpuClock>(rt: &R) -> Result<(), Trouble>
         measure_writes(rt, writes)?;
     }
     for work in WORKS {
-        let mut times = [0; ROUNDS];
-        for round in 0..ROUNDS {
-            times[round] = time_round(rt, work)?;
-        }
-        println!(rt; "{work}: {} ns each", median(times))?;
+        measure_work(rt, work)?;
     }
     Ok(())
 }
@@ -50,11 +46,18 @@ fn measure_writes<R: AllocGlobal + Print + CpuClock>(rt: &R, writes: u64) -> Res
         times[round] = time_round(rt, work)?;
         blocks[round] = blocks::time_round(rt, writes)?;
     }
-    println!(rt;
-        "{work}: {} ns each, their blocks alone {} ns",
-        median(times),
-        median(blocks)
-    )?;
+    let (nanos, alone) = (median(times), median(blocks));
+    println!(rt; "{work}: {nanos} ns each, their blocks alone {alone} ns")?;
+    Ok(())
+}
+
+/// Prints what a write or a delivery of this work takes.
+fn measure_work<R: AllocGlobal + Print + CpuClock>(rt: &R, work: Work) -> Result<(), Trouble> {
+    let mut times = [0; ROUNDS];
+    for round in 0..ROUNDS {
+        times[round] = time_round(rt, work)?;
+    }
+    println!(rt; "{work}: {} ns each", median(times))?;
     Ok(())
 }
 

@@ -1,10 +1,12 @@
 //! A client, and the packets of its server.
 
+use crate::jobs::record_of;
+use crate::packets::packet_of;
 use crate::trouble::Trouble;
 use client_core::Client;
 use disk_model::MemNotes;
-use fc_base::{Attempt, JobNo, JobParts, JobRecord, Key, Kind, RunNo, ServerNo, Verify};
-use messages::{Body, Frame, Node, Packet, PacketParts};
+use fc_base::{Attempt, JobNo, JobParts, Key, Kind, RunNo, ServerNo, Verify};
+use messages::{Body, Frame, Node};
 use std::alloc::Global;
 use verify_state::VerifyState;
 
@@ -37,11 +39,17 @@ fn note_of(alloc: Global, kept: u32) -> Result<Vec<u8>, Trouble> {
     }
     note.extend_from_slice(&kept.to_be_bytes())?;
     for index in 0..kept {
-        let state = state_of(index)?.encode(alloc)?;
-        note.extend_from_slice(&136u32.to_be_bytes())?;
-        note.extend_from_slice(&state)?;
+        add_state(alloc, &mut note, index)?;
     }
     Ok(note)
+}
+
+/// Adds the state of the key with this index to a note.
+fn add_state(alloc: Global, note: &mut Vec<u8>, index: u32) -> Result<(), Trouble> {
+    let state = state_of(index)?.encode(alloc)?;
+    note.extend_from_slice(&136u32.to_be_bytes())?;
+    note.extend_from_slice(&state)?;
+    Ok(())
 }
 
 /// The key with this index: there are 16 jobs in a run.
@@ -55,9 +63,7 @@ fn key(index: u32) -> Key {
 
 /// A state of the key with this index.
 fn state_of(index: u32) -> Result<VerifyState, Trouble> {
-    let Some(job) = JobRecord::make(JOB) else {
-        return Err(Trouble::NoJob);
-    };
+    let job = record_of(JOB)?;
     Ok(VerifyState::make_marked(
         key(index),
         &job,
@@ -81,13 +87,6 @@ pub fn want(index: u32) -> Result<Frame, Trouble> {
 }
 
 fn frame(body: Body) -> Result<Frame, Trouble> {
-    let parts = PacketParts {
-        from: Node::Server(ServerNo(0)),
-        to: Node::Client,
-        body,
-    };
-    match Packet::make(parts) {
-        Ok(packet) => Ok(Frame::Whole(packet)),
-        Err(_) => Err(Trouble::NoPacket),
-    }
+    let packet = packet_of(Node::Server(ServerNo(0)), Node::Client, body)?;
+    Ok(Frame::Whole(packet))
 }

@@ -1,10 +1,13 @@
-//! A client's packets, and a server that takes them.
+//! A server that takes what a client says.
 
+use super::packets::{inputs, longest};
+use crate::jobs::issued;
+use crate::packets::text_of;
 use crate::trouble::Trouble;
 use disk_model::MemNotes;
-use engine::{Issue, Ticket};
-use fc_base::{Attempt, JobNo, MAX_TEXT, RunNo, ServerNo};
-use messages::{Act, Body, Node, Packet, PacketParts, Text, decode_frame, frames_of};
+use engine::Ticket;
+use fc_base::{Attempt, JobNo, RunNo, ServerNo};
+use messages::{Act, Body};
 use server_core::{Input, Server, WriteEnd};
 use std::alloc::Global;
 
@@ -38,19 +41,24 @@ impl Client {
     /// A run of the jobs of this text writes.
     pub fn begin(&mut self, run: u64, text: &[u8]) -> Result<(), Trouble> {
         let run = RunNo(run);
-        let text = text_of(self.alloc, text)?;
+        let text = text_of(Vec::from_slice(self.alloc, text)?)?;
         self.tell(Body::Jobs { run, text })?;
         self.tell(Body::Start { run })
     }
 
     /// The next write of job 0 is issued, and done.
     pub fn write(&mut self) -> Result<(), Trouble> {
-        let answer = self.server.step(Input::Issue(JobNo(0)))?.issue;
-        let Some(Issue::Write(ticket)) = answer else {
-            return Err(Trouble::NoWrite);
-        };
-        self.server.step(Input::WriteDone(ticket, WriteEnd::Done))?;
+        let ticket = self.issue()?;
+        self.take(Input::WriteDone(ticket, WriteEnd::Done))?;
         Ok(())
+    }
+
+    fn issue(&mut self) -> Result<Ticket, Trouble> {
+        let answer = self.server.step(Input::Issue(JobNo(0)))?.issue;
+        match answer {
+            Some(answer) => issued(answer),
+            None => Err(Trouble::NoWrite),
+        }
     }
 
     /// Brings the server so far that the work can be done, and makes what it is sent.
@@ -64,11 +72,9 @@ impl Client {
 
     /// A Trigger of a run of 16 jobs, which writes.
     fn trigger(&mut self, run: RunNo) -> Result<Body, Trouble> {
+        let act = Act::None;
         self.begin(run.0, SIXTEEN)?;
-        Ok(Body::Trigger {
-            run,
-            act: Act::None,
-        })
+        Ok(Body::Trigger { run, act })
     }
 
     /// A Verify of a run that has stopped.
@@ -84,11 +90,7 @@ impl Client {
 
     /// Takes what is sent. The last step sends a frame for each of 16 jobs.
     pub fn finish(&mut self, inputs: Vec<Input>) -> Result<(), Trouble> {
-        let mut frames = 0;
-        for input in inputs {
-            frames = self.server.step(input)?.frames.len();
-        }
-        if frames == 16 {
+        if self.take_all(inputs)? == 16 {
             Ok(())
         } else {
             Err(Trouble::NoPacket)
@@ -96,66 +98,22 @@ impl Client {
     }
 
     fn tell(&mut self, body: Body) -> Result<(), Trouble> {
-        for input in inputs(self.alloc, body)? {
-            self.server.step(input)?;
-        }
+        let inputs = inputs(self.alloc, body)?;
+        self.take_all(inputs)?;
         Ok(())
     }
-}
 
-/// The ticket of a write that was issued.
-pub fn issued(answer: Issue) -> Result<Ticket, Trouble> {
-    match answer {
-        Issue::Write(ticket) => Ok(ticket),
-        _ => Err(Trouble::NoWrite),
+    /// Takes these. How many frames the last step sends.
+    fn take_all(&mut self, inputs: Vec<Input>) -> Result<usize, Trouble> {
+        let mut frames = 0;
+        for input in inputs {
+            frames = self.take(input)?;
+        }
+        Ok(frames)
     }
-}
 
-/// The deliveries of the frames of what the client says.
-fn inputs(alloc: Global, body: Body) -> Result<Vec<Input>, Trouble> {
-    let frames = frames_of(alloc, &packet(body)?)?;
-    let mut inputs = Vec::new(alloc);
-    for index in 0..frames.len() {
-        let Some(bytes) = frames.get(index) else {
-            return Err(Trouble::NoPiece);
-        };
-        let input = Input::Deliver(decode_frame(alloc, bytes)?);
-        inputs.push(input).ok().ok_or(Trouble::NoMemory)?;
-    }
-    Ok(inputs)
-}
-
-fn packet(body: Body) -> Result<Packet, Trouble> {
-    let parts = PacketParts {
-        from: Node::Client,
-        to: Node::Server(ServerNo(0)),
-        body,
-    };
-    match Packet::make(parts) {
-        Ok(packet) => Ok(packet),
-        Err(_) => Err(Trouble::NoPacket),
-    }
-}
-
-fn text_of(alloc: Global, bytes: &[u8]) -> Result<Text, Trouble> {
-    match Text::make(Vec::from_slice(alloc, bytes)?) {
-        Ok(text) => Ok(text),
-        Err(_) => Err(Trouble::NoPacket),
-    }
-}
-
-/// A text of 16,384 bytes: 16 jobs that load their states, with 1,600 lines of options.
-fn longest(alloc: Global) -> Result<Text, Trouble> {
-    let mut bytes = Vec::with_capacity(alloc, MAX_TEXT)?;
-    bytes.extend_from_slice(b"[a]\nrw=read\nbs=512\nsize=1k\nnumjobs=16\nverify_state_load=1\n")?;
-    for _ in 0..1_600 {
-        bytes.extend_from_slice(b"iodepth=2\n")?;
-    }
-    for _ in bytes.len()..MAX_TEXT {
-        bytes.extend_from_slice(b"#")?;
-    }
-    match Text::make(bytes) {
-        Ok(text) => Ok(text),
-        Err(_) => Err(Trouble::NoPacket),
+    /// Takes this. How many frames are sent.
+    fn take(&mut self, input: Input) -> Result<usize, Trouble> {
+        Ok(self.server.step(input)?.frames.len())
     }
 }

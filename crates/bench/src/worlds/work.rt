@@ -2,6 +2,7 @@
 
 use super::blocks::TEXT;
 use super::steps::{begin, deliver_all, deliver_from, sent, stop, tick, trigger, write};
+use crate::clock::{nanos_since, now};
 use crate::trouble::Trouble;
 use fc_base::{JobNo, MAX_JOBS, MAX_SERVERS, RunNo, ServerNo};
 use net_world::World;
@@ -48,10 +49,9 @@ impl Work {
         world: &mut World,
     ) -> Result<u128, Trouble> {
         self.prepare(rt.alloc(), world)?;
-        let start = rt.process_cpu_time()?;
+        let start = now(rt)?;
         let count = self.run(rt.alloc(), world)?;
-        let took = rt.process_cpu_time()?.saturating_sub(start);
-        Ok(took.as_nanos() / u128::from(count.max(1)))
+        Ok(nanos_since(rt, start)? / u128::from(count.max(1)))
     }
 
     /// Brings a new world so far that this can be done.

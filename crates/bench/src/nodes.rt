@@ -1,0 +1,128 @@
+//! A server and its client, each of which can stand under a lock, and the network between them.
+
+ghost use Rattle.std.specs.Prelude.{◌≤◌};
+
+use crate::jobs::issued;
+use crate::packets::text_of;
+use crate::trouble::Trouble;
+use client_cell::{ClientCell, Command, Request};
+use disk_model::MemNotes;
+use engine::Ticket;
+use fc_base::{Fault, JobNo, ServerNo};
+use hub::Hub;
+use node_history::{Answer, Node, Told};
+use server_cell::{Seat, ServerCell, Task};
+use server_core::WriteEnd;
+use std::alloc::Global;
+
+/// A server, over a note in memory.
+pub type Server = ServerCell<MemNotes>;
+
+/// A server, and its seats.
+#[derive(Drop)]
+pub struct Begun {
+    pub server: Server,
+    pub seats: Vec<Seat>,
+}
+
+/// A client, over a note in memory, and its network.
+#[derive(Drop)]
+pub struct Network {
+    pub hub: Hub,
+    pub client: ClientCell<MemNotes>,
+}
+
+/// Server 0, which has so many seats, 1 to 17, where a client has begun a run of the jobs of this text.
+pub fn begin_run(alloc: Global, seats: u32, text: &[u8]) -> Result<Begun, Trouble>
+    requires some { 1 ≤ seats }
+    requires few { seats ≤ 17 }
+{
+    let mut begun = new_server(alloc, seats)?;
+    begin_at(alloc, &mut begun.server, text)?;
+    Ok(begun)
+}
+
+/// A new client begins a run of the jobs of this text at a server.
+fn begin_at(alloc: Global, server: &mut Server, text: &[u8]) -> Result<(), Trouble> {
+    let mut network = new_network(alloc)?;
+    network.begin(alloc, server, text)
+}
+
+/// A client of one server, over a new note.
+pub fn new_network(alloc: Global) -> Result<Network, Trouble> {
+    match ClientCell::new(alloc, 1, MemNotes::new(Vec::new(alloc))) {
+        Ok(client) => Ok(Network {
+            hub: Hub::new(alloc),
+            client,
+        }),
+        Err((_, fault)) => Err(Trouble::Refused(fault)),
+    }
+}
+
+/// Server 0, over a new note.
+pub fn new_server(alloc: Global, seats: u32) -> Result<Begun, Trouble>
+    requires some { 1 ≤ seats }
+    requires few { seats ≤ 17 }
+{
+    match ServerCell::new(alloc, ServerNo(0), MemNotes::new(Vec::new(alloc)), seats) {
+        Ok((server, seats)) => Ok(Begun { server, seats }),
+        Err((_, fault)) => Err(Trouble::Refused(fault)),
+    }
+}
+
+impl Network {
+    /// The text goes to the server, its answer to the client, and the start of the run to the server.
+    pub fn begin(
+        &mut self,
+        alloc: Global,
+        server: &mut Server,
+        text: &[u8],
+    ) -> Result<(), Trouble> {
+        let text = text_of(Vec::from_slice(alloc, text)?)?;
+        let begin = Command::Request(Request::Begin(text));
+        told(Node::post(&mut self.client, &mut self.hub, begin))?;
+        self.carry(server)
+    }
+
+    /// The three frames of a run's begin come to their nodes.
+    fn carry(&mut self, server: &mut Server) -> Result<(), Trouble> {
+        told(Node::deliver(server, &mut self.hub, 0))?;
+        told(Node::deliver(&mut self.client, &mut self.hub, 1))?;
+        told(Node::deliver(server, &mut self.hub, 2))
+    }
+}
+
+impl Begun {
+    /// So many writes of job 0 are asked for, and done.
+    pub fn write(&mut self, writes: u32) -> Result<(), Trouble> {
+        let Some(seat) = self.seats.first_mut() else {
+            return Err(Trouble::NoSeat);
+        };
+        for _ in 0..writes {
+            let ticket = issue(&mut self.server, seat)?;
+            end(&mut self.server, seat, ticket)?;
+        }
+        Ok(())
+    }
+}
+
+/// The next write of job 0 is asked for.
+pub fn issue(server: &mut Server, seat: &mut Seat) -> Result<Ticket, Trouble> {
+    match server.apply(seat, Task::Issue(JobNo(0)))?.answer {
+        Answer::Issued(answer) => issued(answer),
+        _ => Err(Trouble::NoWrite),
+    }
+}
+
+/// A write is done.
+pub fn end(server: &mut Server, seat: &mut Seat, ticket: Ticket) -> Result<(), Trouble> {
+    told(server.apply(seat, Task::WriteDone(ticket, WriteEnd::Done)))
+}
+
+/// Whether it was answered, whatever is told.
+fn told(answer: Result<Told, Fault>) -> Result<(), Trouble> {
+    match answer {
+        Ok(_) => Ok(()),
+        Err(fault) => Err(Trouble::Refused(fault)),
+    }
+}

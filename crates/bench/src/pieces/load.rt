@@ -1,0 +1,96 @@
+//! A packet with the longest text, and what is done with it.
+
+use crate::packets::{frame_at, packet_of, text_of};
+use crate::trouble::Trouble;
+use fc_base::{MAX_TEXT, RunNo, ServerNo};
+use messages::{Assembly, Body, Frame, Frames, Node, Packet, Piece, frames_of};
+use std::alloc::Global;
+
+/// What is measured.
+#[derive(Clone, Copy)]
+pub enum Work {
+    /// A packet is cut.
+    Cut,
+    /// The frames of its pieces are read.
+    Read,
+    /// The pieces are taken, the last one first, and the packet is given.
+    Join,
+}
+
+/// A packet, its frames, and its pieces.
+#[derive(Drop)]
+pub struct Load {
+    packet: Packet,
+    frames: Frames,
+    pieces: Vec<Piece>,
+}
+
+/// A packet with the longest text.
+pub fn make_load(alloc: Global) -> Result<Load, Trouble> {
+    let packet = packet(alloc)?;
+    let frames = frames_of(alloc, &packet)?;
+    let pieces = pieces_in(alloc, &frames)?;
+    Ok(Load {
+        packet,
+        frames,
+        pieces,
+    })
+}
+
+fn packet(alloc: Global) -> Result<Packet, Trouble> {
+    let run = RunNo(1);
+    let text = text_of(vec![in alloc; b'x'; MAX_TEXT]?)?;
+    packet_of(
+        Node::Client,
+        Node::Server(ServerNo(0)),
+        Body::Jobs { run, text },
+    )
+}
+
+impl Load {
+    /// Does the work once, which makes frames, pieces or a packet.
+    pub fn work_once(&self, alloc: Global, work: Work) -> Result<(), Trouble> {
+        let made = match work {
+            Work::Cut => frames_of(alloc, &self.packet)?.len(),
+            Work::Read => pieces_in(alloc, &self.frames)?.len(),
+            Work::Join => join(alloc, &self.pieces)?,
+        };
+        if made == 0 {
+            Err(Trouble::NoPiece)
+        } else {
+            Ok(())
+        }
+    }
+}
+
+/// The pieces that these frames are.
+fn pieces_in(alloc: Global, frames: &Frames) -> Result<Vec<Piece>, Trouble> {
+    let mut pieces = Vec::new(alloc);
+    for index in 0..frames.len() {
+        pieces.push(piece_at(alloc, frames, index)?)?;
+    }
+    Ok(pieces)
+}
+
+fn piece_at(alloc: Global, frames: &Frames, index: usize) -> Result<Piece, Trouble> {
+    match frame_at(alloc, frames, index)? {
+        Frame::Piece(piece) => Ok(piece),
+        Frame::Whole(_) => Err(Trouble::NoPiece),
+    }
+}
+
+/// Takes the pieces, the last one first, until they give a packet: one.
+fn join(alloc: Global, pieces: &[Piece]) -> Result<usize, Trouble> {
+    let mut kept = Assembly::new(alloc);
+    join_in(&mut kept, pieces)
+}
+
+fn join_in(kept: &mut Assembly, pieces: &[Piece]) -> Result<usize, Trouble> {
+    for piece in pieces.iter().rev() {
+        if kept.look(piece)?.is_some() {
+            return Ok(1);
+        }
+        kept.take(piece)?;
+    }
+    Err(Trouble::NoPacket)
+}
