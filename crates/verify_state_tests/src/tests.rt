@@ -68,14 +68,6 @@ fn agrees(alloc: Global, row: &Row) -> Result<bool, Fail> {
     Ok(written && read && is_made_again(&state)?)
 }
 
-#[test]
-fn states_and_their_bytes(rt: HostRuntime) -> Result<(), Fail> {
-    for row in ROWS.iter() {
-        assert!(rt; agrees(rt.alloc(), row)?, "at {}", row.name);
-    }
-    Ok(())
-}
-
 /// Why these bytes are refused, or nothing.
 fn refusal(bytes: &[u8]) -> Option<Fault> {
     VerifyState::decode(bytes).err()
@@ -110,39 +102,42 @@ fn ends_where_it_ends(alloc: Global, bytes: &[u8]) -> Result<bool, Fail> {
     Ok(refusal(&longer) == Some(Fault::StateTrailing))
 }
 
-#[test]
-fn other_lengths(rt: HostRuntime) -> Result<(), Fail> {
-    for row in ROWS.iter() {
-        assert!(rt;
-            ends_where_it_ends(rt.alloc(), row.bytes)?,
-            "at {}",
-            row.name
-        );
-        assert!(rt;
-            ends_where_it_ends(rt.alloc(), row.listed)?,
-            "at {}",
-            row.name
-        );
-    }
-    Ok(())
+/// Whose bytes are changed: those of completions out of order, in layout 1 and in layout 2, or of a write
+/// in flight.
+#[derive(Clone, Copy)]
+enum Of {
+    Listed,
+    Marked,
+    InFlight,
 }
+
+fn bytes_of(of: Of) -> &'static [u8] {
+    match of {
+        Of::Listed => OUT_OF_ORDER.listed,
+        Of::Marked => OUT_OF_ORDER.bytes,
+        Of::InFlight => IN_FLIGHT.bytes,
+    }
+}
+
+/// Why bytes are refused with another one at this offset.
+const CHANGES: [(Of, usize, u8, Fault); 9] = [
+    (Of::Listed, 0, 0x47, Fault::StateBadMagic),
+    (Of::Marked, 3, 0x33, Fault::StateBadMagic),
+    (Of::Listed, 20, 3, Fault::StateBadField),
+    (Of::Marked, 20, 3, Fault::StateBadField),
+    (Of::Listed, 99, 7, Fault::StateBadField),
+    (Of::Listed, 139, 3, Fault::Impossible),
+    (Of::InFlight, 103, 1, Fault::Impossible),
+    (Of::InFlight, 111, 8, Fault::Impossible),
+    (Of::InFlight, 119, 1, Fault::Impossible),
+];
 
 #[test]
 fn other_bytes(rt: HostRuntime) -> Result<(), Fail> {
-    let both = OUT_OF_ORDER;
-    for (bytes, at, byte, fault) in [
-        (both.listed, 0, 0x47, Fault::StateBadMagic),
-        (both.bytes, 3, 0x33, Fault::StateBadMagic),
-        (both.listed, 20, 3, Fault::StateBadField),
-        (both.bytes, 20, 3, Fault::StateBadField),
-        (both.listed, 99, 7, Fault::StateBadField),
-        (both.listed, 139, 3, Fault::Impossible),
-        (IN_FLIGHT.bytes, 103, 1, Fault::Impossible),
-        (IN_FLIGHT.bytes, 111, 8, Fault::Impossible),
-        (IN_FLIGHT.bytes, 119, 1, Fault::Impossible),
-    ] {
-        let refusal = refusal_of_change(rt.alloc(), bytes, at, byte)?;
-        assert!(rt; refusal == Some(fault), "at {at}");
+    for (of, at, byte, fault) in CHANGES {
+        if refusal_of_change(rt.alloc(), bytes_of(of), at, byte)? != Some(fault) {
+            return Err(Fail::new(at));
+        }
     }
     Ok(())
 }
@@ -173,21 +168,49 @@ fn says_or_refuses_each(alloc: Global, bytes: &[u8]) -> Result<bool, Fail> {
     Ok(true)
 }
 
-#[test]
-fn each_byte_changed(rt: HostRuntime) -> Result<(), Fail> {
+/// What holds of each row.
+#[derive(Clone, Copy)]
+enum Claim {
+    Agrees,
+    EndsWhereItEnds,
+    SaysOrRefuses,
+}
+
+fn holds(alloc: Global, row: &Row, claim: Claim) -> Result<bool, Fail> {
+    match claim {
+        Claim::Agrees => agrees(alloc, row),
+        Claim::EndsWhereItEnds => {
+            Ok(ends_where_it_ends(alloc, row.bytes)? && ends_where_it_ends(alloc, row.listed)?)
+        }
+        Claim::SaysOrRefuses => {
+            Ok(says_or_refuses_each(alloc, row.bytes)? && says_or_refuses_each(alloc, row.listed)?)
+        }
+    }
+}
+
+/// Fails by the name of the first row of which this doesn't hold.
+fn holds_of_each_row(alloc: Global, claim: Claim) -> Result<(), Fail> {
     for row in ROWS.iter() {
-        assert!(rt;
-            says_or_refuses_each(rt.alloc(), row.bytes)?,
-            "at {}",
-            row.name
-        );
-        assert!(rt;
-            says_or_refuses_each(rt.alloc(), row.listed)?,
-            "at {}",
-            row.name
-        );
+        if !holds(alloc, row, claim)? {
+            return Err(Fail::new(row.name));
+        }
     }
     Ok(())
+}
+
+#[test]
+fn states_and_their_bytes(rt: HostRuntime) -> Result<(), Fail> {
+    holds_of_each_row(rt.alloc(), Claim::Agrees)
+}
+
+#[test]
+fn other_lengths(rt: HostRuntime) -> Result<(), Fail> {
+    holds_of_each_row(rt.alloc(), Claim::EndsWhereItEnds)
+}
+
+#[test]
+fn each_byte_changed(rt: HostRuntime) -> Result<(), Fail> {
+    holds_of_each_row(rt.alloc(), Claim::SaysOrRefuses)
 }
 
 /// Whether the state of a row counts this write.

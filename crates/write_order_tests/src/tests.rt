@@ -42,10 +42,13 @@ fn has_words(seed: u64, words: [u64; 8]) -> bool {
 }
 
 #[test]
-fn words_of_the_generator(rt: HostRuntime) {
+fn words_of_the_generator(_rt: HostRuntime) -> Result<(), Fail> {
     for (seed, words) in WORDS {
-        assert!(rt; has_words(seed, words), "seed {seed}");
+        if !has_words(seed, words) {
+            return Err(Fail::new(seed));
+        }
     }
+    Ok(())
 }
 
 /// Whether this is the place after `n` writes.
@@ -56,19 +59,20 @@ fn has_place(kind: Kind, seed: u64, n: u64, place: [u64; 4]) -> bool {
     }
 }
 
+/// Whether this is the place after `n` writes of either random order.
+fn have_place(seed: u64, n: u64, place: [u64; 4]) -> bool {
+    has_place(Kind::RandomMap, seed, n, place) && has_place(Kind::RandomFree, seed, n, place)
+}
+
 #[test]
-fn places_after_writes(rt: HostRuntime) {
-    for (seed, n, place) in PLACES {
-        assert!(rt;
-            has_place(Kind::RandomMap, seed, n, place),
-            "seed {seed} after {n}"
-        );
-        assert!(rt;
-            has_place(Kind::RandomFree, seed, n, place),
-            "seed {seed} after {n}"
-        );
+fn places_after_writes(rt: HostRuntime) -> Result<(), Fail> {
+    for (row, (seed, n, place)) in PLACES.iter().enumerate() {
+        if !have_place(*seed, *n, *place) {
+            return Err(Fail::new(row));
+        }
     }
     assert!(rt; has_place(Kind::Sequential, 1, 5, PLACES[0].2));
+    Ok(())
 }
 
 /// Whether the next write goes to this block, and the generator stands where it has to.
@@ -99,7 +103,9 @@ fn follows<T: Copy + Into<u32>>(
 fn blocks_of_the_three_orders(rt: HostRuntime) -> Result<(), Fail> {
     for (kind, seed, blocks, written) in BLOCKS {
         let rec = job(kind, seed, blocks, written.len() as u64).ok_or("within the limits")?;
-        assert!(rt; follows(rt.alloc(), &rec, written)?, "{kind:?} of {blocks}");
+        if !follows(rt.alloc(), &rec, written)? {
+            return Err(Fail::new(blocks));
+        }
     }
     Ok(())
 }
@@ -208,8 +214,18 @@ fn is_full_of_stamps(bytes: &[u8], front: &[u8]) -> bool {
     true
 }
 
+/// Whether the bytes of a block are those of a write whose first bytes are `front`.
+fn is_filled(rec: &JobRecord, bytes: &[u8], front: &[u8]) -> bool {
+    let parts = rec.parts();
+    let is_full = match parts.verify {
+        Verify::Pattern => bytes.iter().all(|byte| *byte == parts.pattern),
+        Verify::Stamp => is_full_of_stamps(bytes, front),
+    };
+    is_full && bytes.starts_with(front)
+}
+
 #[test]
-fn bytes_of_writes(rt: HostRuntime) -> Result<(), Fail> {
+fn bytes_of_writes(_rt: HostRuntime) -> Result<(), Fail> {
     let mut room = [0; 65_536];
     for (key, verify, pattern, bs, seq, block, front) in FRONTS {
         let rec = JobRecord::make(JobParts {
@@ -221,14 +237,9 @@ fn bytes_of_writes(rt: HostRuntime) -> Result<(), Fail> {
         .ok_or("within the limits")?;
         let bytes = &mut room[..rec.bs() as usize];
         fill_block(key, &rec, Seq(seq), block, bytes);
-        let is_filled = match verify {
-            Verify::Pattern => bytes.iter().all(|byte| *byte == pattern),
-            Verify::Stamp => is_full_of_stamps(bytes, front),
-        };
-        assert!(rt;
-            is_filled && bytes.starts_with(front),
-            "write {seq} to block {block}"
-        );
+        if !is_filled(&rec, bytes, front) {
+            return Err(Fail::new(seq));
+        }
     }
     Ok(())
 }

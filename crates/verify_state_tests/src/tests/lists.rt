@@ -21,21 +21,24 @@ fn fault_of(alloc: Global, row: &Row, issued: u64, numbers: &[u64]) -> Result<Op
     }
 }
 
+/// How many writes are issued, which completions there are, and why these can't be, or nothing.
+const LISTS: [(u64, &[u64], Option<Fault>); 7] = [
+    (5, &[2, 1, 0, 3, 4], None),
+    (5, &[2, 1, 0, 3, 3], Some(Fault::Impossible)),
+    (5, &[3, 4], Some(Fault::Impossible)),
+    (5, &[2, 1, 0, 3], None),
+    (5, &[2, 1, 0, 3, 5], Some(Fault::Impossible)),
+    (9, &[], Some(Fault::Impossible)),
+    (5, &[0, 1, 2, 3, 4, 5, 6], Some(Fault::StateBadField)),
+];
+
 #[test]
 fn possible_lists(rt: HostRuntime) -> Result<(), Fail> {
     let row = &OUT_OF_ORDER;
-    let lists: [(u64, &[u64], Option<Fault>); 7] = [
-        (5, &[2, 1, 0, 3, 4], None),
-        (5, &[2, 1, 0, 3, 3], Some(Fault::Impossible)),
-        (5, &[3, 4], Some(Fault::Impossible)),
-        (5, &[2, 1, 0, 3], None),
-        (5, &[2, 1, 0, 3, 5], Some(Fault::Impossible)),
-        (9, &[], Some(Fault::Impossible)),
-        (5, &[0, 1, 2, 3, 4, 5, 6], Some(Fault::StateBadField)),
-    ];
-    for (issued, numbers, fault) in lists {
-        let found = fault_of(rt.alloc(), row, issued, numbers)?;
-        assert!(rt; found == fault, "{numbers:?} of {issued}");
+    for (at, (issued, numbers, fault)) in LISTS.iter().enumerate() {
+        if fault_of(rt.alloc(), row, *issued, numbers)? != *fault {
+            return Err(Fail::new(at));
+        }
     }
     Ok(())
 }
@@ -63,14 +66,23 @@ fn longest(alloc: Global, row: &Row) -> Result<Vec<u8>, Fail> {
     Ok(bytes)
 }
 
+/// Whether the state counts 512 writes, the last 256 of them by its marks.
+fn is_longest(state: &VerifyState) -> bool {
+    state.completed() == 512 && state.floor() == 256 && state.marks() == [u64::MAX; 4]
+}
+
+/// Whether the state is written in 136 bytes, and read from them again.
+fn is_short(alloc: Global, state: &VerifyState) -> Result<bool, Fail> {
+    let written = state.encode(alloc)?;
+    Ok(written.len() == 136 && says(&written, state)?)
+}
+
 #[test]
 fn longest_list(rt: HostRuntime) -> Result<(), Fail> {
     let bytes = longest(rt.alloc(), &OUT_OF_ORDER)?;
     let state = read(&bytes)?;
-    assert!(rt; bytes.len() == 4_196 && state.completed() == 512);
-    assert!(rt; state.floor() == 256 && state.marks() == [u64::MAX; 4]);
-    let written = state.encode(rt.alloc())?;
-    assert!(rt; written.len() == 136 && says(&written, &state)?);
+    assert!(rt; bytes.len() == 4_196 && is_longest(&state));
+    assert!(rt; is_short(rt.alloc(), &state)?);
     let refusal = refusal_of_change(rt.alloc(), &bytes, 99, 1)?;
     assert!(rt; refusal == Some(Fault::StateBadField));
     Ok(())
