@@ -12,7 +12,7 @@ pub trait Reader {
 /// Each of two states in a note, that of job 0 and that of job 1. Its job has 2 blocks and 2 writes, 2 at a
 /// time, which are issued, and write 0 is done. A row for each field: how many bytes it has, and how many
 /// changes of one of them leave a note, of 255 for each: by hand, from the field's range.
-const STATE: &str = "
+static STATE: &str = "
     4 0 the length
     4 0 the magic
     8 2039 the run: not 0
@@ -44,10 +44,10 @@ fn is_note(reader: &impl Reader, bytes: &[u8]) -> Result<bool, Trouble> {
 
 /// The first length, above 0, of which the bytes of a note are one.
 pub fn first_note(reader: &impl Reader, note: &[u8]) -> Result<Option<usize>, Trouble> {
-    for len in 1..=note.len() {
-        let (front, _) = note.split_at(len);
+    for place in 0..note.len() {
+        let (front, _) = note.split_at(place + 1);
         if is_note(reader, front)? {
-            return Ok(Some(len));
+            return Ok(Some(front.len()));
         }
     }
     Ok(None)
@@ -60,44 +60,37 @@ pub fn first_unlike_field(
     note: &mut [u8],
     head: &str,
 ) -> Result<Option<(usize, u32)>, Trouble> {
-    let mut start: usize = 0;
+    let mut end: usize = 0;
     for fields in [head, STATE, STATE] {
-        match unlike_among(reader, note, fields, start)? {
-            Found::End(end) => start = end,
-            Found::Unlike(at, changes) => return Ok(Some((at, changes))),
+        let unlike = unlike_among(reader, note, fields, &mut end)?;
+        if unlike.is_some() {
+            return Ok(unlike);
         }
     }
-    Ok(if start == note.len() {
+    Ok(if end == note.len() {
         None
     } else {
-        Some((start, 0))
+        Some((end, 0))
     })
 }
 
-/// Where fields end, if all are as their rows say, or the first that isn't.
-#[derive(Clone, Copy)]
-enum Found {
-    End(usize),
-    Unlike(usize, u32),
-}
-
+/// The first of these fields that isn't as its row says. The end of those before them becomes theirs.
 fn unlike_among(
     reader: &impl Reader,
     note: &mut [u8],
     fields: &str,
-    start: usize,
-) -> Result<Found, Trouble> {
-    let mut start = start;
+    end: &mut usize,
+) -> Result<Option<(usize, u32)>, Trouble> {
     for row in fields.lines() {
         let (bytes, wanted) = field_in(row);
-        let end = start.saturating_add(bytes);
-        let changes = changes_between(reader, note, start, end)?;
+        let start = *end;
+        *end = start.saturating_add(bytes);
+        let changes = changes_between(reader, note, start, *end)?;
         if changes != wanted {
-            return Ok(Found::Unlike(start, changes));
+            return Ok(Some((start, changes)));
         }
-        start = end;
     }
-    Ok(Found::End(start))
+    Ok(None)
 }
 
 /// How many bytes a field has, and how many changes leave a note.
@@ -123,8 +116,8 @@ fn changes_between(
 
 fn changes_at(reader: &impl Reader, note: &mut [u8], at: usize) -> Result<u32, Trouble> {
     let mut count: u32 = 0;
-    for change in 1..=u8::MAX {
-        if is_changed_note(reader, note, at, change)? {
+    for change in 0..u8::MAX {
+        if is_changed_note(reader, note, at, change + 1)? {
             count = count.saturating_add(1);
         }
     }

@@ -59,26 +59,28 @@ pub fn are_sent(
     words: &str,
 ) -> Result<bool, Trouble> {
     let mut count: usize = 0;
+    let mut agree = true;
     for part in words.split('+') {
-        if is_frame(part) {
-            if !is_sent(spelling, ends, frames.get(count), part.trim())? {
-                return Ok(false);
-            }
-            count = count.saturating_add(1);
-        }
+        agree = agree && is_next_sent(spelling, ends, frames, &mut count, part)?;
     }
-    Ok(frames.len() == count)
+    Ok(agree && frames.len() == count)
 }
 
-/// Whether the words say this frame.
-fn is_sent(
+/// Whether a part of an answer says the next frame, behind so many, if it says one.
+fn is_next_sent(
     spelling: &mut Spelling,
     ends: Ends,
-    frame: Option<&[u8]>,
-    words: &str,
+    frames: &Frames,
+    count: &mut usize,
+    part: &str,
 ) -> Result<bool, Trouble> {
-    spell_sent(spelling, ends, words)?;
-    Ok(frame == Some(spelling.frame()))
+    if !is_frame(part) {
+        return Ok(true);
+    }
+    spell_sent(spelling, ends, part.trim())?;
+    let sent = frames.get(*count) == Some(spelling.frame());
+    *count = count.saturating_add(1);
+    Ok(sent)
 }
 
 fn spell_sent(spelling: &mut Spelling, ends: Ends, words: &str) -> Result<(), Trouble> {

@@ -25,33 +25,33 @@ fn named(name: &str) -> Option<&'static [u8]> {
     }
 }
 
-const WRITES: &[u8] = b"[a]\nrw=write\nbs=512\nsize=1k\niodepth=2\n";
+static WRITES: &[u8] = b"[a]\nrw=write\nbs=512\nsize=1k\niodepth=2\n";
 
-const READS: &[u8] = b"[a]\nrw=read\nbs=512\nsize=1k\nverify_state_load=1\n";
+static READS: &[u8] = b"[a]\nrw=read\nbs=512\nsize=1k\nverify_state_load=1\n";
 
 /// The state of `writes` in run 1 at server 0: both writes are issued, and write 0 is done.
-const FIRST: &[u8] = b"FCV2\0\0\0\0\0\0\0\x01\0\0\0\0\0\0\0\0\0\0\0\0\
+static FIRST: &[u8] = b"FCV2\0\0\0\0\0\0\0\x01\0\0\0\0\0\0\0\0\0\0\0\0\
     \0\0\x02\0\0\0\0\x02\0\0\0\0\0\0\0\x02\0\0\0\0\0\0\0\x01\0\0\0\x02\0\0\0\x02\0\0\0\0\0\0\0\x02\
     \xcf\xc5\xd0\x7f\x6f\x03\xc2\x9b\xbf\x42\x41\x32\x96\x3f\xe0\x8d\
     \x19\xa3\x7d\x57\x57\xaa\xf5\x20\xbf\x08\x11\x9f\x05\xcd\x56\xd6\
     \0\0\0\0\0\0\0\0\0\0\0\0\0\0\0\x01\0\0\0\0\0\0\0\0\0\0\0\0\0\0\0\0\0\0\0\0\0\0\0\0";
 
 /// The same in layout 1.
-const LISTED: &[u8] = b"FCV1\0\0\0\0\0\0\0\x01\0\0\0\0\0\0\0\0\0\0\0\0\
+static LISTED: &[u8] = b"FCV1\0\0\0\0\0\0\0\x01\0\0\0\0\0\0\0\0\0\0\0\0\
     \0\0\x02\0\0\0\0\x02\0\0\0\0\0\0\0\x02\0\0\0\0\0\0\0\x01\0\0\0\x02\0\0\0\x02\0\0\0\0\0\0\0\x02\
     \xcf\xc5\xd0\x7f\x6f\x03\xc2\x9b\xbf\x42\x41\x32\x96\x3f\xe0\x8d\
     \x19\xa3\x7d\x57\x57\xaa\xf5\x20\xbf\x08\x11\x9f\x05\xcd\x56\xd6\
     \0\0\0\x01\0\0\0\0\0\0\0\0";
 
 /// The state before any write is issued.
-const FRESH: &[u8] = b"FCV2\0\0\0\0\0\0\0\x01\0\0\0\0\0\0\0\0\0\0\0\0\
+static FRESH: &[u8] = b"FCV2\0\0\0\0\0\0\0\x01\0\0\0\0\0\0\0\0\0\0\0\0\
     \0\0\x02\0\0\0\0\x02\0\0\0\0\0\0\0\x02\0\0\0\0\0\0\0\x01\0\0\0\x02\0\0\0\x02\0\0\0\0\0\0\0\0\
     \xcf\xc5\xd0\x7f\x6f\x03\xc2\x9b\xbf\x42\x41\x32\x96\x3f\xe0\x8d\
     \x19\xa3\x7d\x57\x57\xaa\xf5\x20\xbf\x08\x11\x9f\x05\xcd\x56\xd6\
     \0\0\0\0\0\0\0\0\0\0\0\0\0\0\0\0\0\0\0\0\0\0\0\0\0\0\0\0\0\0\0\0\0\0\0\0\0\0\0\0";
 
 /// A state of 200 writes to two blocks in layout 1, up to its list: the writes 0 to 115 are issued and done.
-const LISTS_116: &[u8] = b"FCV1\0\0\0\0\0\0\0\x01\0\0\0\0\0\0\0\0\0\0\0\0\
+static LISTS_116: &[u8] = b"FCV1\0\0\0\0\0\0\0\x01\0\0\0\0\0\0\0\0\0\0\0\0\
     \0\0\x02\0\0\0\0\x02\0\0\0\0\0\0\0\xc8\0\0\0\0\0\0\0\x01\
     \0\0\0\x3a\0\0\0\x3a\0\0\0\0\0\0\0\x74\
     \xcf\xc5\xd0\x7f\x6f\x03\xc2\x9b\xbf\x42\x41\x32\x96\x3f\xe0\x8d\

@@ -8,7 +8,7 @@ use std::alloc::Global;
 use std::str::SplitWhitespace;
 
 /// The kinds: the number of each, and the widths of its numbers. All that follow have 4 bytes.
-const KINDS: &str = "
+static KINDS: &str = "
     Jobs 1 8
     JobsOk 2 8
     Start 3 8

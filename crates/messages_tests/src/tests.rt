@@ -11,13 +11,12 @@ mod pieces;
 mod refusals;
 mod refused;
 mod reports;
+mod rows;
 mod vectors;
 
 use fc_base::{JobNo, JobParts, JobRecord, Key, Kind, RunNo, Seq, ServerNo, Verify};
 use messages::{Body, Node, Packet, PacketParts, Text, decode, encode};
 use std::alloc::{AllocGlobal, Global};
-use std::process::Abort;
-use std::test::Fail;
 use verify_state::VerifyState;
 
 /// Two blocks, written in turn, two at a time.
@@ -42,21 +41,19 @@ const PLACE: [u64; 4] = [
 ];
 
 /// A state of that job: write 0 is done, and write 1 open.
-fn state_of(alloc: Global, job: JobNo) -> Result<VerifyState, Fail> {
+fn state_of(alloc: Global, job: JobNo) -> Option<VerifyState> {
     let key = Key {
         run: RunNo(1),
         server: ServerNo(0),
         job,
     };
-    let record = JobRecord::make(JOB).ok_or("within the limits")?;
-    let done = vec![in alloc; Seq(0)]?;
-    let state = VerifyState::make(key, &record, 2, PLACE, done);
-    Ok(state.ok().ok_or("a state")?)
+    let record = JobRecord::make(JOB)?;
+    let done = vec![in alloc; Seq(0)].ok()?;
+    VerifyState::make(key, &record, 2, PLACE, done).ok()
 }
 
-fn text(alloc: Global, bytes: &[u8]) -> Result<Text, Fail> {
-    let bytes = Vec::from_slice(alloc, bytes)?;
-    Ok(Text::make(bytes).ok().ok_or("a text")?)
+fn text(alloc: Global, bytes: &[u8]) -> Option<Text> {
+    Text::make(Vec::from_slice(alloc, bytes).ok()?).ok()
 }
 
 fn from_client(server: u32, body: Body) -> PacketParts {
@@ -75,55 +72,42 @@ fn from_server(server: u32, body: Body) -> PacketParts {
     }
 }
 
-fn made(parts: PacketParts) -> Result<Packet, Fail> {
-    Ok(Packet::make(parts).ok().ok_or("in its ranges")?)
+/// The parts of a packet with this text.
+fn jobs(alloc: Global, server: u32, run: u64, bytes: &[u8]) -> Option<PacketParts> {
+    let text = text(alloc, bytes)?;
+    let run = RunNo(run);
+    Some(from_client(server, Body::Jobs { run, text }))
 }
 
-fn read(alloc: Global, frame: &[u8]) -> Result<Packet, Fail> {
-    Ok(decode(alloc, frame)?)
+/// The packet with a text of so many letters, in a run.
+fn packet_of_letters(alloc: Global, run: u64, count: usize) -> Option<Packet> {
+    let letters = vec![in alloc; b'a'; count].ok()?;
+    Packet::make(jobs(alloc, 0, run, &letters)?).ok()
 }
 
-fn written(alloc: Global, packet: &Packet) -> Result<Vec<u8>, Fail> {
-    Ok(encode(alloc, packet)?)
-}
-
-/// Whether a packet has this name and this frame.
-fn has_frame(alloc: Global, packet: &Packet, name: &str, frame: &[u8]) -> Result<bool, Fail> {
-    let named = packet.kind_name() == name;
-    Ok(named && written(alloc, packet)?.as_slice() == frame)
-}
-
-fn have_same_ends(one: &Packet, other: &Packet) -> bool {
-    one.from() == other.from() && one.to() == other.to()
-}
-
-/// Whether the frame is read as a packet with this name, these ends and this frame again.
-fn is_read_back(alloc: Global, packet: &Packet, name: &str, frame: &[u8]) -> Result<bool, Fail> {
-    let read = read(alloc, frame)?;
-    Ok(have_same_ends(&read, packet) && has_frame(alloc, &read, name, frame)?)
-}
-
-/// Whether the packet of these parts has this frame, and the frame says this packet.
-fn is_frame_of(alloc: Global, parts: PacketParts, name: &str, frame: &[u8]) -> Result<bool, Fail> {
-    let packet = made(parts)?;
-    let written = has_frame(alloc, &packet, name, frame)?;
-    Ok(written && is_read_back(alloc, &packet, name, frame)?)
-}
-
-/// The packets have these frames, and the frames say these packets.
-fn are_frames_of(
-    rt: &(impl Abort + AllocGlobal),
-    rows: &[(&str, &[u8])],
-    packets: Vec<PacketParts>,
-) -> Result<(), Fail> {
-    assert!(rt; packets.len() == rows.len());
-    let mut rows = rows.iter();
-    for parts in packets {
-        let (name, frame) = rows.next().ok_or("a row for each packet")?;
-        let agree = is_frame_of(rt.alloc(), parts, name, frame)?;
-        assert!(rt; agree, "at {name}");
+/// Whether a packet has this frame.
+fn has_frame(alloc: Global, packet: &Packet, frame: &[u8]) -> bool {
+    match encode(alloc, packet) {
+        Ok(written) => written.as_slice() == frame,
+        Err(_) => false,
     }
-    Ok(())
+}
+
+/// The frame of the packet that a frame says.
+fn written_again(alloc: Global, frame: &[u8]) -> Option<Vec<u8>> {
+    match decode(alloc, frame) {
+        Ok(packet) => encode(alloc, &packet).ok(),
+        Err(_) => None,
+    }
+}
+
+/// The bytes of these parts, one behind the other.
+fn joined(alloc: Global, parts: &[&[u8]]) -> Option<Vec<u8>> {
+    let mut bytes = Vec::new(alloc);
+    for part in parts {
+        bytes.extend_from_slice(part).ok()?;
+    }
+    Some(bytes)
 }
 
 /// The number of the refusal of these bytes, or 0.

@@ -7,7 +7,7 @@ use std::alloc::Global;
 
 /// What stands before the states, field by field: how many bytes, and how many changes of one of them leave
 /// a note, of 255 for each: by hand, from the field's range.
-const HEAD: &str = "
+static HEAD: &str = "
     4 0 the magic
     8 1020 the generation: below 2 ^ 32
     8 2040 the runs

@@ -36,17 +36,32 @@ pub fn shows(
         "on" => Ok(is_told(client.on(), words)),
         "used" => Ok(are_numbers(&[client.runs_used(), client.attempts_used()], words)),
         "blank" => Ok(is_told(client.is_blank(), words)),
-        "saved" => is_state(alloc, client.saved(key_in(of)?), words),
+        "saved" => is_saved(alloc, client, of, words),
         "reports" => Ok(are_reports(client.reports(), words)),
-        "outcome" => Ok(outcome_of(client, of)? == words),
-        "settled" => {
-            let run = of.parse::<u64>().unwrap_or(0);
-            Ok(is_told(client.settled(RunNo(run)), words))
-        }
+        "outcome" => is_outcome(client, of, words),
+        "settled" => Ok(is_told(client.settled(run_in(of)), words)),
         "would_begin" => would_begin(alloc, client, of, words),
         "would_verify" => would_verify(alloc, client, of, words),
         _ => Err(Trouble::BadRow),
     }
+}
+
+fn is_saved(
+    alloc: Global,
+    client: &Client<FaultNotes>,
+    of: &str,
+    words: &str,
+) -> Result<bool, Trouble> {
+    let key = key_in(of)?;
+    is_state(alloc, client.saved(key), words)
+}
+
+fn is_outcome(client: &Client<FaultNotes>, of: &str, words: &str) -> Result<bool, Trouble> {
+    Ok(outcome_of(client, of)? == words)
+}
+
+fn run_in(word: &str) -> RunNo {
+    RunNo(word.parse::<u64>().unwrap_or(0))
 }
 
 fn would_begin(
@@ -68,7 +83,7 @@ fn would_verify(
     answer: &str,
 ) -> Result<bool, Trouble> {
     let (run, word) = first_word(words);
-    let run = RunNo(run.parse::<u64>().unwrap_or(0));
+    let run = run_in(run);
     let mut text = Draft::new(alloc);
     put_text(&mut text, word);
     text.told()?;
@@ -98,21 +113,34 @@ fn key_in(words: &str) -> Result<Key, Trouble> {
 /// The reports are of these runs, attempts, servers and jobs, with so many blocks checked; they are joined
 /// by `+`.
 fn are_reports(reports: &[Received], words: &str) -> bool {
-    let mut parts = words.split('+').filter(|part| !part.trim().is_empty());
+    let mut rest = words;
     for received in reports {
-        let numbers = [
-            received.run.0,
-            received.attempt.0,
-            u64::from(received.server.0),
-            u64::from(received.job.0),
-            u64::from(received.report.checked()),
-        ];
-        match parts.next() {
-            Some(part) if are_numbers(&numbers, part) => {}
-            _ => return false,
+        let (part, behind) = first_part(rest);
+        if !is_report(received, part) {
+            return false;
         }
+        rest = behind;
     }
-    parts.next().is_none()
+    rest.trim().is_empty()
+}
+
+/// What stands in front of the first `+`, and what stands behind it.
+fn first_part(words: &str) -> (&str, &str) {
+    match words.split_once('+') {
+        Some(parts) => parts,
+        None => (words, ""),
+    }
+}
+
+fn is_report(received: &Received, words: &str) -> bool {
+    let numbers = [
+        received.run.0,
+        received.attempt.0,
+        u64::from(received.server.0),
+        u64::from(received.job.0),
+        u64::from(received.report.checked()),
+    ];
+    are_numbers(&numbers, words)
 }
 
 /// How the request of this kind, number and server stands: `none`, `open`, `good`, or the number of its

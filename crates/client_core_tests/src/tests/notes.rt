@@ -12,7 +12,7 @@ pub const TWO: &str = "3 2 first first~19=1";
 pub const OLD_TWO: &str = "old 3 2 first first~19=1";
 
 /// Notes, and the number of the refusal, or 0.
-pub const NOTES: &str = "
+pub static NOTES: &str = "
     - => 0
     464343310000000000000000000000000000000000000000 => 0
     46434331000000000000000100000000000000010000000000 => 54
@@ -70,8 +70,8 @@ pub fn come_back(alloc: Global) -> bool {
 }
 
 fn is_restart_refused(alloc: Global) -> bool {
-    match opened(alloc, 1, UnreadNotes::new(alloc), &Opening::Restarted) {
-        Err((notes, Fault::LoadFault)) => notes.failed,
+    match refused(alloc, UnreadNotes::new(alloc), &Opening::Restarted) {
+        Some((notes, Fault::LoadFault)) => notes.failed,
         _ => false,
     }
 }
@@ -79,10 +79,18 @@ fn is_restart_refused(alloc: Global) -> bool {
 fn are_refused(alloc: Global) -> bool {
     let mut notes = UnreadNotes::new(alloc);
     for (opening, number) in &REFUSALS {
-        notes = match opened(alloc, 1, notes, opening) {
-            Err((back, fault)) if fault.number() == *number => back,
+        notes = match refused(alloc, notes, opening) {
+            Some((back, fault)) if fault.number() == *number => back,
             _ => return false,
         };
     }
     true
+}
+
+/// What comes back with the refusal, where a client isn't opened so.
+fn refused(alloc: Global, notes: UnreadNotes, opening: &Opening) -> Option<(UnreadNotes, Fault)> {
+    match opened(alloc, 1, notes, opening) {
+        Err(refused) => Some(refused),
+        Ok(_) => None,
+    }
 }

@@ -5,102 +5,117 @@ use super::*;
 use fc_base::Fault;
 use messages::{Assembly, Frame, Frames, Piece, decode_frame, frames_of};
 
-/// The frames of a packet, at the second try where the first is refused memory.
-fn frames_again(alloc: Global, packet: &Packet) -> Result<Frames, Fail> {
+/// A packet in two pieces, at the second try where the first is refused memory.
+fn packet_again(alloc: Global) -> Option<Packet> {
+    match packet_of_letters(alloc, 1, 2_000) {
+        None => packet_of_letters(alloc, 1, 2_000),
+        packet => packet,
+    }
+}
+
+/// The frames of a packet, likewise.
+fn frames_again(alloc: Global, packet: &Packet) -> Option<Frames> {
     match frames_of(alloc, packet) {
-        Ok(frames) => Ok(frames),
-        Err(_) => Ok(frames_of(alloc, packet)?),
+        Ok(frames) => Some(frames),
+        Err(_) => frames_of(alloc, packet).ok(),
     }
 }
 
 /// The piece that these bytes are, likewise.
-fn piece_again(alloc: Global, bytes: &[u8]) -> Result<Piece, Fail> {
+fn piece_again(alloc: Global, bytes: &[u8]) -> Option<Piece> {
     match decode_frame(alloc, bytes) {
-        Ok(Frame::Piece(piece)) => Ok(piece),
+        Ok(Frame::Piece(piece)) => Some(piece),
         Err(Fault::FrameNoMemory) => piece_in(alloc, bytes),
-        _ => Err("a piece")?,
+        _ => None,
     }
 }
 
 /// What looking at a piece gives, likewise.
-fn look_again(kept: &Assembly, piece: &Piece) -> Result<Option<Packet>, Fail> {
+fn look_again(kept: &Assembly, piece: &Piece) -> Result<Option<Packet>, Fault> {
     match kept.look(piece) {
-        Err(Fault::NoMemory) => Ok(kept.look(piece)?),
-        answer => Ok(answer?),
+        Err(Fault::NoMemory) => kept.look(piece),
+        answer => answer,
     }
 }
 
-/// Both pieces of a packet, likewise.
-fn both_again(alloc: Global, packet: &Packet) -> Result<(Piece, Piece), Fail> {
-    let frames = frames_again(alloc, packet)?;
-    let first = piece_again(alloc, frames.get(0).ok_or("a frame")?)?;
-    let last = piece_again(alloc, frames.get(1).ok_or("a frame")?)?;
-    Ok((first, last))
-}
-
-/// Takes the first of two pieces, likewise. A try that is refused leaves the last one to give nothing.
-fn take_again(kept: &mut Assembly, first: &Piece, last: &Piece) -> Result<(), Fail> {
-    if kept.take(first).is_ok() {
-        return Ok(());
-    }
-    gives_nothing(kept, last)?;
-    Ok(kept.take(first)?)
-}
-
-fn gives_nothing(kept: &Assembly, piece: &Piece) -> Result<(), Fail> {
-    match look_again(kept, piece)? {
-        Some(_) => Err("nothing yet")?,
-        None => Ok(()),
+fn gives_nothing(kept: &Assembly, piece: &Piece) -> bool {
+    match look_again(kept, piece) {
+        Ok(None) => true,
+        _ => false,
     }
 }
 
-/// What two pieces give that are taken one after the other, though one allocation of the calls is refused.
-fn given_again(alloc: Global, first: &Piece, last: &Piece) -> Result<Packet, Fail> {
-    let mut kept = Assembly::new(alloc);
-    gives_nothing(&kept, last)?;
-    take_again(&mut kept, first, last)?;
-    let given = look_again(&kept, last)?.ok_or("a packet")?;
-    kept.take(last)?;
-    gives_nothing(&kept, last)?;
-    Ok(given)
+/// Whether looking at a piece gives this packet.
+fn gives(alloc: Global, kept: &Assembly, piece: &Piece, packet: &Packet) -> bool {
+    match look_again(kept, piece) {
+        Ok(Some(given)) => are_alike(alloc, &given, packet),
+        _ => false,
+    }
+}
+
+/// Whether two packets have the same frame.
+fn are_alike(alloc: Global, one: &Packet, other: &Packet) -> bool {
+    match frame_again(alloc, one) {
+        Some(frame) => has_frame(alloc, other, &frame) || has_frame(alloc, other, &frame),
+        None => false,
+    }
 }
 
 /// The frame of a packet, likewise.
-fn frame_again(alloc: Global, packet: &Packet) -> Result<Vec<u8>, Fail> {
+fn frame_again(alloc: Global, packet: &Packet) -> Option<Vec<u8>> {
     match encode(alloc, packet) {
-        Ok(frame) => Ok(frame),
-        Err(_) => Ok(encode(alloc, packet)?),
+        Ok(frame) => Some(frame),
+        Err(_) => encode(alloc, packet).ok(),
     }
 }
 
-/// Whether the pieces of a packet give one with its frame.
-fn comes_together(alloc: Global, packet: &Packet) -> Result<bool, Fail> {
-    let (first, last) = both_again(alloc, packet)?;
-    let given = given_again(alloc, &first, &last)?;
-    let frame = frame_again(alloc, &given)?;
-    Ok(frame == frame_again(alloc, packet)?)
+/// Takes the first of two pieces, likewise. A try that is refused leaves the last one to give nothing.
+fn takes_again(kept: &mut Assembly, first: &Piece, last: &Piece) -> bool {
+    kept.take(first).is_ok() || (gives_nothing(kept, last) && kept.take(first).is_ok())
 }
 
-/// A packet in two pieces.
-fn long_packet(alloc: Global) -> Option<Packet> {
-    let letters = vec![in alloc; b'a'; 2_000].ok()?;
-    let text = Text::make(letters).ok()?;
-    Packet::make(from_client(
-        0,
-        Body::Jobs {
-            run: RunNo(1),
-            text,
-        },
-    ))
-    .ok()
+/// Whether two pieces that are taken one after the other give this packet, though one allocation of the
+/// calls is refused.
+fn come_together(alloc: Global, first: &Piece, last: &Piece, packet: &Packet) -> bool {
+    let mut kept = Assembly::new(alloc);
+    gives_nothing(&kept, last)
+        && takes_again(&mut kept, first, last)
+        && gives(alloc, &kept, last, packet)
+        && kept.take(last).is_ok()
+        && gives_nothing(&kept, last)
+}
+
+/// The same of the pieces that these bytes are.
+fn bytes_come_together(alloc: Global, first: &[u8], last: &[u8], packet: &Packet) -> bool {
+    let Some(first) = piece_again(alloc, first) else {
+        return false;
+    };
+    match piece_again(alloc, last) {
+        Some(last) => come_together(alloc, &first, &last, packet),
+        None => false,
+    }
+}
+
+/// The same of a packet's frames.
+fn frames_come_together(alloc: Global, frames: &Frames, packet: &Packet) -> bool {
+    match (frames.get(0), frames.get(1)) {
+        (Some(first), Some(last)) => bytes_come_together(alloc, first, last, packet),
+        _ => false,
+    }
+}
+
+fn comes_together(alloc: Global, packet: &Packet) -> bool {
+    match frames_again(alloc, packet) {
+        Some(frames) => frames_come_together(alloc, &frames, packet),
+        None => false,
+    }
 }
 
 #[test]
-fn a_refused_allocation_changes_nothing(rt: HostRuntime) -> Result<(), Fail> {
-    let packet = match long_packet(rt.alloc()) {
-        Some(packet) => packet,
-        None => long_packet(rt.alloc()).ok_or("a packet")?,
+fn a_refused_allocation_changes_nothing(rt: HostRuntime) {
+    let together = match packet_again(rt.alloc()) {
+        Some(packet) => comes_together(rt.alloc(), &packet),
+        None => false,
     };
-    assert!(rt; comes_together(rt.alloc(), &packet)?);
-    Ok(())
+    assert!(rt; together);
 }

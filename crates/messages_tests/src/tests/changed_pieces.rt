@@ -6,77 +6,107 @@ use messages::{decode_frame, encode_frame};
 
 /// What reading bytes as a frame comes to: 0 for a frame that is written as these very bytes, 1 for another, else the
 /// number of the refusal.
-fn outcome(alloc: Global, bytes: &[u8]) -> Result<u8, Fail> {
+fn outcome(alloc: Global, bytes: &[u8]) -> u8 {
     match decode_frame(alloc, bytes) {
-        Ok(frame) => {
-            let again = encode_frame(alloc, &frame)?;
-            Ok(if again.as_slice() == bytes { 0 } else { 1 })
-        }
-        Err(fault) => Ok(fault.number()),
+        Ok(frame) => match encode_frame(alloc, &frame) {
+            Ok(again) if again.as_slice() == bytes => 0,
+            _ => 1,
+        },
+        Err(fault) => fault.number(),
     }
 }
 
 /// Whether each prefix is refused as too short.
-fn are_short(alloc: Global, frame: &[u8]) -> Result<bool, Fail> {
+fn are_short(alloc: Global, frame: &[u8]) -> bool {
     let mut agree = true;
     for len in 0..frame.len() {
-        agree = agree && outcome(alloc, &frame[..len])? == 40;
+        agree = agree && outcome(alloc, &frame[..len]) == 40;
     }
-    Ok(agree)
+    agree
+}
+
+/// The refusal or else 0 or 1, with another byte at this place. The bytes are left as they were.
+fn outcome_with(alloc: Global, bytes: &mut [u8], at: usize, byte: u8) -> u8 {
+    if at >= bytes.len() {
+        return 1;
+    }
+    let old = bytes[at];
+    bytes[at] = byte;
+    let found = outcome(alloc, bytes);
+    bytes[at] = old;
+    found
 }
 
 /// Whether the bytes, of which each in turn is another, are a frame's own bytes or are refused by its reader.
-fn are_read_or_refused(alloc: Global, frame: &[u8], byte: u8) -> Result<bool, Fail> {
-    let mut bytes = Vec::from_slice(alloc, frame)?;
+fn are_read_or_refused(alloc: Global, bytes: &mut [u8], byte: u8) -> bool {
     let mut agree = true;
-    for (at, old) in frame.iter().enumerate() {
-        *bytes.get_mut(at).ok_or("a byte")? = byte;
-        let found = outcome(alloc, &bytes)?;
+    for at in 0..bytes.len() {
+        let found = outcome_with(alloc, bytes, at, byte);
         agree = agree && (found == 0 || (40..=45).contains(&found));
-        *bytes.get_mut(at).ok_or("a byte")? = *old;
     }
-    Ok(agree)
+    agree
+}
+
+/// Whether the bytes are refused as a bad field where they say that they are of a whole of any of these kinds.
+fn are_of_no_whole(alloc: Global, bytes: &mut [u8], kinds: &[u8]) -> bool {
+    let mut agree = true;
+    for kind in kinds {
+        agree = agree && outcome_with(alloc, bytes, 16, *kind) == 43;
+    }
+    agree
+}
+
+/// The bytes of a piece of a text.
+fn piece_of_letters(alloc: Global, index: usize) -> Option<Vec<u8>> {
+    let frames = frames_of_letters(alloc, 1, 2_000)?;
+    Vec::from_slice(alloc, frames.get(index)?).ok()
+}
+
+/// Whether each prefix of a piece is too short.
+fn is_short_in_front(alloc: Global, index: usize) -> bool {
+    match piece_of_letters(alloc, index) {
+        Some(bytes) => are_short(alloc, &bytes),
+        None => false,
+    }
 }
 
 #[test]
-fn fronts_of_pieces_are_short(rt: HostRuntime) -> Result<(), Fail> {
-    let frames = frames_of_letters(rt.alloc(), 1, 2_000)?;
+fn fronts_of_pieces_are_short(rt: HostRuntime) {
     for index in 0..2 {
-        let agree = are_short(rt.alloc(), frames.get(index).ok_or("a frame")?)?;
-        assert!(rt; agree, "at {index}");
+        assert!(rt; is_short_in_front(rt.alloc(), index), "at {index}");
     }
-    Ok(())
+}
+
+/// Whether a piece is read or refused with each byte changed to this one.
+fn is_read_or_refused(alloc: Global, index: usize, byte: u8) -> bool {
+    match piece_of_letters(alloc, index) {
+        Some(mut bytes) => are_read_or_refused(alloc, &mut bytes, byte),
+        None => false,
+    }
 }
 
 #[test]
-fn each_byte_of_a_piece_changed(rt: HostRuntime) -> Result<(), Fail> {
-    let frames = frames_of_letters(rt.alloc(), 1, 2_000)?;
+fn each_byte_of_a_piece_changed(rt: HostRuntime) {
     for byte in [0, 1, 0x80, 0xff] {
         for index in 0..2 {
-            let frame = frames.get(index).ok_or("a frame")?;
-            let agree = are_read_or_refused(rt.alloc(), frame, byte)?;
+            let agree = is_read_or_refused(rt.alloc(), index, byte);
             assert!(rt; agree, "at {index}, {byte}");
         }
     }
-    Ok(())
 }
 
-/// Whether a piece is refused as a bad field where it says that it is of a whole of this kind.
-fn is_of_no_whole(alloc: Global, piece: &[u8], kind: u8) -> Result<bool, Fail> {
-    let mut bytes = Vec::from_slice(alloc, piece)?;
-    *bytes.get_mut(16).ok_or("the whole's kind")? = kind;
-    Ok(outcome(alloc, &bytes)? == 43)
+/// Whether a piece is of no whole of these kinds.
+fn is_of_no_whole(alloc: Global, index: usize, kinds: &[u8]) -> bool {
+    match piece_of_letters(alloc, index) {
+        Some(mut bytes) => are_of_no_whole(alloc, &mut bytes, kinds),
+        None => false,
+    }
 }
 
 #[test]
-fn what_a_mirror_says_goes_in_no_pieces(rt: HostRuntime) -> Result<(), Fail> {
-    let frames = frames_of_letters(rt.alloc(), 1, 2_000)?;
+fn what_a_mirror_says_goes_in_no_pieces(rt: HostRuntime) {
     for index in 0..2 {
-        let piece = frames.get(index).ok_or("a frame")?;
-        for kind in [18, 19, 20, 21] {
-            let agree = is_of_no_whole(rt.alloc(), piece, kind)?;
-            assert!(rt; agree, "at {index}, {kind}");
-        }
+        let agree = is_of_no_whole(rt.alloc(), index, &[18, 19, 20, 21]);
+        assert!(rt; agree, "at {index}");
     }
-    Ok(())
 }

@@ -47,14 +47,24 @@ fn said(alloc: Global, bytes: &[u8]) -> Result<String, fmt::Error> {
     Ok(text)
 }
 
-#[test]
-fn looks_at_headers(rt: HostRuntime) -> Result<(), Fail> {
-    for (bytes, wanted) in LOOKED {
-        let said = said(rt.alloc(), bytes)?;
-        assert!(rt; said.as_str() == *wanted, "{said}");
+/// Whether a header says just this.
+fn says(alloc: Global, bytes: &[u8], wanted: &str) -> bool {
+    match said(alloc, bytes) {
+        Ok(said) => said.as_str() == wanted,
+        Err(_) => false,
     }
+}
+
+#[test]
+fn looks_at_headers(rt: HostRuntime) {
+    for (bytes, wanted) in LOOKED {
+        assert!(rt; says(rt.alloc(), bytes, wanted), "{wanted}");
+    }
+}
+
+#[test]
+fn looks_at_strange_headers(rt: HostRuntime) {
     for (row, bytes) in STRANGE.iter().enumerate() {
         assert!(rt; look_at(bytes).is_none(), "at {row}");
     }
-    Ok(())
 }

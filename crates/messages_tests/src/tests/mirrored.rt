@@ -1,6 +1,7 @@
 //! Frames of what the client and the mirror say to each other.
 
 use super::pieces::old_state;
+use super::rows::Rows;
 use super::vectors::MIRRORED;
 use super::*;
 use fc_base::{Fault, Generation};
@@ -22,53 +23,61 @@ fn from_mirror(body: Body) -> PacketParts {
     }
 }
 
-fn copies(alloc: Global, packets: &mut Vec<PacketParts>) -> Result<(), Fail> {
+fn copy(alloc: Global, from: Node, to: Node) -> Option<PacketParts> {
     let state = state_of(alloc, JobNo(0))?;
-    packets.push(to_mirror(Body::Copy { state }))?;
-    let state = state_of(alloc, JobNo(0))?;
-    packets.push(from_mirror(Body::Copy { state }))?;
-    packets.push(from_mirror(Body::CopyOk {
+    let body = Body::Copy { state };
+    Some(PacketParts { from, to, body })
+}
+
+fn copy_ok() -> Body {
+    Body::CopyOk {
         run: RunNo(5),
         server: ServerNo(7),
         job: JobNo(15),
-    }))?;
-    Ok(())
+    }
 }
 
-fn grants(packets: &mut Vec<PacketParts>) -> Result<(), Fail> {
-    packets.push(to_mirror(Body::Fetch {
-        generation: Generation(1),
-    }))?;
-    packets.push(from_mirror(Body::Granted {
-        generation: Generation(4_294_967_295),
-    }))?;
-    Ok(())
+fn compare_grants(rows: &mut Rows) {
+    let generation = Generation(1);
+    rows.compare(to_mirror(Body::Fetch { generation }));
+    let generation = Generation(4_294_967_295);
+    rows.compare(from_mirror(Body::Granted { generation }));
 }
 
 #[test]
-fn frames_of_a_mirror(rt: HostRuntime) -> Result<(), Fail> {
-    let mut packets = Vec::new(rt.alloc());
-    copies(rt.alloc(), &mut packets)?;
-    grants(&mut packets)?;
-    are_frames_of(&rt, &MIRRORED, packets)
+fn frames_of_a_mirror(rt: HostRuntime) {
+    let mut rows = Rows::new(rt.alloc(), &MIRRORED);
+    rows.compare_made(copy(rt.alloc(), Node::Client, Node::Mirror));
+    rows.compare_made(copy(rt.alloc(), Node::Mirror, Node::Client));
+    rows.compare(from_mirror(copy_ok()));
+    compare_grants(&mut rows);
+    assert_eq!(rt; rows.first_unlike(), None);
 }
 
 /// A Copy of a state in layout 1, in 1,028 bytes.
-fn long_copy(alloc: Global) -> Result<Vec<u8>, Fail> {
+fn long_copy(alloc: Global) -> Option<Vec<u8>> {
     let state = old_state(alloc)?;
-    let bytes = state.get(4..).ok_or("behind the number of jobs")?;
-    let mut frame = Vec::new(alloc);
-    frame.extend_from_slice(b"FC\x01\x12\0\0\0\x09\0\0\0\x08\0\0\x04\x04")?;
-    frame.extend_from_slice(bytes)?;
-    Ok(frame)
+    let header: &[u8] = b"FC\x01\x12\0\0\0\x09\0\0\0\x08\0\0\x04\x04";
+    joined(alloc, &[header, state.get(4..)?])
+}
+
+/// Whether a frame goes whole: it is written with so many bytes once it is read, and is no frame itself.
+fn goes_whole(alloc: Global, frame: &[u8], len: usize) -> bool {
+    match written_again(alloc, frame) {
+        Some(written) => written.len() == len && is_bad_field(alloc, frame),
+        None => false,
+    }
+}
+
+fn is_bad_field(alloc: Global, frame: &[u8]) -> bool {
+    decode_frame(alloc, frame).err() == Some(Fault::FrameBadField)
 }
 
 #[test]
-fn a_copy_goes_whole(rt: HostRuntime) -> Result<(), Fail> {
-    let frame = long_copy(rt.alloc())?;
-    let packet = read(rt.alloc(), &frame)?;
-    assert!(rt; written(rt.alloc(), &packet)?.len() == 152);
-    let refused = decode_frame(rt.alloc(), &frame).err();
-    assert!(rt; refused == Some(Fault::FrameBadField));
-    Ok(())
+fn a_copy_goes_whole(rt: HostRuntime) {
+    let whole = match long_copy(rt.alloc()) {
+        Some(frame) => goes_whole(rt.alloc(), &frame, 152),
+        None => false,
+    };
+    assert!(rt; whole);
 }

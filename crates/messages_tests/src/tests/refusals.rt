@@ -1,6 +1,7 @@
 //! Refusals: their frames, and frames that are refused.
 
 use super::refused::REFUSED;
+use super::rows::Rows;
 use super::vectors::{LISTED, REFUSALS, WHOLE};
 use super::*;
 use fc_base::Attempt;
@@ -28,68 +29,108 @@ pub(super) fn refused(
 }
 
 #[test]
-fn frames_of_refusals(rt: HostRuntime) -> Result<(), Fail> {
-    let mut packets = Vec::new(rt.alloc());
-    packets.push(refused(Asked::Jobs, Reason::Old, 0, 0, 1, 0, 7))?;
-    packets.push(refused(Asked::Verify, Reason::Misfit, 3, 4, 1, 9, 38))?;
-    packets.push(refused(Asked::Trigger, Reason::Unknown, 0, 0, 9, 0, 1))?;
-    are_frames_of(&rt, &REFUSALS, packets)
+fn frames_of_refusals(rt: HostRuntime) {
+    let mut rows = Rows::new(rt.alloc(), &REFUSALS);
+    rows.compare(refused(Asked::Jobs, Reason::Old, 0, 0, 1, 0, 7));
+    rows.compare(refused(Asked::Verify, Reason::Misfit, 3, 4, 1, 9, 38));
+    rows.compare(refused(Asked::Trigger, Reason::Unknown, 0, 0, 9, 0, 1));
+    assert_eq!(rt; rows.first_unlike(), None);
 }
 
 #[test]
 fn refused_frames(rt: HostRuntime) {
-    for (number, bytes) in REFUSED {
-        let found = refusal(rt.alloc(), bytes);
-        assert!(rt; found == number, "{found} in place of {number}");
+    for (row, (number, bytes)) in REFUSED.iter().enumerate() {
+        assert!(rt; refusal(rt.alloc(), bytes) == *number, "at {row}");
     }
+}
+
+/// Whether each prefix is refused as too short.
+fn are_short(alloc: Global, frame: &[u8]) -> bool {
+    let mut agree = true;
+    for len in 0..frame.len() {
+        agree = agree && refusal(alloc, &frame[..len]) == 40;
+    }
+    agree
 }
 
 #[test]
 fn fronts_of_frames_are_short(rt: HostRuntime) {
-    for frame in WHOLE {
-        for len in 0..frame.len() {
-            let front = &frame[..len];
-            assert!(rt; refusal(rt.alloc(), front) == 40, "at {len}");
-        }
+    for (row, frame) in WHOLE.iter().enumerate() {
+        assert!(rt; are_short(rt.alloc(), frame), "at {row}");
     }
-}
-
-/// The frame with another byte at this place.
-fn changed(alloc: Global, frame: &[u8], at: usize, byte: u8) -> Result<Vec<u8>, Fail> {
-    let mut changed = Vec::from_slice(alloc, frame)?;
-    *changed.get_mut(at).ok_or("a byte")? = byte;
-    Ok(changed)
 }
 
 /// Whether bytes are refused, or else say a packet whose frame they are, or, where they hold a state in
 /// layout 1, one whose frame is read and written again as it is.
-fn says_or_refuses(alloc: Global, frame: &[u8]) -> Result<bool, Fail> {
-    let Ok(packet) = decode(alloc, frame) else {
-        return Ok(true);
-    };
-    let again = written(alloc, &packet)?;
-    let same = again.as_slice() == frame;
-    Ok(same || written(alloc, &read(alloc, &again)?)? == again)
+fn says_or_refuses(alloc: Global, frame: &[u8]) -> bool {
+    match decode(alloc, frame) {
+        Ok(packet) => says(alloc, &packet, frame),
+        Err(_) => true,
+    }
+}
+
+fn says(alloc: Global, packet: &Packet, frame: &[u8]) -> bool {
+    match encode(alloc, packet) {
+        Ok(again) => again.as_slice() == frame || is_written_as(alloc, &again, &again),
+        Err(_) => false,
+    }
+}
+
+/// Whether the packet that a frame says has this frame.
+fn is_written_as(alloc: Global, frame: &[u8], written: &[u8]) -> bool {
+    match written_again(alloc, frame) {
+        Some(again) => again.as_slice() == written,
+        None => false,
+    }
+}
+
+/// The same of the bytes with another byte at this place. They are left as they were.
+fn says_or_refuses_with(alloc: Global, bytes: &mut [u8], at: usize, byte: u8) -> bool {
+    if at >= bytes.len() {
+        return false;
+    }
+    let old = bytes[at];
+    bytes[at] = byte;
+    let agree = says_or_refuses(alloc, bytes);
+    bytes[at] = old;
+    agree
+}
+
+/// The same of the bytes, of which each in turn is another.
+fn says_or_refuses_each(alloc: Global, bytes: &mut [u8], byte: u8) -> bool {
+    let mut agree = true;
+    for at in 0..bytes.len() {
+        agree = agree && says_or_refuses_with(alloc, bytes, at, byte);
+    }
+    agree
+}
+
+fn says_or_refuses_changed(alloc: Global, frame: &[u8], byte: u8) -> bool {
+    match Vec::from_slice(alloc, frame) {
+        Ok(mut bytes) => says_or_refuses_each(alloc, &mut bytes, byte),
+        Err(_) => false,
+    }
+}
+
+/// The same of each of the frames.
+fn all_say_or_refuse(alloc: Global, byte: u8) -> bool {
+    let mut agree = true;
+    for frame in &WHOLE {
+        agree = agree && says_or_refuses_changed(alloc, frame, byte);
+    }
+    agree
 }
 
 #[test]
-fn each_byte_changed(rt: HostRuntime) -> Result<(), Fail> {
-    for frame in WHOLE {
-        for at in 0..frame.len() {
-            for byte in [0, 1, 0x80, 0xff] {
-                let changed = changed(rt.alloc(), frame, at, byte)?;
-                assert!(rt; says_or_refuses(rt.alloc(), &changed)?, "at {at}");
-            }
-        }
+fn each_byte_changed(rt: HostRuntime) {
+    for byte in [0, 1, 0x80, 0xff] {
+        assert!(rt; all_say_or_refuse(rt.alloc(), byte), "at {byte}");
     }
-    Ok(())
 }
 
 #[test]
-fn states_in_layout_1(rt: HostRuntime) -> Result<(), Fail> {
-    for (listed, frame) in LISTED {
-        let packet = read(rt.alloc(), listed)?;
-        assert!(rt; written(rt.alloc(), &packet)?.as_slice() == frame);
+fn states_in_layout_1(rt: HostRuntime) {
+    for (row, (listed, frame)) in LISTED.iter().enumerate() {
+        assert!(rt; is_written_as(rt.alloc(), listed, frame), "at {row}");
     }
-    Ok(())
 }

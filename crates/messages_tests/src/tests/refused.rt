@@ -1,7 +1,7 @@
 //! Frames that are refused, computed elsewhere.
 
 /// The number of the refusal, and the bytes.
-pub(super) const REFUSED: [(u8, &[u8]); 27] = [
+pub(super) static REFUSED: [(u8, &[u8]); 27] = [
     (
         40,
         b"\x46\x43\x01\x03\x00\x00\x00\x08\x00\x00\x00\x00\x00\x00\x00\x08\x00\x00\x00\x00\x00\x00\x00",

@@ -1,7 +1,7 @@
 //! Frames that were computed elsewhere.
 
 /// What the client says: the name of the kind, and the frame.
-pub(super) const REQUESTS: [(&str, &[u8]); 10] = [
+pub(super) static REQUESTS: [(&str, &[u8]); 10] = [
     (
         "Jobs",
         b"\x46\x43\x01\x01\x00\x00\x00\x08\x00\x00\x00\x00\x00\x00\x00\x1d\x00\x00\x00\x00\x00\x00\x00\x01\
@@ -58,7 +58,7 @@ pub(super) const REQUESTS: [(&str, &[u8]); 10] = [
 
 /// The same State and the same Saved, and a Copy, with the state in layout 1, and what they are
 /// written as.
-pub(super) const LISTED: [(&[u8], &[u8]); 3] = [
+pub(super) static LISTED: [(&[u8], &[u8]); 3] = [
     (
         b"\x46\x43\x01\x06\x00\x00\x00\x00\x00\x00\x00\x08\x00\x00\x00\x70\x00\x00\x00\x01\x46\x43\x56\x31\
             \x00\x00\x00\x00\x00\x00\x00\x01\x00\x00\x00\x00\x00\x00\x00\x00\x00\x00\x00\x00\x00\x00\x02\x00\
@@ -107,7 +107,7 @@ pub(super) const LISTED: [(&[u8], &[u8]); 3] = [
 ];
 
 /// What servers say.
-pub(super) const ANSWERS: [(&str, &[u8]); 6] = [
+pub(super) static ANSWERS: [(&str, &[u8]); 6] = [
     (
         "JobsOk",
         b"\x46\x43\x01\x02\x00\x00\x00\x00\x00\x00\x00\x08\x00\x00\x00\x0c\x00\x00\x00\x00\x00\x00\x00\x01\
@@ -144,7 +144,7 @@ pub(super) const ANSWERS: [(&str, &[u8]); 6] = [
 ];
 
 /// What the client and the mirror say to each other.
-pub(super) const MIRRORED: [(&str, &[u8]); 5] = [
+pub(super) static MIRRORED: [(&str, &[u8]); 5] = [
     (
         "Copy",
         b"\x46\x43\x01\x12\x00\x00\x00\x08\x00\x00\x00\x09\x00\x00\x00\x88\x46\x43\x56\x32\x00\x00\x00\x00\
@@ -181,7 +181,7 @@ pub(super) const MIRRORED: [(&str, &[u8]); 5] = [
 ];
 
 /// Reports of checks.
-pub(super) const REPORTS: [(&str, &[u8]); 4] = [
+pub(super) static REPORTS: [(&str, &[u8]); 4] = [
     (
         "Report",
         b"\x46\x43\x01\x0f\x00\x00\x00\x00\x00\x00\x00\x08\x00\x00\x00\x29\x00\x00\x00\x00\x00\x00\x00\x01\
@@ -214,7 +214,7 @@ pub(super) const REPORTS: [(&str, &[u8]); 4] = [
 ];
 
 /// Refusals.
-pub(super) const REFUSALS: [(&str, &[u8]); 3] = [
+pub(super) static REFUSALS: [(&str, &[u8]); 3] = [
     (
         "Refused",
         b"\x46\x43\x01\x10\x00\x00\x00\x00\x00\x00\x00\x08\x00\x00\x00\x22\x01\x3c\x00\x00\x00\x00\x00\x00\
@@ -236,7 +236,7 @@ pub(super) const REFUSALS: [(&str, &[u8]); 3] = [
 ];
 
 /// A frame of numbers alone, one with a state, and one with blocks.
-pub(super) const WHOLE: [&[u8]; 4] = [
+pub(super) static WHOLE: [&[u8]; 4] = [
     b"\x46\x43\x01\x06\x00\x00\x00\x00\x00\x00\x00\x08\x00\x00\x00\x8c\x00\x00\x00\x01\x46\x43\x56\x32\
             \x00\x00\x00\x00\x00\x00\x00\x01\x00\x00\x00\x00\x00\x00\x00\x00\x00\x00\x00\x00\x00\x00\x02\x00\
             \x00\x00\x00\x02\x00\x00\x00\x00\x00\x00\x00\x02\x00\x00\x00\x00\x00\x00\x00\x01\x00\x00\x00\x02\

@@ -20,7 +20,7 @@ pub fn put_noted(draft: &mut Draft, noted: Noted) {
 }
 
 /// The bytes of notes, and the number of the refusal, or 0 and then what the server shows.
-pub const NOTES: &str = "
+pub static NOTES: &str = "
     - => 0 1 0
     46434e3100000000000000010000000000000000 => 0 2 0
     46434e310000000000000005000000000000000a => 0 6 10

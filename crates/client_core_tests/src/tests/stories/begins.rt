@@ -3,7 +3,7 @@
 use super::Story;
 
 /// With one server.
-pub const STORIES: [Story; 5] = [
+pub static STORIES: [Story; 5] = [
     (
         "begun, staged and started",
         "
@@ -100,7 +100,7 @@ pub const STORIES: [Story; 5] = [
 ];
 
 /// With two servers.
-pub const OF_TWO: [Story; 2] = [
+pub static OF_TWO: [Story; 2] = [
     (
         "each server for itself",
         "

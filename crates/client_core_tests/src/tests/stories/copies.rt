@@ -3,7 +3,7 @@
 use super::Story;
 
 /// With one server.
-pub const STORIES: [Story; 6] = [
+pub static STORIES: [Story; 6] = [
     (
         "a copy of each state, until the mirror has it",
         "
@@ -145,7 +145,7 @@ pub const STORIES: [Story; 6] = [
 ];
 
 /// With two servers.
-pub const OF_TWO: [Story; 1] = [(
+pub static OF_TWO: [Story; 1] = [(
     "asked again between the grant and the copies",
     "
     note of 1 4294967297 4294967296 first~15=1 first => -
@@ -169,7 +169,7 @@ pub const OF_TWO: [Story; 1] = [(
 )];
 
 /// Over a note with all the states that it has room for.
-pub const FULL: &str = "
+pub static FULL: &str = "
     would_save from 9 to 8 Copy first~11=200 => 0
     from 9 to 8 Copy first~11=200 => 73
     from 9 to 8 Copy first~11=1 =>

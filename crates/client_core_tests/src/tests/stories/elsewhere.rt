@@ -2,7 +2,7 @@
 
 use super::Story;
 
-pub const STORIES: [Story; 10] = [
+pub static STORIES: [Story; 10] = [
     (
         "the stored run",
         "

@@ -2,7 +2,7 @@
 
 use super::Story;
 
-pub const STORIES: [Story; 8] = [
+pub static STORIES: [Story; 8] = [
     (
         "numbers wait for the grant",
         "

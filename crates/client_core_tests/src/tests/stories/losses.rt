@@ -2,7 +2,7 @@
 
 use super::LostSave;
 
-pub const LOST_SAVES: [LostSave; 6] = [
+pub static LOST_SAVES: [LostSave; 6] = [
     LostSave {
         name: "a begin whose number is lost",
         at: 0,

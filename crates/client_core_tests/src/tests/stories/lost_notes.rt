@@ -3,7 +3,7 @@
 
 use super::Story;
 
-pub const STORIES: [Story; 2] = [
+pub static STORIES: [Story; 2] = [
     (
         "a note that is lost",
         "

@@ -2,7 +2,7 @@
 
 use super::Story;
 
-pub const STORIES: [Story; 3] = [
+pub static STORIES: [Story; 3] = [
     (
         "runs that weren't begun",
         "
@@ -55,7 +55,7 @@ pub const STORIES: [Story; 3] = [
 ];
 
 /// Over a note from before there were generations, whose numbers are used up.
-pub const SPENT: &str = "
+pub static SPENT: &str = "
     restart => old 18446744073709551615 18446744073709551615
     begin writes => 72
     begin too_long => 1

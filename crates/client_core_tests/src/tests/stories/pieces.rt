@@ -3,7 +3,7 @@
 
 use super::Story;
 
-pub const STORIES: [Story; 4] = [
+pub static STORIES: [Story; 4] = [
     (
         "reversed and doubled",
         "

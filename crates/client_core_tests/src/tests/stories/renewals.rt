@@ -2,7 +2,7 @@
 
 use super::{LostSave, Story};
 
-pub const STORIES: [Story; 4] = [
+pub static STORIES: [Story; 4] = [
     (
         "generations that a note begins anew with",
         "
@@ -74,7 +74,7 @@ pub const STORIES: [Story; 4] = [
     ),
 ];
 
-pub const LOST_SAVES: [LostSave; 8] = [
+pub static LOST_SAVES: [LostSave; 8] = [
     LostSave {
         name: "a renewal that is lost",
         at: 0,

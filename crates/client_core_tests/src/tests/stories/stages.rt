@@ -14,7 +14,7 @@ pub struct Stage {
 }
 
 /// What a packet is answered where it changes nothing of a request.
-pub const PACKETS: &str = "
+pub static PACKETS: &str = "
     WantState 1 1 0 => NoSaved 1 1 0
     WantState 2 1 0 => NoSaved 2 1 0
     JobsOk 1 1 =>
@@ -81,7 +81,7 @@ pub const PACKETS: &str = "
     from 0 to 9 Started 1 => 69
 ";
 
-pub const STAGES: [Stage; 16] = [
+pub static STAGES: [Stage; 16] = [
     Stage {
         name: "not begun",
         request: "begin 1 0",

@@ -2,7 +2,7 @@
 
 use super::Story;
 
-pub const STORIES: [Story; 5] = [
+pub static STORIES: [Story; 5] = [
     (
         "the first state of a key stays",
         "
@@ -89,7 +89,7 @@ pub const STORIES: [Story; 5] = [
 ];
 
 /// Over a note with a state in layout 1, from before there were generations.
-pub const LISTED: &str = "
+pub static LISTED: &str = "
     restart => old 1 1 listed
     saved 1 0 0 => first
     State 1 first => StateAck 1 0
@@ -99,7 +99,7 @@ pub const LISTED: &str = "
 ";
 
 /// Over a note with all the states that it has room for.
-pub const FULL: &str = "
+pub static FULL: &str = "
     would_save State 1 first~11=200 => 0
     State 1 first~11=200 => 73
     State 1 first~11=1 => StateAck 1 0

@@ -2,7 +2,7 @@
 
 use super::LostSave;
 
-pub const LOST_SAVES: [LostSave; 2] = [
+pub static LOST_SAVES: [LostSave; 2] = [
     LostSave {
         name: "a client that is stopped before its save",
         at: 1,

@@ -2,7 +2,7 @@
 
 use super::Story;
 
-pub const STORIES: [Story; 5] = [
+pub static STORIES: [Story; 5] = [
     (
         "a state for each job",
         "

@@ -2,7 +2,7 @@
 
 use super::Story;
 
-pub const STORIES: [Story; 4] = [
+pub static STORIES: [Story; 4] = [
     (
         "a report of each job",
         "

@@ -2,7 +2,7 @@
 
 use super::Story;
 
-pub const STORIES: [Story; 7] = [
+pub static STORIES: [Story; 7] = [
     (
         "a verify of an overwritten run",
         "

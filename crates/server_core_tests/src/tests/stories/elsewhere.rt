@@ -2,7 +2,7 @@
 
 use super::{LostSave, Story};
 
-pub const STORIES: [Story; 8] = [
+pub static STORIES: [Story; 8] = [
     (
         "the stored run",
         "
@@ -171,7 +171,7 @@ pub const STORIES: [Story; 8] = [
     ),
 ];
 
-pub const LOST_SAVES: [LostSave; 2] = [
+pub static LOST_SAVES: [LostSave; 2] = [
     LostSave {
         name: "a start that is stopped before its save",
         at: 1,

@@ -2,7 +2,7 @@
 
 use super::LostSave;
 
-pub const LOST_SAVES: [LostSave; 4] = [
+pub static LOST_SAVES: [LostSave; 4] = [
     LostSave {
         name: "a server that is down shows what was before",
         at: 2,

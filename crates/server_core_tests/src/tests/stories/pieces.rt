@@ -3,7 +3,7 @@
 
 use super::Story;
 
-pub const STORIES: [Story; 6] = [
+pub static STORIES: [Story; 6] = [
     (
         "two pieces, computed elsewhere",
         "

@@ -2,7 +2,7 @@
 
 use super::Story;
 
-pub const STORIES: [Story; 6] = [
+pub static STORIES: [Story; 6] = [
     (
         "writes are issued",
         "

@@ -5,7 +5,7 @@
 
 use super::Story;
 
-pub const STORIES: [Story; 1] = [(
+pub static STORIES: [Story; 1] = [(
     "sixteen states",
     "
         restart => -
