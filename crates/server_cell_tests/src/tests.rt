@@ -118,17 +118,34 @@ fn is_refused(cell: &mut ServerCell<MemNotes>, seat: &mut Seat) -> bool {
         && seat.applied() == applied
 }
 
-/// Whether a cell refuses a seat that another cell of its server gave, once its own seat of that number
-/// has applied something; and takes it before.
+/// Whether a cell takes this seat, refuses then its own of the same number, and takes the first again.
+fn goes_by(cell: &mut ServerCell<MemNotes>, own: &mut Seat, other: &mut Seat) -> bool {
+    said(cell.apply(other, ISSUE)) == STOPPED
+        && is_refused(cell, own)
+        && said(cell.apply(other, ISSUE)) == STOPPED
+}
+
+/// Whether it does so with a seat that another cell of its server gave.
+fn goes_by_another(alloc: Global, first: &mut ServerCell<MemNotes>, own: &mut Seat) -> bool {
+    let Some((_, mut others)) = cell(alloc) else {
+        return false;
+    };
+    match others.get_mut(1) {
+        Some(other) => goes_by(first, own, other),
+        None => false,
+    }
+}
+
+/// Whether a cell refuses its own seat, once one of that number that another cell gave has applied
+/// something.
 fn stale_seats_are_refused(alloc: Global) -> bool {
-    let (Some((mut first, mut own)), Some((_, mut others))) = (cell(alloc), cell(alloc)) else {
+    let Some((mut first, mut own)) = cell(alloc) else {
         return false;
     };
-    let (Some(seat), Some(other)) = (own.get_mut(1), others.get_mut(1)) else {
-        return false;
-    };
-    let taken = said(first.apply(other, ISSUE)) == STOPPED;
-    taken && is_refused(&mut first, seat) && said(first.apply(other, ISSUE)) == STOPPED
+    match own.get_mut(1) {
+        Some(seat) => goes_by_another(alloc, &mut first, seat),
+        None => false,
+    }
 }
 
 #[test]
@@ -139,14 +156,18 @@ fn stale_seats(rt: HostRuntime) {
 /// The boot of a server whose second save fails, once it is on again: `None` where a row isn't answered.
 fn boot_after(alloc: Global, landed: bool) -> Option<u64> {
     let notes = FaultNotes::new(MemNotes::new(Vec::new(alloc)), 1, landed);
-    let (mut cell, mut seats) = ServerCell::new(alloc, ServerNo(0), notes, 2).ok()?;
-    let unlike = first_unlike(&mut cell, seats.as_mut_slice(), &LOST);
-    let boot = cell.server().map(|server| server.status().boot);
-    if unlike.is_none() && are_entered(cell.history(), &LOST) {
-        boot
-    } else {
-        None
+    match ServerCell::new(alloc, ServerNo(0), notes, 2) {
+        Ok((mut cell, mut seats)) => boot_behind(&mut cell, seats.as_mut_slice()),
+        Err(_) => None,
     }
+}
+
+/// Its boot behind the rows, where they are answered so and its history has them.
+fn boot_behind(cell: &mut ServerCell<FaultNotes>, seats: &mut [Seat]) -> Option<u64> {
+    if first_unlike(cell, seats, &LOST).is_some() || !are_entered(cell.history(), &LOST) {
+        return None;
+    }
+    cell.server().map(|server| server.status().boot)
 }
 
 #[test]

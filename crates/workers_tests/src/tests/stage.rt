@@ -169,17 +169,20 @@ impl Site {
 
     /// How many events there are, in one list of all that has happened.
     pub fn events(self) -> Result<usize, AssembleFault> {
-        let Site {
-            alloc,
-            hub,
-            client,
-            cell,
-            seats,
-            ..
-        } = self;
-        let assembled = assemble(alloc, &hub, &client, &[cell.into_inner()], &seats)?;
-        Ok(assembled.order.len())
+        let servers = [self.cell.into_inner()];
+        events_of(self.alloc, &self.hub, &self.client, &servers, &self.seats)
     }
+}
+
+fn events_of(
+    alloc: Global,
+    hub: &Hub,
+    client: &Client,
+    servers: &[Server],
+    seats: &[Seat],
+) -> Result<usize, AssembleFault> {
+    let assembled = assemble(alloc, hub, client, servers, seats)?;
+    Ok(assembled.order.len())
 }
 
 /// A client of one server, over a blank note.
