@@ -22,6 +22,7 @@ use Rattle.client_core.specs.FrameAnswers.{is_drop, sense, refusal, answered}
 use Rattle.net_world.specs.declared.told.Answer.TheVariants as answers
 use Rattle.net_world.specs.declared.told.Told.{Told}
 use Rattle.net_world.specs.declared.world.World.{World}
+use Rattle.net_world.specs.Setup.{Setup}
 use Rattle.net_world.specs.Happenings.{Happening}
 use Rattle.net_world.specs.Happenings as happenings
 use Rattle.net_world.specs.Trace.{Step, AtClient, of_client, client_opening}
@@ -46,99 +47,99 @@ pub left_same : (x : Option Addition) → left_for x ≡ left_by x
 left_same None = refl
 left_same (Some a) = refl
 
-met_here : (n : ℕ) (t : List Step) (c : Call) → words.refusal (client_opening n) (of_client t) c ≡ None
-    → met_by_client n t c ≡ Ok (OfClient (Happens (client.Met c (left_by (words.due (client_opening n) (of_client t) c)))))
-met_here n t c h =
+met_here : (w : Setup) (t : List Step) (c : Call) → words.refusal (client_opening w) (of_client t) c ≡ None
+    → met_by_client w t c ≡ Ok (OfClient (Happens (client.Met c (left_by (words.due (client_opening w) (of_client t) c)))))
+met_here w t c h =
     rw h refl
-    ∙ ap (λ left. Ok (OfClient (Happens (client.Met c left)))) (left_same (words.due (client_opening n) (of_client t) c))
+    ∙ ap (λ left. Ok (OfClient (Happens (client.Met c left)))) (left_same (words.due (client_opening w) (of_client t) c))
 
-pub met_ok : (n : ℕ) (t : List Step) (c : Call) (list : List client.Entry) → list ≡ of_client t → words.refusal (client_opening n) list c ≡ None
-    → met_by_client n t c ≡ Ok (OfClient (Happens (client.Met c (left_by (words.due (client_opening n) list c)))))
-met_ok n t c list is =
-    subst (λ l. words.refusal (client_opening n) l c ≡ None → met_by_client n t c ≡ Ok (OfClient (Happens (client.Met c (left_by (words.due (client_opening n) l c)))))) (sym is) (met_here n t c)
+pub met_ok : (w : Setup) (t : List Step) (c : Call) (list : List client.Entry) → list ≡ of_client t → words.refusal (client_opening w) list c ≡ None
+    → met_by_client w t c ≡ Ok (OfClient (Happens (client.Met c (left_by (words.due (client_opening w) list c)))))
+met_ok w t c list is =
+    subst (λ l. words.refusal (client_opening w) l c ≡ None → met_by_client w t c ≡ Ok (OfClient (Happens (client.Met c (left_by (words.due (client_opening w) l c)))))) (sym is) (met_here w t c)
 
-err_here : (n : ℕ) (t : List Step) (c : Call) (fault : Fault) → words.refusal (client_opening n) (of_client t) c ≡ Some fault → met_by_client n t c ≡ Err fault
-err_here n t c fault h = rw h refl
+err_here : (w : Setup) (t : List Step) (c : Call) (fault : Fault) → words.refusal (client_opening w) (of_client t) c ≡ Some fault → met_by_client w t c ≡ Err fault
+err_here w t c fault h = rw h refl
 
-pub met_err : (n : ℕ) (t : List Step) (c : Call) (list : List client.Entry) (fault : Fault) → list ≡ of_client t → words.refusal (client_opening n) list c ≡ Some fault → met_by_client n t c ≡ Err fault
-met_err n t c list fault is h = err_here n t c fault (ap (λ l. words.refusal (client_opening n) l c) (sym is) ∙ h)
+pub met_err : (w : Setup) (t : List Step) (c : Call) (list : List client.Entry) (fault : Fault) → list ≡ of_client t → words.refusal (client_opening w) list c ≡ Some fault → met_by_client w t c ≡ Err fault
+met_err w t c list fault is h = err_here w t c fault (ap (λ l. words.refusal (client_opening w) l c) (sym is) ∙ h)
 
 -- ---- an event that the client meets
 
 -- What happens comes to the client as this, and is barred as all that asks for it to be on.
-pub record ComesToClient (n : ℕ) (past : List Change) (e : Happening) (i : Input) : Type 0 where
-  pub bar : barred n (trace n past) (frames_sent n (steps past)) e ≡ off n (trace n past) Client
-  pub ok : refusal (client_opening n) (entries past) i ≡ None → brings n past e ≡ Does (Met (step_by n past i))
-  pub err : (fault : Fault) → refusal (client_opening n) (entries past) i ≡ Some fault → brings n past e ≡ Refuses fault
-  pub keeps : is_drop (sense (client_opening n) (entries past) i) ≡ false
-  pub answers : answer_to (client_opening n) (entries past) i ≡ answer n past e
+pub record ComesToClient (w : Setup) (past : List Change) (e : Happening) (i : Input) : Type 0 where
+  pub bar : barred w (trace w past) (frames_sent w (steps past)) e ≡ off w (trace w past) Client
+  pub ok : refusal (client_opening w) (entries past) i ≡ None → brings w past e ≡ Does (Met (step_by w past i))
+  pub err : (fault : Fault) → refusal (client_opening w) (entries past) i ≡ Some fault → brings w past e ≡ Refuses fault
+  pub keeps : is_drop (sense (client_opening w) (entries past) i) ≡ false
+  pub answers : answer_to (client_opening w) (entries past) i ≡ answer w past e
 
 no_act : (t : List Step) (x : Option client.Entry) → act_of t (option_map AtClient x) ≡ acts.None
 no_act t None = refl
 no_act t (Some e) = refl
 
-pub client_act : (n : ℕ) (past : List Change) (c : Coming client.Entry Left) → act n past (Met (OfClient c)) ≡ acts.None
-client_act n past c = no_act (trace n past) (entry_of (at_client n) (heard (at_client n) (frames.of_client (steps past))) c)
+pub client_act : (w : Setup) (past : List Change) (c : Coming client.Entry Left) → act w past (Met (OfClient c)) ≡ acts.None
+client_act w past c = no_act (trace w past) (entry_of (at_client w) (heard (at_client w) (frames.of_client (steps past))) c)
 
-pub told_is : (n : ℕ) (past : List Change) (e : Happening) (i : Input) (t : Told) (new : World) → IsAnswered n past i new t → answer_to (client_opening n) (entries past) i ≡ answer n past e
-    → told_by n past e (Does (Met (step_by n past i))) ≡ Ok t
-told_is n past e i t new h is =
+pub told_is : (w : Setup) (past : List Change) (e : Happening) (i : Input) (t : Told) (new : World) → IsAnswered w past i new t → answer_to (client_opening w) (entries past) i ≡ answer w past e
+    → told_by w past e (Does (Met (step_by w past i))) ≡ Ok t
+told_is w past e i t new h is =
     ap (λ t. Ok t)
     (sym (h.told_is
-    ∙ ap (λ a. record { answer = a; first = length (frames_sent n (steps past)); sent = length (frames_of_step n (steps past) (step_by n past i)); act = acts.None }) is
-    ∙ ap (λ a. record { answer = answer n past e; first = length (frames_sent n (steps past)); sent = length (frames_of_step n (steps past) (step_by n past i)); act = a })
-    (sym (client_act n past (coming (answered (client_opening n) (entries past) i))))))
+    ∙ ap (λ a. record { answer = a; first = length (frames_sent w (steps past)); sent = length (frames_of_step w (steps past) (step_by w past i)); act = acts.None }) is
+    ∙ ap (λ a. record { answer = answer w past e; first = length (frames_sent w (steps past)); sent = length (frames_of_step w (steps past) (step_by w past i)); act = a })
+    (sym (client_act w past (coming (answered (client_opening w) (entries past) i))))))
 
-pub answered_ends : (n : ℕ) (past : List Change) (e : Happening) (i : Input) (t : Told) (new : World) → ComesToClient n past e i → ClientEnds n past i new (Ok t) → Ends n past e new (Ok t)
-answered_ends n past e i t new c h =
-    does n past e (Met (step_by n past i)) t new (goes n past e (c.bar ∙ h.on) ∙ c.ok h.free) (told_is n past e i t new h c.answers) h.stands
+pub answered_ends : (w : Setup) (past : List Change) (e : Happening) (i : Input) (t : Told) (new : World) → ComesToClient w past e i → ClientEnds w past i new (Ok t) → Ends w past e new (Ok t)
+answered_ends w past e i t new c h =
+    does w past e (Met (step_by w past i)) t new (goes w past e (c.bar ∙ h.on) ∙ c.ok h.free) (told_is w past e i t new h c.answers) h.stands
 
-refused_ends : (n : ℕ) (past : List Change) (e : Happening) (i : Input) (fault : Fault) (new : World) → ComesToClient n past e i → IsBarred n past fault new ⊎ ClientRefuses n past i fault new
-    → (told n past e ≡ Err fault) × StandsFor n (after n past e) new
-refused_ends n past e i fault new c (inl b) = refusing n past e fault new (stops n past e fault (c.bar ∙ b.why)) b.unchanged
-refused_ends n past e i fault new c (inr r) = refusing n past e fault new (goes n past e (c.bar ∙ r.on) ∙ c.err fault r.why) (r.unchanged c.keeps)
+refused_ends : (w : Setup) (past : List Change) (e : Happening) (i : Input) (fault : Fault) (new : World) → ComesToClient w past e i → IsBarred w past fault new ⊎ ClientRefuses w past i fault new
+    → (told w past e ≡ Err fault) × StandsFor w (after w past e) new
+refused_ends w past e i fault new c (inl b) = refusing w past e fault new (stops w past e fault (c.bar ∙ b.why)) b.unchanged
+refused_ends w past e i fault new c (inr r) = refusing w past e fault new (goes w past e (c.bar ∙ r.on) ∙ c.err fault r.why) (r.unchanged c.keeps)
 
-by_sort : (n : ℕ) (past : List Change) (e : Happening) (i : Input) (fault : Fault) (new : World) → ComesToClient n past e i → (sort : FaultSort) → asking.Faults n past i sort fault new → ends.Faults n past e sort fault new
-by_sort n past e i fault new c sorts.Memory h = h
-by_sort n past e i fault new c sorts.Save h = h
-by_sort n past e i fault new c sorts.Refusal h = refused_ends n past e i fault new c h
+by_sort : (w : Setup) (past : List Change) (e : Happening) (i : Input) (fault : Fault) (new : World) → ComesToClient w past e i → (sort : FaultSort) → asking.Faults w past i sort fault new → ends.Faults w past e sort fault new
+by_sort w past e i fault new c sorts.Memory h = h
+by_sort w past e i fault new c sorts.Save h = h
+by_sort w past e i fault new c sorts.Refusal h = refused_ends w past e i fault new c h
 
-pub unanswered_ends : (n : ℕ) (past : List Change) (e : Happening) (i : Input) (fault : Fault) (new : World) → ComesToClient n past e i → ClientEnds n past i new (Err fault) → Ends n past e new (Err fault)
-unanswered_ends n past e i fault new c h = by_sort n past e i fault new c (sort_of fault) h
+pub unanswered_ends : (w : Setup) (past : List Change) (e : Happening) (i : Input) (fault : Fault) (new : World) → ComesToClient w past e i → ClientEnds w past i new (Err fault) → Ends w past e new (Err fault)
+unanswered_ends w past e i fault new c h = by_sort w past e i fault new c (sort_of fault) h
 
 -- ---- the five calls
 
-module _ (n : ℕ) (past : List Change) where
-  here : packets_heard (client_opening n) (entries past) ≡ of_client (trace n past)
-  here = heard_is n past
+module _ (w : Setup) (past : List Change) where
+  here : packets_heard (client_opening w) (entries past) ≡ of_client (trace w past)
+  here = heard_is w past
 
-  ok_by : (e : Happening) (c : Call) → brings n past e ≡ stepped (met_by_client n (trace n past) c) → words.refusal (client_opening n) (packets_heard (client_opening n) (entries past)) c ≡ None
-      → brings n past e ≡ Does (Met (OfClient (Happens (client.Met c (left_by (words.due (client_opening n) (packets_heard (client_opening n) (entries past)) c))))))
-  ok_by e c is free = is ∙ ap stepped (met_ok n (trace n past) c (packets_heard (client_opening n) (entries past)) here free)
+  ok_by : (e : Happening) (c : Call) → brings w past e ≡ stepped (met_by_client w (trace w past) c) → words.refusal (client_opening w) (packets_heard (client_opening w) (entries past)) c ≡ None
+      → brings w past e ≡ Does (Met (OfClient (Happens (client.Met c (left_by (words.due (client_opening w) (packets_heard (client_opening w) (entries past)) c))))))
+  ok_by e c is free = is ∙ ap stepped (met_ok w (trace w past) c (packets_heard (client_opening w) (entries past)) here free)
 
-  err_by : (e : Happening) (c : Call) → brings n past e ≡ stepped (met_by_client n (trace n past) c) → (fault : Fault)
-      → words.refusal (client_opening n) (packets_heard (client_opening n) (entries past)) c ≡ Some fault → brings n past e ≡ Refuses fault
-  err_by e c is fault why = is ∙ ap stepped (met_err n (trace n past) c (packets_heard (client_opening n) (entries past)) fault here why)
+  err_by : (e : Happening) (c : Call) → brings w past e ≡ stepped (met_by_client w (trace w past) c) → (fault : Fault)
+      → words.refusal (client_opening w) (packets_heard (client_opening w) (entries past)) c ≡ Some fault → brings w past e ≡ Refuses fault
+  err_by e c is fault why = is ∙ ap stepped (met_err w (trace w past) c (packets_heard (client_opening w) (entries past)) fault here why)
 
-  pub begins : (text : List ℕ) → ComesToClient n past (happenings.Begin text) (inputs.Begin text)
+  pub begins : (text : List ℕ) → ComesToClient w past (happenings.Begin text) (inputs.Begin text)
   begins text = record {
     bar = refl;
     ok = ok_by (happenings.Begin text) (calls.Begin text) refl;
     err = err_by (happenings.Begin text) (calls.Begin text) refl;
     keeps = refl;
-    answers = ap (λ list. answers.Run ((words.noted (client_opening n) list).runs + 1)) here;
+    answers = ap (λ list. answers.Run ((words.noted (client_opening w) list).runs + 1)) here;
   }
 
-  pub verifies : (run : ℕ) (text : List ℕ) → ComesToClient n past (happenings.Verify run text) (inputs.Verify run text)
+  pub verifies : (run : ℕ) (text : List ℕ) → ComesToClient w past (happenings.Verify run text) (inputs.Verify run text)
   verifies run text = record {
     bar = refl;
     ok = ok_by (happenings.Verify run text) (calls.Verify run text) refl;
     err = err_by (happenings.Verify run text) (calls.Verify run text) refl;
     keeps = refl;
-    answers = ap (λ list. answers.Attempt ((words.noted (client_opening n) list).attempts + 1)) here;
+    answers = ap (λ list. answers.Attempt ((words.noted (client_opening w) list).attempts + 1)) here;
   }
 
-  pub triggers : (run : ℕ) (asked : Act) → ComesToClient n past (happenings.Trigger run asked) (inputs.Trigger run asked)
+  pub triggers : (run : ℕ) (asked : Act) → ComesToClient w past (happenings.Trigger run asked) (inputs.Trigger run asked)
   triggers run asked = record {
     bar = refl;
     ok = ok_by (happenings.Trigger run asked) (calls.Trigger run asked) refl;
@@ -147,7 +148,7 @@ module _ (n : ℕ) (past : List Change) where
     answers = refl;
   }
 
-  pub stops_run : (run : ℕ) → ComesToClient n past (happenings.StopRun run) (inputs.Stop run)
+  pub stops_run : (run : ℕ) → ComesToClient w past (happenings.StopRun run) (inputs.Stop run)
   stops_run run = record {
     bar = refl;
     ok = ok_by (happenings.StopRun run) (calls.Stop run) refl;
@@ -156,7 +157,7 @@ module _ (n : ℕ) (past : List Change) where
     answers = refl;
   }
 
-  pub ticks : ComesToClient n past happenings.Tick inputs.Tick
+  pub ticks : ComesToClient w past happenings.Tick inputs.Tick
   ticks = record {
     bar = refl;
     ok = ok_by happenings.Tick calls.Tick refl;

@@ -29,6 +29,7 @@ use Rattle.messages.specs.declared.refusal.Act.TheVariants as acts
 use Rattle.net_world.specs.declared.told.Answer.{Answer}
 use Rattle.net_world.specs.declared.told.Told.{Told}
 use Rattle.net_world.specs.declared.world.World.{World}
+use Rattle.net_world.specs.Setup.{Setup}
 use Rattle.net_world.specs.Trace.{client_opening}
 use Rattle.net_world.specs.Frames.{frames_sent, frames_of_step}
 use Rattle.net_world.specs.Changes as changes
@@ -46,14 +47,14 @@ use Rattle.net_world.proofs.ServeLemmas.{first_is}
 
 -- ---- whether the client is on
 
-pub up_is : (n : ℕ) (past : List Change) → is_up (client_opening n) (entries past) ≡ is_on (trace n past) Client
-up_is n past = ap words.is_on (heard_is n past)
+pub up_is : (w : Setup) (past : List Change) → is_up (client_opening w) (entries past) ≡ is_on (trace w past) Client
+up_is w past = ap words.is_on (heard_is w past)
 
-is_there : (n : ℕ) (past : List Change) → is_up (client_opening n) (entries past) ≡ true → off n (trace n past) Client ≡ None
-is_there n past h = ap (λ on. unless on NodeOff) (sym (up_is n past) ∙ h)
+is_there : (w : Setup) (past : List Change) → is_up (client_opening w) (entries past) ≡ true → off w (trace w past) Client ≡ None
+is_there w past h = ap (λ on. unless on NodeOff) (sym (up_is w past) ∙ h)
 
-is_off : (n : ℕ) (past : List Change) → is_up (client_opening n) (entries past) ≡ false → off n (trace n past) Client ≡ Some NodeOff
-is_off n past h = ap (λ on. unless on NodeOff) (sym (up_is n past) ∙ h)
+is_off : (w : Setup) (past : List Change) → is_up (client_opening w) (entries past) ≡ false → off w (trace w past) Client ≡ Some NodeOff
+is_off w past h = ap (λ on. unless on NodeOff) (sym (up_is w past) ∙ h)
 
 -- ---- what is refused sends nothing
 
@@ -90,23 +91,23 @@ pub record HasAsked (e : Input) (result : Result Asked Fault) (sent : List (List
   pub moved : HasMoved sent old new
 
 -- The client has made a step, for which its node stands and whose frames were added.
-pub client_stepped : (n : ℕ) (past : List Change) (e : FrameEntry) (sent : List (List ℕ)) (old new : World) → StandsFor n past old → HasMoved sent old new
-    → sent ≡ map frame_spelling (frames_of_step n (steps past) (step_of e)) → nodes.Stands (client_opening n) (e ∷ entries past) new.client → StandsFor n (changes.Met (step_of e) ∷ past) new
-client_stepped n past e sent old new stands h is node_is = record {
+pub client_stepped : (w : Setup) (past : List Change) (e : FrameEntry) (sent : List (List ℕ)) (old new : World) → StandsFor w past old → HasMoved sent old new
+    → sent ≡ map frame_spelling (frames_of_step w (steps past) (step_of e)) → nodes.Stands (client_opening w) (e ∷ entries past) new.client → StandsFor w (changes.Met (step_of e) ∷ past) new
+client_stepped w past e sent old new stands h is node_is = record {
   some = stands.some;
   few = stands.few;
   number = ap (λ (v : Vec ServerNode Global). length v.items) h.servers_are ∙ stands.number;
-  sent_is = h.sent_is ∙ ap (λ fs. fs ++ sent) stands.sent_is ∙ ap (λ fs. frames n past ++ fs) is ∙ sym (frames_more n past (step_of e));
+  sent_is = h.sent_is ∙ ap (λ fs. fs ++ sent) stands.sent_is ∙ ap (λ fs. frames w past ++ fs) is ∙ sym (frames_more w past (step_of e));
   servers_are = λ s node at. stands.servers_are s node (ap (λ (v : Vec ServerNode Global). slice_get v.items s) (sym h.servers_are) ∙ at);
-  client_is = subst (λ x. nodes.Stands (client_opening n) (x ∷ entries past) new.client) (sym (entry_again e)) node_is;
+  client_is = subst (λ x. nodes.Stands (client_opening w) (x ∷ entries past) new.client) (sym (entry_again e)) node_is;
   files = ap (λ (v : Vec MemDisk Global). length v.items) h.files_are ∙ stands.files;
   files_are = λ s j disk l at. stands.files_are s j disk l (ap (λ (v : Vec MemDisk Global). slice_get v.items (16 * s + j)) (sym h.files_are) ∙ at);
 }
 
 -- The client stands for what it did, and nothing was sent.
-pub client_kept : (n : ℕ) (past : List Change) (old new : World) → StandsFor n past old → HasMoved [] old new
-    → nodes.Stands (client_opening n) (entries past) new.client → StandsFor n past new
-client_kept n past old new stands h node_is = record {
+pub client_kept : (w : Setup) (past : List Change) (old new : World) → StandsFor w past old → HasMoved [] old new
+    → nodes.Stands (client_opening w) (entries past) new.client → StandsFor w past new
+client_kept w past old new stands h node_is = record {
   some = stands.some;
   few = stands.few;
   number = ap (λ (v : Vec ServerNode Global). length v.items) h.servers_are ∙ stands.number;
@@ -121,47 +122,47 @@ same_told : (first first' sent' : ℕ) (asked : Asked) (answer : Answer) → fir
 same_told first first' sent' asked answer f k a = rw (f, k, a) refl
 
 -- It is answered.
-pub answered : (n : ℕ) (past : List Change) (e : Input) (asked : Asked) (first : ℕ) (told : Told) (old new : World) → StandsFor n past old → HasAsked e (Ok asked) asked.frames old new
-    → first ≡ length (sent_in old.sent) → told ≡ told_of first asked → ClientEnds n past e new (Ok told)
-answered n past e asked first told old new stands h is tells =
-    let o = client_opening n in
+pub answered : (w : Setup) (past : List Change) (e : Input) (asked : Asked) (first : ℕ) (told : Told) (old new : World) → StandsFor w past old → HasAsked e (Ok asked) asked.frames old new
+    → first ≡ length (sent_in old.sent) → told ≡ told_of first asked → ClientEnds w past e new (Ok told)
+answered w past e asked first told old new stands h is tells =
+    let o = client_opening w in
     let es = entries past in
     let a = h.asks o es stands.client_is in
-    let sent : asked.frames ≡ map frame_spelling (frames_of_step n (steps past) (step_by n past e)) =
-    a.frames_are ∙ ap (map frame_spelling) (frames_are n past (answers.answered o es e)) in
+    let sent : asked.frames ≡ map frame_spelling (frames_of_step w (steps past) (step_by w past e)) =
+    a.frames_are ∙ ap (map frame_spelling) (frames_are w past (answers.answered o es e)) in
     record {
-      on = is_there n past a.on;
+      on = is_there w past a.on;
       free = a.free;
       told_is =
           tells
-          ∙ same_told first (length (frames_sent n (steps past))) (length (frames_of_step n (steps past) (step_by n past e))) asked (nodes.answer_to o es e)
-          (is ∙ first_is n past old stands)
-          (ap (λ (fs : List (List ℕ)). length fs) sent ∙ length-map (frames_of_step n (steps past) (step_by n past e)) frame_spelling)
+          ∙ same_told first (length (frames_sent w (steps past))) (length (frames_of_step w (steps past) (step_by w past e))) asked (nodes.answer_to o es e)
+          (is ∙ first_is w past old stands)
+          (ap (λ (fs : List (List ℕ)). length fs) sent ∙ length-map (frames_of_step w (steps past) (step_by w past e)) frame_spelling)
           a.answer_is;
-      stands = client_stepped n past (answers.answered o es e) asked.frames old new stands h.moved sent a.stands;
+      stands = client_stepped w past (answers.answered o es e) asked.frames old new stands h.moved sent a.stands;
     }
 
-refused : (n : ℕ) (past : List Change) (e : Input) (fault : Fault) (old new : World) → StandsFor n past old → HasAsked e (Err fault) [] old new
-    → nodes.IsOff (client_opening n) (entries past) fault new.client ⊎ nodes.Refuses (client_opening n) (entries past) e fault new.client
-    → IsBarred n past fault new ⊎ Refuses n past e fault new
-refused n past e fault old new stands h (inl off) =
-    inl (record { why = is_off n past off.off ∙ ap Some (sym off.why); unchanged = client_kept n past old new stands h.moved off.unchanged })
-refused n past e fault old new stands h (inr r) =
-    let nothing : [] ≡ map frame_spelling (frames_of_step n (steps past) (step_of (Met e NoSave))) =
-    ap (map frame_spelling) (sym (refused_sends (client_opening n) (entries past) e fault r.why) ∙ frames_are n past (Met e NoSave)) in
+refused : (w : Setup) (past : List Change) (e : Input) (fault : Fault) (old new : World) → StandsFor w past old → HasAsked e (Err fault) [] old new
+    → nodes.IsOff (client_opening w) (entries past) fault new.client ⊎ nodes.Refuses (client_opening w) (entries past) e fault new.client
+    → IsBarred w past fault new ⊎ Refuses w past e fault new
+refused w past e fault old new stands h (inl off) =
+    inl (record { why = is_off w past off.off ∙ ap Some (sym off.why); unchanged = client_kept w past old new stands h.moved off.unchanged })
+refused w past e fault old new stands h (inr r) =
+    let nothing : [] ≡ map frame_spelling (frames_of_step w (steps past) (step_of (Met e NoSave))) =
+    ap (map frame_spelling) (sym (refused_sends (client_opening w) (entries past) e fault r.why) ∙ frames_are w past (Met e NoSave)) in
     inr (record {
-      on = is_there n past r.on;
+      on = is_there w past r.on;
       why = r.why;
-      stands = client_stepped n past (Met e NoSave) [] old new stands h.moved nothing r.stands;
-      unchanged = λ d. client_kept n past old new stands h.moved (r.unchanged d);
+      stands = client_stepped w past (Met e NoSave) [] old new stands h.moved nothing r.stands;
+      unchanged = λ d. client_kept w past old new stands h.moved (r.unchanged d);
     })
 
-by_sort : (n : ℕ) (past : List Change) (e : Input) (fault : Fault) (old new : World) → StandsFor n past old → HasAsked e (Err fault) [] old new
-    → (sort : FaultSort) → nodes.Faults (client_opening n) (entries past) e sort fault new.client → Faults n past e sort fault new
-by_sort n past e fault old new stands h sorts.Memory f = (f.0, client_kept n past old new stands h.moved f.1)
-by_sort n past e fault old new stands h sorts.Save f = f
-by_sort n past e fault old new stands h sorts.Refusal f = refused n past e fault old new stands h f
+by_sort : (w : Setup) (past : List Change) (e : Input) (fault : Fault) (old new : World) → StandsFor w past old → HasAsked e (Err fault) [] old new
+    → (sort : FaultSort) → nodes.Faults (client_opening w) (entries past) e sort fault new.client → Faults w past e sort fault new
+by_sort w past e fault old new stands h sorts.Memory f = (f.0, client_kept w past old new stands h.moved f.1)
+by_sort w past e fault old new stands h sorts.Save f = f
+by_sort w past e fault old new stands h sorts.Refusal f = refused w past e fault old new stands h f
 
 -- It isn't answered.
-pub unanswered : (n : ℕ) (past : List Change) (e : Input) (fault : Fault) (old new : World) → StandsFor n past old → HasAsked e (Err fault) [] old new → ClientEnds n past e new (Err fault)
-unanswered n past e fault old new stands h = by_sort n past e fault old new stands h (sort_of fault) (h.asks (client_opening n) (entries past) stands.client_is)
+pub unanswered : (w : Setup) (past : List Change) (e : Input) (fault : Fault) (old new : World) → StandsFor w past old → HasAsked e (Err fault) [] old new → ClientEnds w past e new (Err fault)
+unanswered w past e fault old new stands h = by_sort w past e fault old new stands h (sort_of fault) (h.asks (client_opening w) (entries past) stands.client_is)

@@ -23,6 +23,7 @@ use Rattle.client_core.specs.declared.call.Call.TheVariants as calls
 use Rattle.client_core.specs.History as client
 use Rattle.client_core.specs.Refusals.{has_next, is_begun}
 use Rattle.client_core.specs.Words as clients
+use Rattle.net_world.specs.Setup.{Setup, servers_of}
 use Rattle.net_world.specs.Happenings.{Happening, Begin, Trigger, StopRun, Verify, Tick, Deliver, Issue, Land, Done, Fail, Rot, Cut, Restart, CutIn}
 use Rattle.net_world.specs.Happenings as happenings
 use Rattle.net_world.specs.Trace.{Step, opening_of, client_opening}
@@ -75,67 +76,67 @@ unfolding Fine
 fine_one true g y h = cc
 fine_one false g y h = y h
 
-pub fine_off : (n : ℕ) (t : List Step) (node : Node) → Fine (off n t node)
+pub fine_off : (w : Setup) (t : List Step) (node : Node) → Fine (off w t node)
 unfolding Fine
-fine_off n t (Server s) = fine_two (nat_lt s n) (is_on t (Server s)) NoServer NodeOff (λ h. cc) (λ h. cc)
-fine_off n t Client = fine_one (is_on t Client) NodeOff (λ h. cc)
-fine_off n t Mirror = λ h. cc
+fine_off w t (Server s) = fine_two (nat_lt s (servers_of w)) (is_on t (Server s)) NoServer NodeOff (λ h. cc) (λ h. cc)
+fine_off w t Client = fine_one (is_on t Client) NodeOff (λ h. cc)
+fine_off w t Mirror = λ h. cc
 
-pub fine_on : (n : ℕ) (t : List Step) (node : Node) → Fine (on n t node)
+pub fine_on : (w : Setup) (t : List Step) (node : Node) → Fine (on w t node)
 unfolding Fine
-fine_on n t (Server s) = fine_two (nat_lt s n) (not (is_on t (Server s))) NoServer NodeOn (λ h. cc) (λ h. cc)
-fine_on n t Client = fine_one (not (is_on t Client)) NodeOn (λ h. cc)
-fine_on n t Mirror = λ h. cc
+fine_on w t (Server s) = fine_two (nat_lt s (servers_of w)) (not (is_on t (Server s))) NoServer NodeOn (λ h. cc) (λ h. cc)
+fine_on w t Client = fine_one (not (is_on t Client)) NodeOn (λ h. cc)
+fine_on w t Mirror = λ h. cc
 
 pub fine_or : (x : Option Fault) (b : Bool) (g : Fault) → Fine x → Fine (Some g) → Fine (option_or x (unless b g))
 unfolding Fine
 fine_or None b g f y = fine_one b g y
 fine_or (Some fault) b g f y = f
 
-pub fine_unsent : (n : ℕ) (t : List Step) (x : Option Frame) → Fine (unsent n t x)
+pub fine_unsent : (w : Setup) (t : List Step) (x : Option Frame) → Fine (unsent w t x)
 unfolding Fine
-fine_unsent n t None h = cc
-fine_unsent n t (Some f) h = fine_off n t (to_of f) h
+fine_unsent w t None h = cc
+fine_unsent w t (Some f) h = fine_off w t (to_of f) h
 
-pub fine_unopen : (n : ℕ) (t : List Step) (s j k : ℕ) → Fine (unopen n t s j k)
+pub fine_unopen : (w : Setup) (t : List Step) (s j k : ℕ) → Fine (unopen w t s j k)
 unfolding Fine
-fine_unopen n t s j k = fine_or (off n t (Server s)) (is_some (open_at t s j k)) NoWrite (fine_off n t (Server s)) (λ h. cc)
+fine_unopen w t s j k = fine_or (off w t (Server s)) (is_some (open_at t s j k)) NoWrite (fine_off w t (Server s)) (λ h. cc)
 
-pub fine_file : (n s j : ℕ) → Fine (no_file n s j)
+pub fine_file : (w : Setup) (s j : ℕ) → Fine (no_file w s j)
 unfolding Fine
-fine_file n s j = fine_two (nat_lt s n) (nat_lt j MAX_JOBS) NoServer NoWrite (λ h. cc) (λ h. cc)
+fine_file w s j = fine_two (nat_lt s (servers_of w)) (nat_lt j MAX_JOBS) NoServer NoWrite (λ h. cc) (λ h. cc)
 
-pub fine_bar : (n : ℕ) (t : List Step) (fs : List Frame) (e : Happening) → Fine (barred n t fs e)
+pub fine_bar : (w : Setup) (t : List Step) (fs : List Frame) (e : Happening) → Fine (barred w t fs e)
 unfolding Fine
-fine_bar n t fs (Begin text) h = fine_off n t Client h
-fine_bar n t fs (Trigger run act) h = fine_off n t Client h
-fine_bar n t fs (StopRun run) h = fine_off n t Client h
-fine_bar n t fs (Verify run text) h = fine_off n t Client h
-fine_bar n t fs Tick h = fine_off n t Client h
-fine_bar n t fs (Deliver i) h = fine_unsent n t (slice_get fs i) h
-fine_bar n t fs (Issue s j) h = fine_off n t (Server s) h
-fine_bar n t fs (Land s j k mask) h = fine_unopen n t s j k h
-fine_bar n t fs (Done s j k) h = fine_unopen n t s j k h
-fine_bar n t fs (Fail s j k) h = fine_unopen n t s j k h
-fine_bar n t fs (Rot s j sector bytes) h = fine_file n s j h
-fine_bar n t fs (happenings.Check s j) h = fine_off n t (Server s) h
-fine_bar n t fs (Cut node) h = fine_off n t node h
-fine_bar n t fs (Restart node) h = fine_on n t node h
-fine_bar n t fs (CutIn landed (CutIn again e)) h = cc
-fine_bar n t fs (CutIn landed (Begin text)) h = fine_bar n t fs (Begin text) h
-fine_bar n t fs (CutIn landed (Trigger run act)) h = fine_bar n t fs (Trigger run act) h
-fine_bar n t fs (CutIn landed (StopRun run)) h = fine_bar n t fs (StopRun run) h
-fine_bar n t fs (CutIn landed (Verify run text)) h = fine_bar n t fs (Verify run text) h
-fine_bar n t fs (CutIn landed Tick) h = fine_bar n t fs Tick h
-fine_bar n t fs (CutIn landed (Deliver i)) h = fine_bar n t fs (Deliver i) h
-fine_bar n t fs (CutIn landed (Issue s j)) h = fine_bar n t fs (Issue s j) h
-fine_bar n t fs (CutIn landed (Land s j k mask)) h = fine_bar n t fs (Land s j k mask) h
-fine_bar n t fs (CutIn landed (Done s j k)) h = fine_bar n t fs (Done s j k) h
-fine_bar n t fs (CutIn landed (Fail s j k)) h = fine_bar n t fs (Fail s j k) h
-fine_bar n t fs (CutIn landed (Rot s j sector bytes)) h = fine_bar n t fs (Rot s j sector bytes) h
-fine_bar n t fs (CutIn landed (happenings.Check s j)) h = fine_bar n t fs (happenings.Check s j) h
-fine_bar n t fs (CutIn landed (Cut node)) h = fine_bar n t fs (Cut node) h
-fine_bar n t fs (CutIn landed (Restart node)) h = fine_bar n t fs (Restart node) h
+fine_bar w t fs (Begin text) h = fine_off w t Client h
+fine_bar w t fs (Trigger run act) h = fine_off w t Client h
+fine_bar w t fs (StopRun run) h = fine_off w t Client h
+fine_bar w t fs (Verify run text) h = fine_off w t Client h
+fine_bar w t fs Tick h = fine_off w t Client h
+fine_bar w t fs (Deliver i) h = fine_unsent w t (slice_get fs i) h
+fine_bar w t fs (Issue s j) h = fine_off w t (Server s) h
+fine_bar w t fs (Land s j k mask) h = fine_unopen w t s j k h
+fine_bar w t fs (Done s j k) h = fine_unopen w t s j k h
+fine_bar w t fs (Fail s j k) h = fine_unopen w t s j k h
+fine_bar w t fs (Rot s j sector bytes) h = fine_file w s j h
+fine_bar w t fs (happenings.Check s j) h = fine_off w t (Server s) h
+fine_bar w t fs (Cut node) h = fine_off w t node h
+fine_bar w t fs (Restart node) h = fine_on w t node h
+fine_bar w t fs (CutIn landed (CutIn again e)) h = cc
+fine_bar w t fs (CutIn landed (Begin text)) h = fine_bar w t fs (Begin text) h
+fine_bar w t fs (CutIn landed (Trigger run act)) h = fine_bar w t fs (Trigger run act) h
+fine_bar w t fs (CutIn landed (StopRun run)) h = fine_bar w t fs (StopRun run) h
+fine_bar w t fs (CutIn landed (Verify run text)) h = fine_bar w t fs (Verify run text) h
+fine_bar w t fs (CutIn landed Tick) h = fine_bar w t fs Tick h
+fine_bar w t fs (CutIn landed (Deliver i)) h = fine_bar w t fs (Deliver i) h
+fine_bar w t fs (CutIn landed (Issue s j)) h = fine_bar w t fs (Issue s j) h
+fine_bar w t fs (CutIn landed (Land s j k mask)) h = fine_bar w t fs (Land s j k mask) h
+fine_bar w t fs (CutIn landed (Done s j k)) h = fine_bar w t fs (Done s j k) h
+fine_bar w t fs (CutIn landed (Fail s j k)) h = fine_bar w t fs (Fail s j k) h
+fine_bar w t fs (CutIn landed (Rot s j sector bytes)) h = fine_bar w t fs (Rot s j sector bytes) h
+fine_bar w t fs (CutIn landed (happenings.Check s j)) h = fine_bar w t fs (happenings.Check s j) h
+fine_bar w t fs (CutIn landed (Cut node)) h = fine_bar w t fs (Cut node) h
+fine_bar w t fs (CutIn landed (Restart node)) h = fine_bar w t fs (Restart node) h
 
 -- ---- what a server refuses
 
@@ -200,11 +201,11 @@ unfolding Fine
 fine_tick true h = cc
 fine_tick false h = cc
 
-pub fine_call : (n : ℕ) (list : List client.Entry) (c : Call) → NoPacket c → Fine (clients.refusal (client_opening n) list c)
+pub fine_call : (w : Setup) (list : List client.Entry) (c : Call) → NoPacket c → Fine (clients.refusal (client_opening w) list c)
 unfolding Fine NoPacket
-fine_call n list (calls.Begin text) k = fine_two_when (not (clients.is_on list)) (not (is_text text)) (not (has_next (clients.peers (client_opening n) list) (clients.noted (client_opening n) list).generation (clients.noted (client_opening n) list).runs)) JobTooLong NumbersSpent (λ h. cc) (λ h. cc)
-fine_call n list (calls.Trigger run act) k = fine_one_when (not (clients.is_on list)) (not (is_begun (clients.noted (client_opening n) list) run)) NoSuchRun (λ h. cc)
-fine_call n list (calls.Stop run) k = fine_one_when (not (clients.is_on list)) (not (is_begun (clients.noted (client_opening n) list) run)) NoSuchRun (λ h. cc)
-fine_call n list (calls.Verify run text) k = fine_three_when (not (clients.is_on list)) (not (is_begun (clients.noted (client_opening n) list) run)) (not (is_text text)) (not (has_next (clients.peers (client_opening n) list) (clients.noted (client_opening n) list).generation (clients.noted (client_opening n) list).attempts))
-fine_call n list (calls.Deliver p) k = absurd k
-fine_call n list calls.Tick k = fine_tick (not (clients.is_on list))
+fine_call w list (calls.Begin text) k = fine_two_when (not (clients.is_on list)) (not (is_text text)) (not (has_next (clients.peers (client_opening w) list) (clients.noted (client_opening w) list).generation (clients.noted (client_opening w) list).runs)) JobTooLong NumbersSpent (λ h. cc) (λ h. cc)
+fine_call w list (calls.Trigger run act) k = fine_one_when (not (clients.is_on list)) (not (is_begun (clients.noted (client_opening w) list) run)) NoSuchRun (λ h. cc)
+fine_call w list (calls.Stop run) k = fine_one_when (not (clients.is_on list)) (not (is_begun (clients.noted (client_opening w) list) run)) NoSuchRun (λ h. cc)
+fine_call w list (calls.Verify run text) k = fine_three_when (not (clients.is_on list)) (not (is_begun (clients.noted (client_opening w) list) run)) (not (is_text text)) (not (has_next (clients.peers (client_opening w) list) (clients.noted (client_opening w) list).generation (clients.noted (client_opening w) list).attempts))
+fine_call w list (calls.Deliver p) k = absurd k
+fine_call w list calls.Tick k = fine_tick (not (clients.is_on list))

@@ -20,6 +20,7 @@ use Rattle.net_world.specs.declared.served.Served.{Served}
 use Rattle.net_world.specs.declared.told.Answer.TheVariants.{Checked}
 use Rattle.net_world.specs.declared.told.Told.{Told}
 use Rattle.net_world.specs.declared.world.World.{World}
+use Rattle.net_world.specs.Setup.{Setup}
 use Rattle.net_world.specs.Happenings as happenings
 use Rattle.net_world.specs.Trace.{opening_of}
 use Rattle.net_world.specs.Changes.{Change, trace}
@@ -43,28 +44,28 @@ by_made c j job held None h = ap (λ p. report_by c j job p held) h
 by_made c j job held (Some state) h = ap (λ p. report_by c j job p held) h
 
 -- What the check of a disk answers, where the disk holds the file.
-pub report_is : (n : ℕ) (past : List Change) (s j : ℕ) (ready : Ready) (h : IsReady n past s j ready) (r : ReportParts) (old new : File) → old ≡ file n past s j → new.failures ≡ 0 → ChecksDisk (Ok r) ready.key ready.rec ready.state ready.fatal old new
-    → (r ≡ report_of (key_of h.now j) h.job ready.state (content n past s j)) × (new ≡ old)
-report_is n past s j ready h r old new is calm checks = by_end checks.1
+pub report_is : (w : Setup) (past : List Change) (s j : ℕ) (ready : Ready) (h : IsReady w past s j ready) (r : ReportParts) (old new : File) → old ≡ file w past s j → new.failures ≡ 0 → ChecksDisk (Ok r) ready.key ready.rec ready.state ready.fatal old new
+    → (r ≡ report_of (key_of h.now j) h.job ready.state (content w past s j)) × (new ≡ old)
+report_is w past s j ready h r old new is calm checks = by_end checks.1
   where
-    same : (key : Key) (rec : JobParts) (fatal : Bool) (old : File) → IsWhole (expected_by key rec ready.state) fatal old new r → key ≡ key_of h.now j → rec ≡ h.job.rec → fatal ≡ h.job.fatal → old ≡ file n past s j
-        → r ≡ report_of (key_of h.now j) h.job ready.state (content n past s j)
-    same key rec fatal old w a b c d =
-        subst (λ (f : File). IsWhole (expected_by (key_of h.now j) h.job.rec ready.state) h.job.fatal f new r → r ≡ report_of (key_of h.now j) h.job ready.state (content n past s j)) (sym d) (λ x. x.report)
+    same : (key : Key) (rec : JobParts) (fatal : Bool) (old : File) → IsWhole (expected_by key rec ready.state) fatal old new r → key ≡ key_of h.now j → rec ≡ h.job.rec → fatal ≡ h.job.fatal → old ≡ file w past s j
+        → r ≡ report_of (key_of h.now j) h.job ready.state (content w past s j)
+    same key rec fatal old whole a b c d =
+        subst (λ (f : File). IsWhole (expected_by (key_of h.now j) h.job.rec ready.state) h.job.fatal f new r → r ≡ report_of (key_of h.now j) h.job ready.state (content w past s j)) (sym d) (λ x. x.report)
         (subst (λ t. IsWhole (expected_by (key_of h.now j) h.job.rec ready.state) t old new r) c
         (subst (λ x. IsWhole (expected_by (key_of h.now j) x ready.state) fatal old new r) b
-        (subst (λ x. IsWhole (expected_by x rec ready.state) fatal old new r) a w)))
+        (subst (λ x. IsWhole (expected_by x rec ready.state) fatal old new r) a whole)))
 
     by_end : IsWhole (expected_by ready.key ready.rec ready.state) ready.fatal old new r ⊎ ((block : ℕ) × IsCut (expected_by ready.key ready.rec ready.state) ready.fatal old new r block)
-        → (r ≡ report_of (key_of h.now j) h.job ready.state (content n past s j)) × (new ≡ old)
-    by_end (inl w) = (same ready.key ready.rec ready.fatal old w h.key h.rec_is h.fatal is, w.file)
+        → (r ≡ report_of (key_of h.now j) h.job ready.state (content w past s j)) × (new ≡ old)
+    by_end (inl whole) = (same ready.key ready.rec ready.fatal old whole h.key h.rec_is h.fatal is, whole.file)
     by_end (inr cut) = let failed = (cut.1).failed in absurd (omega (arith, failed, calm))
 
 -- The end of the check.
-pub checked_is : (n : ℕ) (past : List Change) (s j : ℕ) (ready : Ready) (h : IsReady n past s j ready) (r : ReportParts) → r ≡ report_of (key_of h.now j) h.job ready.state (content n past s j)
-    → checked n past s j ≡ Some (events.CheckDone ready.boot ready.attempt j r)
-checked_is n past s j ready h r is =
-    let held = content n past s j in
+pub checked_is : (w : Setup) (past : List Change) (s j : ℕ) (ready : Ready) (h : IsReady w past s j ready) (r : ReportParts) → r ≡ report_of (key_of h.now j) h.job ready.state (content w past s j)
+    → checked w past s j ≡ Some (events.CheckDone ready.boot ready.attempt j r)
+checked_is w past s j ready h r is =
+    let held = content w past s j in
     ap (λ x. checked_in x j held) h.is_open
     ∙ ap (λ y. check_end h.now j (report_for h.now j y held)) h.has_job
     ∙ ap (check_end h.now j) (by_made h.now j h.job held ready.state h.made)
@@ -83,29 +84,29 @@ unchecked key rec state fatal _ old new h = absurd h
 
 -- ---- how the event ends
 
-check_comes : (n : ℕ) (past : List Change) (s j : ℕ) (ready : Ready) (h : IsReady n past s j ready) (r : ReportParts) → r ≡ report_of (key_of h.now j) h.job ready.state (content n past s j)
-    → ComesTo n past s (happenings.Check s j) (inputs.CheckDone ready.boot ready.attempt j r)
-check_comes n past s j ready h r is =
+check_comes : (w : Setup) (past : List Change) (s j : ℕ) (ready : Ready) (h : IsReady w past s j ready) (r : ReportParts) → r ≡ report_of (key_of h.now j) h.job ready.state (content w past s j)
+    → ComesTo w past s (happenings.Check s j) (inputs.CheckDone ready.boot ready.attempt j r)
+check_comes w past s j ready h r is =
     let e = events.CheckDone ready.boot ready.attempt j r in
-    let meets : brings n past (happenings.Check s j) ≡ stepped (met_by_server (trace n past) s e) = ap (λ x. stepped (reported (trace n past) s x)) (checked_is n past s j ready h r is) in
+    let meets : brings w past (happenings.Check s j) ≡ stepped (met_by_server (trace w past) s e) = ap (λ x. stepped (reported (trace w past) s x)) (checked_is w past s j ready h r is) in
     record {
       bar = refl;
-      ok = λ served new g. meets ∙ ap stepped (met_ok (trace n past) s e (packets_heard (opening_of s) (entries past s)) (heard_is n past s) g.free);
-      err = λ fault new g. meets ∙ ap stepped (met_err (trace n past) s e (packets_heard (opening_of s) (entries past s)) fault (heard_is n past s) g.why);
+      ok = λ served new g. meets ∙ ap stepped (met_ok (trace w past) s e (packets_heard (opening_of s) (entries past s)) (heard_is w past s) g.free);
+      err = λ fault new g. meets ∙ ap stepped (met_err (trace w past) s e (packets_heard (opening_of s) (entries past s)) fault (heard_is w past s) g.why);
       keeps = refl;
     }
 
-pub check_ends : (n : ℕ) (past : List Change) (s j : ℕ) (ready : Ready) (h : IsReady n past s j ready) (r : ReportParts) (served : Served) (t : Told) (new : World) → r ≡ report_of (key_of h.now j) h.job ready.state (content n past s j)
-    → ServerEnds n past s (inputs.CheckDone ready.boot ready.attempt j r) new (Ok served) → t ≡ told_of served (Checked r) → Ends n past (happenings.Check s j) new (Ok t)
-check_ends n past s j ready h r served t new is g tells =
-    served_ends n past s (happenings.Check s j) (inputs.CheckDone ready.boot ready.attempt j r) served (Checked r) t new (check_comes n past s j ready h r is) g (sym (ap report_in (checked_is n past s j ready h r is))) tells
+pub check_ends : (w : Setup) (past : List Change) (s j : ℕ) (ready : Ready) (h : IsReady w past s j ready) (r : ReportParts) (served : Served) (t : Told) (new : World) → r ≡ report_of (key_of h.now j) h.job ready.state (content w past s j)
+    → ServerEnds w past s (inputs.CheckDone ready.boot ready.attempt j r) new (Ok served) → t ≡ told_of served (Checked r) → Ends w past (happenings.Check s j) new (Ok t)
+check_ends w past s j ready h r served t new is g tells =
+    served_ends w past s (happenings.Check s j) (inputs.CheckDone ready.boot ready.attempt j r) served (Checked r) t new (check_comes w past s j ready h r is) g (sym (ap report_in (checked_is w past s j ready h r is))) tells
 
-pub check_fails : (n : ℕ) (past : List Change) (s j : ℕ) (ready : Ready) (h : IsReady n past s j ready) (r : ReportParts) (fault : Fault) (new : World) → r ≡ report_of (key_of h.now j) h.job ready.state (content n past s j)
-    → ServerEnds n past s (inputs.CheckDone ready.boot ready.attempt j r) new (Err fault) → Ends n past (happenings.Check s j) new (Err fault)
-check_fails n past s j ready h r fault new is g = unserved_ends n past s (happenings.Check s j) (inputs.CheckDone ready.boot ready.attempt j r) fault new (check_comes n past s j ready h r is) g
+pub check_fails : (w : Setup) (past : List Change) (s j : ℕ) (ready : Ready) (h : IsReady w past s j ready) (r : ReportParts) (fault : Fault) (new : World) → r ≡ report_of (key_of h.now j) h.job ready.state (content w past s j)
+    → ServerEnds w past s (inputs.CheckDone ready.boot ready.attempt j r) new (Err fault) → Ends w past (happenings.Check s j) new (Err fault)
+check_fails w past s j ready h r fault new is g = unserved_ends w past s (happenings.Check s j) (inputs.CheckDone ready.boot ready.attempt j r) fault new (check_comes w past s j ready h r is) g
 
-pub unready_ends : (n : ℕ) (past : List Change) (s j : ℕ) (fault : Fault) (w : World) → StandsFor n past w → IsUnready n past s j fault → Ends n past (happenings.Check s j) w (Err fault)
-unready_ends n past s j fault w stands (inl h) = refuses n past (happenings.Check s j) fault w h.1 (stops n past (happenings.Check s j) fault h.0) stands
-unready_ends n past s j fault w stands (inr h) =
-    subst (λ x. Ends n past (happenings.Check s j) w (Err x)) (sym h.1)
-    (refuses n past (happenings.Check s j) NotInFlight w refl (goes n past (happenings.Check s j) h.0 ∙ ap (λ x. stepped (reported (trace n past) s x)) h.2) stands)
+pub unready_ends : (w : Setup) (past : List Change) (s j : ℕ) (fault : Fault) (now : World) → StandsFor w past now → IsUnready w past s j fault → Ends w past (happenings.Check s j) now (Err fault)
+unready_ends w past s j fault now stands (inl h) = refuses w past (happenings.Check s j) fault now h.1 (stops w past (happenings.Check s j) fault h.0) stands
+unready_ends w past s j fault now stands (inr h) =
+    subst (λ x. Ends w past (happenings.Check s j) now (Err x)) (sym h.1)
+    (refuses w past (happenings.Check s j) NotInFlight now refl (goes w past (happenings.Check s j) h.0 ∙ ap (λ x. stepped (reported (trace w past) s x)) h.2) stands)

@@ -35,6 +35,7 @@ use Rattle.net_world.specs.Barred.{off, unless, barred}
 use Rattle.net_world.specs.Outcomes.{Does, Refuses, stepped, where_saved, client_cut_in, client_frame_cut, delivery_cut_in, frame_cut, said_to_client, brings, lost_by}
 use Rattle.net_world.specs.World.{answer, act}
 use Rattle.net_world.specs.declared.told.Answer.TheVariants.{Plain}
+use Rattle.net_world.specs.Setup.{Setup}
 use Rattle.net_world.specs.Telling.{plainly_told}
 use Rattle.net_world.specs.Sending.{sent_in}
 use Rattle.net_world.specs.ClientNodes.{CutsIn}
@@ -50,35 +51,35 @@ use Rattle.net_world.proofs.AskEndsLemmas.{client_act}
 
 -- Within the save of this the client loses its power: it is barred as what the client meets, and comes of
 -- it what is due.
-pub record CutsClient (n : ℕ) (past : List Change) (landed : Bool) (e : Happening) (i : Input) : Type 0 where
-  pub bar : barred n (trace n past) (frames_sent n (steps past)) e ≡ off n (trace n past) Client
-  pub saves : is_some (due (client_opening n) (entries past) i) ≡ true → brings n past e ≡ Does (changes.Met (step_of (Met i (lost_by landed))))
-  pub none : due (client_opening n) (entries past) i ≡ None → brings n past e ≡ Refuses NoSave
-  pub answered : answer n past e ≡ Plain
-  pub silent : frames_of_step n (steps past) (step_of (Met i (lost_by landed))) ≡ []
-  pub asks : act n past (changes.Met (step_of (Met i (lost_by landed)))) ≡ acts.None
+pub record CutsClient (w : Setup) (past : List Change) (landed : Bool) (e : Happening) (i : Input) : Type 0 where
+  pub bar : barred w (trace w past) (frames_sent w (steps past)) e ≡ off w (trace w past) Client
+  pub saves : is_some (due (client_opening w) (entries past) i) ≡ true → brings w past e ≡ Does (changes.Met (step_of (Met i (lost_by landed))))
+  pub none : due (client_opening w) (entries past) i ≡ None → brings w past e ≡ Refuses NoSave
+  pub answered : answer w past e ≡ Plain
+  pub silent : frames_of_step w (steps past) (step_of (Met i (lost_by landed))) ≡ []
+  pub asks : act w past (changes.Met (step_of (Met i (lost_by landed)))) ≡ acts.None
 
 -- It was cut.
-pub cut_ends : (n : ℕ) (past : List Change) (landed : Bool) (e : Happening) (i : Input) (first : ℕ) (t : Told) (old new : World) → StandsFor n past old → HasMoved [] old new → CutsClient n past landed e i
-    → CutsIn (client_opening n) (entries past) landed i new.client (Ok tt) → first ≡ length (sent_in old.sent) → t ≡ plainly_told first → Ends n past e new (Ok t)
-cut_ends n past landed e i first t old new stands moved c cut f tells =
-    plain_ends n past e (Met i (lost_by landed)) first t old new stands moved cut.2
+pub cut_ends : (w : Setup) (past : List Change) (landed : Bool) (e : Happening) (i : Input) (first : ℕ) (t : Told) (old new : World) → StandsFor w past old → HasMoved [] old new → CutsClient w past landed e i
+    → CutsIn (client_opening w) (entries past) landed i new.client (Ok tt) → first ≡ length (sent_in old.sent) → t ≡ plainly_told first → Ends w past e new (Ok t)
+cut_ends w past landed e i first t old new stands moved c cut f tells =
+    plain_ends w past e (Met i (lost_by landed)) first t old new stands moved cut.2
     (record {
-      comes = goes n past e (c.bar ∙ ap (λ on. unless on NodeOff) (sym (up_is n past) ∙ cut.0)) ∙ c.saves cut.1;
+      comes = goes w past e (c.bar ∙ ap (λ on. unless on NodeOff) (sym (up_is w past) ∙ cut.0)) ∙ c.saves cut.1;
       answered = c.answered;
       silent = c.silent;
       asks = c.asks;
     }) f tells
 
 -- It wasn't.
-pub uncut_ends : (n : ℕ) (past : List Change) (landed : Bool) (e : Happening) (i : Input) (fault : Fault) (old new : World) → StandsFor n past old → HasMoved [] old new → CutsClient n past landed e i
-    → CutsIn (client_opening n) (entries past) landed i new.client (Err fault) → Ends n past e new (Err fault)
-uncut_ends n past landed e i NodeOff old new stands moved c cut =
-    refuses n past e NodeOff new refl (stops n past e NodeOff (c.bar ∙ ap (λ on. unless on NodeOff) (sym (up_is n past) ∙ cut.0))) (client_kept n past old new stands moved cut.1)
-uncut_ends n past landed e i NoSave old new stands moved c cut =
-    refuses n past e NoSave new refl (goes n past e (c.bar ∙ ap (λ on. unless on NodeOff) (sym (up_is n past) ∙ cut.0)) ∙ c.none cut.1) (client_kept n past old new stands moved cut.2)
-uncut_ends n past landed e i NoMemory old new stands moved c cut = (refl, client_kept n past old new stands moved cut.1)
-uncut_ends n past landed e i _ old new stands moved c cut = absurd cut
+pub uncut_ends : (w : Setup) (past : List Change) (landed : Bool) (e : Happening) (i : Input) (fault : Fault) (old new : World) → StandsFor w past old → HasMoved [] old new → CutsClient w past landed e i
+    → CutsIn (client_opening w) (entries past) landed i new.client (Err fault) → Ends w past e new (Err fault)
+uncut_ends w past landed e i NodeOff old new stands moved c cut =
+    refuses w past e NodeOff new refl (stops w past e NodeOff (c.bar ∙ ap (λ on. unless on NodeOff) (sym (up_is w past) ∙ cut.0))) (client_kept w past old new stands moved cut.1)
+uncut_ends w past landed e i NoSave old new stands moved c cut =
+    refuses w past e NoSave new refl (goes w past e (c.bar ∙ ap (λ on. unless on NodeOff) (sym (up_is w past) ∙ cut.0)) ∙ c.none cut.1) (client_kept w past old new stands moved cut.2)
+uncut_ends w past landed e i NoMemory old new stands moved c cut = (refl, client_kept w past old new stands moved cut.1)
+uncut_ends w past landed e i _ old new stands moved c cut = absurd cut
 
 -- ---- a save that is lost sends nothing
 
@@ -108,92 +109,92 @@ some_save (Some a) y h = refl
 no_save : {X Y : Type 0} (x : Option X) (y : Y) → x ≡ None → where_saved x y ≡ Err NoSave
 no_save x y h = rw h refl
 
-module _ (n : ℕ) (past : List Change) (landed : Bool) where
-  call_saves : (c : Call) → is_some (words.due (client_opening n) (packets_heard (client_opening n) (entries past)) c) ≡ true
-      → stepped (client_cut_in n (trace n past) landed c) ≡ Does (changes.Met (OfClient (Happens (client.Met c (lost_by landed)))))
+module _ (w : Setup) (past : List Change) (landed : Bool) where
+  call_saves : (c : Call) → is_some (words.due (client_opening w) (packets_heard (client_opening w) (entries past)) c) ≡ true
+      → stepped (client_cut_in w (trace w past) landed c) ≡ Does (changes.Met (OfClient (Happens (client.Met c (lost_by landed)))))
   call_saves c h =
-      ap stepped (some_save (words.due (client_opening n) (of_client (trace n past)) c) (OfClient (Happens (client.Met c (lost_by landed))))
-      (ap (λ l. is_some (words.due (client_opening n) l c)) (sym (heard_is n past)) ∙ h))
+      ap stepped (some_save (words.due (client_opening w) (of_client (trace w past)) c) (OfClient (Happens (client.Met c (lost_by landed))))
+      (ap (λ l. is_some (words.due (client_opening w) l c)) (sym (heard_is w past)) ∙ h))
 
-  call_none : (c : Call) → words.due (client_opening n) (packets_heard (client_opening n) (entries past)) c ≡ None → stepped (client_cut_in n (trace n past) landed c) ≡ Refuses NoSave
+  call_none : (c : Call) → words.due (client_opening w) (packets_heard (client_opening w) (entries past)) c ≡ None → stepped (client_cut_in w (trace w past) landed c) ≡ Refuses NoSave
   call_none c h =
-      ap stepped (no_save (words.due (client_opening n) (of_client (trace n past)) c) (OfClient (Happens (client.Met c (lost_by landed))))
-      (ap (λ l. words.due (client_opening n) l c) (sym (heard_is n past)) ∙ h))
+      ap stepped (no_save (words.due (client_opening w) (of_client (trace w past)) c) (OfClient (Happens (client.Met c (lost_by landed))))
+      (ap (λ l. words.due (client_opening w) l c) (sym (heard_is w past)) ∙ h))
 
-  pub cuts_begin : (text : List ℕ) → CutsClient n past landed (CutIn landed (Begin text)) (inputs.Begin text)
+  pub cuts_begin : (text : List ℕ) → CutsClient w past landed (CutIn landed (Begin text)) (inputs.Begin text)
   cuts_begin text = record {
     bar = refl;
     saves = call_saves (calls.Begin text);
     none = call_none (calls.Begin text);
     answered = refl;
-    silent = sym (frames_are n past (Met (inputs.Begin text) (lost_by landed))) ∙ call_silent (client_opening n) (packets_heard (client_opening n) (entries past)) (calls.Begin text) landed;
+    silent = sym (frames_are w past (Met (inputs.Begin text) (lost_by landed))) ∙ call_silent (client_opening w) (packets_heard (client_opening w) (entries past)) (calls.Begin text) landed;
     asks = refl;
   }
 
-  pub cuts_verify : (run : ℕ) (text : List ℕ) → CutsClient n past landed (CutIn landed (Verify run text)) (inputs.Verify run text)
+  pub cuts_verify : (run : ℕ) (text : List ℕ) → CutsClient w past landed (CutIn landed (Verify run text)) (inputs.Verify run text)
   cuts_verify run text = record {
     bar = refl;
     saves = call_saves (calls.Verify run text);
     none = call_none (calls.Verify run text);
     answered = refl;
-    silent = sym (frames_are n past (Met (inputs.Verify run text) (lost_by landed))) ∙ call_silent (client_opening n) (packets_heard (client_opening n) (entries past)) (calls.Verify run text) landed;
+    silent = sym (frames_are w past (Met (inputs.Verify run text) (lost_by landed))) ∙ call_silent (client_opening w) (packets_heard (client_opening w) (entries past)) (calls.Verify run text) landed;
     asks = refl;
   }
 
   -- A frame's packet.
-  said_saves : (f : Frame) (p : PacketParts) → is_some (words.due (client_opening n) (packets_heard (client_opening n) (entries past)) (calls.Deliver p)) ≡ true
-      → client_frame_cut n (trace n past) landed f (Says p) ≡ Ok (OfClient (Comes f (lost_by landed)))
+  said_saves : (f : Frame) (p : PacketParts) → is_some (words.due (client_opening w) (packets_heard (client_opening w) (entries past)) (calls.Deliver p)) ≡ true
+      → client_frame_cut w (trace w past) landed f (Says p) ≡ Ok (OfClient (Comes f (lost_by landed)))
   said_saves f p h =
-      some_save (words.due (client_opening n) (of_client (trace n past)) (calls.Deliver p)) (OfClient (Comes f (lost_by landed)))
-      (ap (λ l. is_some (words.due (client_opening n) l (calls.Deliver p))) (sym (heard_is n past)) ∙ h)
+      some_save (words.due (client_opening w) (of_client (trace w past)) (calls.Deliver p)) (OfClient (Comes f (lost_by landed)))
+      (ap (λ l. is_some (words.due (client_opening w) l (calls.Deliver p))) (sym (heard_is w past)) ∙ h)
 
-  said_none : (f : Frame) (p : PacketParts) → words.due (client_opening n) (packets_heard (client_opening n) (entries past)) (calls.Deliver p) ≡ None
-      → client_frame_cut n (trace n past) landed f (Says p) ≡ Err NoSave
+  said_none : (f : Frame) (p : PacketParts) → words.due (client_opening w) (packets_heard (client_opening w) (entries past)) (calls.Deliver p) ≡ None
+      → client_frame_cut w (trace w past) landed f (Says p) ≡ Err NoSave
   said_none f p h =
-      no_save (words.due (client_opening n) (of_client (trace n past)) (calls.Deliver p)) (OfClient (Comes f (lost_by landed)))
-      (ap (λ l. words.due (client_opening n) l (calls.Deliver p)) (sym (heard_is n past)) ∙ h)
+      no_save (words.due (client_opening w) (of_client (trace w past)) (calls.Deliver p)) (OfClient (Comes f (lost_by landed)))
+      (ap (λ l. words.due (client_opening w) l (calls.Deliver p)) (sym (heard_is w past)) ∙ h)
 
-  piece_saves : (q : PieceParts) (m : Meaning) → is_some (due_in (client_opening n) (packets_heard (client_opening n) (entries past)) (sense_of q m)) ≡ true
-      → client_frame_cut n (trace n past) landed (Piece q) m ≡ Ok (OfClient (Comes (Piece q) (lost_by landed)))
+  piece_saves : (q : PieceParts) (m : Meaning) → is_some (due_in (client_opening w) (packets_heard (client_opening w) (entries past)) (sense_of q m)) ≡ true
+      → client_frame_cut w (trace w past) landed (Piece q) m ≡ Ok (OfClient (Comes (Piece q) (lost_by landed)))
   piece_saves q (Says p) h = said_saves (Piece q) p h
   piece_saves q Waits h = absurd cc
   piece_saves q Spoils h = absurd cc
   piece_saves q Strays h = absurd cc
 
-  piece_none : (q : PieceParts) (m : Meaning) → due_in (client_opening n) (packets_heard (client_opening n) (entries past)) (sense_of q m) ≡ None
-      → client_frame_cut n (trace n past) landed (Piece q) m ≡ Err NoSave
+  piece_none : (q : PieceParts) (m : Meaning) → due_in (client_opening w) (packets_heard (client_opening w) (entries past)) (sense_of q m) ≡ None
+      → client_frame_cut w (trace w past) landed (Piece q) m ≡ Err NoSave
   piece_none q (Says p) h = said_none (Piece q) p h
   piece_none q Waits h = refl
   piece_none q Spoils h = refl
   piece_none q Strays h = refl
 
-  frame_saves : (f : Frame) → is_some (due (client_opening n) (entries past) (inputs.Deliver f)) ≡ true
-      → client_frame_cut n (trace n past) landed f (said_to_client n (steps past) f) ≡ Ok (OfClient (Comes f (lost_by landed)))
+  frame_saves : (f : Frame) → is_some (due (client_opening w) (entries past) (inputs.Deliver f)) ≡ true
+      → client_frame_cut w (trace w past) landed f (said_to_client w (steps past) f) ≡ Ok (OfClient (Comes f (lost_by landed)))
   frame_saves (Whole p) h = said_saves (Whole p) p h
   frame_saves (Piece q) h =
-      ap (client_frame_cut n (trace n past) landed (Piece q)) (sym (said_is n past (Piece q)))
-      ∙ piece_saves q (meaning (rules (client_opening n)) (heard_at (client_opening n) (entries past)) (Piece q)) h
+      ap (client_frame_cut w (trace w past) landed (Piece q)) (sym (said_is w past (Piece q)))
+      ∙ piece_saves q (meaning (rules (client_opening w)) (heard_at (client_opening w) (entries past)) (Piece q)) h
 
-  frame_none : (f : Frame) → due (client_opening n) (entries past) (inputs.Deliver f) ≡ None
-      → client_frame_cut n (trace n past) landed f (said_to_client n (steps past) f) ≡ Err NoSave
+  frame_none : (f : Frame) → due (client_opening w) (entries past) (inputs.Deliver f) ≡ None
+      → client_frame_cut w (trace w past) landed f (said_to_client w (steps past) f) ≡ Err NoSave
   frame_none (Whole p) h = said_none (Whole p) p h
   frame_none (Piece q) h =
-      ap (client_frame_cut n (trace n past) landed (Piece q)) (sym (said_is n past (Piece q)))
-      ∙ piece_none q (meaning (rules (client_opening n)) (heard_at (client_opening n) (entries past)) (Piece q)) h
+      ap (client_frame_cut w (trace w past) landed (Piece q)) (sym (said_is w past (Piece q)))
+      ∙ piece_none q (meaning (rules (client_opening w)) (heard_at (client_opening w) (entries past)) (Piece q)) h
 
-  frame_silent : (f : Frame) → framed.frames (client_opening n) (entries past) (Met (inputs.Deliver f) (lost_by landed)) ≡ []
-  frame_silent (Whole p) = call_silent (client_opening n) (packets_heard (client_opening n) (entries past)) (calls.Deliver p) landed
-  frame_silent (Piece q) = piece_silent (client_opening n) (packets_heard (client_opening n) (entries past)) landed (meaning (rules (client_opening n)) (heard_at (client_opening n) (entries past)) (Piece q))
+  frame_silent : (f : Frame) → framed.frames (client_opening w) (entries past) (Met (inputs.Deliver f) (lost_by landed)) ≡ []
+  frame_silent (Whole p) = call_silent (client_opening w) (packets_heard (client_opening w) (entries past)) (calls.Deliver p) landed
+  frame_silent (Piece q) = piece_silent (client_opening w) (packets_heard (client_opening w) (entries past)) landed (meaning (rules (client_opening w)) (heard_at (client_opening w) (entries past)) (Piece q))
 
-  brings_is : (number : ℕ) (f : Frame) → GoesTo n past number f → brings n past (CutIn landed (Deliver number)) ≡ stepped (client_frame_cut n (trace n past) landed f (said_to_client n (steps past) f))
-  brings_is number f g = ap (λ x. stepped (delivery_cut_in n past landed x)) g.is_sent ∙ ap (λ node. stepped (frame_cut n past landed node f)) g.goes_to
+  brings_is : (number : ℕ) (f : Frame) → GoesTo w past number f → brings w past (CutIn landed (Deliver number)) ≡ stepped (client_frame_cut w (trace w past) landed f (said_to_client w (steps past) f))
+  brings_is number f g = ap (λ x. stepped (delivery_cut_in w past landed x)) g.is_sent ∙ ap (λ node. stepped (frame_cut w past landed node f)) g.goes_to
 
-  pub cuts_delivery : (number : ℕ) (f : Frame) → GoesTo n past number f → CutsClient n past landed (CutIn landed (Deliver number)) (inputs.Deliver f)
+  pub cuts_delivery : (number : ℕ) (f : Frame) → GoesTo w past number f → CutsClient w past landed (CutIn landed (Deliver number)) (inputs.Deliver f)
   cuts_delivery number f g = record {
-    bar = frame_bar n past number f g;
+    bar = frame_bar w past number f g;
     saves = λ h. brings_is number f g ∙ ap stepped (frame_saves f h);
     none = λ h. brings_is number f g ∙ ap stepped (frame_none f h);
     answered = refl;
-    silent = sym (frames_are n past (Met (inputs.Deliver f) (lost_by landed))) ∙ frame_silent f;
-    asks = client_act n past (Comes f (lost_by landed));
+    silent = sym (frames_are w past (Met (inputs.Deliver f) (lost_by landed))) ∙ frame_silent f;
+    asks = client_act w past (Comes f (lost_by landed));
   }

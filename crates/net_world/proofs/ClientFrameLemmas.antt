@@ -24,6 +24,7 @@ use Rattle.client_core.specs.FrameAnswers as framed
 use Rattle.client_core.specs.FrameAnswers.{is_drop, sense_of, sense, refusal_in, due_in}
 use Rattle.net_world.specs.declared.told.Told.{Told}
 use Rattle.net_world.specs.declared.world.World.{World}
+use Rattle.net_world.specs.Setup.{Setup}
 use Rattle.net_world.specs.Happenings as happenings
 use Rattle.net_world.specs.Trace.{Step, of_client, client_opening}
 use Rattle.net_world.specs.Frames as frames
@@ -46,23 +47,23 @@ use Rattle.net_world.proofs.AskEndsLemmas.{left_same, told_is}
 come : Frame → Left → Outcome
 come f left = Does (Met (OfClient (Comes f left)))
 
-says_here : (n : ℕ) (t : List Step) (f : Frame) (p : PacketParts) → words.refusal (client_opening n) (of_client t) (calls.Deliver p) ≡ None
-    → comes_to_client n t f (Says p) ≡ come f (left_by (words.due (client_opening n) (of_client t) (calls.Deliver p)))
+says_here : (w : Setup) (t : List Step) (f : Frame) (p : PacketParts) → words.refusal (client_opening w) (of_client t) (calls.Deliver p) ≡ None
+    → comes_to_client w t f (Says p) ≡ come f (left_by (words.due (client_opening w) (of_client t) (calls.Deliver p)))
 unfolding come
-says_here n t f p h =
-    rw h refl ∙ ap (λ left. Does (Met (OfClient (Comes f left)))) (left_same (words.due (client_opening n) (of_client t) (calls.Deliver p)))
+says_here w t f p h =
+    rw h refl ∙ ap (λ left. Does (Met (OfClient (Comes f left)))) (left_same (words.due (client_opening w) (of_client t) (calls.Deliver p)))
 
-says_ok : (n : ℕ) (t : List Step) (f : Frame) (p : PacketParts) (list : List client.Entry) → list ≡ of_client t → words.refusal (client_opening n) list (calls.Deliver p) ≡ None
-    → comes_to_client n t f (Says p) ≡ come f (left_by (words.due (client_opening n) list (calls.Deliver p)))
-says_ok n t f p list is =
-    subst (λ l. words.refusal (client_opening n) l (calls.Deliver p) ≡ None → comes_to_client n t f (Says p) ≡ come f (left_by (words.due (client_opening n) l (calls.Deliver p)))) (sym is) (says_here n t f p)
+says_ok : (w : Setup) (t : List Step) (f : Frame) (p : PacketParts) (list : List client.Entry) → list ≡ of_client t → words.refusal (client_opening w) list (calls.Deliver p) ≡ None
+    → comes_to_client w t f (Says p) ≡ come f (left_by (words.due (client_opening w) list (calls.Deliver p)))
+says_ok w t f p list is =
+    subst (λ l. words.refusal (client_opening w) l (calls.Deliver p) ≡ None → comes_to_client w t f (Says p) ≡ come f (left_by (words.due (client_opening w) l (calls.Deliver p)))) (sym is) (says_here w t f p)
 
-refused_here : (n : ℕ) (t : List Step) (f : Frame) (p : PacketParts) (fault : Fault) → words.refusal (client_opening n) (of_client t) (calls.Deliver p) ≡ Some fault → comes_to_client n t f (Says p) ≡ Refuses fault
-refused_here n t f p fault h = rw h refl
+refused_here : (w : Setup) (t : List Step) (f : Frame) (p : PacketParts) (fault : Fault) → words.refusal (client_opening w) (of_client t) (calls.Deliver p) ≡ Some fault → comes_to_client w t f (Says p) ≡ Refuses fault
+refused_here w t f p fault h = rw h refl
 
-says_err : (n : ℕ) (t : List Step) (f : Frame) (p : PacketParts) (list : List client.Entry) (fault : Fault) → list ≡ of_client t → words.refusal (client_opening n) list (calls.Deliver p) ≡ Some fault
-    → comes_to_client n t f (Says p) ≡ Refuses fault
-says_err n t f p list fault is h = refused_here n t f p fault (ap (λ l. words.refusal (client_opening n) l (calls.Deliver p)) (sym is) ∙ h)
+says_err : (w : Setup) (t : List Step) (f : Frame) (p : PacketParts) (list : List client.Entry) (fault : Fault) → list ≡ of_client t → words.refusal (client_opening w) list (calls.Deliver p) ≡ Some fault
+    → comes_to_client w t f (Says p) ≡ Refuses fault
+says_err w t f p list fault is h = refused_here w t f p fault (ap (λ l. words.refusal (client_opening w) l (calls.Deliver p)) (sym is) ∙ h)
 
 misses : (on : Bool) → (if on then Some Misdirected else Some Down) ≡ None → ⊥
 misses true h = cc
@@ -72,13 +73,13 @@ misdirected : (on : Bool) (fault : Fault) → on ≡ true → (if on then Some M
 misdirected true fault h k = cc
 misdirected false fault h k = cc
 
-piece_ok : (n : ℕ) (t : List Step) (q : PieceParts) (list : List client.Entry) → list ≡ of_client t → (m : Meaning) → refusal_in (client_opening n) list (sense_of q m) ≡ None
-    → comes_to_client n t (Piece q) m ≡ come (Piece q) (left_by (due_in (client_opening n) list (sense_of q m)))
+piece_ok : (w : Setup) (t : List Step) (q : PieceParts) (list : List client.Entry) → list ≡ of_client t → (m : Meaning) → refusal_in (client_opening w) list (sense_of q m) ≡ None
+    → comes_to_client w t (Piece q) m ≡ come (Piece q) (left_by (due_in (client_opening w) list (sense_of q m)))
 unfolding come
-piece_ok n t q list is (Says p) h = says_ok n t (Piece q) p list is h
-piece_ok n t q list is Waits h = refl
-piece_ok n t q list is Spoils h = absurd cc
-piece_ok n t q list is Strays h = absurd (misses (words.is_on list) h)
+piece_ok w t q list is (Says p) h = says_ok w t (Piece q) p list is h
+piece_ok w t q list is Waits h = refl
+piece_ok w t q list is Spoils h = absurd cc
+piece_ok w t q list is Strays h = absurd (misses (words.is_on list) h)
 
 -- What comes of a frame that is refused: a tag may be dropped.
 DroppedOr : Frame → Fault → Bool → Outcome → Type 0
@@ -87,34 +88,34 @@ DroppedOr f fault drops out = ((drops ≡ false) × (out ≡ Refuses fault)) ⊎
 bad_field : (fault : Fault) → Some FrameBadField ≡ Some fault → fault ≡ FrameBadField
 bad_field fault h = cc
 
-piece_err : (n : ℕ) (t : List Step) (q : PieceParts) (list : List client.Entry) (fault : Fault) → list ≡ of_client t → words.is_on list ≡ true → (m : Meaning) → refusal_in (client_opening n) list (sense_of q m) ≡ Some fault
-    → DroppedOr (Piece q) fault (is_drop (sense_of q m)) (comes_to_client n t (Piece q) m)
+piece_err : (w : Setup) (t : List Step) (q : PieceParts) (list : List client.Entry) (fault : Fault) → list ≡ of_client t → words.is_on list ≡ true → (m : Meaning) → refusal_in (client_opening w) list (sense_of q m) ≡ Some fault
+    → DroppedOr (Piece q) fault (is_drop (sense_of q m)) (comes_to_client w t (Piece q) m)
 unfolding DroppedOr
-piece_err n t q list fault is on (Says p) h = inl (refl, says_err n t (Piece q) p list fault is h)
-piece_err n t q list fault is on Waits h = absurd cc
-piece_err n t q list fault is on Spoils h = inr (refl, bad_field fault h, refl)
-piece_err n t q list fault is on Strays h = inl (refl, ap Refuses (misdirected (words.is_on list) fault on h))
+piece_err w t q list fault is on (Says p) h = inl (refl, says_err w t (Piece q) p list fault is h)
+piece_err w t q list fault is on Waits h = absurd cc
+piece_err w t q list fault is on Spoils h = inr (refl, bad_field fault h, refl)
+piece_err w t q list fault is on Strays h = inl (refl, ap Refuses (misdirected (words.is_on list) fault on h))
 
 -- What a frame says is the same by the client's own list.
-pub said_is : (n : ℕ) (past : List Change) (f : Frame) → meaning (rules (client_opening n)) (heard_at (client_opening n) (entries past)) f ≡ said_to_client n (steps past) f
-said_is n past f = ap (λ (h : Heard client.Entry). meaning (at_client n) h f) (hears_same n (frames.of_client (steps past)))
+pub said_is : (w : Setup) (past : List Change) (f : Frame) → meaning (rules (client_opening w)) (heard_at (client_opening w) (entries past)) f ≡ said_to_client w (steps past) f
+said_is w past f = ap (λ (h : Heard client.Entry). meaning (at_client w) h f) (hears_same w (frames.of_client (steps past)))
 
-frame_ok : (n : ℕ) (past : List Change) (f : Frame) → framed.refusal (client_opening n) (entries past) (inputs.Deliver f) ≡ None
-    → comes_to_client n (trace n past) f (said_to_client n (steps past) f) ≡ Does (Met (step_by n past (inputs.Deliver f)))
+frame_ok : (w : Setup) (past : List Change) (f : Frame) → framed.refusal (client_opening w) (entries past) (inputs.Deliver f) ≡ None
+    → comes_to_client w (trace w past) f (said_to_client w (steps past) f) ≡ Does (Met (step_by w past (inputs.Deliver f)))
 unfolding come
-frame_ok n past (Whole p) h = says_ok n (trace n past) (Whole p) p (packets_heard (client_opening n) (entries past)) (heard_is n past) h
-frame_ok n past (Piece q) h =
-    ap (comes_to_client n (trace n past) (Piece q)) (sym (said_is n past (Piece q)))
-    ∙ piece_ok n (trace n past) q (packets_heard (client_opening n) (entries past)) (heard_is n past) (meaning (rules (client_opening n)) (heard_at (client_opening n) (entries past)) (Piece q)) h
+frame_ok w past (Whole p) h = says_ok w (trace w past) (Whole p) p (packets_heard (client_opening w) (entries past)) (heard_is w past) h
+frame_ok w past (Piece q) h =
+    ap (comes_to_client w (trace w past) (Piece q)) (sym (said_is w past (Piece q)))
+    ∙ piece_ok w (trace w past) q (packets_heard (client_opening w) (entries past)) (heard_is w past) (meaning (rules (client_opening w)) (heard_at (client_opening w) (entries past)) (Piece q)) h
 
-frame_err : (n : ℕ) (past : List Change) (f : Frame) (fault : Fault) → words.is_on (packets_heard (client_opening n) (entries past)) ≡ true
-    → framed.refusal (client_opening n) (entries past) (inputs.Deliver f) ≡ Some fault
-    → DroppedOr f fault (is_drop (sense (client_opening n) (entries past) (inputs.Deliver f))) (comes_to_client n (trace n past) f (said_to_client n (steps past) f))
-frame_err n past (Whole p) fault on h = unfold DroppedOr in inl (refl, says_err n (trace n past) (Whole p) p (packets_heard (client_opening n) (entries past)) fault (heard_is n past) h)
-frame_err n past (Piece q) fault on h =
-    let m = meaning (rules (client_opening n)) (heard_at (client_opening n) (entries past)) (Piece q) in
-    subst (λ x. DroppedOr (Piece q) fault (is_drop (sense_of q m)) (comes_to_client n (trace n past) (Piece q) x)) (said_is n past (Piece q))
-    (piece_err n (trace n past) q (packets_heard (client_opening n) (entries past)) fault (heard_is n past) on m h)
+frame_err : (w : Setup) (past : List Change) (f : Frame) (fault : Fault) → words.is_on (packets_heard (client_opening w) (entries past)) ≡ true
+    → framed.refusal (client_opening w) (entries past) (inputs.Deliver f) ≡ Some fault
+    → DroppedOr f fault (is_drop (sense (client_opening w) (entries past) (inputs.Deliver f))) (comes_to_client w (trace w past) f (said_to_client w (steps past) f))
+frame_err w past (Whole p) fault on h = unfold DroppedOr in inl (refl, says_err w (trace w past) (Whole p) p (packets_heard (client_opening w) (entries past)) fault (heard_is w past) h)
+frame_err w past (Piece q) fault on h =
+    let m = meaning (rules (client_opening w)) (heard_at (client_opening w) (entries past)) (Piece q) in
+    subst (λ x. DroppedOr (Piece q) fault (is_drop (sense_of q m)) (comes_to_client w (trace w past) (Piece q) x)) (said_is w past (Piece q))
+    (piece_err w (trace w past) q (packets_heard (client_opening w) (entries past)) fault (heard_is w past) on m h)
 
 -- ---- its delivery
 
@@ -123,52 +124,52 @@ on_of true h = refl
 on_of false h = cc
 
 -- A client that can be reached is on.
-up_of : (n : ℕ) (past : List Change) → off n (trace n past) Client ≡ None → words.is_on (packets_heard (client_opening n) (entries past)) ≡ true
-up_of n past h = ap words.is_on (heard_is n past) ∙ on_of (words.is_on (of_client (trace n past))) h
+up_of : (w : Setup) (past : List Change) → off w (trace w past) Client ≡ None → words.is_on (packets_heard (client_opening w) (entries past)) ≡ true
+up_of w past h = ap words.is_on (heard_is w past) ∙ on_of (words.is_on (of_client (trace w past))) h
 
 -- It has this number, and goes to the client.
-pub record GoesTo (n : ℕ) (past : List Change) (number : ℕ) (f : Frame) : Type 0 where
-  pub is_sent : slice_get (frames_sent n (steps past)) number ≡ Some f
+pub record GoesTo (w : Setup) (past : List Change) (number : ℕ) (f : Frame) : Type 0 where
+  pub is_sent : slice_get (frames_sent w (steps past)) number ≡ Some f
   pub goes_to : to_of f ≡ Client
 
-pub frame_bar : (n : ℕ) (past : List Change) (number : ℕ) (f : Frame) → GoesTo n past number f → barred n (trace n past) (frames_sent n (steps past)) (happenings.Deliver number) ≡ off n (trace n past) Client
-frame_bar n past number f g = ap (unsent n (trace n past)) g.is_sent ∙ ap (off n (trace n past)) g.goes_to
+pub frame_bar : (w : Setup) (past : List Change) (number : ℕ) (f : Frame) → GoesTo w past number f → barred w (trace w past) (frames_sent w (steps past)) (happenings.Deliver number) ≡ off w (trace w past) Client
+frame_bar w past number f g = ap (unsent w (trace w past)) g.is_sent ∙ ap (off w (trace w past)) g.goes_to
 
-frame_comes : (n : ℕ) (past : List Change) (number : ℕ) (f : Frame) → GoesTo n past number f → brings n past (happenings.Deliver number) ≡ comes_to_client n (trace n past) f (said_to_client n (steps past) f)
-frame_comes n past number f g = ap (delivered n past) g.is_sent ∙ ap (λ node. comes_to n past node f) g.goes_to
+frame_comes : (w : Setup) (past : List Change) (number : ℕ) (f : Frame) → GoesTo w past number f → brings w past (happenings.Deliver number) ≡ comes_to_client w (trace w past) f (said_to_client w (steps past) f)
+frame_comes w past number f g = ap (delivered w past) g.is_sent ∙ ap (λ node. comes_to w past node f) g.goes_to
 
-pub delivery_ends : (n : ℕ) (past : List Change) (number : ℕ) (f : Frame) (t : Told) (new : World) → GoesTo n past number f → ClientEnds n past (inputs.Deliver f) new (Ok t) → Ends n past (happenings.Deliver number) new (Ok t)
-delivery_ends n past number f t new g h =
+pub delivery_ends : (w : Setup) (past : List Change) (number : ℕ) (f : Frame) (t : Told) (new : World) → GoesTo w past number f → ClientEnds w past (inputs.Deliver f) new (Ok t) → Ends w past (happenings.Deliver number) new (Ok t)
+delivery_ends w past number f t new g h =
     let e = happenings.Deliver number in
-    does n past e (Met (step_by n past (inputs.Deliver f))) t new
-    (goes n past e (frame_bar n past number f g ∙ h.on) ∙ frame_comes n past number f g ∙ frame_ok n past f h.free)
-    (told_is n past e (inputs.Deliver f) t new h refl) h.stands
+    does w past e (Met (step_by w past (inputs.Deliver f))) t new
+    (goes w past e (frame_bar w past number f g ∙ h.on) ∙ frame_comes w past number f g ∙ frame_ok w past f h.free)
+    (told_is w past e (inputs.Deliver f) t new h refl) h.stands
 
-dropped : (n : ℕ) (past : List Change) (f : Frame) (fault : Fault) (e : happenings.Happening) (new : World) → outcome n past e ≡ comes_to_client n (trace n past) f (said_to_client n (steps past) f)
-    → ClientRefuses n past (inputs.Deliver f) fault new
-    → DroppedOr f fault (is_drop (sense (client_opening n) (entries past) (inputs.Deliver f))) (comes_to_client n (trace n past) f (said_to_client n (steps past) f))
-    → (told n past e ≡ Err fault) × StandsFor n (after n past e) new
+dropped : (w : Setup) (past : List Change) (f : Frame) (fault : Fault) (e : happenings.Happening) (new : World) → outcome w past e ≡ comes_to_client w (trace w past) f (said_to_client w (steps past) f)
+    → ClientRefuses w past (inputs.Deliver f) fault new
+    → DroppedOr f fault (is_drop (sense (client_opening w) (entries past) (inputs.Deliver f))) (comes_to_client w (trace w past) f (said_to_client w (steps past) f))
+    → (told w past e ≡ Err fault) × StandsFor w (after w past e) new
 unfolding DroppedOr
-dropped n past f fault e new is r (inl d) = refusing n past e fault new (is ∙ d.1) (r.unchanged d.0)
-dropped n past f fault e new is r (inr d) = (
-  ap (told_by n past e) (is ∙ d.2) ∙ ap (λ x. Err x) (sym d.1),
-  subst (λ x. StandsFor n (and_outcome x past) new) (sym (is ∙ d.2)) r.stands,
+dropped w past f fault e new is r (inl d) = refusing w past e fault new (is ∙ d.1) (r.unchanged d.0)
+dropped w past f fault e new is r (inr d) = (
+  ap (told_by w past e) (is ∙ d.2) ∙ ap (λ x. Err x) (sym d.1),
+  subst (λ x. StandsFor w (and_outcome x past) new) (sym (is ∙ d.2)) r.stands,
 )
 
-unanswered : (n : ℕ) (past : List Change) (number : ℕ) (f : Frame) (fault : Fault) (new : World) → GoesTo n past number f → IsBarred n past fault new ⊎ ClientRefuses n past (inputs.Deliver f) fault new
-    → (told n past (happenings.Deliver number) ≡ Err fault) × StandsFor n (after n past (happenings.Deliver number)) new
-unanswered n past number f fault new g (inl b) =
-    refusing n past (happenings.Deliver number) fault new (stops n past (happenings.Deliver number) fault (frame_bar n past number f g ∙ b.why)) b.unchanged
-unanswered n past number f fault new g (inr r) =
-    dropped n past f fault (happenings.Deliver number) new (goes n past (happenings.Deliver number) (frame_bar n past number f g ∙ r.on) ∙ frame_comes n past number f g) r
-    (frame_err n past f fault (up_of n past r.on) r.why)
+unanswered : (w : Setup) (past : List Change) (number : ℕ) (f : Frame) (fault : Fault) (new : World) → GoesTo w past number f → IsBarred w past fault new ⊎ ClientRefuses w past (inputs.Deliver f) fault new
+    → (told w past (happenings.Deliver number) ≡ Err fault) × StandsFor w (after w past (happenings.Deliver number)) new
+unanswered w past number f fault new g (inl b) =
+    refusing w past (happenings.Deliver number) fault new (stops w past (happenings.Deliver number) fault (frame_bar w past number f g ∙ b.why)) b.unchanged
+unanswered w past number f fault new g (inr r) =
+    dropped w past f fault (happenings.Deliver number) new (goes w past (happenings.Deliver number) (frame_bar w past number f g ∙ r.on) ∙ frame_comes w past number f g) r
+    (frame_err w past f fault (up_of w past r.on) r.why)
 
-delivery_sort : (n : ℕ) (past : List Change) (number : ℕ) (f : Frame) (fault : Fault) (new : World) → GoesTo n past number f → (sort : FaultSort) → asking.Faults n past (inputs.Deliver f) sort fault new
-    → ends.Faults n past (happenings.Deliver number) sort fault new
-delivery_sort n past number f fault new g sorts.Memory h = h
-delivery_sort n past number f fault new g sorts.Save h = h
-delivery_sort n past number f fault new g sorts.Refusal h = unanswered n past number f fault new g h
+delivery_sort : (w : Setup) (past : List Change) (number : ℕ) (f : Frame) (fault : Fault) (new : World) → GoesTo w past number f → (sort : FaultSort) → asking.Faults w past (inputs.Deliver f) sort fault new
+    → ends.Faults w past (happenings.Deliver number) sort fault new
+delivery_sort w past number f fault new g sorts.Memory h = h
+delivery_sort w past number f fault new g sorts.Save h = h
+delivery_sort w past number f fault new g sorts.Refusal h = unanswered w past number f fault new g h
 
-pub delivery_fails : (n : ℕ) (past : List Change) (number : ℕ) (f : Frame) (fault : Fault) (new : World) → GoesTo n past number f → ClientEnds n past (inputs.Deliver f) new (Err fault)
-    → Ends n past (happenings.Deliver number) new (Err fault)
-delivery_fails n past number f fault new g h = delivery_sort n past number f fault new g (sort_of fault) h
+pub delivery_fails : (w : Setup) (past : List Change) (number : ℕ) (f : Frame) (fault : Fault) (new : World) → GoesTo w past number f → ClientEnds w past (inputs.Deliver f) new (Err fault)
+    → Ends w past (happenings.Deliver number) new (Err fault)
+delivery_fails w past number f fault new g h = delivery_sort w past number f fault new g (sort_of fault) h

@@ -1,5 +1,5 @@
 -- The client's list of frames says what the client hears in the trace.
-use Rattle.std.proofs.Common.{◌≡◌, refl, sym, ◌∙◌, ap, ℕ, List, [], ◌∷◌, Option, None, Some}
+use Rattle.std.proofs.Common.{◌≡◌, refl, sym, ◌∙◌, ap, List, [], ◌∷◌, Option, None, Some}
 use Rattle.std.specs.Prelude.{map}
 use Rattle.messages.specs.Hearing.{Heard, Coming, Comes, Happens, entry_of, rows_of, with_entry, heard}
 use Rattle.disk_model.specs.declared.left.Left.{Left}
@@ -10,6 +10,7 @@ use Rattle.client_core.specs.Hearing as hearing
 use Rattle.client_core.specs.Hearing.{FrameEntry, coming, packets_heard, heard_at}
 use Rattle.client_core.specs.FrameAnswers as answers
 use Rattle.client_core.specs.Packets as packets
+use Rattle.net_world.specs.Setup.{Setup}
 use Rattle.net_world.specs.Trace as traces
 use Rattle.net_world.specs.Trace.{client_opening}
 use Rattle.net_world.specs.Frames.{FrameStep, OfClient, of_client, at_client, frames_by, frames_of_step, client_frame_entry, client_entries}
@@ -17,58 +18,58 @@ use Rattle.net_world.specs.Changes.{Change, steps, trace}
 use Rattle.net_world.proofs.HearingLemmas.{nodes_hear_their_own}
 
 -- What is heard with one more.
-next : ℕ → Heard client.Entry → Coming client.Entry Left → Heard client.Entry
-next n h c = record { entries = with_entry (entry_of (at_client n) h c) h.entries; rows = rows_of (at_client n) h c }
+next : Setup → Heard client.Entry → Coming client.Entry Left → Heard client.Entry
+next w h c = record { entries = with_entry (entry_of (at_client w) h c) h.entries; rows = rows_of (at_client w) h c }
 
-entry_same : (n : ℕ) (h : Heard client.Entry) (c : Coming client.Entry Left) → entry_of (at_client n) h (coming (client_frame_entry c)) ≡ entry_of (at_client n) h c
-entry_same n h (Comes f left) = refl
-entry_same n h (Happens (client.Met (calls.Begin text) left)) = refl
-entry_same n h (Happens (client.Met (calls.Trigger run act) left)) = refl
-entry_same n h (Happens (client.Met (calls.Stop run) left)) = refl
-entry_same n h (Happens (client.Met (calls.Verify run text) left)) = refl
-entry_same n h (Happens (client.Met (calls.Deliver p) left)) = refl
-entry_same n h (Happens (client.Met calls.Tick left)) = refl
-entry_same n h (Happens client.Cut) = refl
-entry_same n h (Happens (client.Restart mirror)) = refl
-entry_same n h (Happens (client.Renew g left)) = refl
-entry_same n h (Happens client.Lose) = refl
+entry_same : (w : Setup) (h : Heard client.Entry) (c : Coming client.Entry Left) → entry_of (at_client w) h (coming (client_frame_entry c)) ≡ entry_of (at_client w) h c
+entry_same w h (Comes f left) = refl
+entry_same w h (Happens (client.Met (calls.Begin text) left)) = refl
+entry_same w h (Happens (client.Met (calls.Trigger run act) left)) = refl
+entry_same w h (Happens (client.Met (calls.Stop run) left)) = refl
+entry_same w h (Happens (client.Met (calls.Verify run text) left)) = refl
+entry_same w h (Happens (client.Met (calls.Deliver p) left)) = refl
+entry_same w h (Happens (client.Met calls.Tick left)) = refl
+entry_same w h (Happens client.Cut) = refl
+entry_same w h (Happens (client.Restart mirror)) = refl
+entry_same w h (Happens (client.Renew g left)) = refl
+entry_same w h (Happens client.Lose) = refl
 
-next_same : (n : ℕ) (h : Heard client.Entry) (c : Coming client.Entry Left) → next n h (coming (client_frame_entry c)) ≡ next n h c
+next_same : (w : Setup) (h : Heard client.Entry) (c : Coming client.Entry Left) → next w h (coming (client_frame_entry c)) ≡ next w h c
 unfolding next
-next_same n h (Comes f left) = refl
-next_same n h (Happens (client.Met (calls.Begin text) left)) = refl
-next_same n h (Happens (client.Met (calls.Trigger run act) left)) = refl
-next_same n h (Happens (client.Met (calls.Stop run) left)) = refl
-next_same n h (Happens (client.Met (calls.Verify run text) left)) = refl
-next_same n h (Happens (client.Met (calls.Deliver p) left)) = refl
-next_same n h (Happens (client.Met calls.Tick left)) = refl
-next_same n h (Happens client.Cut) = refl
-next_same n h (Happens (client.Restart mirror)) = refl
-next_same n h (Happens (client.Renew g left)) = refl
-next_same n h (Happens client.Lose) = refl
+next_same w h (Comes f left) = refl
+next_same w h (Happens (client.Met (calls.Begin text) left)) = refl
+next_same w h (Happens (client.Met (calls.Trigger run act) left)) = refl
+next_same w h (Happens (client.Met (calls.Stop run) left)) = refl
+next_same w h (Happens (client.Met (calls.Verify run text) left)) = refl
+next_same w h (Happens (client.Met (calls.Deliver p) left)) = refl
+next_same w h (Happens (client.Met calls.Tick left)) = refl
+next_same w h (Happens client.Cut) = refl
+next_same w h (Happens (client.Restart mirror)) = refl
+next_same w h (Happens (client.Renew g left)) = refl
+next_same w h (Happens client.Lose) = refl
 
-pub hears_same : (n : ℕ) (list : List (Coming client.Entry Left)) → heard (at_client n) (map coming (map client_frame_entry list)) ≡ heard (at_client n) list
+pub hears_same : (w : Setup) (list : List (Coming client.Entry Left)) → heard (at_client w) (map coming (map client_frame_entry list)) ≡ heard (at_client w) list
 unfolding next
-hears_same n [] = refl
-hears_same n (c ∷ past) = ap (λ h. next n h (coming (client_frame_entry c))) (hears_same n past) ∙ next_same n (heard (at_client n) past) c
+hears_same w [] = refl
+hears_same w (c ∷ past) = ap (λ h. next w h (coming (client_frame_entry c))) (hears_same w past) ∙ next_same w (heard (at_client w) past) c
 
-frames_same : (n : ℕ) (list : List client.Entry) (x : Option client.Entry) → answers.frames_by (client_opening n) list x ≡ frames_by (packets.packets (client_opening n)) list x
-frames_same n list None = refl
-frames_same n list (Some e) = refl
+frames_same : (w : Setup) (list : List client.Entry) (x : Option client.Entry) → answers.frames_by (client_opening w) list x ≡ frames_by (packets.packets (client_opening w)) list x
+frames_same w list None = refl
+frames_same w list (Some e) = refl
 
 -- The packets that the client hears are its own in the trace.
-pub heard_is : (n : ℕ) (past : List Change) → packets_heard (client_opening n) (client_entries (steps past)) ≡ traces.of_client (trace n past)
-heard_is n past =
-    ap (λ (h : Heard client.Entry). h.entries) (hears_same n (of_client (steps past))) ∙ sym (nodes_hear_their_own n (steps past)).client
+pub heard_is : (w : Setup) (past : List Change) → packets_heard (client_opening w) (client_entries (steps past)) ≡ traces.of_client (trace w past)
+heard_is w past =
+    ap (λ (h : Heard client.Entry). h.entries) (hears_same w (of_client (steps past))) ∙ sym (nodes_hear_their_own w (steps past)).client
 
 -- The frames of what happens are those of its step.
-sends_same : (n : ℕ) (t : List FrameStep) (c : Coming client.Entry Left) → answers.frames (client_opening n) (client_entries t) (client_frame_entry c) ≡ frames_of_step n t (OfClient c)
-sends_same n t c =
-    let same = hears_same n (of_client t) in
-    let h = heard (at_client n) (of_client t) in
-    ap (λ (k : Heard client.Entry). answers.frames_by (client_opening n) k.entries (entry_of (at_client n) k (coming (client_frame_entry c)))) same
-    ∙ ap (λ x. answers.frames_by (client_opening n) h.entries x) (entry_same n h c)
-    ∙ frames_same n h.entries (entry_of (at_client n) h c)
+sends_same : (w : Setup) (t : List FrameStep) (c : Coming client.Entry Left) → answers.frames (client_opening w) (client_entries t) (client_frame_entry c) ≡ frames_of_step w t (OfClient c)
+sends_same w t c =
+    let same = hears_same w (of_client t) in
+    let h = heard (at_client w) (of_client t) in
+    ap (λ (k : Heard client.Entry). answers.frames_by (client_opening w) k.entries (entry_of (at_client w) k (coming (client_frame_entry c)))) same
+    ∙ ap (λ x. answers.frames_by (client_opening w) h.entries x) (entry_same w h c)
+    ∙ frames_same w h.entries (entry_of (at_client w) h c)
 
 pub entry_again : (e : FrameEntry) → client_frame_entry (coming e) ≡ e
 entry_again (hearing.Met (inputs.Begin text) left) = refl
@@ -82,6 +83,6 @@ entry_again (hearing.Restart mirror) = refl
 entry_again (hearing.Renew g left) = refl
 entry_again hearing.Lose = refl
 
-pub frames_are : (n : ℕ) (past : List Change) (e : FrameEntry) → answers.frames (client_opening n) (client_entries (steps past)) e ≡ frames_of_step n (steps past) (OfClient (coming e))
-frames_are n past e =
-    ap (answers.frames (client_opening n) (client_entries (steps past))) (sym (entry_again e)) ∙ sends_same n (steps past) (coming e)
+pub frames_are : (w : Setup) (past : List Change) (e : FrameEntry) → answers.frames (client_opening w) (client_entries (steps past)) e ≡ frames_of_step w (steps past) (OfClient (coming e))
+frames_are w past e =
+    ap (answers.frames (client_opening w) (client_entries (steps past))) (sym (entry_again e)) ∙ sends_same w (steps past) (coming e)

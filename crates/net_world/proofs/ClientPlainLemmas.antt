@@ -9,6 +9,7 @@ use Rattle.client_core.specs.Hearing as hearing
 use Rattle.client_core.specs.Hearing.{FrameEntry}
 use Rattle.net_world.specs.declared.told.Told.{Told}
 use Rattle.net_world.specs.declared.world.World.{World}
+use Rattle.net_world.specs.Setup.{Setup}
 use Rattle.net_world.specs.Happenings.{Happening, Cut, Restart}
 use Rattle.net_world.specs.Trace.{client_opening}
 use Rattle.net_world.specs.Changes.{Change, Met}
@@ -27,41 +28,41 @@ use Rattle.net_world.proofs.PlainLemmas.{IsPlain, told_plainly}
 use Rattle.net_world.proofs.ClientHeardLemmas.{frames_are}
 use Rattle.net_world.proofs.AskLemmas.{up_is, HasMoved, client_stepped, client_kept}
 
-pub plain_ends : (n : ℕ) (past : List Change) (e : Happening) (entry : FrameEntry) (first : ℕ) (t : Told) (old new : World) → StandsFor n past old → HasMoved [] old new
-    → nodes.Stands (client_opening n) (entry ∷ entries past) new.client → IsPlain n past e (step_of entry) → first ≡ length (sent_in old.sent) → t ≡ plainly_told first → Ends n past e new (Ok t)
-plain_ends n past e entry first t old new stands moved node_is p f tells =
-    does n past e (Met (step_of entry)) t new p.comes (told_plainly n past e (step_of entry) first t p (f ∙ first_is n past old stands) tells)
-    (client_stepped n past entry [] old new stands moved (ap (map frame_spelling) (sym p.silent)) node_is)
+pub plain_ends : (w : Setup) (past : List Change) (e : Happening) (entry : FrameEntry) (first : ℕ) (t : Told) (old new : World) → StandsFor w past old → HasMoved [] old new
+    → nodes.Stands (client_opening w) (entry ∷ entries past) new.client → IsPlain w past e (step_of entry) → first ≡ length (sent_in old.sent) → t ≡ plainly_told first → Ends w past e new (Ok t)
+plain_ends w past e entry first t old new stands moved node_is p f tells =
+    does w past e (Met (step_of entry)) t new p.comes (told_plainly w past e (step_of entry) first t p (f ∙ first_is w past old stands) tells)
+    (client_stepped w past entry [] old new stands moved (ap (map frame_spelling) (sym p.silent)) node_is)
 
 -- ---- a cut
 
-pub cut_off : (n : ℕ) (past : List Change) → is_up (client_opening n) (entries past) ≡ false → outcome n past (Cut Client) ≡ Refuses NodeOff
-cut_off n past h = stops n past (Cut Client) NodeOff (ap (λ on. unless on NodeOff) (sym (up_is n past) ∙ h))
+pub cut_off : (w : Setup) (past : List Change) → is_up (client_opening w) (entries past) ≡ false → outcome w past (Cut Client) ≡ Refuses NodeOff
+cut_off w past h = stops w past (Cut Client) NodeOff (ap (λ on. unless on NodeOff) (sym (up_is w past) ∙ h))
 
-pub cut_plain : (n : ℕ) (past : List Change) → is_up (client_opening n) (entries past) ≡ true → IsPlain n past (Cut Client) (step_of hearing.Cut)
-cut_plain n past h = record {
-  comes = goes n past (Cut Client) (ap (λ on. unless on NodeOff) (sym (up_is n past) ∙ h));
+pub cut_plain : (w : Setup) (past : List Change) → is_up (client_opening w) (entries past) ≡ true → IsPlain w past (Cut Client) (step_of hearing.Cut)
+cut_plain w past h = record {
+  comes = goes w past (Cut Client) (ap (λ on. unless on NodeOff) (sym (up_is w past) ∙ h));
   answered = refl;
-  silent = sym (frames_are n past hearing.Cut);
+  silent = sym (frames_are w past hearing.Cut);
   asks = refl;
 }
 
 -- ---- a restart
 
-pub restart_on : (n : ℕ) (past : List Change) → is_up (client_opening n) (entries past) ≡ true → outcome n past (Restart Client) ≡ Refuses NodeOn
-restart_on n past h = stops n past (Restart Client) NodeOn (ap (λ on. unless (not on) NodeOn) (sym (up_is n past) ∙ h))
+pub restart_on : (w : Setup) (past : List Change) → is_up (client_opening w) (entries past) ≡ true → outcome w past (Restart Client) ≡ Refuses NodeOn
+restart_on w past h = stops w past (Restart Client) NodeOn (ap (λ on. unless (not on) NodeOn) (sym (up_is w past) ∙ h))
 
-pub restart_plain : (n : ℕ) (past : List Change) → is_up (client_opening n) (entries past) ≡ false → IsPlain n past (Restart Client) (step_of (hearing.Restart false))
-restart_plain n past h = record {
-  comes = goes n past (Restart Client) (ap (λ on. unless (not on) NodeOn) (sym (up_is n past) ∙ h));
+pub restart_plain : (w : Setup) (past : List Change) → is_up (client_opening w) (entries past) ≡ false → IsPlain w past (Restart Client) (step_of (hearing.Restart false))
+restart_plain w past h = record {
+  comes = goes w past (Restart Client) (ap (λ on. unless (not on) NodeOn) (sym (up_is w past) ∙ h));
   answered = refl;
-  silent = sym (frames_are n past (hearing.Restart false));
+  silent = sym (frames_are w past (hearing.Restart false));
   asks = refl;
 }
 
 -- How a restart that isn't answered ends.
-pub restart_ends : (n : ℕ) (past : List Change) (fault : Fault) (old new : World) → StandsFor n past old → HasMoved [] old new → nodes.Restarts (client_opening n) (entries past) new.client (Err fault)
-    → Ends n past (Restart Client) new (Err fault)
-restart_ends n past NodeOn old new stands h r = refuses n past (Restart Client) NodeOn new refl (restart_on n past r.0) (client_kept n past old new stands h r.1)
-restart_ends n past NoMemory old new stands h r = (refl, client_kept n past old new stands h r.1)
-restart_ends n past _ old new stands h r = absurd r
+pub restart_ends : (w : Setup) (past : List Change) (fault : Fault) (old new : World) → StandsFor w past old → HasMoved [] old new → nodes.Restarts (client_opening w) (entries past) new.client (Err fault)
+    → Ends w past (Restart Client) new (Err fault)
+restart_ends w past NodeOn old new stands h r = refuses w past (Restart Client) NodeOn new refl (restart_on w past r.0) (client_kept w past old new stands h r.1)
+restart_ends w past NoMemory old new stands h r = (refl, client_kept w past old new stands h r.1)
+restart_ends w past _ old new stands h r = absurd r

@@ -18,6 +18,7 @@ use Rattle.client_core.specs.declared.noted.Noted.{Noted}
 use Rattle.state_table.specs.Kept.{kept_of}
 use Rattle.client_core.specs.Refusals.{is_for_client, differs, lacks_room, faults_of_body}
 use Rattle.client_core.specs.Words.{is_on, noted, kept, peers}
+use Rattle.net_world.specs.Setup.{Setup}
 use Rattle.net_world.specs.Trace.{Step, AtServer, AtClient, IsTrace, of_client, client_opening, opening_of, of_server, packets_of, sent}
 use Rattle.net_world.specs.Holders.{taken_of}
 use Rattle.net_world.specs.Passes.{SentStatesWereTaken, KeptStatesWereSent, NoCopyIsSent, NoPacketConflicts}
@@ -34,14 +35,14 @@ use Rattle.net_world.proofs.SaidLemmas.{Sayings, SaysJobs, sent_by, state_says, 
 one_of : (a b : State) (xs : List State) → xs ≡ a ∷ [] → xs ≡ b ∷ [] → a ≡ b
 one_of a b xs h g = cc
 
-pub same_two : OfEachList OneTaking → (n : ℕ) (t : List Step) (key : Key) (a b : State) → Contains (taken_of key t) a → Contains (taken_of key t) b → a ≡ b
-same_two once n t key a b h g = one_of a b (taken_of key t) (single (taken_of key t) a (once n t key) h) (single (taken_of key t) b (once n t key) g)
+pub same_two : OfEachList OneTaking → (w : Setup) (t : List Step) (key : Key) (a b : State) → Contains (taken_of key t) a → Contains (taken_of key t) b → a ≡ b
+same_two once w t key a b h g = one_of a b (taken_of key t) (single (taken_of key t) a (once w t key) h) (single (taken_of key t) b (once w t key) g)
 
 -- What is kept was taken.
-pub kept_taken : OfEachList SentStatesWereTaken → OfEachTrace KeptStatesWereSent → (n : ℕ) (t : List Step) (key : Key) (state : State) → IsTrace n t → kept (client_opening n) (of_client t) key ≡ Some state → Contains (taken_of key t) state
-kept_taken taken kept_sent n t key state trace h =
-    let k = kept_sent n t trace key state h in
-    subst (λ i. Contains (taken_of i t) state) k.key_is (taken n t _ k.jobs state k.sent_in refl)
+pub kept_taken : OfEachList SentStatesWereTaken → OfEachTrace KeptStatesWereSent → (w : Setup) (t : List Step) (key : Key) (state : State) → IsTrace w t → kept (client_opening w) (of_client t) key ≡ Some state → Contains (taken_of key t) state
+kept_taken taken kept_sent w t key state trace h =
+    let k = kept_sent w t trace key state h in
+    subst (λ i. Contains (taken_of i t) state) k.key_is (taken w t _ k.jobs state k.sent_in refl)
 
 -- ---- a state is the same as itself
 
@@ -92,21 +93,21 @@ differing n (bodies.State jobs x) h =
 differing n (bodies.Copy x) h = inr (x, refl)
 differing n _ h = absurd cc
 
-differs_not : OfEachList SentStatesWereTaken → OfEachTrace KeptStatesWereSent → OfEachList OneTaking → (n : ℕ) (t : List Step) (p : PacketParts) → IsTrace n t → Contains (sent n t) p → Differing (noted (client_opening n) (of_client t)) p.body → ⊥
-differs_not taken kept_sent once n t p trace was d =
-    let new = taken n t p d.jobs d.new was d.is in
-    let old = kept_taken taken kept_sent n t d.new.key d.old trace d.found in
-    let same : d.old ≡ d.new = same_two once n t d.new.key d.old d.new old new in
+differs_not : OfEachList SentStatesWereTaken → OfEachTrace KeptStatesWereSent → OfEachList OneTaking → (w : Setup) (t : List Step) (p : PacketParts) → IsTrace w t → Contains (sent w t) p → Differing (noted (client_opening w) (of_client t)) p.body → ⊥
+differs_not taken kept_sent once w t p trace was d =
+    let new = taken w t p d.jobs d.new was d.is in
+    let old = kept_taken taken kept_sent w t d.new.key d.old trace d.found in
+    let same : d.old ≡ d.new = same_two once w t d.new.key d.old d.new old new in
     let yes : is_same d.old d.new ≡ true = subst (λ x. is_same d.old x ≡ true) same (is_same_self d.old) in
     let no = d.other in
     absurd cc
 
 pub no_packet_conflicts : OfEachList SentStatesWereTaken → OfEachTrace KeptStatesWereSent → OfEachTrace NoCopyIsSent → OfEachList OneTaking → OfEachTrace NoPacketConflicts
-no_packet_conflicts taken kept_sent none once n t trace p was h =
-    let note = noted (client_opening n) (of_client t) in
-    elim (differing note p.body (past_the_first (not (is_on (of_client t))) (not (is_for_client (peers (client_opening n) (of_client t)) p)) (faults_of_body note p.body) h)) [
-      | inl d ↦ differs_not taken kept_sent once n t p trace was d
-      | inr copy ↦ none n t trace p copy.0 was copy.1
+no_packet_conflicts taken kept_sent none once w t trace p was h =
+    let note = noted (client_opening w) (of_client t) in
+    elim (differing note p.body (past_the_first (not (is_on (of_client t))) (not (is_for_client (peers (client_opening w) (of_client t)) p)) (faults_of_body note p.body) h)) [
+      | inl d ↦ differs_not taken kept_sent once w t p trace was d
+      | inr copy ↦ none w t trace p copy.0 was copy.1
     ]
 
 -- ---- State packets of one key are equal
@@ -120,31 +121,31 @@ same_packet p q a b c = ap (λ x. make_packet x p.to p.body) a ∙ ap (λ x. mak
 
 -- A State that was sent goes to the client, from the server that its key names.
 
-ends_now : Sayings → (n : ℕ) (step : Step) (past : List Step) (p : PacketParts) (jobs : ℕ) (a : State) → Contains (packets_of n past step) p → p.body ≡ bodies.State jobs a → (p.from ≡ Server a.key.server) × (p.to ≡ Client)
-ends_now laws n (AtServer r e) past p jobs a h is =
+ends_now : Sayings → (w : Setup) (step : Step) (past : List Step) (p : PacketParts) (jobs : ℕ) (a : State) → Contains (packets_of w past step) p → p.body ≡ bodies.State jobs a → (p.from ≡ Server a.key.server) × (p.to ≡ Client)
+ends_now laws w (AtServer r e) past p jobs a h is =
     let k = laws.to_client (opening_of r) (of_server r past) e p h in
     let t = laws.sends (opening_of r) (of_server r past) e p jobs a h is in
     let server : a.key.server ≡ r = ap (λ (i : Key). i.server) (t.1).key in
     (ap (λ (q : PacketParts). q.from) k.ends ∙ ap Server (sym server), ap (λ (q : PacketParts). q.to) k.ends)
-ends_now laws n (AtClient e) past p jobs a h is = absurd (no_state laws.to_peers (client_opening n) (of_client past) e p jobs a h is)
+ends_now laws w (AtClient e) past p jobs a h is = absurd (no_state laws.to_peers (client_opening w) (of_client past) e p jobs a h is)
 
-ends_of : Sayings → (n : ℕ) (t : List Step) (p : PacketParts) (jobs : ℕ) (a : State) → Contains (sent n t) p → p.body ≡ bodies.State jobs a → (p.from ≡ Server a.key.server) × (p.to ≡ Client)
-ends_of laws n [] p jobs a h is = absurd (sent_none n p h)
-ends_of laws n (step ∷ past) p jobs a h is = elim (sent_cases n step past p h) [
-  | inl before ↦ ends_of laws n past p jobs a before is
-  | inr now ↦ ends_now laws n step past p jobs a now is
+ends_of : Sayings → (w : Setup) (t : List Step) (p : PacketParts) (jobs : ℕ) (a : State) → Contains (sent w t) p → p.body ≡ bodies.State jobs a → (p.from ≡ Server a.key.server) × (p.to ≡ Client)
+ends_of laws w [] p jobs a h is = absurd (sent_none w p h)
+ends_of laws w (step ∷ past) p jobs a h is = elim (sent_cases w step past p h) [
+  | inl before ↦ ends_of laws w past p jobs a before is
+  | inr now ↦ ends_now laws w step past p jobs a now is
 ]
 
 pub state_packets_are_equal : Sayings → OfEachList SentStatesWereTaken → OfEachList OneTaking → OfEachList StatePacketsAreEqual
-state_packets_are_equal laws taken once n t p q jobs more a b hp ip hq iq keys =
-    let fp = ends_of laws n t p jobs a hp ip in
-    let fq = ends_of laws n t q more b hq iq in
+state_packets_are_equal laws taken once w t p q jobs more a b hp ip hq iq keys =
+    let fp = ends_of laws w t p jobs a hp ip in
+    let fq = ends_of laws w t q more b hq iq in
     let server : a.key.server ≡ b.key.server = ap (λ (k : Key). k.server) keys in
-    let same : a ≡ b = same_two once n t a.key a b (taken n t p jobs a hp ip) (subst (λ k. Contains (taken_of k t) b) (sym keys) (taken n t q more b hq iq)) in
+    let same : a ≡ b = same_two once w t a.key a b (taken w t p jobs a hp ip) (subst (λ k. Contains (taken_of k t) b) (sym keys) (taken w t q more b hq iq)) in
     let s = b.key.server in
     let list = of_server s t in
-    let says_p : SaysJobs (opening_of s) list a.key.run jobs = state_says laws s list p jobs a (sent_by laws n s t p (fp.0 ∙ ap Server server) hp) ip in
-    let says_q : SaysJobs (opening_of s) list b.key.run more = state_says laws s list q more b (sent_by laws n s t q fq.0 hq) iq in
+    let says_p : SaysJobs (opening_of s) list a.key.run jobs = state_says laws s list p jobs a (sent_by laws w s t p (fp.0 ∙ ap Server server) hp) ip in
+    let says_q : SaysJobs (opening_of s) list b.key.run more = state_says laws s list q more b (sent_by laws w s t q fq.0 hq) iq in
     let count : jobs ≡ more = same_count (opening_of s) a.key.run jobs list says_q.set (subst (λ r. begun (opening_of s) r list ≡ Some says_q.set) (sym (ap (λ (k : Key). k.run) keys)) says_q.is) says_p ∙ sym says_q.count in
     let body : p.body ≡ q.body = ip ∙ ap (λ x. bodies.State x a) count ∙ ap (bodies.State more) same ∙ sym iq in
     same_packet p q (fp.0 ∙ ap Server server ∙ sym fq.0) (fp.1 ∙ sym fq.1) body

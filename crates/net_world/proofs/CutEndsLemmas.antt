@@ -33,6 +33,7 @@ use Rattle.server_core.specs.FrameAnswers as framed
 use Rattle.server_core.specs.FrameAnswers.{sense_of, due_in, would_save}
 use Rattle.net_world.specs.declared.server_node.ServerNode.{ServerNode}
 use Rattle.net_world.specs.declared.world.World.{World}
+use Rattle.net_world.specs.Setup.{Setup, servers_of}
 use Rattle.net_world.specs.Happenings.{Deliver, Restart, CutIn}
 use Rattle.net_world.specs.Trace.{Step, AtServer, opening_of, of_server}
 use Rattle.net_world.specs.Frames.{FrameStep, frames_sent}
@@ -114,78 +115,78 @@ piece_none t s landed q list is Waits h = refl
 piece_none t s landed q list is Spoils h = refl
 piece_none t s landed q list is Strays h = refl
 
-frame_is_cut : (n : ℕ) (past : List Change) (s : ℕ) (landed : Bool) (f : Frame) → would_save (opening_of s) (entries past s) f ≡ true
-    → server_frame_cut (trace n past) s landed f (said_to_server (steps past) s f) ≡ Ok (step_of s (hearing.Met (inputs.Deliver f) (lost_by landed)))
-frame_is_cut n past s landed (Whole p) h = says_cut (trace n past) s landed (Whole p) p (packets_heard (opening_of s) (entries past s)) (heard_is n past s) h
-frame_is_cut n past s landed (Piece q) h =
-    ap (server_frame_cut (trace n past) s landed (Piece q)) (sym (said_is n s past (Piece q)))
-    ∙ piece_cut (trace n past) s landed q (packets_heard (opening_of s) (entries past s)) (heard_is n past s) (meaning (rules (opening_of s)) (heard_at (opening_of s) (entries past s)) (Piece q)) h
+frame_is_cut : (w : Setup) (past : List Change) (s : ℕ) (landed : Bool) (f : Frame) → would_save (opening_of s) (entries past s) f ≡ true
+    → server_frame_cut (trace w past) s landed f (said_to_server (steps past) s f) ≡ Ok (step_of s (hearing.Met (inputs.Deliver f) (lost_by landed)))
+frame_is_cut w past s landed (Whole p) h = says_cut (trace w past) s landed (Whole p) p (packets_heard (opening_of s) (entries past s)) (heard_is w past s) h
+frame_is_cut w past s landed (Piece q) h =
+    ap (server_frame_cut (trace w past) s landed (Piece q)) (sym (said_is w s past (Piece q)))
+    ∙ piece_cut (trace w past) s landed q (packets_heard (opening_of s) (entries past s)) (heard_is w past s) (meaning (rules (opening_of s)) (heard_at (opening_of s) (entries past s)) (Piece q)) h
 
-frame_not_cut : (n : ℕ) (past : List Change) (s : ℕ) (landed : Bool) (f : Frame) → would_save (opening_of s) (entries past s) f ≡ false
-    → server_frame_cut (trace n past) s landed f (said_to_server (steps past) s f) ≡ Err NoSave
-frame_not_cut n past s landed (Whole p) h = says_none (trace n past) s landed (Whole p) p (packets_heard (opening_of s) (entries past s)) (heard_is n past s) h
-frame_not_cut n past s landed (Piece q) h =
-    ap (server_frame_cut (trace n past) s landed (Piece q)) (sym (said_is n s past (Piece q)))
-    ∙ piece_none (trace n past) s landed q (packets_heard (opening_of s) (entries past s)) (heard_is n past s) (meaning (rules (opening_of s)) (heard_at (opening_of s) (entries past s)) (Piece q)) h
+frame_not_cut : (w : Setup) (past : List Change) (s : ℕ) (landed : Bool) (f : Frame) → would_save (opening_of s) (entries past s) f ≡ false
+    → server_frame_cut (trace w past) s landed f (said_to_server (steps past) s f) ≡ Err NoSave
+frame_not_cut w past s landed (Whole p) h = says_none (trace w past) s landed (Whole p) p (packets_heard (opening_of s) (entries past s)) (heard_is w past s) h
+frame_not_cut w past s landed (Piece q) h =
+    ap (server_frame_cut (trace w past) s landed (Piece q)) (sym (said_is w s past (Piece q)))
+    ∙ piece_none (trace w past) s landed q (packets_heard (opening_of s) (entries past s)) (heard_is w past s) (meaning (rules (opening_of s)) (heard_at (opening_of s) (entries past s)) (Piece q)) h
 
-pub cut_bar : (n : ℕ) (past : List Change) (number : ℕ) (landed : Bool) (f : Frame) (s : ℕ) → GoesTo n past number f s → unsent n (trace n past) (slice_get (frames_sent n (steps past)) number) ≡ off n (trace n past) (nodes.Server s)
-cut_bar n past number landed f s g = ap (unsent n (trace n past)) g.is_sent ∙ ap (off n (trace n past)) g.goes_to
+pub cut_bar : (w : Setup) (past : List Change) (number : ℕ) (landed : Bool) (f : Frame) (s : ℕ) → GoesTo w past number f s → unsent w (trace w past) (slice_get (frames_sent w (steps past)) number) ≡ off w (trace w past) (nodes.Server s)
+cut_bar w past number landed f s g = ap (unsent w (trace w past)) g.is_sent ∙ ap (off w (trace w past)) g.goes_to
 
-cut_brings : (n : ℕ) (past : List Change) (number : ℕ) (landed : Bool) (f : Frame) (s : ℕ) → GoesTo n past number f s
-    → cut_in n past landed (Deliver number) ≡ server_frame_cut (trace n past) s landed f (said_to_server (steps past) s f)
-cut_brings n past number landed f s g = ap (delivery_cut_in n past landed) g.is_sent ∙ ap (λ node. frame_cut n past landed node f) g.goes_to
+cut_brings : (w : Setup) (past : List Change) (number : ℕ) (landed : Bool) (f : Frame) (s : ℕ) → GoesTo w past number f s
+    → cut_in w past landed (Deliver number) ≡ server_frame_cut (trace w past) s landed f (said_to_server (steps past) s f)
+cut_brings w past number landed f s g = ap (delivery_cut_in w past landed) g.is_sent ∙ ap (λ node. frame_cut w past landed node f) g.goes_to
 
-act_silent : (n : ℕ) (past : List Change) (s : ℕ) (f : Frame) (left : Left) → is_lost left ≡ true → act n past (Met (step_of s (hearing.Met (inputs.Deliver f) left))) ≡ acts.None
-act_silent n past s (Whole p) left h = asks_nothing (trace n past) s (events.Deliver p) left h
-act_silent n past s (Piece q) left h =
-    ap (λ m. act_of (trace n past) (option_map (AtServer s) (heard_by (rules (opening_of s)) left m))) (sym (said_is n s past (Piece q)))
+act_silent : (w : Setup) (past : List Change) (s : ℕ) (f : Frame) (left : Left) → is_lost left ≡ true → act w past (Met (step_of s (hearing.Met (inputs.Deliver f) left))) ≡ acts.None
+act_silent w past s (Whole p) left h = asks_nothing (trace w past) s (events.Deliver p) left h
+act_silent w past s (Piece q) left h =
+    ap (λ m. act_of (trace w past) (option_map (AtServer s) (heard_by (rules (opening_of s)) left m))) (sym (said_is w s past (Piece q)))
     ∙ by_meaning (meaning (rules (opening_of s)) (heard_at (opening_of s) (entries past s)) (Piece q))
   where
-    by_meaning : (m : Meaning) → act_of (trace n past) (option_map (AtServer s) (heard_by (rules (opening_of s)) left m)) ≡ acts.None
-    by_meaning (Says p) = asks_nothing (trace n past) s (events.Deliver p) left h
+    by_meaning : (m : Meaning) → act_of (trace w past) (option_map (AtServer s) (heard_by (rules (opening_of s)) left m)) ≡ acts.None
+    by_meaning (Says p) = asks_nothing (trace w past) s (events.Deliver p) left h
     by_meaning Waits = refl
     by_meaning Spoils = refl
     by_meaning Strays = refl
 
-pub frame_cut_plain : (n : ℕ) (past : List Change) (number : ℕ) (landed : Bool) (f : Frame) (s : ℕ) → GoesTo n past number f s → off n (trace n past) (nodes.Server s) ≡ None → would_save (opening_of s) (entries past s) f ≡ true
-    → IsPlain n past (CutIn landed (Deliver number)) (step_of s (hearing.Met (inputs.Deliver f) (lost_by landed)))
-frame_cut_plain n past number landed f s g on h = record {
-  comes = goes n past (CutIn landed (Deliver number)) (cut_bar n past number landed f s g ∙ on) ∙ ap stepped (cut_brings n past number landed f s g ∙ frame_is_cut n past s landed f h);
+pub frame_cut_plain : (w : Setup) (past : List Change) (number : ℕ) (landed : Bool) (f : Frame) (s : ℕ) → GoesTo w past number f s → off w (trace w past) (nodes.Server s) ≡ None → would_save (opening_of s) (entries past s) f ≡ true
+    → IsPlain w past (CutIn landed (Deliver number)) (step_of s (hearing.Met (inputs.Deliver f) (lost_by landed)))
+frame_cut_plain w past number landed f s g on h = record {
+  comes = goes w past (CutIn landed (Deliver number)) (cut_bar w past number landed f s g ∙ on) ∙ ap stepped (cut_brings w past number landed f s g ∙ frame_is_cut w past s landed f h);
   answered = refl;
-  silent = sym (frames_are n past s (hearing.Met (inputs.Deliver f) (lost_by landed))) ∙ silent (opening_of s) (entries past s) f (lost_by landed) (lost landed);
-  asks = act_silent n past s f (lost_by landed) (lost landed);
+  silent = sym (frames_are w past s (hearing.Met (inputs.Deliver f) (lost_by landed))) ∙ silent (opening_of s) (entries past s) f (lost_by landed) (lost landed);
+  asks = act_silent w past s f (lost_by landed) (lost landed);
 }
 
 -- How a cut within the save of a frame ends in a world, where it isn't made.
-pub frame_cut_ends : (n : ℕ) (past : List Change) (number : ℕ) (landed : Bool) (f : Frame) (s : ℕ) (node : ServerNode) (fault : Fault) (old new : World) → StandsFor n past old → HasMoved s node [] old new → s < n → GoesTo n past number f s
-    → servers.CutsIn (opening_of s) (entries past s) landed f node (Err fault) → Ends n past (CutIn landed (Deliver number)) new (Err fault)
-frame_cut_ends n past number landed f s node NodeOff old new stands moved l g h =
-    refuses n past (CutIn landed (Deliver number)) NodeOff new refl (stops n past (CutIn landed (Deliver number)) NodeOff (cut_bar n past number landed f s g ∙ is_off n past s l h.0)) (server_kept n past s node old new stands moved h.1)
-frame_cut_ends n past number landed f s node NoSave old new stands moved l g h =
-    refuses n past (CutIn landed (Deliver number)) NoSave new refl
-    (goes n past (CutIn landed (Deliver number)) (cut_bar n past number landed f s g ∙ is_there n past s l h.0) ∙ ap stepped (cut_brings n past number landed f s g ∙ frame_not_cut n past s landed f h.1))
-    (server_kept n past s node old new stands moved h.2)
-frame_cut_ends n past number landed f s node NoMemory old new stands moved l g h = (refl, server_kept n past s node old new stands moved h.1)
-frame_cut_ends n past number landed f s node _ old new stands moved l g h = absurd h
+pub frame_cut_ends : (w : Setup) (past : List Change) (number : ℕ) (landed : Bool) (f : Frame) (s : ℕ) (node : ServerNode) (fault : Fault) (old new : World) → StandsFor w past old → HasMoved s node [] old new → s < servers_of w → GoesTo w past number f s
+    → servers.CutsIn (opening_of s) (entries past s) landed f node (Err fault) → Ends w past (CutIn landed (Deliver number)) new (Err fault)
+frame_cut_ends w past number landed f s node NodeOff old new stands moved l g h =
+    refuses w past (CutIn landed (Deliver number)) NodeOff new refl (stops w past (CutIn landed (Deliver number)) NodeOff (cut_bar w past number landed f s g ∙ is_off w past s l h.0)) (server_kept w past s node old new stands moved h.1)
+frame_cut_ends w past number landed f s node NoSave old new stands moved l g h =
+    refuses w past (CutIn landed (Deliver number)) NoSave new refl
+    (goes w past (CutIn landed (Deliver number)) (cut_bar w past number landed f s g ∙ is_there w past s l h.0) ∙ ap stepped (cut_brings w past number landed f s g ∙ frame_not_cut w past s landed f h.1))
+    (server_kept w past s node old new stands moved h.2)
+frame_cut_ends w past number landed f s node NoMemory old new stands moved l g h = (refl, server_kept w past s node old new stands moved h.1)
+frame_cut_ends w past number landed f s node _ old new stands moved l g h = absurd h
 
 -- ---- a restart
 
-pub restart_cut_plain : (n : ℕ) (past : List Change) (s : ℕ) (landed : Bool) → on n (trace n past) (nodes.Server s) ≡ None → has_boot (opening_of s) (entries past s) ≡ true
-    → IsPlain n past (CutIn landed (Restart (nodes.Server s))) (step_of s (hearing.Restart (lost_by landed)))
-restart_cut_plain n past s landed h b = record {
-  comes = goes n past (CutIn landed (Restart (nodes.Server s))) h ∙ ap (λ x. stepped (if x then Ok (step_of s (hearing.Restart (lost_by landed))) else Err NoSave)) (sym (boot_is n past s) ∙ b);
+pub restart_cut_plain : (w : Setup) (past : List Change) (s : ℕ) (landed : Bool) → on w (trace w past) (nodes.Server s) ≡ None → has_boot (opening_of s) (entries past s) ≡ true
+    → IsPlain w past (CutIn landed (Restart (nodes.Server s))) (step_of s (hearing.Restart (lost_by landed)))
+restart_cut_plain w past s landed h b = record {
+  comes = goes w past (CutIn landed (Restart (nodes.Server s))) h ∙ ap (λ x. stepped (if x then Ok (step_of s (hearing.Restart (lost_by landed))) else Err NoSave)) (sym (boot_is w past s) ∙ b);
   answered = refl;
-  silent = sym (frames_are n past s (hearing.Restart (lost_by landed)));
+  silent = sym (frames_are w past s (hearing.Restart (lost_by landed)));
   asks = refl;
 }
 
-pub restart_cut_ends : (n : ℕ) (past : List Change) (s : ℕ) (landed : Bool) (node : ServerNode) (fault : Fault) (old new : World) → StandsFor n past old → HasMoved s node [] old new → s < n
-    → servers.CutsInRestart (opening_of s) (entries past s) landed node (Err fault) → Ends n past (CutIn landed (Restart (nodes.Server s))) new (Err fault)
-restart_cut_ends n past s landed node NodeOn old new stands moved l h =
-    refuses n past (CutIn landed (Restart (nodes.Server s))) NodeOn new refl (stops n past (CutIn landed (Restart (nodes.Server s))) NodeOn (runs_on n past s l h.0)) (server_kept n past s node old new stands moved h.1)
-restart_cut_ends n past s landed node NoSave old new stands moved l h =
-    refuses n past (CutIn landed (Restart (nodes.Server s))) NoSave new refl
-    (goes n past (CutIn landed (Restart (nodes.Server s))) (may_restart n past s l h.0) ∙ ap (λ x. stepped (if x then Ok (step_of s (hearing.Restart (lost_by landed))) else Err NoSave)) (sym (boot_is n past s) ∙ h.1))
-    (server_kept n past s node old new stands moved h.2)
-restart_cut_ends n past s landed node NoMemory old new stands moved l h = (refl, server_kept n past s node old new stands moved h.1)
-restart_cut_ends n past s landed node _ old new stands moved l h = absurd h
+pub restart_cut_ends : (w : Setup) (past : List Change) (s : ℕ) (landed : Bool) (node : ServerNode) (fault : Fault) (old new : World) → StandsFor w past old → HasMoved s node [] old new → s < servers_of w
+    → servers.CutsInRestart (opening_of s) (entries past s) landed node (Err fault) → Ends w past (CutIn landed (Restart (nodes.Server s))) new (Err fault)
+restart_cut_ends w past s landed node NodeOn old new stands moved l h =
+    refuses w past (CutIn landed (Restart (nodes.Server s))) NodeOn new refl (stops w past (CutIn landed (Restart (nodes.Server s))) NodeOn (runs_on w past s l h.0)) (server_kept w past s node old new stands moved h.1)
+restart_cut_ends w past s landed node NoSave old new stands moved l h =
+    refuses w past (CutIn landed (Restart (nodes.Server s))) NoSave new refl
+    (goes w past (CutIn landed (Restart (nodes.Server s))) (may_restart w past s l h.0) ∙ ap (λ x. stepped (if x then Ok (step_of s (hearing.Restart (lost_by landed))) else Err NoSave)) (sym (boot_is w past s) ∙ h.1))
+    (server_kept w past s node old new stands moved h.2)
+restart_cut_ends w past s landed node NoMemory old new stands moved l h = (refl, server_kept w past s node old new stands moved h.1)
+restart_cut_ends w past s landed node _ old new stands moved l h = absurd h

@@ -16,6 +16,7 @@ use Rattle.client_core.specs.Ranges.{came}
 use Rattle.client_core.specs.Words.{noted, kept}
 use Rattle.client_core.specs.Packets.{to_server}
 use Rattle.client_core.specs.Laws.{FirstKeptStays, AcksAreFor, TriggersEndWell, TellsJobs, HasAnswer, from_server}
+use Rattle.net_world.specs.Setup.{Setup}
 use Rattle.net_world.specs.Trace.{Step, AtServer, AtClient, is_mirrorless, opening_of, client_opening, of_server, of_client, packets_of, sent, IsTrace}
 use Rattle.net_world.specs.Holders.{taken_of, key_at}
 use Rattle.net_world.specs.Passes.{SentStatesWereTaken, KeptStatesWereSent}
@@ -34,99 +35,99 @@ pub record Ending : Type 0 where
   pub kept_sent : OfEachTrace KeptStatesWereSent
   pub once : OfEachList OneTaking
 
-said_none : Ending → (n : ℕ) (t : List Step) (run s j jobs : ℕ) → Contains (sent n t) (from_server (bodies.NoState run j jobs) s) → SaysNone (opening_of s) (of_server s t) run j jobs
-said_none laws n t run s j jobs h =
+said_none : Ending → (w : Setup) (t : List Step) (run s j jobs : ℕ) → Contains (sent w t) (from_server (bodies.NoState run j jobs) s) → SaysNone (opening_of s) (of_server s t) run j jobs
+said_none laws w t run s j jobs h =
     let p = from_server (bodies.NoState run j jobs) s in
-    none_says laws.sayings s (of_server s t) p run j jobs (sent_by laws.sayings n s t p refl h) refl
+    none_says laws.sayings s (of_server s t) p run j jobs (sent_by laws.sayings w s t p refl h) refl
 
-said_jobs : Ending → (n : ℕ) (t : List Step) (s jobs : ℕ) (a : State) → Contains (sent n t) (from_server (bodies.State jobs a) s) → SaysJobs (opening_of s) (of_server s t) a.key.run jobs
-said_jobs laws n t s jobs a h =
+said_jobs : Ending → (w : Setup) (t : List Step) (s jobs : ℕ) (a : State) → Contains (sent w t) (from_server (bodies.State jobs a) s) → SaysJobs (opening_of s) (of_server s t) a.key.run jobs
+said_jobs laws w t s jobs a h =
     let p = from_server (bodies.State jobs a) s in
-    state_says laws.sayings s (of_server s t) p jobs a (sent_by laws.sayings n s t p refl h) refl
+    state_says laws.sayings s (of_server s t) p jobs a (sent_by laws.sayings w s t p refl h) refl
 
 -- The number of jobs that was told is that of the set with which the run was begun.
-count_told : Ending → (n : ℕ) (t : List Step) (run s jobs : ℕ) (set : List Job) → IsTrace n t → begun (opening_of s) run (of_server s t) ≡ Some set → TellsJobs (came (of_client t)) run s jobs → jobs ≡ length set
-count_told laws n t run s jobs set trace is (inl k) =
-    let says = said_jobs laws n t s jobs k.0 (came_was_sent n t (from_server (bodies.State jobs k.0) s) trace k.2) in
+count_told : Ending → (w : Setup) (t : List Step) (run s jobs : ℕ) (set : List Job) → IsTrace w t → begun (opening_of s) run (of_server s t) ≡ Some set → TellsJobs (came (of_client t)) run s jobs → jobs ≡ length set
+count_told laws w t run s jobs set trace is (inl k) =
+    let says = said_jobs laws w t s jobs k.0 (came_was_sent w t (from_server (bodies.State jobs k.0) s) trace k.2) in
     same_count (opening_of s) run jobs (of_server s t) set is (subst (λ r. SaysJobs (opening_of s) (of_server s t) r jobs) k.1 says)
-count_told laws n t run s jobs set trace is (inr k) =
-    let says = said_none laws n t run s k.0 jobs (came_was_sent n t (from_server (bodies.NoState run k.0 jobs) s) trace k.1) in
+count_told laws w t run s jobs set trace is (inr k) =
+    let says = said_none laws w t run s k.0 jobs (came_was_sent w t (from_server (bodies.NoState run k.0 jobs) s) trace k.1) in
     same_count (opening_of s) run jobs (of_server s t) set is says.says
 
 -- A state of the key is kept, or its server has said that there is none.
-KeptOrNone : ℕ → List Step → Key → Type 0
-KeptOrNone n t key =
-    ((state : State) × (kept (client_opening n) (of_client t) key ≡ Some state))
-    ⊎ ((jobs : ℕ) × Contains (sent n t) (from_server (bodies.NoState key.run key.job jobs) key.server))
+KeptOrNone : Setup → List Step → Key → Type 0
+KeptOrNone w t key =
+    ((state : State) × (kept (client_opening w) (of_client t) key ≡ Some state))
+    ⊎ ((jobs : ℕ) × Contains (sent w t) (from_server (bodies.NoState key.run key.job jobs) key.server))
 
 nothing_in : (xs : List State) (x : State) → xs ≡ [] → Contains xs x → ⊥
 nothing_in xs x e h = none_in x (subst (λ l. Contains l x) e h)
 
 -- So a state that was taken is kept.
-kept_of : Ending → (n : ℕ) (t : List Step) (key : Key) (state : State) → IsTrace n t → Contains (taken_of key t) state → KeptOrNone n t key → kept (client_opening n) (of_client t) key ≡ Some state
+kept_of : Ending → (w : Setup) (t : List Step) (key : Key) (state : State) → IsTrace w t → Contains (taken_of key t) state → KeptOrNone w t key → kept (client_opening w) (of_client t) key ≡ Some state
 unfolding KeptOrNone
-kept_of laws n t key state trace taken (inl k) =
-    k.1 ∙ ap Some (same_two laws.once n t key k.0 state (kept_taken laws.taken laws.kept_sent n t key k.0 trace k.1) taken)
-kept_of laws n t key state trace taken (inr k) =
-    let says = said_none laws n t key.run key.server key.job k.0 k.1 in
+kept_of laws w t key state trace taken (inl k) =
+    k.1 ∙ ap Some (same_two laws.once w t key k.0 state (kept_taken laws.taken laws.kept_sent w t key k.0 trace k.1) taken)
+kept_of laws w t key state trace taken (inr k) =
+    let says = said_none laws w t key.run key.server key.job k.0 k.1 in
     absurd (nothing_in (taken_of key t) state says.none taken)
 
-answer_of : (n : ℕ) (t : List Step) (key : Key) → IsTrace n t → HasAnswer (noted (client_opening n) (of_client t)) (came (of_client t)) key.run key.server key.job → KeptOrNone n t key
+answer_of : (w : Setup) (t : List Step) (key : Key) → IsTrace w t → HasAnswer (noted (client_opening w) (of_client t)) (came (of_client t)) key.run key.server key.job → KeptOrNone w t key
 unfolding KeptOrNone
-answer_of n t key trace (inl k) = inl (k.0, k.1)
-answer_of n t key trace (inr k) = inr (k.0, came_was_sent n t (from_server (bodies.NoState key.run key.job k.0) key.server) trace k.1)
+answer_of w t key trace (inl k) = inl (k.0, k.1)
+answer_of w t key trace (inr k) = inr (k.0, came_was_sent w t (from_server (bodies.NoState key.run key.job k.0) key.server) trace k.1)
 
 pub kept_where_served : Ending → TriggersEndWell → OfEachTrace KeptWhereServed
-kept_where_served laws law n t trace key state h taken =
+kept_where_served laws law w t trace key state h taken =
     let o = opening_of key.server in
     let list = of_server key.server t in
-    let ends = law (client_opening n) (of_client t) key.run key.server h in
+    let ends = law (client_opening w) (of_client t) key.run key.server h in
     let set = taken_of_set laws.sayings.grow o key.run key.job list state taken in
-    let count = count_told laws n t key.run key.server ends.jobs set.jobs trace set.is ends.told in
+    let count = count_told laws w t key.run key.server ends.jobs set.jobs trace set.is ends.told in
     let within = set.within in
-    kept_of laws n t key state trace taken (answer_of n t key trace (ends.each key.job (omega (arith, count, within))))
+    kept_of laws w t key state trace taken (answer_of w t key trace (ends.each key.job (omega (arith, count, within))))
 
 -- ---- the cut
 
-kept_more : FirstKeptStays → (n : ℕ) (step : Step) (past : List Step) (key : Key) → is_mirrorless step ≡ true → KeptOrNone n past key → KeptOrNone n (step ∷ past) key
+kept_more : FirstKeptStays → (w : Setup) (step : Step) (past : List Step) (key : Key) → is_mirrorless step ≡ true → KeptOrNone w past key → KeptOrNone w (step ∷ past) key
 unfolding KeptOrNone
-kept_more law n (AtServer r e) past key alone (inl k) = inl k
-kept_more law n (AtClient e) past key alone (inl k) = inl (k.0, law (client_opening n) (e ∷ []) (of_client past) key k.0 (loses_no_note e alone) k.1)
-kept_more law n step past key alone (inr k) = inr (k.0, sent_stays n step past (from_server (bodies.NoState key.run key.job k.0) key.server) k.1)
+kept_more law w (AtServer r e) past key alone (inl k) = inl k
+kept_more law w (AtClient e) past key alone (inl k) = inl (k.0, law (client_opening w) (e ∷ []) (of_client past) key k.0 (loses_no_note e alone) k.1)
+kept_more law w step past key alone (inr k) = inr (k.0, sent_stays w step past (from_server (bodies.NoState key.run key.job k.0) key.server) k.1)
 
 -- An acknowledgement of the client for a key.
 ack : Key → PacketParts
 ack key = to_server (bodies.StateAck key.run key.job) key.server
 
-acked_now : Ending → AcksAreFor → (n : ℕ) (step : Step) (past : List Step) (key : Key) → IsTrace n (step ∷ past) → Contains (packets_of n past step) (ack key) → KeptOrNone n (step ∷ past) key
+acked_now : Ending → AcksAreFor → (w : Setup) (step : Step) (past : List Step) (key : Key) → IsTrace w (step ∷ past) → Contains (packets_of w past step) (ack key) → KeptOrNone w (step ∷ past) key
 unfolding KeptOrNone ack
-acked_now laws law n (AtServer r e) past key trace h =
+acked_now laws law w (AtServer r e) past key trace h =
     let own = (laws.sayings.to_client (opening_of r) (of_server r past) e (to_server (bodies.StateAck key.run key.job) key.server) h).kind in
     absurd cc
-acked_now laws law n (AtClient e) past key trace h =
-    elim (law (client_opening n) (of_client past) e key.run key.server key.job h) [
+acked_now laws law w (AtClient e) past key trace h =
+    elim (law (client_opening w) (of_client past) e key.run key.server key.job h) [
       | inl k ↦ inl k
-      | inr k ↦ let p = from_server (bodies.NoState key.run key.job k.0) key.server in inr (k.0, sent_stays n (AtClient e) past p (taken_was_sent n (AtClient e) past p trace.1 k.1))
+      | inr k ↦ let p = from_server (bodies.NoState key.run key.job k.0) key.server in inr (k.0, sent_stays w (AtClient e) past p (taken_was_sent w (AtClient e) past p trace.1 k.1))
     ]
 
 -- Of what the client has acknowledged it keeps the state, or there was none.
-acked_kept : Ending → FirstKeptStays → AcksAreFor → (n : ℕ) (t : List Step) (key : Key) → IsTrace n t → Contains (sent n t) (ack key) → KeptOrNone n t key
-acked_kept laws first law n [] key trace h = absurd (sent_none n (ack key) h)
-acked_kept laws first law n (step ∷ past) key trace h = elim (sent_cases n step past (ack key) h) [
-  | inl before ↦ kept_more first n step past key trace.2 (acked_kept laws first law n past key trace.0 before)
-  | inr now ↦ acked_now laws law n step past key trace now
+acked_kept : Ending → FirstKeptStays → AcksAreFor → (w : Setup) (t : List Step) (key : Key) → IsTrace w t → Contains (sent w t) (ack key) → KeptOrNone w t key
+acked_kept laws first law w [] key trace h = absurd (sent_none w (ack key) h)
+acked_kept laws first law w (step ∷ past) key trace h = elim (sent_cases w step past (ack key) h) [
+  | inl before ↦ kept_more first w step past key trace.2 (acked_kept laws first law w past key trace.0 before)
+  | inr now ↦ acked_now laws law w step past key trace now
 ]
 
 -- What came to a server, this event with it.
-heard_with_sent : (n s : ℕ) (e : Event) (left : _) (t : List Step) (p : PacketParts) → IsTrace n (AtServer s (Met e left) ∷ t) → Contains (heard_with e (heard (of_server s t))) p → Contains (sent n t) p
-heard_with_sent n s (events.Deliver q) left t p trace h =
+heard_with_sent : (w : Setup) (s : ℕ) (e : Event) (left : _) (t : List Step) (p : PacketParts) → IsTrace w (AtServer s (Met e left) ∷ t) → Contains (heard_with e (heard (of_server s t))) p → Contains (sent w t) p
+heard_with_sent w s (events.Deliver q) left t p trace h =
     elim (first_or_rest q (heard (of_server s t)) p h) [
-      | inl now ↦ subst (Contains (sent n t)) now (trace.1.0.0)
-      | inr before ↦ heard_was_sent n s t p trace.0 before
+      | inl now ↦ subst (Contains (sent w t)) now (trace.1.0.0)
+      | inr before ↦ heard_was_sent w s t p trace.0 before
     ]
-heard_with_sent n s (events.Issue j) left t p trace h = heard_was_sent n s t p trace.0 h
-heard_with_sent n s (events.WriteDone ticket end) left t p trace h = heard_was_sent n s t p trace.0 h
-heard_with_sent n s (events.CheckDone boot a j report) left t p trace h = heard_was_sent n s t p trace.0 h
+heard_with_sent w s (events.Issue j) left t p trace h = heard_was_sent w s t p trace.0 h
+heard_with_sent w s (events.WriteDone ticket end) left t p trace h = heard_was_sent w s t p trace.0 h
+heard_with_sent w s (events.CheckDone boot a j report) left t p trace h = heard_was_sent w s t p trace.0 h
 
 some_jobs : (x y : List Job) → Some x ≡ Some y → x ≡ y
 some_jobs x y h = cc
@@ -136,14 +137,14 @@ some_work x y h = cc
 
 pub kept_where_cut : Ending → FirstKeptStays → AcksAreFor → served.CutsWhenKept → OfEachTrace KeptWhereCut
 unfolding ack
-kept_where_cut laws first acks law n whole whole_is_trace later t s e left w j state split is cut taken =
-    let trace : IsTrace n (AtServer s (Met e left) ∷ t) = front_is_trace n later (AtServer s (Met e left) ∷ t) (subst (IsTrace n) split whole_is_trace) in
+kept_where_cut laws first acks law w whole whole_is_trace later t s e left now j state split is cut taken =
+    let trace : IsTrace w (AtServer s (Met e left) ∷ t) = front_is_trace w later (AtServer s (Met e left) ∷ t) (subst (IsTrace w) split whole_is_trace) in
     let o = opening_of s in
     let list = of_server s t in
     let k = law o list e cut in
-    let same : k.now ≡ w = some_work k.now w (sym k.works ∙ is) in
-    let set = taken_of_set laws.sayings.grow o w.run j list state taken in
-    let jobs : set.jobs ≡ w.jobs = some_jobs set.jobs w.jobs (sym set.is ∙ work_begun o list w is) in
+    let same : k.now ≡ now = some_work k.now now (sym k.works ∙ is) in
+    let set = taken_of_set laws.sayings.grow o now.run j list state taken in
+    let jobs : set.jobs ≡ now.jobs = some_jobs set.jobs now.jobs (sym set.is ∙ work_begun o list now is) in
     let less : j < length k.now.jobs = subst (λ (v : Work). j < length v.jobs) (sym same) (subst (λ (l : List Job). j < length l) jobs set.within) in
-    let came_in : Contains (heard_with e (heard list)) (to_server (bodies.StateAck w.run j) s) = subst (λ (v : Work). Contains (heard_with e (heard list)) (to_server (bodies.StateAck v.run j) s)) same (k.kept j less) in
-    kept_of laws n t (key_at w.run s j) state trace.0 taken (acked_kept laws first acks n t (key_at w.run s j) trace.0 (heard_with_sent n s e left t (to_server (bodies.StateAck w.run j) s) trace came_in))
+    let came_in : Contains (heard_with e (heard list)) (to_server (bodies.StateAck now.run j) s) = subst (λ (v : Work). Contains (heard_with e (heard list)) (to_server (bodies.StateAck v.run j) s)) same (k.kept j less) in
+    kept_of laws w t (key_at now.run s j) state trace.0 taken (acked_kept laws first acks w t (key_at now.run s j) trace.0 (heard_with_sent w s e left t (to_server (bodies.StateAck now.run j) s) trace came_in))

@@ -24,6 +24,7 @@ use Rattle.net_world.specs.declared.told.Answer.{Answer}
 use Rattle.net_world.specs.declared.told.Answer.TheVariants as answers_told
 use Rattle.net_world.specs.declared.told.Told.{Told}
 use Rattle.net_world.specs.declared.world.World.{World}
+use Rattle.net_world.specs.Setup.{Setup}
 use Rattle.net_world.specs.Happenings.{Happening}
 use Rattle.net_world.specs.Happenings as happenings
 use Rattle.net_world.specs.Trace.{opening_of}
@@ -48,183 +49,183 @@ use Rattle.net_world.proofs.OutcomeLemmas.{DroppedOr, met_ok, met_err, act_is, f
 
 -- ---- how an event ends, by what comes of it
 
-pub goes : (n : ℕ) (past : List Change) (e : Happening) → barred n (trace n past) (frames_sent n (steps past)) e ≡ None → outcome n past e ≡ brings n past e
-goes n past e h = ap (λ x. unless_barred x (brings n past e)) h
+pub goes : (w : Setup) (past : List Change) (e : Happening) → barred w (trace w past) (frames_sent w (steps past)) e ≡ None → outcome w past e ≡ brings w past e
+goes w past e h = ap (λ x. unless_barred x (brings w past e)) h
 
-pub stops : (n : ℕ) (past : List Change) (e : Happening) (fault : Fault) → barred n (trace n past) (frames_sent n (steps past)) e ≡ Some fault → outcome n past e ≡ Refuses fault
-stops n past e fault h = ap (λ x. unless_barred x (brings n past e)) h
+pub stops : (w : Setup) (past : List Change) (e : Happening) (fault : Fault) → barred w (trace w past) (frames_sent w (steps past)) e ≡ Some fault → outcome w past e ≡ Refuses fault
+stops w past e fault h = ap (λ x. unless_barred x (brings w past e)) h
 
 -- It does this, and is told so.
-pub does : (n : ℕ) (past : List Change) (e : Happening) (change : Change) (t : Told) (new : World) → outcome n past e ≡ Does change → told_by n past e (Does change) ≡ Ok t → StandsFor n (change ∷ past) new
-    → Ends n past e new (Ok t)
-does n past e change t new is tells stands = (ap (told_by n past e) is ∙ tells, subst (λ x. StandsFor n (and_outcome x past) new) (sym is) stands)
+pub does : (w : Setup) (past : List Change) (e : Happening) (change : Change) (t : Told) (new : World) → outcome w past e ≡ Does change → told_by w past e (Does change) ≡ Ok t → StandsFor w (change ∷ past) new
+    → Ends w past e new (Ok t)
+does w past e change t new is tells stands = (ap (told_by w past e) is ∙ tells, subst (λ x. StandsFor w (and_outcome x past) new) (sym is) stands)
 
 -- It is refused, and nothing changes.
-pub refusing : (n : ℕ) (past : List Change) (e : Happening) (fault : Fault) (new : World) → outcome n past e ≡ Refuses fault → StandsFor n past new → (told n past e ≡ Err fault) × StandsFor n (after n past e) new
-refusing n past e fault new is stands = (ap (told_by n past e) is, subst (λ x. StandsFor n (and_outcome x past) new) (sym is) stands)
+pub refusing : (w : Setup) (past : List Change) (e : Happening) (fault : Fault) (new : World) → outcome w past e ≡ Refuses fault → StandsFor w past new → (told w past e ≡ Err fault) × StandsFor w (after w past e) new
+refusing w past e fault new is stands = (ap (told_by w past e) is, subst (λ x. StandsFor w (and_outcome x past) new) (sym is) stands)
 
 -- A fault is a refusal, so that its sort is that.
-pub refuses : (n : ℕ) (past : List Change) (e : Happening) (fault : Fault) (new : World) → sort_of fault ≡ sorts.Refusal → outcome n past e ≡ Refuses fault → StandsFor n past new → Ends n past e new (Err fault)
-refuses n past e fault new sort is stands = subst (λ x. ends.Faults n past e x fault new) (sym sort) (refusing n past e fault new is stands)
+pub refuses : (w : Setup) (past : List Change) (e : Happening) (fault : Fault) (new : World) → sort_of fault ≡ sorts.Refusal → outcome w past e ≡ Refuses fault → StandsFor w past new → Ends w past e new (Err fault)
+refuses w past e fault new sort is stands = subst (λ x. ends.Faults w past e x fault new) (sym sort) (refusing w past e fault new is stands)
 
 -- What is of a mirror is refused: there is none.
-pub no_mirror : (n : ℕ) (past : List Change) (e : Happening) (w : World) → barred n (trace n past) (frames_sent n (steps past)) e ≡ Some NoMirror → StandsFor n past w → Ends n past e w (Err NoMirror)
-no_mirror n past e w bar stands = refuses n past e NoMirror w refl (stops n past e NoMirror bar) stands
+pub no_mirror : (w : Setup) (past : List Change) (e : Happening) (now : World) → barred w (trace w past) (frames_sent w (steps past)) e ≡ Some NoMirror → StandsFor w past now → Ends w past e now (Err NoMirror)
+no_mirror w past e now bar stands = refuses w past e NoMirror now refl (stops w past e NoMirror bar) stands
 
 -- ---- an event that a server meets
 
 -- What happens comes to the server as this, and is barred as all that asks for the server to be on.
-pub record ComesTo (n : ℕ) (past : List Change) (s : ℕ) (e : Happening) (i : Input) : Type 0 where
-  pub bar : barred n (trace n past) (frames_sent n (steps past)) e ≡ off n (trace n past) (nodes.Server s)
-  pub ok : (served : Served) (new : World) → Serves n past s i new served → brings n past e ≡ Does (Met (step_by past s i))
-  pub err : (fault : Fault) (new : World) → ServerRefuses n past s i fault new → brings n past e ≡ Refuses fault
+pub record ComesTo (w : Setup) (past : List Change) (s : ℕ) (e : Happening) (i : Input) : Type 0 where
+  pub bar : barred w (trace w past) (frames_sent w (steps past)) e ≡ off w (trace w past) (nodes.Server s)
+  pub ok : (served : Served) (new : World) → Serves w past s i new served → brings w past e ≡ Does (Met (step_by past s i))
+  pub err : (fault : Fault) (new : World) → ServerRefuses w past s i fault new → brings w past e ≡ Refuses fault
   pub keeps : is_drop (sense (opening_of s) (entries past s) i) ≡ false
 
 same_told : (served : Served) (a b : Answer) (first sent : ℕ) (asked : Act) → a ≡ b → served.first ≡ first → served.sent ≡ sent → served.act ≡ asked → told_of served a ≡ record { answer = b; first = first; sent = sent; act = asked }
 same_told served a b first sent asked e f k x = rw (e, f, k, x) refl
 
-told_is : (n : ℕ) (past : List Change) (s : ℕ) (e : Happening) (i : Input) (served : Served) (a : Answer) (new : World) → Serves n past s i new served → a ≡ answer n past e
-    → told_by n past e (Does (Met (step_by past s i))) ≡ Ok (told_of served a)
-told_is n past s e i served a new h is =
+told_is : (w : Setup) (past : List Change) (s : ℕ) (e : Happening) (i : Input) (served : Served) (a : Answer) (new : World) → Serves w past s i new served → a ≡ answer w past e
+    → told_by w past e (Does (Met (step_by past s i))) ≡ Ok (told_of served a)
+told_is w past s e i served a new h is =
     ap (λ t. Ok t)
-    (sym (same_told served a (answer n past e) (length (frames_sent n (steps past))) (frames_with n past (Met (step_by past s i))) (act n past (Met (step_by past s i))) is h.first_is h.sent_is (h.act_is ∙ sym (act_is n past s i))))
+    (sym (same_told served a (answer w past e) (length (frames_sent w (steps past))) (frames_with w past (Met (step_by past s i))) (act w past (Met (step_by past s i))) is h.first_is h.sent_is (h.act_is ∙ sym (act_is w past s i))))
 
 -- What is answered.
-pub served_ends : (n : ℕ) (past : List Change) (s : ℕ) (e : Happening) (i : Input) (served : Served) (a : Answer) (t : Told) (new : World) → ComesTo n past s e i → Serves n past s i new served → a ≡ answer n past e
-    → t ≡ told_of served a → Ends n past e new (Ok t)
-served_ends n past s e i served a t new c h is tells =
-    does n past e (Met (step_by past s i)) t new (goes n past e (c.bar ∙ h.on) ∙ c.ok served new h) (told_is n past s e i served a new h is ∙ ap (λ x. Ok x) (sym tells)) h.stands
+pub served_ends : (w : Setup) (past : List Change) (s : ℕ) (e : Happening) (i : Input) (served : Served) (a : Answer) (t : Told) (new : World) → ComesTo w past s e i → Serves w past s i new served → a ≡ answer w past e
+    → t ≡ told_of served a → Ends w past e new (Ok t)
+served_ends w past s e i served a t new c h is tells =
+    does w past e (Met (step_by past s i)) t new (goes w past e (c.bar ∙ h.on) ∙ c.ok served new h) (told_is w past s e i served a new h is ∙ ap (λ x. Ok x) (sym tells)) h.stands
 
-refused_ends : (n : ℕ) (past : List Change) (s : ℕ) (e : Happening) (i : Input) (fault : Fault) (new : World) → ComesTo n past s e i → IsBarred n past s fault new ⊎ ServerRefuses n past s i fault new
-    → (told n past e ≡ Err fault) × StandsFor n (after n past e) new
-refused_ends n past s e i fault new c (inl b) = refusing n past e fault new (stops n past e fault (c.bar ∙ b.why)) b.unchanged
-refused_ends n past s e i fault new c (inr r) = refusing n past e fault new (goes n past e (c.bar ∙ r.on) ∙ c.err fault new r) (r.unchanged c.keeps)
+refused_ends : (w : Setup) (past : List Change) (s : ℕ) (e : Happening) (i : Input) (fault : Fault) (new : World) → ComesTo w past s e i → IsBarred w past s fault new ⊎ ServerRefuses w past s i fault new
+    → (told w past e ≡ Err fault) × StandsFor w (after w past e) new
+refused_ends w past s e i fault new c (inl b) = refusing w past e fault new (stops w past e fault (c.bar ∙ b.why)) b.unchanged
+refused_ends w past s e i fault new c (inr r) = refusing w past e fault new (goes w past e (c.bar ∙ r.on) ∙ c.err fault new r) (r.unchanged c.keeps)
 
-by_sort : (n : ℕ) (past : List Change) (s : ℕ) (e : Happening) (i : Input) (fault : Fault) (new : World) → ComesTo n past s e i → (sort : FaultSort) → serving.Faults n past s i sort fault new → ends.Faults n past e sort fault new
-by_sort n past s e i fault new c sorts.Memory h = h
-by_sort n past s e i fault new c sorts.Save h = h
-by_sort n past s e i fault new c sorts.Refusal h = refused_ends n past s e i fault new c h
+by_sort : (w : Setup) (past : List Change) (s : ℕ) (e : Happening) (i : Input) (fault : Fault) (new : World) → ComesTo w past s e i → (sort : FaultSort) → serving.Faults w past s i sort fault new → ends.Faults w past e sort fault new
+by_sort w past s e i fault new c sorts.Memory h = h
+by_sort w past s e i fault new c sorts.Save h = h
+by_sort w past s e i fault new c sorts.Refusal h = refused_ends w past s e i fault new c h
 
 -- What isn't answered.
-pub unserved_ends : (n : ℕ) (past : List Change) (s : ℕ) (e : Happening) (i : Input) (fault : Fault) (new : World) → ComesTo n past s e i → ServerEnds n past s i new (Err fault) → Ends n past e new (Err fault)
-unserved_ends n past s e i fault new c h = by_sort n past s e i fault new c (sort_of fault) h
+pub unserved_ends : (w : Setup) (past : List Change) (s : ℕ) (e : Happening) (i : Input) (fault : Fault) (new : World) → ComesTo w past s e i → ServerEnds w past s i new (Err fault) → Ends w past e new (Err fault)
+unserved_ends w past s e i fault new c h = by_sort w past s e i fault new c (sort_of fault) h
 
 -- ---- an event that is no frame
 
 -- The server meets this event.
-pub record Meets (n : ℕ) (past : List Change) (s : ℕ) (e : Happening) (event : Event) : Type 0 where
-  pub bar : barred n (trace n past) (frames_sent n (steps past)) e ≡ off n (trace n past) (nodes.Server s)
-  pub meets : brings n past e ≡ stepped (met_by_server (trace n past) s event)
+pub record Meets (w : Setup) (past : List Change) (s : ℕ) (e : Happening) (event : Event) : Type 0 where
+  pub bar : barred w (trace w past) (frames_sent w (steps past)) e ≡ off w (trace w past) (nodes.Server s)
+  pub meets : brings w past e ≡ stepped (met_by_server (trace w past) s event)
 
-issue_comes : (n : ℕ) (past : List Change) (s j : ℕ) (e : Happening) → Meets n past s e (events.Issue j) → ComesTo n past s e (inputs.Issue j)
-issue_comes n past s j e m = record {
+issue_comes : (w : Setup) (past : List Change) (s j : ℕ) (e : Happening) → Meets w past s e (events.Issue j) → ComesTo w past s e (inputs.Issue j)
+issue_comes w past s j e m = record {
   bar = m.bar;
-  ok = λ served new h. m.meets ∙ ap stepped (met_ok (trace n past) s (events.Issue j) (packets_heard (opening_of s) (entries past s)) (heard_is n past s) h.free);
-  err = λ fault new h. m.meets ∙ ap stepped (met_err (trace n past) s (events.Issue j) (packets_heard (opening_of s) (entries past s)) fault (heard_is n past s) h.why);
+  ok = λ served new h. m.meets ∙ ap stepped (met_ok (trace w past) s (events.Issue j) (packets_heard (opening_of s) (entries past s)) (heard_is w past s) h.free);
+  err = λ fault new h. m.meets ∙ ap stepped (met_err (trace w past) s (events.Issue j) (packets_heard (opening_of s) (entries past s)) fault (heard_is w past s) h.why);
   keeps = refl;
 }
 
 -- ---- a worker asks for a write
 
-issue_answer : (n : ℕ) (past : List Change) (s j : ℕ) (served : Served) (new : World) → Serves n past s (inputs.Issue j) new served → issued served.issue ≡ answer n past (happenings.Issue s j)
-issue_answer n past s j served new h = ap issued (h.issue_is ∙ ap (λ list. answers.issue (opening_of s) list (events.Issue j)) (heard_is n past s))
+issue_answer : (w : Setup) (past : List Change) (s j : ℕ) (served : Served) (new : World) → Serves w past s (inputs.Issue j) new served → issued served.issue ≡ answer w past (happenings.Issue s j)
+issue_answer w past s j served new h = ap issued (h.issue_is ∙ ap (λ list. answers.issue (opening_of s) list (events.Issue j)) (heard_is w past s))
 
-asks : (n : ℕ) (past : List Change) (s j : ℕ) → Meets n past s (happenings.Issue s j) (events.Issue j)
-asks n past s j = record { bar = refl; meets = refl }
+asks : (w : Setup) (past : List Change) (s j : ℕ) → Meets w past s (happenings.Issue s j) (events.Issue j)
+asks w past s j = record { bar = refl; meets = refl }
 
-pub issue_ends : (n : ℕ) (past : List Change) (s j : ℕ) (served : Served) (t : Told) (new : World) → ServerEnds n past s (inputs.Issue j) new (Ok served) → t ≡ issue_told served → Ends n past (happenings.Issue s j) new (Ok t)
-issue_ends n past s j served t new h tells =
-    served_ends n past s (happenings.Issue s j) (inputs.Issue j) served (issued served.issue) t new (issue_comes n past s j (happenings.Issue s j) (asks n past s j)) h (issue_answer n past s j served new h) tells
+pub issue_ends : (w : Setup) (past : List Change) (s j : ℕ) (served : Served) (t : Told) (new : World) → ServerEnds w past s (inputs.Issue j) new (Ok served) → t ≡ issue_told served → Ends w past (happenings.Issue s j) new (Ok t)
+issue_ends w past s j served t new h tells =
+    served_ends w past s (happenings.Issue s j) (inputs.Issue j) served (issued served.issue) t new (issue_comes w past s j (happenings.Issue s j) (asks w past s j)) h (issue_answer w past s j served new h) tells
 
-pub issue_fails : (n : ℕ) (past : List Change) (s j : ℕ) (fault : Fault) (new : World) → ServerEnds n past s (inputs.Issue j) new (Err fault) → Ends n past (happenings.Issue s j) new (Err fault)
-issue_fails n past s j fault new h = unserved_ends n past s (happenings.Issue s j) (inputs.Issue j) fault new (issue_comes n past s j (happenings.Issue s j) (asks n past s j)) h
+pub issue_fails : (w : Setup) (past : List Change) (s j : ℕ) (fault : Fault) (new : World) → ServerEnds w past s (inputs.Issue j) new (Err fault) → Ends w past (happenings.Issue s j) new (Err fault)
+issue_fails w past s j fault new h = unserved_ends w past s (happenings.Issue s j) (inputs.Issue j) fault new (issue_comes w past s j (happenings.Issue s j) (asks w past s j)) h
 
 -- ---- a write has ended
 
-bar_is : (n : ℕ) (past : List Change) (s j k : ℕ) (end : WriteEnd) → barred n (trace n past) (frames_sent n (steps past)) (ending end s j k) ≡ unopen n (trace n past) s j k
-bar_is n past s j k write_ends.Done = refl
-bar_is n past s j k write_ends.Failed = refl
+bar_is : (w : Setup) (past : List Change) (s j k : ℕ) (end : WriteEnd) → barred w (trace w past) (frames_sent w (steps past)) (ending end s j k) ≡ unopen w (trace w past) s j k
+bar_is w past s j k write_ends.Done = refl
+bar_is w past s j k write_ends.Failed = refl
 
-brings_is : (n : ℕ) (past : List Change) (s j k : ℕ) (end : WriteEnd) → brings n past (ending end s j k) ≡ stepped (ended (trace n past) s k end (open_at (trace n past) s j k))
-brings_is n past s j k write_ends.Done = refl
-brings_is n past s j k write_ends.Failed = refl
+brings_is : (w : Setup) (past : List Change) (s j k : ℕ) (end : WriteEnd) → brings w past (ending end s j k) ≡ stepped (ended (trace w past) s k end (open_at (trace w past) s j k))
+brings_is w past s j k write_ends.Done = refl
+brings_is w past s j k write_ends.Failed = refl
 
-answer_is : (n : ℕ) (past : List Change) (s j k : ℕ) (end : WriteEnd) → answers_told.Plain ≡ answer n past (ending end s j k)
-answer_is n past s j k write_ends.Done = refl
-answer_is n past s j k write_ends.Failed = refl
+answer_is : (w : Setup) (past : List Change) (s j k : ℕ) (end : WriteEnd) → answers_told.Plain ≡ answer w past (ending end s j k)
+answer_is w past s j k write_ends.Done = refl
+answer_is w past s j k write_ends.Failed = refl
 
-ended_comes : (n : ℕ) (past : List Change) (s j k : ℕ) (end : WriteEnd) (ticket : Ticket) (rec : JobParts) → IsOpen n past s j k ticket rec → ComesTo n past s (ending end s j k) (inputs.WriteDone ticket end)
-ended_comes n past s j k end ticket rec h =
-    let meets : brings n past (ending end s j k) ≡ stepped (met_by_server (trace n past) s (events.WriteDone ticket end)) =
-    brings_is n past s j k end ∙ ap (λ x. stepped (ended (trace n past) s k end x)) h.is_open ∙ ap (λ t. stepped (met_by_server (trace n past) s (events.WriteDone t end))) (sym h.ticket_is) in
+ended_comes : (w : Setup) (past : List Change) (s j k : ℕ) (end : WriteEnd) (ticket : Ticket) (rec : JobParts) → IsOpen w past s j k ticket rec → ComesTo w past s (ending end s j k) (inputs.WriteDone ticket end)
+ended_comes w past s j k end ticket rec h =
+    let meets : brings w past (ending end s j k) ≡ stepped (met_by_server (trace w past) s (events.WriteDone ticket end)) =
+    brings_is w past s j k end ∙ ap (λ x. stepped (ended (trace w past) s k end x)) h.is_open ∙ ap (λ t. stepped (met_by_server (trace w past) s (events.WriteDone t end))) (sym h.ticket_is) in
     record {
-      bar = bar_is n past s j k end ∙ h.there ∙ sym h.on;
-      ok = λ served new g. meets ∙ ap stepped (met_ok (trace n past) s (events.WriteDone ticket end) (packets_heard (opening_of s) (entries past s)) (heard_is n past s) g.free);
-      err = λ fault new g. meets ∙ ap stepped (met_err (trace n past) s (events.WriteDone ticket end) (packets_heard (opening_of s) (entries past s)) fault (heard_is n past s) g.why);
+      bar = bar_is w past s j k end ∙ h.there ∙ sym h.on;
+      ok = λ served new g. meets ∙ ap stepped (met_ok (trace w past) s (events.WriteDone ticket end) (packets_heard (opening_of s) (entries past s)) (heard_is w past s) g.free);
+      err = λ fault new g. meets ∙ ap stepped (met_err (trace w past) s (events.WriteDone ticket end) (packets_heard (opening_of s) (entries past s)) fault (heard_is w past s) g.why);
       keeps = refl;
     }
 
-pub end_ends : (n : ℕ) (past : List Change) (s j k : ℕ) (end : WriteEnd) (ticket : Ticket) (rec : JobParts) (served : Served) (t : Told) (new : World) → IsOpen n past s j k ticket rec
-    → ServerEnds n past s (inputs.WriteDone ticket end) new (Ok served) → t ≡ told_of served answers_told.Plain → Ends n past (ending end s j k) new (Ok t)
-end_ends n past s j k end ticket rec served t new h g tells =
-    served_ends n past s (ending end s j k) (inputs.WriteDone ticket end) served answers_told.Plain t new (ended_comes n past s j k end ticket rec h) g (answer_is n past s j k end) tells
+pub end_ends : (w : Setup) (past : List Change) (s j k : ℕ) (end : WriteEnd) (ticket : Ticket) (rec : JobParts) (served : Served) (t : Told) (new : World) → IsOpen w past s j k ticket rec
+    → ServerEnds w past s (inputs.WriteDone ticket end) new (Ok served) → t ≡ told_of served answers_told.Plain → Ends w past (ending end s j k) new (Ok t)
+end_ends w past s j k end ticket rec served t new h g tells =
+    served_ends w past s (ending end s j k) (inputs.WriteDone ticket end) served answers_told.Plain t new (ended_comes w past s j k end ticket rec h) g (answer_is w past s j k end) tells
 
-pub end_fails : (n : ℕ) (past : List Change) (s j k : ℕ) (end : WriteEnd) (ticket : Ticket) (rec : JobParts) (fault : Fault) (new : World) → IsOpen n past s j k ticket rec
-    → ServerEnds n past s (inputs.WriteDone ticket end) new (Err fault) → Ends n past (ending end s j k) new (Err fault)
-end_fails n past s j k end ticket rec fault new h g =
-    unserved_ends n past s (ending end s j k) (inputs.WriteDone ticket end) fault new (ended_comes n past s j k end ticket rec h) g
+pub end_fails : (w : Setup) (past : List Change) (s j k : ℕ) (end : WriteEnd) (ticket : Ticket) (rec : JobParts) (fault : Fault) (new : World) → IsOpen w past s j k ticket rec
+    → ServerEnds w past s (inputs.WriteDone ticket end) new (Err fault) → Ends w past (ending end s j k) new (Err fault)
+end_fails w past s j k end ticket rec fault new h g =
+    unserved_ends w past s (ending end s j k) (inputs.WriteDone ticket end) fault new (ended_comes w past s j k end ticket rec h) g
 
 -- Nothing is open there.
-pub end_unopen : (n : ℕ) (past : List Change) (s j k : ℕ) (end : WriteEnd) (fault : Fault) (new : World) → FindsWrite n past s j k (Err fault) → StandsFor n past new → Ends n past (ending end s j k) new (Err fault)
-end_unopen n past s j k end fault new h stands =
-    refuses n past (ending end s j k) fault new h.1 (stops n past (ending end s j k) fault (bar_is n past s j k end ∙ h.0)) stands
+pub end_unopen : (w : Setup) (past : List Change) (s j k : ℕ) (end : WriteEnd) (fault : Fault) (new : World) → FindsWrite w past s j k (Err fault) → StandsFor w past new → Ends w past (ending end s j k) new (Err fault)
+end_unopen w past s j k end fault new h stands =
+    refuses w past (ending end s j k) fault new h.1 (stops w past (ending end s j k) fault (bar_is w past s j k end ∙ h.0)) stands
 
 -- ---- a frame comes to a server
 
 -- It has this number, and goes to server s.
-pub record GoesTo (n : ℕ) (past : List Change) (number : ℕ) (f : Frame) (s : ℕ) : Type 0 where
-  pub is_sent : slice_get (frames_sent n (steps past)) number ≡ Some f
+pub record GoesTo (w : Setup) (past : List Change) (number : ℕ) (f : Frame) (s : ℕ) : Type 0 where
+  pub is_sent : slice_get (frames_sent w (steps past)) number ≡ Some f
   pub goes_to : to_of f ≡ nodes.Server s
 
-frame_bar : (n : ℕ) (past : List Change) (number : ℕ) (f : Frame) (s : ℕ) → GoesTo n past number f s → barred n (trace n past) (frames_sent n (steps past)) (happenings.Deliver number) ≡ off n (trace n past) (nodes.Server s)
-frame_bar n past number f s g = ap (unsent n (trace n past)) g.is_sent ∙ ap (off n (trace n past)) g.goes_to
+frame_bar : (w : Setup) (past : List Change) (number : ℕ) (f : Frame) (s : ℕ) → GoesTo w past number f s → barred w (trace w past) (frames_sent w (steps past)) (happenings.Deliver number) ≡ off w (trace w past) (nodes.Server s)
+frame_bar w past number f s g = ap (unsent w (trace w past)) g.is_sent ∙ ap (off w (trace w past)) g.goes_to
 
-frame_comes : (n : ℕ) (past : List Change) (number : ℕ) (f : Frame) (s : ℕ) → GoesTo n past number f s → brings n past (happenings.Deliver number) ≡ comes_to_server (trace n past) s f (said_to_server (steps past) s f)
-frame_comes n past number f s g = ap (delivered n past) g.is_sent ∙ ap (λ node. comes_to n past node f) g.goes_to
+frame_comes : (w : Setup) (past : List Change) (number : ℕ) (f : Frame) (s : ℕ) → GoesTo w past number f s → brings w past (happenings.Deliver number) ≡ comes_to_server (trace w past) s f (said_to_server (steps past) s f)
+frame_comes w past number f s g = ap (delivered w past) g.is_sent ∙ ap (λ node. comes_to w past node f) g.goes_to
 
-pub delivery_ends : (n : ℕ) (past : List Change) (number : ℕ) (f : Frame) (s : ℕ) (served : Served) (t : Told) (new : World) → GoesTo n past number f s → ServerEnds n past s (inputs.Deliver f) new (Ok served)
-    → t ≡ told_of served answers_told.Plain → Ends n past (happenings.Deliver number) new (Ok t)
-delivery_ends n past number f s served t new g h tells =
+pub delivery_ends : (w : Setup) (past : List Change) (number : ℕ) (f : Frame) (s : ℕ) (served : Served) (t : Told) (new : World) → GoesTo w past number f s → ServerEnds w past s (inputs.Deliver f) new (Ok served)
+    → t ≡ told_of served answers_told.Plain → Ends w past (happenings.Deliver number) new (Ok t)
+delivery_ends w past number f s served t new g h tells =
     let e = happenings.Deliver number in
-    does n past e (Met (step_by past s (inputs.Deliver f))) t new
-    (goes n past e (frame_bar n past number f s g ∙ h.on) ∙ frame_comes n past number f s g ∙ frame_ok n past s f h.free)
-    (told_is n past s e (inputs.Deliver f) served answers_told.Plain new h refl ∙ ap (λ x. Ok x) (sym tells)) h.stands
+    does w past e (Met (step_by past s (inputs.Deliver f))) t new
+    (goes w past e (frame_bar w past number f s g ∙ h.on) ∙ frame_comes w past number f s g ∙ frame_ok w past s f h.free)
+    (told_is w past s e (inputs.Deliver f) served answers_told.Plain new h refl ∙ ap (λ x. Ok x) (sym tells)) h.stands
 
-dropped : (n : ℕ) (past : List Change) (s : ℕ) (f : Frame) (fault : Fault) (e : Happening) (new : World) → outcome n past e ≡ comes_to_server (trace n past) s f (said_to_server (steps past) s f)
-    → ServerRefuses n past s (inputs.Deliver f) fault new
-    → DroppedOr s f fault (is_drop (sense (opening_of s) (entries past s) (inputs.Deliver f))) (comes_to_server (trace n past) s f (said_to_server (steps past) s f))
-    → (told n past e ≡ Err fault) × StandsFor n (after n past e) new
+dropped : (w : Setup) (past : List Change) (s : ℕ) (f : Frame) (fault : Fault) (e : Happening) (new : World) → outcome w past e ≡ comes_to_server (trace w past) s f (said_to_server (steps past) s f)
+    → ServerRefuses w past s (inputs.Deliver f) fault new
+    → DroppedOr s f fault (is_drop (sense (opening_of s) (entries past s) (inputs.Deliver f))) (comes_to_server (trace w past) s f (said_to_server (steps past) s f))
+    → (told w past e ≡ Err fault) × StandsFor w (after w past e) new
 unfolding DroppedOr
-dropped n past s f fault e new is r (inl d) = refusing n past e fault new (is ∙ d.1) (r.unchanged d.0)
-dropped n past s f fault e new is r (inr d) = (
-  ap (told_by n past e) (is ∙ d.2) ∙ ap (λ x. Err x) (sym d.1),
-  subst (λ x. StandsFor n (and_outcome x past) new) (sym (is ∙ d.2)) r.stands,
+dropped w past s f fault e new is r (inl d) = refusing w past e fault new (is ∙ d.1) (r.unchanged d.0)
+dropped w past s f fault e new is r (inr d) = (
+  ap (told_by w past e) (is ∙ d.2) ∙ ap (λ x. Err x) (sym d.1),
+  subst (λ x. StandsFor w (and_outcome x past) new) (sym (is ∙ d.2)) r.stands,
 )
 
-unanswered : (n : ℕ) (past : List Change) (number : ℕ) (f : Frame) (s : ℕ) (fault : Fault) (new : World) → GoesTo n past number f s → IsBarred n past s fault new ⊎ ServerRefuses n past s (inputs.Deliver f) fault new
-    → (told n past (happenings.Deliver number) ≡ Err fault) × StandsFor n (after n past (happenings.Deliver number)) new
-unanswered n past number f s fault new g (inl b) =
-    refusing n past (happenings.Deliver number) fault new (stops n past (happenings.Deliver number) fault (frame_bar n past number f s g ∙ b.why)) b.unchanged
-unanswered n past number f s fault new g (inr r) =
-    dropped n past s f fault (happenings.Deliver number) new (goes n past (happenings.Deliver number) (frame_bar n past number f s g ∙ r.on) ∙ frame_comes n past number f s g) r
-    (frame_err n past s f fault (up_of n past s r.on) r.why)
+unanswered : (w : Setup) (past : List Change) (number : ℕ) (f : Frame) (s : ℕ) (fault : Fault) (new : World) → GoesTo w past number f s → IsBarred w past s fault new ⊎ ServerRefuses w past s (inputs.Deliver f) fault new
+    → (told w past (happenings.Deliver number) ≡ Err fault) × StandsFor w (after w past (happenings.Deliver number)) new
+unanswered w past number f s fault new g (inl b) =
+    refusing w past (happenings.Deliver number) fault new (stops w past (happenings.Deliver number) fault (frame_bar w past number f s g ∙ b.why)) b.unchanged
+unanswered w past number f s fault new g (inr r) =
+    dropped w past s f fault (happenings.Deliver number) new (goes w past (happenings.Deliver number) (frame_bar w past number f s g ∙ r.on) ∙ frame_comes w past number f s g) r
+    (frame_err w past s f fault (up_of w past s r.on) r.why)
 
-delivery_sort : (n : ℕ) (past : List Change) (number : ℕ) (f : Frame) (s : ℕ) (fault : Fault) (new : World) → GoesTo n past number f s → (sort : FaultSort) → serving.Faults n past s (inputs.Deliver f) sort fault new
-    → ends.Faults n past (happenings.Deliver number) sort fault new
-delivery_sort n past number f s fault new g sorts.Memory h = h
-delivery_sort n past number f s fault new g sorts.Save h = h
-delivery_sort n past number f s fault new g sorts.Refusal h = unanswered n past number f s fault new g h
+delivery_sort : (w : Setup) (past : List Change) (number : ℕ) (f : Frame) (s : ℕ) (fault : Fault) (new : World) → GoesTo w past number f s → (sort : FaultSort) → serving.Faults w past s (inputs.Deliver f) sort fault new
+    → ends.Faults w past (happenings.Deliver number) sort fault new
+delivery_sort w past number f s fault new g sorts.Memory h = h
+delivery_sort w past number f s fault new g sorts.Save h = h
+delivery_sort w past number f s fault new g sorts.Refusal h = unanswered w past number f s fault new g h
 
-pub delivery_fails : (n : ℕ) (past : List Change) (number : ℕ) (f : Frame) (s : ℕ) (fault : Fault) (new : World) → GoesTo n past number f s → ServerEnds n past s (inputs.Deliver f) new (Err fault)
-    → Ends n past (happenings.Deliver number) new (Err fault)
-delivery_fails n past number f s fault new g h = delivery_sort n past number f s fault new g (sort_of fault) h
+pub delivery_fails : (w : Setup) (past : List Change) (number : ℕ) (f : Frame) (s : ℕ) (fault : Fault) (new : World) → GoesTo w past number f s → ServerEnds w past s (inputs.Deliver f) new (Err fault)
+    → Ends w past (happenings.Deliver number) new (Err fault)
+delivery_fails w past number f s fault new g h = delivery_sort w past number f s fault new g (sort_of fault) h

@@ -13,6 +13,7 @@ use Rattle.net_world.specs.Happenings.{Happening}
 use Rattle.net_world.specs.Happenings as happenings
 use Rattle.net_world.specs.declared.told.Answer.TheVariants.{Checked}
 use Rattle.net_world.specs.declared.told.Told.{Told}
+use Rattle.net_world.specs.Setup.{Setup}
 use Rattle.net_world.specs.Trace.{Step, opening_of, of_server, IsTrace}
 use Rattle.net_world.specs.Changes.{Change, steps, trace}
 use Rattle.net_world.specs.Contents.{content}
@@ -27,10 +28,10 @@ use Rattle.net_world.specs.Claims.{OfEachTrace, OfEachWorld}
 use Rattle.net_world.specs.Headline.{QuietUntilTheCheck, ExactReports}
 
 -- What is told answers what the event answers.
-told_ok : (n : ℕ) (past : List Change) (e : Happening) (r : Outcome) (t : Told) → told_by n past e r ≡ Ok t → (h : Change) × (r ≡ Does h) × (t.answer ≡ answer n past e)
-told_ok n past e (Refuses fault) t h = absurd cc
-told_ok n past e (Drops step) t h = absurd cc
-told_ok n past e (Does change) t h = (change, refl, ap (λ (x : Told). x.answer) (sym (the_ok h)))
+told_ok : (w : Setup) (past : List Change) (e : Happening) (r : Outcome) (t : Told) → told_by w past e r ≡ Ok t → (h : Change) × (r ≡ Does h) × (t.answer ≡ answer w past e)
+told_ok w past e (Refuses fault) t h = absurd cc
+told_ok w past e (Drops step) t h = absurd cc
+told_ok w past e (Does change) t h = (change, refl, ap (λ (x : Told). x.answer) (sym (the_ok h)))
   where
     the_ok : {X Y : Type 0} {x y : X} → ◌≡◌ {A = Result X Y} (Ok x) (Ok y) → x ≡ y
     the_ok h = cc
@@ -84,48 +85,48 @@ ready (Some c) j held e h = (c, refl, ready_for c j held (slice_get c.jobs j) e 
 pub progress_is : (o : Opening) (list : List Entry) (j : ℕ) (c : Check) (job : Job) (p : Progress) → check o list ≡ Some c → slice_get c.jobs j ≡ Some job → progress_after c j job c.since ≡ p → progress o list j ≡ Some p
 progress_is o list j c job p a b h = ap (λ x. progress_in x j) a ∙ ap (progress_at c j) b ∙ ap Some h
 
-made_with : OfEachTrace QuietUntilTheCheck → (n : ℕ) (t : List Step) (s j : ℕ) (x : Option State) → IsTrace n t → progress (opening_of s) (of_server s t) j ≡ Some (with_or_full x) → IsMadeWith s j (of_server s t) x
-made_with quiet n t s j None trace h = h
-made_with quiet n t s j (Some state) trace h = (h, quiet n t trace s j state h)
+made_with : OfEachTrace QuietUntilTheCheck → (w : Setup) (t : List Step) (s j : ℕ) (x : Option State) → IsTrace w t → progress (opening_of s) (of_server s t) j ≡ Some (with_or_full x) → IsMadeWith s j (of_server s t) x
+made_with quiet w t s j None trace h = h
+made_with quiet w t s j (Some state) trace h = (h, quiet w t trace s j state h)
 
 -- A check that isn't refused met the end of the check of a job that is ready.
-record Made (n : ℕ) (past : List Change) (s j : ℕ) (t : Told) : Type 0 where
+record Made (w : Setup) (past : List Change) (s j : ℕ) (t : Told) : Type 0 where
   pub now : Check
-  pub is_open : check (opening_of s) (of_server s (trace n past)) ≡ Some now
+  pub is_open : check (opening_of s) (of_server s (trace w past)) ≡ Some now
   pub event : ServerEvent
-  pub ready : Ready now j (content n past s j) (slice_get now.jobs j) event
+  pub ready : Ready now j (content w past s j) (slice_get now.jobs j) event
   pub answer : t.answer ≡ report_in (Some event)
 
-made : (n : ℕ) (past : List Change) (s j : ℕ) (t : Told) → told n past (happenings.Check s j) ≡ Ok t → Made n past s j t
-made n past s j t h =
-    let a = told_ok n past (happenings.Check s j) (outcome n past (happenings.Check s j)) t h in
-    let b = stepped_ok (reported (trace n past) s (checked n past s j)) a.0
-    (unless_does (barred n (trace n past) (frames_sent n (steps past)) (happenings.Check s j)) (brings n past (happenings.Check s j)) a.0 a.1) in
-    let d = checks_ok (trace n past) s (checked n past s j) b.0 b.1 in
-    let k = ready (check (opening_of s) (of_server s (trace n past))) j (content n past s j) d.0 d.1 in
+made : (w : Setup) (past : List Change) (s j : ℕ) (t : Told) → told w past (happenings.Check s j) ≡ Ok t → Made w past s j t
+made w past s j t h =
+    let a = told_ok w past (happenings.Check s j) (outcome w past (happenings.Check s j)) t h in
+    let b = stepped_ok (reported (trace w past) s (checked w past s j)) a.0
+    (unless_does (barred w (trace w past) (frames_sent w (steps past)) (happenings.Check s j)) (brings w past (happenings.Check s j)) a.0 a.1) in
+    let d = checks_ok (trace w past) s (checked w past s j) b.0 b.1 in
+    let k = ready (check (opening_of s) (of_server s (trace w past))) j (content w past s j) d.0 d.1 in
     record { now = k.0; is_open = k.1; event = d.0; ready = k.2; answer = a.2 ∙ ap report_in d.1 }
 
 answer_of : (c : Check) (j : ℕ) (held : ℕ → List ℕ) (x : Option Job) (e : ServerEvent) → (r : Ready c j held x e) → report_in (Some e) ≡ Checked (report_of (key_of c j) r.job r.state held)
 answer_of c j held x e r = ap (λ f. report_in (Some f)) r.event
 
-exact : OfEachTrace QuietUntilTheCheck → (n : ℕ) (past : List Change) (s j : ℕ) (t : Told) → IsTrace n (trace n past) → Made n past s j t → (r : ReportParts) × (t.answer ≡ Checked r) × IsExact n past s j r
-exact quiet n past s j t tr m =
+exact : OfEachTrace QuietUntilTheCheck → (w : Setup) (past : List Change) (s j : ℕ) (t : Told) → IsTrace w (trace w past) → Made w past s j t → (r : ReportParts) × (t.answer ≡ Checked r) × IsExact w past s j r
+exact quiet w past s j t tr m =
     let o = opening_of s in
-    let list = of_server s (trace n past) in
+    let list = of_server s (trace w past) in
     let r = m.ready in
-    let report = report_of (key_of m.now j) r.job r.state (content n past s j) in (
+    let report = report_of (key_of m.now j) r.job r.state (content w past s j) in (
       report,
-      m.answer ∙ answer_of m.now j (content n past s j) (slice_get m.now.jobs j) m.event r,
+      m.answer ∙ answer_of m.now j (content w past s j) (slice_get m.now.jobs j) m.event r,
       record {
         now = m.now;
         is_open = m.is_open;
         job = r.job;
         has_job = r.has_job;
         state = r.state;
-        made = made_with quiet n (trace n past) s j r.state tr (progress_is o list j m.now r.job (with_or_full r.state) m.is_open r.has_job r.made);
+        made = made_with quiet w (trace w past) s j r.state tr (progress_is o list j m.now r.job (with_or_full r.state) m.is_open r.has_job r.made);
         report = refl;
       },
     )
 
 pub checks_are_exact : EachWorldIsATrace → OfEachTrace QuietUntilTheCheck → OfEachWorld ExactReports
-checks_are_exact traces quiet n events few s j t h = exact quiet n (world n events) s j t (traces n events few) (made n (world n events) s j t h)
+checks_are_exact traces quiet w events few s j t h = exact quiet w (world w events) s j t (traces w events few) (made w (world w events) s j t h)

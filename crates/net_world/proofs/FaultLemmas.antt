@@ -17,6 +17,7 @@ use Rattle.disk_model.specs.File.{block_bytes}
 use Rattle.recheck.specs.Expected.{counts, greatest_below, last_completed, in_flight, placed, expected_by}
 use Rattle.recheck.specs.Faults.{last_write, is_checked, writes_to, is_write, is_expected}
 use Rattle.server_core.specs.Check.{Check}
+use Rattle.net_world.specs.Setup.{Setup}
 use Rattle.net_world.specs.Changes.{Change}
 use Rattle.net_world.specs.Contents.{content}
 use Rattle.net_world.specs.Checks.{key_of}
@@ -33,11 +34,11 @@ reads_as held own key a b k block is same there h =
     (subst (λ (i : Key). block_bytes held a.bs (block_of b k) ≡ written_bytes i a k (block_of b k)) is
     (ap (λ n. block_bytes held n (block_of b k)) same.bs ∙ h ∙ sym (same_bytes a b own k (block_of b k) same)))
 
-pub few : (n : ℕ) (past : List Change) (s j : ℕ) (c : Check) (job : Job) (state : State) (block : ℕ) → state.key ≡ key_of c j → WriteTheSame job.rec state.job → OfState LastAreThere (content n past s j) state
-    → IsFaulty n past s j c job state block → WasInFlight state block
-few n past s j c job state block key same safe faulty =
+pub few : (w : Setup) (past : List Change) (s j : ℕ) (c : Check) (job : Job) (state : State) (block : ℕ) → state.key ≡ key_of c j → WriteTheSame job.rec state.job → OfState LastAreThere (content w past s j) state
+    → IsFaulty w past s j c job state block → WasInFlight state block
+few w past s j c job state block key same safe faulty =
     let e = expected_by (key_of c j) job.rec (Some state) in
-    let held : ℕ → List ℕ = λ b. block_bytes (content n past s j) job.rec.bs b in
+    let held : ℕ → List ℕ = λ b. block_bytes (content w past s j) job.rec.bs b in
     let p = and_parts (is_checked e block) (not (is_expected e block (held block))) faulty in
     let l = is_number (last_write e block) p.0 in
     let g = greatest (λ i. counts (Some state) i && (block_of job.rec i == block)) state.issued l.0 (checked_within (last_completed job.rec (Some state)) job.rec.blocks block l.0 l.1) in
@@ -62,9 +63,9 @@ few n past s j c job state block key same safe faulty =
         let q = and_parts (has state.counted k) (block_of job.rec k == block) g.passes in
         let here : block_of job.rec k ≡ block = eqb-true (block_of job.rec k) block q.1 in
         let there : block_of state.job k ≡ block = sym (same_block job.rec state.job k same) ∙ here in
-        let whole : HoldsWrite (content n past s j) state.key state.job k = safe k q.0 (λ i lt e. last i lt (e ∙ there) (cases_Bool (has state.counted i))) in
-        let read = reads_as (content n past s j) state.key (key_of c j) job.rec state.job k block key same there whole in
-        absurd (sound (expected_by (key_of c j) job.rec (Some state)) (λ b. block_bytes (content n past s j) job.rec.bs b) block k l read faulty)
+        let whole : HoldsWrite (content w past s j) state.key state.job k = safe k q.0 (λ i lt e. last i lt (e ∙ there) (cases_Bool (has state.counted i))) in
+        let read = reads_as (content w past s j) state.key (key_of c j) job.rec state.job k block key same there whole in
+        absurd (sound (expected_by (key_of c j) job.rec (Some state)) (λ b. block_bytes (content w past s j) job.rec.bs b) block k l read faulty)
       where
         last : (i : ℕ) → i < state.issued → block_of state.job i ≡ block → (has state.counted i ≡ true) ⊎ (has state.counted i ≡ false) → i ≤ k
         last i lt e (inl counted) =
@@ -109,11 +110,11 @@ expected_flight key job state bytes block k i is lt undone at w =
         below : nat_lt i state.issued ≡ true
         below = grind (arith, nat_tests)
 
-pub none : (n : ℕ) (past : List Change) (s j : ℕ) (c : Check) (job : Job) (state : State) (block : ℕ) → state.key ≡ key_of c j → WriteTheSame job.rec state.job → OfState CurrentAreThere (content n past s j) state
-    → IsFaulty n past s j c job state block → ⊥
-none n past s j c job state block key same shown faulty =
+pub none : (w : Setup) (past : List Change) (s j : ℕ) (c : Check) (job : Job) (state : State) (block : ℕ) → state.key ≡ key_of c j → WriteTheSame job.rec state.job → OfState CurrentAreThere (content w past s j) state
+    → IsFaulty w past s j c job state block → ⊥
+none w past s j c job state block key same shown faulty =
     let e = expected_by (key_of c j) job.rec (Some state) in
-    let held : ℕ → List ℕ = λ b. block_bytes (content n past s j) job.rec.bs b in
+    let held : ℕ → List ℕ = λ b. block_bytes (content w past s j) job.rec.bs b in
     let p = and_parts (is_checked e block) (not (is_expected e block (held block))) faulty in
     let l = is_number (last_write e block) p.0 in
     let k = l.0 in
@@ -122,17 +123,17 @@ none n past s j c job state block key same shown faulty =
     let here : block_of state.job k ≡ block = sym (same_block job.rec state.job k same) ∙ eqb-true (block_of job.rec k) block q.1 in
     let x = shown k q.0 (λ i lt counted to. g.last i lt (both (has state.counted i) (block_of job.rec i == block) counted (at i (to ∙ here)))) in
     let there : block_of state.job x.write ≡ block = x.there ∙ here in
-    let read = reads_as (content n past s j) state.key (key_of c j) job.rec state.job x.write block key same there x.holds in
+    let read = reads_as (content w past s j) state.key (key_of c j) job.rec state.job x.write block key same there x.holds in
     let write : is_write e block (held block) x.write ≡ true = (bytes_eq-Decides (held block) (written_bytes (key_of c j) job.rec x.write block)).1 read in
     false≢true (sym (ap not (expected k x.write l.1 write (at x.write there) x.which)) ∙ p.1)
   where
     at : (i : ℕ) → block_of state.job i ≡ block → (block_of job.rec i == block) ≡ true
     at i to = let f : block_of job.rec i ≡ block = same_block job.rec state.job i same ∙ to in grind (arith, nat_tests)
 
-    expected : (k i : ℕ) → last_write (expected_by (key_of c j) job.rec (Some state)) block ≡ Some k → is_write (expected_by (key_of c j) job.rec (Some state)) block (block_bytes (content n past s j) job.rec.bs block) i ≡ true
+    expected : (k i : ℕ) → last_write (expected_by (key_of c j) job.rec (Some state)) block ≡ Some k → is_write (expected_by (key_of c j) job.rec (Some state)) block (block_bytes (content w past s j) job.rec.bs block) i ≡ true
         → (block_of job.rec i == block) ≡ true → (i ≡ k) ⊎ ((i < state.issued) × (has state.counted i ≡ false))
-        → is_expected (expected_by (key_of c j) job.rec (Some state)) block (block_bytes (content n past s j) job.rec.bs block) ≡ true
-    expected k i is w to (inl e) =
-        expected_it (expected_by (key_of c j) job.rec (Some state)) (block_bytes (content n past s j) job.rec.bs block) block k is
-        (subst (λ m. is_write (expected_by (key_of c j) job.rec (Some state)) block (block_bytes (content n past s j) job.rec.bs block) m ≡ true) e w)
-    expected k i is w to (inr p) = expected_flight (key_of c j) job.rec state (block_bytes (content n past s j) job.rec.bs block) block k i is p.0 p.1 to w
+        → is_expected (expected_by (key_of c j) job.rec (Some state)) block (block_bytes (content w past s j) job.rec.bs block) ≡ true
+    expected k i is wrote to (inl e) =
+        expected_it (expected_by (key_of c j) job.rec (Some state)) (block_bytes (content w past s j) job.rec.bs block) block k is
+        (subst (λ m. is_write (expected_by (key_of c j) job.rec (Some state)) block (block_bytes (content w past s j) job.rec.bs block) m ≡ true) e wrote)
+    expected k i is wrote to (inr p) = expected_flight (key_of c j) job.rec state (block_bytes (content w past s j) job.rec.bs block) block k i is p.0 p.1 to wrote

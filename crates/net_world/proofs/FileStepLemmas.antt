@@ -19,6 +19,7 @@ use Rattle.messages.specs.FrameBytes.{frame_spelling}
 use Rattle.net_world.specs.declared.server_node.ServerNode.{ServerNode}
 use Rattle.net_world.specs.declared.told.Told.{Told}
 use Rattle.net_world.specs.declared.world.World.{World}
+use Rattle.net_world.specs.Setup.{Setup, servers_of}
 use Rattle.net_world.specs.Happenings.{Happening}
 use Rattle.net_world.specs.Trace.{opening_of, client_opening}
 use Rattle.net_world.specs.Frames.{frames_sent, server_entries, client_entries}
@@ -58,9 +59,9 @@ pub record HasWritten (s j : ℕ) (disk : MemDisk) (old new : World) : Type 0 wh
   pub servers_are : new.servers ≡ old.servers
 
 -- A change of this file alone.
-pub record IsOfFile (n : ℕ) (past : List Change) (s j : ℕ) (change : Change) (held : ℕ → List ℕ) : Type 0 where
+pub record IsOfFile (w : Setup) (past : List Change) (s j : ℕ) (change : Change) (held : ℕ → List ℕ) : Type 0 where
   pub steps_are : steps (change ∷ past) ≡ steps past
-  pub content_is : (t i : ℕ) → content n (change ∷ past) t i ≡ (if is_file s j t i then held else content n past t i)
+  pub content_is : (t i : ℕ) → content w (change ∷ past) t i ≡ (if is_file s j t i then held else content w past t i)
 
 same_file : (s j t i : ℕ) → s ≡ t → j ≡ i → is_file s j t i ≡ true
 same_file s j t i h k = rw (eq-eqb s t h, eq-eqb j i k) refl
@@ -69,73 +70,73 @@ other_file : (s j t i : ℕ) → ((s ≡ t) × (j ≡ i) → ⊥) → (b : Bool)
 other_file s j t i ne true h = let p = and_parts (s == t) (j == i) h in absurd (ne (eqb-true s t p.0, eqb-true j i p.1))
 other_file s j t i ne false h = refl
 
-file_by : (n : ℕ) (past : List Change) (s j : ℕ) (change : Change) (held : ℕ → List ℕ) → IsOfFile n past s j change held → (t i : ℕ) (b : Bool) → is_file s j t i ≡ b → content n (change ∷ past) t i ≡ (if b then held else content n past t i)
-file_by n past s j change held f t i b h = f.content_is t i ∙ ap (λ x. if x then held else content n past t i) h
+file_by : (w : Setup) (past : List Change) (s j : ℕ) (change : Change) (held : ℕ → List ℕ) → IsOfFile w past s j change held → (t i : ℕ) (b : Bool) → is_file s j t i ≡ b → content w (change ∷ past) t i ≡ (if b then held else content w past t i)
+file_by w past s j change held f t i b h = f.content_is t i ∙ ap (λ x. if x then held else content w past t i) h
 
 same_place : (s j t i : ℕ) → j < 16 → i < 16 → 16 * s + j ≡ 16 * t + i → (s ≡ t) × (j ≡ i)
 same_place s j t i l m h = (omega (arith, h, l, m), omega (arith, h, l, m))
 
-each_file : (n : ℕ) (past : List Change) (s j : ℕ) (change : Change) (held : ℕ → List ℕ) (disk : MemDisk) (old new : World) → StandsFor n past old → HasWritten s j disk old new → IsOfFile n past s j change held
-    → file_of disk ≡ with_content held → (t i : ℕ) (x : MemDisk) → i < 16 → slice_get new.files.items (16 * t + i) ≡ Some x → (b : Bool) → is_file s j t i ≡ b → file_of x ≡ file n (change ∷ past) t i
-each_file n past s j change held disk old new stands w f is t i x l at true h =
+each_file : (w : Setup) (past : List Change) (s j : ℕ) (change : Change) (held : ℕ → List ℕ) (disk : MemDisk) (old new : World) → StandsFor w past old → HasWritten s j disk old new → IsOfFile w past s j change held
+    → file_of disk ≡ with_content held → (t i : ℕ) (x : MemDisk) → i < 16 → slice_get new.files.items (16 * t + i) ≡ Some x → (b : Bool) → is_file s j t i ≡ b → file_of x ≡ file w (change ∷ past) t i
+each_file w past s j change held disk old new stands wrote f is t i x l at true h =
     let p = and_parts (s == t) (j == i) h in
     let e : 16 * t + i ≡ 16 * s + j = omega (arith, eqb-true s t p.0, eqb-true j i p.1) in
     let here : slice_get (set old.files.items (16 * s + j) disk) (16 * s + j) ≡ Some x =
-    ap (λ k. slice_get (set old.files.items k disk) (16 * s + j)) (sym w.place_is) ∙ ap (λ xs. slice_get xs (16 * s + j)) (sym w.set_is) ∙ ap (slice_get new.files.items) (sym e) ∙ at in
-    sym (ap file_of (is_set old.files.items (16 * s + j) disk x w.there here)) ∙ is ∙ ap with_content (sym (file_by n past s j change held f t i true h))
-each_file n past s j change held disk old new stands w f is t i x l at false h =
-    let ne : 16 * s + j ≡ 16 * t + i → ⊥ = λ e. let p = same_place s j t i w.slot l e in true_false (sym (same_file s j t i p.0 p.1) ∙ h) in
+    ap (λ k. slice_get (set old.files.items k disk) (16 * s + j)) (sym wrote.place_is) ∙ ap (λ xs. slice_get xs (16 * s + j)) (sym wrote.set_is) ∙ ap (slice_get new.files.items) (sym e) ∙ at in
+    sym (ap file_of (is_set old.files.items (16 * s + j) disk x wrote.there here)) ∙ is ∙ ap with_content (sym (file_by w past s j change held f t i true h))
+each_file w past s j change held disk old new stands wrote f is t i x l at false h =
+    let ne : 16 * s + j ≡ 16 * t + i → ⊥ = λ e. let p = same_place s j t i wrote.slot l e in true_false (sym (same_file s j t i p.0 p.1) ∙ h) in
     let was : slice_get old.files.items (16 * t + i) ≡ Some x =
-    sym (set_there old.files.items (16 * s + j) (16 * t + i) disk ne) ∙ ap (λ k. slice_get (set old.files.items k disk) (16 * t + i)) (sym w.place_is) ∙ ap (λ xs. slice_get xs (16 * t + i)) (sym w.set_is) ∙ at in
-    stands.files_are t i x l was ∙ ap with_content (sym (file_by n past s j change held f t i false h))
+    sym (set_there old.files.items (16 * s + j) (16 * t + i) disk ne) ∙ ap (λ k. slice_get (set old.files.items k disk) (16 * t + i)) (sym wrote.place_is) ∙ ap (λ xs. slice_get xs (16 * t + i)) (sym wrote.set_is) ∙ at in
+    stands.files_are t i x l was ∙ ap with_content (sym (file_by w past s j change held f t i false h))
   where
     true_false : true ≡ false → ⊥
     true_false e = cc
 
 -- The world stands for the change.
-pub file_changed : (n : ℕ) (past : List Change) (s j : ℕ) (change : Change) (held : ℕ → List ℕ) (disk : MemDisk) (old new : World) → StandsFor n past old → HasWritten s j disk old new → IsOfFile n past s j change held
-    → file_of disk ≡ with_content held → StandsFor n (change ∷ past) new
-file_changed n past s j change held disk old new stands w f is = record {
+pub file_changed : (w : Setup) (past : List Change) (s j : ℕ) (change : Change) (held : ℕ → List ℕ) (disk : MemDisk) (old new : World) → StandsFor w past old → HasWritten s j disk old new → IsOfFile w past s j change held
+    → file_of disk ≡ with_content held → StandsFor w (change ∷ past) new
+file_changed w past s j change held disk old new stands wrote f is = record {
   some = stands.some;
   few = stands.few;
-  number = ap (λ (v : Vec ServerNode Global). length v.items) w.servers_are ∙ stands.number;
-  sent_is = w.sent_is ∙ stands.sent_is ∙ ap (λ t. map frame_spelling (frames_sent n t)) (sym f.steps_are);
+  number = ap (λ (v : Vec ServerNode Global). length v.items) wrote.servers_are ∙ stands.number;
+  sent_is = wrote.sent_is ∙ stands.sent_is ∙ ap (λ t. map frame_spelling (frames_sent w t)) (sym f.steps_are);
   servers_are = λ r node at.
       subst (λ t. servers.Stands (opening_of r) (server_entries r t) node) (sym f.steps_are)
-      (stands.servers_are r node (ap (λ (v : Vec ServerNode Global). slice_get v.items r) (sym w.servers_are) ∙ at));
+      (stands.servers_are r node (ap (λ (v : Vec ServerNode Global). slice_get v.items r) (sym wrote.servers_are) ∙ at));
   client_is =
-      subst (λ t. clients.Stands (client_opening n) (client_entries t) new.client) (sym f.steps_are)
-      (subst (λ x. clients.Stands (client_opening n) (client_entries (steps past)) x) (sym w.client_is) stands.client_is);
-  files = ap (λ (xs : List MemDisk). length xs) w.set_is ∙ length-set old.files.items w.place disk ∙ stands.files;
-  files_are = λ t i x l at. each_file n past s j change held disk old new stands w f is t i x l at (is_file s j t i) refl;
+      subst (λ t. clients.Stands (client_opening w) (client_entries t) new.client) (sym f.steps_are)
+      (subst (λ x. clients.Stands (client_opening w) (client_entries (steps past)) x) (sym wrote.client_is) stands.client_is);
+  files = ap (λ (xs : List MemDisk). length xs) wrote.set_is ∙ length-set old.files.items wrote.place disk ∙ stands.files;
+  files_are = λ t i x l at. each_file w past s j change held disk old new stands wrote f is t i x l at (is_file s j t i) refl;
 }
 
 -- ---- what is told
 
-pub quiet_ends : (n : ℕ) (past : List Change) (s j : ℕ) (e : Happening) (change : Change) (held : ℕ → List ℕ) (disk : MemDisk) (first : ℕ) (t : Told) (old new : World) → StandsFor n past old → HasWritten s j disk old new → IsOfFile n past s j change held
-    → file_of disk ≡ with_content held → outcome n past e ≡ Does change → told_by n past e (Does change) ≡ Ok (plainly_told (length (frames_sent n (steps past)))) → first ≡ length (sent_in old.sent) → t ≡ plainly_told first → Ends n past e new (Ok t)
-quiet_ends n past s j e change held disk first t old new stands w f is comes told first_ok tells =
-    does n past e change t new comes (told ∙ ap (λ k. Ok (plainly_told k)) (sym (first_ok ∙ first_is n past old stands)) ∙ ap (λ x. Ok x) (sym tells)) (file_changed n past s j change held disk old new stands w f is)
+pub quiet_ends : (w : Setup) (past : List Change) (s j : ℕ) (e : Happening) (change : Change) (held : ℕ → List ℕ) (disk : MemDisk) (first : ℕ) (t : Told) (old new : World) → StandsFor w past old → HasWritten s j disk old new → IsOfFile w past s j change held
+    → file_of disk ≡ with_content held → outcome w past e ≡ Does change → told_by w past e (Does change) ≡ Ok (plainly_told (length (frames_sent w (steps past)))) → first ≡ length (sent_in old.sent) → t ≡ plainly_told first → Ends w past e new (Ok t)
+quiet_ends w past s j e change held disk first t old new stands wrote f is comes told first_ok tells =
+    does w past e change t new comes (told ∙ ap (λ k. Ok (plainly_told k)) (sym (first_ok ∙ first_is w past old stands)) ∙ ap (λ x. Ok x) (sym tells)) (file_changed w past s j change held disk old new stands wrote f is)
 
 -- ---- a sector that rots, and sectors that land
 
-pub rots : (n : ℕ) (past : List Change) (s j sector : ℕ) (bytes : List ℕ) → IsOfFile n past s j (Rotted s j sector bytes) (put sector bytes (content n past s j))
-rots n past s j sector bytes = record { steps_are = refl; content_is = λ t i. by_file t i (is_file s j t i) refl }
+pub rots : (w : Setup) (past : List Change) (s j sector : ℕ) (bytes : List ℕ) → IsOfFile w past s j (Rotted s j sector bytes) (put sector bytes (content w past s j))
+rots w past s j sector bytes = record { steps_are = refl; content_is = λ t i. by_file t i (is_file s j t i) refl }
   where
-    same : (t i : ℕ) → is_file s j t i ≡ true → put sector bytes (content n past t i) ≡ put sector bytes (content n past s j)
-    same t i h = let p = and_parts (s == t) (j == i) h in ap (λ c. put sector bytes c) (sym (ap (λ k. content n past k j) (eqb-true s t p.0) ∙ ap (content n past t) (eqb-true j i p.1)))
+    same : (t i : ℕ) → is_file s j t i ≡ true → put sector bytes (content w past t i) ≡ put sector bytes (content w past s j)
+    same t i h = let p = and_parts (s == t) (j == i) h in ap (λ c. put sector bytes c) (sym (ap (λ k. content w past k j) (eqb-true s t p.0) ∙ ap (content w past t) (eqb-true j i p.1)))
 
-    by_file : (t i : ℕ) (b : Bool) → is_file s j t i ≡ b → (if b then put sector bytes (content n past t i) else content n past t i) ≡ (if b then put sector bytes (content n past s j) else content n past t i)
+    by_file : (t i : ℕ) (b : Bool) → is_file s j t i ≡ b → (if b then put sector bytes (content w past t i) else content w past t i) ≡ (if b then put sector bytes (content w past s j) else content w past t i)
     by_file t i true h = same t i h
     by_file t i false h = refl
 
-pub lands : (n : ℕ) (past : List Change) (s j k mask : ℕ) → IsOfFile n past s j (Landed s j k mask) (with_write k mask (open_at (trace n past) s j k) (content n past s j))
-lands n past s j k mask = record { steps_are = refl; content_is = λ t i. by_file t i (is_file s j t i) refl }
+pub lands : (w : Setup) (past : List Change) (s j k mask : ℕ) → IsOfFile w past s j (Landed s j k mask) (with_write k mask (open_at (trace w past) s j k) (content w past s j))
+lands w past s j k mask = record { steps_are = refl; content_is = λ t i. by_file t i (is_file s j t i) refl }
   where
-    same : (t i : ℕ) → is_file s j t i ≡ true → with_write k mask (open_at (trace n past) s j k) (content n past t i) ≡ with_write k mask (open_at (trace n past) s j k) (content n past s j)
-    same t i h = let p = and_parts (s == t) (j == i) h in ap (λ c. with_write k mask (open_at (trace n past) s j k) c) (sym (ap (λ r. content n past r j) (eqb-true s t p.0) ∙ ap (content n past t) (eqb-true j i p.1)))
+    same : (t i : ℕ) → is_file s j t i ≡ true → with_write k mask (open_at (trace w past) s j k) (content w past t i) ≡ with_write k mask (open_at (trace w past) s j k) (content w past s j)
+    same t i h = let p = and_parts (s == t) (j == i) h in ap (λ c. with_write k mask (open_at (trace w past) s j k) c) (sym (ap (λ r. content w past r j) (eqb-true s t p.0) ∙ ap (content w past t) (eqb-true j i p.1)))
 
-    by_file : (t i : ℕ) (b : Bool) → is_file s j t i ≡ b → (if b then with_write k mask (open_at (trace n past) s j k) (content n past t i) else content n past t i) ≡ (if b then with_write k mask (open_at (trace n past) s j k) (content n past s j) else content n past t i)
+    by_file : (t i : ℕ) (b : Bool) → is_file s j t i ≡ b → (if b then with_write k mask (open_at (trace w past) s j k) (content w past t i) else content w past t i) ≡ (if b then with_write k mask (open_at (trace w past) s j k) (content w past s j) else content w past t i)
     by_file t i true h = same t i h
     by_file t i false h = refl
 
@@ -144,62 +145,62 @@ lands n past s j k mask = record { steps_are = refl; content_is = λ t i. by_fil
 pub has_slot : (s j len : ℕ) → (nat_lt j 16 && nat_lt (16 * s + j) len) ≡ true → (j < 16) × (16 * s + j < len)
 has_slot s j len h = let p = and_parts (nat_lt j 16) (nat_lt (16 * s + j) len) h in (lt_of j 16 p.0, lt_of (16 * s + j) len p.1)
 
-pub no_slot : (n s j len : ℕ) → (nat_lt j 16 && nat_lt (16 * s + j) len) ≡ false → len ≡ 16 * n → s < n → 16 ≤ j
-no_slot n s j len h e l = by_test (nat_lt j 16) refl
+pub no_slot : (w : Setup) (s j len : ℕ) → (nat_lt j 16 && nat_lt (16 * s + j) len) ≡ false → len ≡ 16 * servers_of w → s < servers_of w → 16 ≤ j
+no_slot w s j len h e l = by_test (nat_lt j 16) refl
   where
     by_test : (b : Bool) → nat_lt j 16 ≡ b → 16 ≤ j
     by_test false f = le_of j 16 f
     by_test true f = absurd (omega (arith, le_of (16 * s + j) len (ap (λ x. x && nat_lt (16 * s + j) len) (sym f) ∙ h), e, l, lt_of j 16 f))
 
-pub rot_free : (n s j : ℕ) → s < n → j < 16 → no_file n s j ≡ None
-rot_free n s j l m = both (nat_lt s n) (nat_lt j 16) (lt_true s n l) (lt_true j 16 m)
+pub rot_free : (w : Setup) (s j : ℕ) → s < servers_of w → j < 16 → no_file w s j ≡ None
+rot_free w s j l m = both (nat_lt s (servers_of w)) (nat_lt j 16) (lt_true s (servers_of w) l) (lt_true j 16 m)
   where
     both : (a b : Bool) → a ≡ true → b ≡ true → option_or (unless a NoServer) (unless b NoWrite) ≡ None
     both a b h k = rw (h, k) refl
 
-pub rot_none : (n s j : ℕ) → n ≤ s → no_file n s j ≡ Some NoServer
-rot_none n s j h = first (nat_lt s n) (nat_lt j 16) (lt_false s n h)
+pub rot_none : (w : Setup) (s j : ℕ) → servers_of w ≤ s → no_file w s j ≡ Some NoServer
+rot_none w s j h = first (nat_lt s (servers_of w)) (nat_lt j 16) (lt_false s (servers_of w) h)
   where
     first : (a b : Bool) → a ≡ false → option_or (unless a NoServer) (unless b NoWrite) ≡ Some NoServer
     first a b h = rw h refl
 
-pub rot_past : (n s j : ℕ) → s < n → 16 ≤ j → no_file n s j ≡ Some NoWrite
-rot_past n s j l h = second (nat_lt s n) (nat_lt j 16) (lt_true s n l) (lt_false j 16 h)
+pub rot_past : (w : Setup) (s j : ℕ) → s < servers_of w → 16 ≤ j → no_file w s j ≡ Some NoWrite
+rot_past w s j l h = second (nat_lt s (servers_of w)) (nat_lt j 16) (lt_true s (servers_of w) l) (lt_false j 16 h)
   where
     second : (a b : Bool) → a ≡ true → b ≡ false → option_or (unless a NoServer) (unless b NoWrite) ≡ Some NoWrite
     second a b h k = rw (h, k) refl
 
 -- ---- the file holds what it held
 
-same_by : (n : ℕ) (past : List Change) (s j : ℕ) (disk : MemDisk) (old new : World) → StandsFor n past old → HasWritten s j disk old new → file_of disk ≡ file n past s j
-    → (t i : ℕ) (x : MemDisk) → i < 16 → slice_get new.files.items (16 * t + i) ≡ Some x → (b : Bool) → is_file s j t i ≡ b → file_of x ≡ file n past t i
-same_by n past s j disk old new stands w is t i x l at true h =
+same_by : (w : Setup) (past : List Change) (s j : ℕ) (disk : MemDisk) (old new : World) → StandsFor w past old → HasWritten s j disk old new → file_of disk ≡ file w past s j
+    → (t i : ℕ) (x : MemDisk) → i < 16 → slice_get new.files.items (16 * t + i) ≡ Some x → (b : Bool) → is_file s j t i ≡ b → file_of x ≡ file w past t i
+same_by w past s j disk old new stands wrote is t i x l at true h =
     let p = and_parts (s == t) (j == i) h in
     let st = eqb-true s t p.0 in
     let ji = eqb-true j i p.1 in
     let e : 16 * t + i ≡ 16 * s + j = omega (arith, st, ji) in
     let here : slice_get (set old.files.items (16 * s + j) disk) (16 * s + j) ≡ Some x =
-    ap (λ k. slice_get (set old.files.items k disk) (16 * s + j)) (sym w.place_is) ∙ ap (λ xs. slice_get xs (16 * s + j)) (sym w.set_is) ∙ ap (slice_get new.files.items) (sym e) ∙ at in
-    sym (ap file_of (is_set old.files.items (16 * s + j) disk x w.there here)) ∙ is ∙ ap (λ r. file n past r j) st ∙ ap (file n past t) ji
-same_by n past s j disk old new stands w is t i x l at false h =
-    let ne : 16 * s + j ≡ 16 * t + i → ⊥ = λ e. let p = same_place s j t i w.slot l e in true_false (sym (same_file s j t i p.0 p.1) ∙ h) in
+    ap (λ k. slice_get (set old.files.items k disk) (16 * s + j)) (sym wrote.place_is) ∙ ap (λ xs. slice_get xs (16 * s + j)) (sym wrote.set_is) ∙ ap (slice_get new.files.items) (sym e) ∙ at in
+    sym (ap file_of (is_set old.files.items (16 * s + j) disk x wrote.there here)) ∙ is ∙ ap (λ r. file w past r j) st ∙ ap (file w past t) ji
+same_by w past s j disk old new stands wrote is t i x l at false h =
+    let ne : 16 * s + j ≡ 16 * t + i → ⊥ = λ e. let p = same_place s j t i wrote.slot l e in true_false (sym (same_file s j t i p.0 p.1) ∙ h) in
     let was : slice_get old.files.items (16 * t + i) ≡ Some x =
-    sym (set_there old.files.items (16 * s + j) (16 * t + i) disk ne) ∙ ap (λ k. slice_get (set old.files.items k disk) (16 * t + i)) (sym w.place_is) ∙ ap (λ xs. slice_get xs (16 * t + i)) (sym w.set_is) ∙ at in
+    sym (set_there old.files.items (16 * s + j) (16 * t + i) disk ne) ∙ ap (λ k. slice_get (set old.files.items k disk) (16 * t + i)) (sym wrote.place_is) ∙ ap (λ xs. slice_get xs (16 * t + i)) (sym wrote.set_is) ∙ at in
     stands.files_are t i x l was
   where
     true_false : true ≡ false → ⊥
     true_false e = cc
 
-pub file_kept : (n : ℕ) (past : List Change) (s j : ℕ) (disk : MemDisk) (old new : World) → StandsFor n past old → HasWritten s j disk old new → file_of disk ≡ file n past s j → StandsFor n past new
-file_kept n past s j disk old new stands w is = record {
+pub file_kept : (w : Setup) (past : List Change) (s j : ℕ) (disk : MemDisk) (old new : World) → StandsFor w past old → HasWritten s j disk old new → file_of disk ≡ file w past s j → StandsFor w past new
+file_kept w past s j disk old new stands wrote is = record {
   some = stands.some;
   few = stands.few;
-  number = ap (λ (v : Vec ServerNode Global). length v.items) w.servers_are ∙ stands.number;
-  sent_is = w.sent_is ∙ stands.sent_is;
-  servers_are = λ r node at. stands.servers_are r node (ap (λ (v : Vec ServerNode Global). slice_get v.items r) (sym w.servers_are) ∙ at);
-  client_is = subst (λ x. clients.Stands (client_opening n) (client_entries (steps past)) x) (sym w.client_is) stands.client_is;
-  files = ap (λ (xs : List MemDisk). length xs) w.set_is ∙ length-set old.files.items w.place disk ∙ stands.files;
-  files_are = λ t i x l at. same_by n past s j disk old new stands w is t i x l at (is_file s j t i) refl;
+  number = ap (λ (v : Vec ServerNode Global). length v.items) wrote.servers_are ∙ stands.number;
+  sent_is = wrote.sent_is ∙ stands.sent_is;
+  servers_are = λ r node at. stands.servers_are r node (ap (λ (v : Vec ServerNode Global). slice_get v.items r) (sym wrote.servers_are) ∙ at);
+  client_is = subst (λ x. clients.Stands (client_opening w) (client_entries (steps past)) x) (sym wrote.client_is) stands.client_is;
+  files = ap (λ (xs : List MemDisk). length xs) wrote.set_is ∙ length-set old.files.items wrote.place disk ∙ stands.files;
+  files_are = λ t i x l at. same_by w past s j disk old new stands wrote is t i x l at (is_file s j t i) refl;
 }
 
 -- ---- the block of a write
@@ -232,8 +233,8 @@ few_blocks job limits =
     le_from job.blocks MAX_BLOCKS (and_parts (nat_le 1 job.blocks) (nat_le job.blocks MAX_BLOCKS) blocks.0).1
 
 -- An open write goes to one of them.
-pub block_below : WritesStayInTheRegion → (n : ℕ) (past : List Change) (s j k : ℕ) (ticket : Ticket) (rec : JobParts) → IsTrue (is_within_limits rec) → IsOpen n past s j k ticket rec → ticket.block < MAX_BLOCKS
-block_below law n past s j k ticket rec limits h =
+pub block_below : WritesStayInTheRegion → (w : Setup) (past : List Change) (s j k : ℕ) (ticket : Ticket) (rec : JobParts) → IsTrue (is_within_limits rec) → IsOpen w past s j k ticket rec → ticket.block < MAX_BLOCKS
+block_below law w past s j k ticket rec limits h =
     let block_is : ticket.block ≡ block_of rec k = ap (λ (t : Ticket). t.block) h.ticket_is ∙ ap (λ (r : JobParts). block_of r k) (sym h.rec_is) in
     omega (arith, law rec limits k, few_blocks rec limits, block_is)
 
@@ -242,11 +243,11 @@ landed_same : (mask k : ℕ) (x : Option Origin) (origin : Origin) (block : ℕ)
 landed_same mask k x origin block bytes held h e f = rw (h, e, f) refl
 
 -- What the file holds once an open write has landed.
-pub landed_is : (n : ℕ) (past : List Change) (s j k mask : ℕ) (ticket : Ticket) (rec : JobParts) (bytes : List ℕ) (was now : File) → IsOpen n past s j k ticket rec → was ≡ file n past s j → bytes ≡ written_bytes ticket.key rec k ticket.block
-    → now ≡ with_landed (has_bit mask) ticket.block bytes was → now ≡ with_content (with_write k mask (open_at (trace n past) s j k) (content n past s j))
-landed_is n past s j k mask ticket rec bytes was now h is b e =
+pub landed_is : (w : Setup) (past : List Change) (s j k mask : ℕ) (ticket : Ticket) (rec : JobParts) (bytes : List ℕ) (was now : File) → IsOpen w past s j k ticket rec → was ≡ file w past s j → bytes ≡ written_bytes ticket.key rec k ticket.block
+    → now ≡ with_landed (has_bit mask) ticket.block bytes was → now ≡ with_content (with_write k mask (open_at (trace w past) s j k) (content w past s j))
+landed_is w past s j k mask ticket rec bytes was now h is b e =
     let block_is : ticket.block ≡ block_of h.origin.job k = ap (λ (t : Ticket). t.block) h.ticket_is in
     let bytes_is : bytes ≡ bytes_of h.origin.key h.origin.job k =
     b ∙ ap (λ (t : Ticket). written_bytes t.key rec k t.block) h.ticket_is ∙ ap (λ (r : JobParts). written_bytes h.origin.key r k (block_of h.origin.job k)) h.rec_is in
     e ∙ ap (with_landed (has_bit mask) ticket.block bytes) is
-    ∙ ap with_content (landed_same mask k (open_at (trace n past) s j k) h.origin ticket.block bytes (content n past s j) h.is_open block_is bytes_is)
+    ∙ ap with_content (landed_same mask k (open_at (trace w past) s j k) h.origin ticket.block bytes (content w past s j) h.is_open block_is bytes_is)

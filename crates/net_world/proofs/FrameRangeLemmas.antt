@@ -24,6 +24,7 @@ use Rattle.messages.specs.FrameBytes.{IsShort}
 use Rattle.messages.specs.Pieces.{is_cut, tag_of, places_from, places, bytes_at, piece_at, pieces_of, frames_of}
 use Rattle.messages.specs.PieceRanges.{is_tag_in_range, is_place, is_piece}
 use Rattle.messages.specs.PieceLaws.{ArePackets}
+use Rattle.net_world.specs.Setup.{Setup}
 use Rattle.net_world.specs.Trace.{sent}
 use Rattle.net_world.specs.Frames.{FrameStep, frames_sent, trace_heard}
 use Rattle.net_world.specs.FrameLaws.{FramesAreOfPackets}
@@ -183,7 +184,7 @@ of_all (p ∷ ps) f h =
     ]
 
 -- Each frame that was sent fits.
-pub sent_fit : LengthsAreBounded → FramesAreOfPackets → (n : ℕ) (t : List FrameStep) → ArePackets (sent n (trace_heard n t)) → (f : Frame) → Contains (frames_sent n t) f → Fits f
-sent_fit law frames n t are f i =
-    let s = of_all (sent n (trace_heard n t)) f (subst (λ fs. Contains fs f) (frames n t) i) in
+pub sent_fit : LengthsAreBounded → FramesAreOfPackets → (w : Setup) (t : List FrameStep) → ArePackets (sent w (trace_heard w t)) → (f : Frame) → Contains (frames_sent w t) f → Fits f
+sent_fit law frames w t are f i =
+    let s = of_all (sent w (trace_heard w t)) f (subst (λ fs. Contains fs f) (frames w t) i) in
     of_packet law s.0 (are s.0 s.1) (is_cut (s.0).body) refl f s.2

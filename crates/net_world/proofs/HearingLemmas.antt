@@ -13,6 +13,7 @@ use Rattle.server_core.specs.History as server
 use Rattle.server_core.specs.Answers as servers
 use Rattle.client_core.specs.History as client
 use Rattle.client_core.specs.Packets as clients
+use Rattle.net_world.specs.Setup.{Setup}
 use Rattle.net_world.specs.Trace as packets
 use Rattle.net_world.specs.Trace.{Step, AtServer, AtClient, opening_of, client_opening, packets_of, sent}
 use Rattle.net_world.specs.Frames.{FrameStep, OfServer, OfClient, of_server, of_client, at_server, at_client, frames_by, frames_of_step, frames_sent, step_heard, trace_heard}
@@ -47,66 +48,66 @@ server_if s r true is c past list h =
     ∙ ap (λ l. with_entry (entry_of (at_server s) (heard (at_server s) (of_server s past)) c) l) h
 server_if s r false is c past list h = h
 
-servers_hear : (n s : ℕ) (t : List FrameStep) → packets.of_server s (trace_heard n t) ≡ (heard (at_server s) (of_server s t)).entries
-servers_hear n s [] = refl
-servers_hear n s (OfServer r c ∷ past) =
-    server_with s r (entry_of (at_server r) (heard (at_server r) (of_server r past)) c) (trace_heard n past)
-    ∙ server_if s r (r == s) (eqb-true r s) c past (packets.of_server s (trace_heard n past)) (servers_hear n s past)
-servers_hear n s (OfClient c ∷ past) = server_by_client s (entry_of (at_client n) (heard (at_client n) (of_client past)) c) (trace_heard n past) ∙ servers_hear n s past
+servers_hear : (w : Setup) (s : ℕ) (t : List FrameStep) → packets.of_server s (trace_heard w t) ≡ (heard (at_server s) (of_server s t)).entries
+servers_hear w s [] = refl
+servers_hear w s (OfServer r c ∷ past) =
+    server_with s r (entry_of (at_server r) (heard (at_server r) (of_server r past)) c) (trace_heard w past)
+    ∙ server_if s r (r == s) (eqb-true r s) c past (packets.of_server s (trace_heard w past)) (servers_hear w s past)
+servers_hear w s (OfClient c ∷ past) = server_by_client s (entry_of (at_client w) (heard (at_client w) (of_client past)) c) (trace_heard w past) ∙ servers_hear w s past
 
-client_hears : (n : ℕ) (t : List FrameStep) → packets.of_client (trace_heard n t) ≡ (heard (at_client n) (of_client t)).entries
-client_hears n [] = refl
-client_hears n (OfServer r c ∷ past) = client_by_server r (entry_of (at_server r) (heard (at_server r) (of_server r past)) c) (trace_heard n past) ∙ client_hears n past
-client_hears n (OfClient c ∷ past) =
-    let x = entry_of (at_client n) (heard (at_client n) (of_client past)) c in
-    client_with x (trace_heard n past) ∙ ap (λ l. with_entry x l) (client_hears n past)
+client_hears : (w : Setup) (t : List FrameStep) → packets.of_client (trace_heard w t) ≡ (heard (at_client w) (of_client t)).entries
+client_hears w [] = refl
+client_hears w (OfServer r c ∷ past) = client_by_server r (entry_of (at_server r) (heard (at_server r) (of_server r past)) c) (trace_heard w past) ∙ client_hears w past
+client_hears w (OfClient c ∷ past) =
+    let x = entry_of (at_client w) (heard (at_client w) (of_client past)) c in
+    client_with x (trace_heard w past) ∙ ap (λ l. with_entry x l) (client_hears w past)
 
 pub nodes_hear_their_own : NodesHearTheirOwn
-nodes_hear_their_own n t = record { servers = λ s. servers_hear n s t; client = client_hears n t }
+nodes_hear_their_own w t = record { servers = λ s. servers_hear w s t; client = client_hears w t }
 
 -- ---- the frames
 
 -- The packets of a step, if there is one.
-pub packets_by : ℕ → List Step → Option Step → List PacketParts
-packets_by n t None = []
-packets_by n t (Some step) = packets_of n t step
+pub packets_by : Setup → List Step → Option Step → List PacketParts
+packets_by w t None = []
+packets_by w t (Some step) = packets_of w t step
 
-pub sent_with : (n : ℕ) (x : Option Step) (t : List Step) → sent n (with_entry x t) ≡ sent n t ++ packets_by n t x
+pub sent_with : (w : Setup) (x : Option Step) (t : List Step) → sent w (with_entry x t) ≡ sent w t ++ packets_by w t x
 unfolding packets_by sent
-sent_with n None t = sym (append-nil (sent n t))
-sent_with n (Some step) t = refl
+sent_with w None t = sym (append-nil (sent w t))
+sent_with w (Some step) t = refl
 
-by_server : (n s : ℕ) (t : List Step) (list : List server.Entry) (x : Option server.Entry) → packets.of_server s t ≡ list → frames_by (servers.packets (opening_of s)) list x ≡ flat_map frames_of (packets_by n t (option_map (AtServer s) x))
+by_server : (w : Setup) (s : ℕ) (t : List Step) (list : List server.Entry) (x : Option server.Entry) → packets.of_server s t ≡ list → frames_by (servers.packets (opening_of s)) list x ≡ flat_map frames_of (packets_by w t (option_map (AtServer s) x))
 unfolding packets_by
-by_server n s t list None h = refl
-by_server n s t list (Some e) h = ap (λ past. flat_map frames_of (servers.packets (opening_of s) past e)) (sym h)
+by_server w s t list None h = refl
+by_server w s t list (Some e) h = ap (λ past. flat_map frames_of (servers.packets (opening_of s) past e)) (sym h)
 
-by_client : (n : ℕ) (t : List Step) (list : List client.Entry) (x : Option client.Entry) → packets.of_client t ≡ list → frames_by (clients.packets (client_opening n)) list x ≡ flat_map frames_of (packets_by n t (option_map AtClient x))
+by_client : (w : Setup) (t : List Step) (list : List client.Entry) (x : Option client.Entry) → packets.of_client t ≡ list → frames_by (clients.packets (client_opening w)) list x ≡ flat_map frames_of (packets_by w t (option_map AtClient x))
 unfolding packets_by
-by_client n t list None h = refl
-by_client n t list (Some e) h = ap (λ past. flat_map frames_of (clients.packets (client_opening n) past e)) (sym h)
+by_client w t list None h = refl
+by_client w t list (Some e) h = ap (λ past. flat_map frames_of (clients.packets (client_opening w) past e)) (sym h)
 
-step_frames : (n : ℕ) (past : List FrameStep) (step : FrameStep) → frames_of_step n past step ≡ flat_map frames_of (packets_by n (trace_heard n past) (step_heard n past step))
-step_frames n past (OfServer s c) =
-    by_server n s (trace_heard n past) (heard (at_server s) (of_server s past)).entries (entry_of (at_server s) (heard (at_server s) (of_server s past)) c) (servers_hear n s past)
-step_frames n past (OfClient c) =
-    by_client n (trace_heard n past) (heard (at_client n) (of_client past)).entries (entry_of (at_client n) (heard (at_client n) (of_client past)) c) (client_hears n past)
+step_frames : (w : Setup) (past : List FrameStep) (step : FrameStep) → frames_of_step w past step ≡ flat_map frames_of (packets_by w (trace_heard w past) (step_heard w past step))
+step_frames w past (OfServer s c) =
+    by_server w s (trace_heard w past) (heard (at_server s) (of_server s past)).entries (entry_of (at_server s) (heard (at_server s) (of_server s past)) c) (servers_hear w s past)
+step_frames w past (OfClient c) =
+    by_client w (trace_heard w past) (heard (at_client w) (of_client past)).entries (entry_of (at_client w) (heard (at_client w) (of_client past)) c) (client_hears w past)
 
-sent_more : (n : ℕ) (past : List FrameStep) (step : FrameStep) → frames_sent n (step ∷ past) ≡ frames_sent n past ++ frames_of_step n past step
+sent_more : (w : Setup) (past : List FrameStep) (step : FrameStep) → frames_sent w (step ∷ past) ≡ frames_sent w past ++ frames_of_step w past step
 unfolding frames_sent
-sent_more n past step = refl
+sent_more w past step = refl
 
-none_sent : (n : ℕ) → frames_sent n [] ≡ flat_map frames_of (sent n [])
+none_sent : (w : Setup) → frames_sent w [] ≡ flat_map frames_of (sent w [])
 unfolding frames_sent sent
-none_sent n = refl
+none_sent w = refl
 
 pub frames_are_of_packets : FramesAreOfPackets
-frames_are_of_packets n [] = none_sent n
-frames_are_of_packets n (step ∷ past) =
-    let t = trace_heard n past in
-    let x = step_heard n past step in
-    sent_more n past step
-    ∙ ap (λ fs. fs ++ frames_of_step n past step) (frames_are_of_packets n past)
-    ∙ ap (λ fs. flat_map frames_of (sent n t) ++ fs) (step_frames n past step)
-    ∙ sym (flat_map-append frames_of (sent n t) (packets_by n t x))
-    ∙ ap (flat_map frames_of) (sym (sent_with n x t))
+frames_are_of_packets w [] = none_sent w
+frames_are_of_packets w (step ∷ past) =
+    let t = trace_heard w past in
+    let x = step_heard w past step in
+    sent_more w past step
+    ∙ ap (λ fs. fs ++ frames_of_step w past step) (frames_are_of_packets w past)
+    ∙ ap (λ fs. flat_map frames_of (sent w t) ++ fs) (step_frames w past step)
+    ∙ sym (flat_map-append frames_of (sent w t) (packets_by w t x))
+    ∙ ap (flat_map frames_of) (sym (sent_with w x t))

@@ -10,6 +10,7 @@ use Rattle.server_core.specs.Words.{last_run}
 use Rattle.server_core.specs.Answers.{job_of_check}
 use Rattle.server_core.specs.Laws.{WithWasHeard}
 use Rattle.server_core.specs.OpenCheck.{OpenCheckIsLast}
+use Rattle.net_world.specs.Setup.{Setup}
 use Rattle.net_world.specs.Trace.{IsTrace, opening_of, of_server}
 use Rattle.net_world.specs.Holders.{ByCheck, taken_of}
 use Rattle.net_world.specs.Changes.{Change, Met, Landed, Rotted, trace}
@@ -39,17 +40,17 @@ pub record Rests : Type 0 where
   pub traces : EachWorldIsATrace
 
 -- Any write may land by any mask.
-any_lands : (n : ℕ) (past : List Change) → MayLand Any n past
-any_lands n [] = tt
-any_lands n (Met step ∷ past) = any_lands n past
-any_lands n (Landed s j k mask ∷ past) = (any_lands n past, λ origin is. tt)
-any_lands n (Rotted s j sector bytes ∷ past) = any_lands n past
+any_lands : (w : Setup) (past : List Change) → MayLand Any w past
+any_lands w [] = tt
+any_lands w (Met step ∷ past) = any_lands w past
+any_lands w (Landed s j k mask ∷ past) = (any_lands w past, λ origin is. tt)
+any_lands w (Rotted s j sector bytes ∷ past) = any_lands w past
 
-whole_lands : (n : ℕ) (past : List Change) → AreWhole n past → MayLand HasAllSectors n past
-whole_lands n [] whole = tt
-whole_lands n (Met step ∷ past) whole = whole_lands n past whole
-whole_lands n (Landed s j k mask ∷ past) whole = (whole_lands n past whole.0, whole.1)
-whole_lands n (Rotted s j sector bytes ∷ past) whole = whole_lands n past whole
+whole_lands : (w : Setup) (past : List Change) → AreWhole w past → MayLand HasAllSectors w past
+whole_lands w [] whole = tt
+whole_lands w (Met step ∷ past) whole = whole_lands w past whole
+whole_lands w (Landed s j k mask ∷ past) whole = (whole_lands w past whole.0, whole.1)
+whole_lands w (Rotted s j sector bytes ∷ past) whole = whole_lands w past whole
 
 abbrev make_key : ℕ → ℕ → ℕ → Key
 make_key r s j = record { run = r; server = s; job = j }
@@ -58,34 +59,34 @@ some_is : {X : Type 0} {x y : X} → ◌≡◌ {A = Option X} (Some x) (Some y) 
 some_is h = cc
 
 -- What is known of the state that a job is checked with.
-record Found (P : Notion) (n : ℕ) (past : List Change) (s j : ℕ) (c : Check) (job : Job) (state : State) : Type 0 where
+record Found (P : Notion) (w : Setup) (past : List Change) (s j : ℕ) (c : Check) (job : Job) (state : State) : Type 0 where
   pub key : state.key ≡ key_of c j
   pub same : WriteTheSame job.rec state.job
-  pub held : OfState P (content n past s j) state
+  pub held : OfState P (content w past s j) state
 
-found : {P : Notion} {May : ℕ → JobParts → Type 0} → Rests → Survives May P → (n : ℕ) (past : List Change) (s j : ℕ) (c : Check) (job : Job) (state : State) → IsTrace n (trace n past) → AreHonest n past → MayLand May n past → IsCheckedWith n past s j c job state → Found P n past s j c job state
-found laws v n past s j c job state tr honest may is =
+found : {P : Notion} {May : ℕ → JobParts → Type 0} → Rests → Survives May P → (w : Setup) (past : List Change) (s j : ℕ) (c : Check) (job : Job) (state : State) → IsTrace w (trace w past) → AreHonest w past → MayLand May w past → IsCheckedWith w past s j c job state → Found P w past s j c job state
+found laws v w past s j c job state tr honest may is =
     let o = opening_of s in
-    let list = of_server s (trace n past) in
+    let list = of_server s (trace w past) in
     let run = last_run o list in
     let shown : progress o list j ≡ Some (With state) = progress_is o list j c job (With state) is.is_open is.has_job is.made in
     let heard = laws.heard o list j state shown in
     let here = laws.check_is o list c is.is_open in
     let key : state.key ≡ key_of c j = heard.key ∙ sym (ap (λ r. make_key r s j) here.run) ∙ sym (ap (λ m. make_key c.run m j) here.server) in
     let job_is : heard.job ≡ job = some_is (sym heard.is_job ∙ ap (λ x. job_of_check x j) is.is_open ∙ is.has_job) in
-    let taken : Contains (taken_of (make_key run s j) (trace n past)) state = held_was_taken laws.passes n (trace n past) (make_key run s j) state tr (ByCheck s j shown heard.key) in
+    let taken : Contains (taken_of (make_key run s j) (trace w past)) state = held_was_taken laws.passes w (trace w past) (make_key run s j) state tr (ByCheck s j shown heard.key) in
     record {
       key = key;
       same = subst (λ (x : Job). WriteTheSame x.rec state.job) job_is (fits_job state state.key heard.job.rec heard.fits);
-      held = (kept laws.ground v n s past honest may).states j state taken;
+      held = (kept laws.ground v w s past honest may).states j state taken;
     }
 
 pub few_faults : Rests → OfEachWorld FewFaults
-few_faults laws n events few_servers s j c job state block honest is faulty =
-    let f = found laws (last_survives laws.ground) n (world n events) s j c job state (laws.traces n events few_servers) honest (any_lands n (world n events)) is in
-    few n (world n events) s j c job state block f.key f.same f.held faulty
+few_faults laws w events few_servers s j c job state block honest is faulty =
+    let f = found laws (last_survives laws.ground) w (world w events) s j c job state (laws.traces w events few_servers) honest (any_lands w (world w events)) is in
+    few w (world w events) s j c job state block f.key f.same f.held faulty
 
 pub no_faults : Rests → OfEachWorld NoFaults
-no_faults laws n events few_servers s j c job state block honest whole is faulty =
-    let f = found laws (current_survives laws.ground) n (world n events) s j c job state (laws.traces n events few_servers) honest (whole_lands n (world n events) whole) is in
-    none n (world n events) s j c job state block f.key f.same f.held faulty
+no_faults laws w events few_servers s j c job state block honest whole is faulty =
+    let f = found laws (current_survives laws.ground) w (world w events) s j c job state (laws.traces w events few_servers) honest (whole_lands w (world w events) whole) is in
+    none w (world w events) s j c job state block f.key f.same f.held faulty

@@ -10,6 +10,7 @@ use Rattle.server_core.specs.Hearing as hearing
 use Rattle.server_core.specs.Hearing.{FrameEntry, coming}
 use Rattle.net_world.specs.declared.server_node.ServerNode.{ServerNode}
 use Rattle.net_world.specs.declared.world.World.{World}
+use Rattle.net_world.specs.Setup.{Setup}
 use Rattle.net_world.specs.Trace.{opening_of, client_opening}
 use Rattle.net_world.specs.Frames.{FrameStep, of_server, frames_sent, frames_of_step, frame_entry, server_entries, client_entries}
 use Rattle.net_world.specs.Changes.{Change, Met, steps}
@@ -54,9 +55,9 @@ entries_there s r e t ne = past_test r e t (s == r) (other (s == r) (eqb-true s 
 
 -- ---- the frames
 
-pub frames_more : (n : ℕ) (past : List Change) (step : FrameStep) → frames n (Met step ∷ past) ≡ frames n past ++ map frame_spelling (frames_of_step n (steps past) step)
+pub frames_more : (w : Setup) (past : List Change) (step : FrameStep) → frames w (Met step ∷ past) ≡ frames w past ++ map frame_spelling (frames_of_step w (steps past) step)
 unfolding frames_sent
-frames_more n past step = map-append frame_spelling (frames_sent n (steps past)) (frames_of_step n (steps past) step)
+frames_more w past step = map-append frame_spelling (frames_sent w (steps past)) (frames_of_step w (steps past) step)
 
 -- ---- the world
 
@@ -103,13 +104,13 @@ set_at : (s : ℕ) (node : ServerNode) (sent : List (List ℕ)) (old new : World
 set_at s node sent old new h = h.set_is ∙ ap (λ i. set old.servers.items i node) h.place_is
 
 -- Server s has made a step, for which its node stands and whose frames were added.
-pub server_stepped : (n : ℕ) (past : List Change) (s : ℕ) (e : FrameEntry) (node : ServerNode) (sent : List (List ℕ)) (old new : World) → StandsFor n past old → HasMoved s node sent old new
-    → sent ≡ map frame_spelling (frames_of_step n (steps past) (step_of s e)) → servers.Stands (opening_of s) (e ∷ entries past s) node → StandsFor n (Met (step_of s e) ∷ past) new
-server_stepped n past s e node sent old new stands h is node_is = record {
+pub server_stepped : (w : Setup) (past : List Change) (s : ℕ) (e : FrameEntry) (node : ServerNode) (sent : List (List ℕ)) (old new : World) → StandsFor w past old → HasMoved s node sent old new
+    → sent ≡ map frame_spelling (frames_of_step w (steps past) (step_of s e)) → servers.Stands (opening_of s) (e ∷ entries past s) node → StandsFor w (Met (step_of s e) ∷ past) new
+server_stepped w past s e node sent old new stands h is node_is = record {
   some = stands.some;
   few = stands.few;
   number = count s node sent old new h ∙ stands.number;
-  sent_is = h.sent_is ∙ ap (λ fs. fs ++ sent) stands.sent_is ∙ ap (λ fs. frames n past ++ fs) is ∙ sym (frames_more n past (step_of s e));
+  sent_is = h.sent_is ∙ ap (λ fs. fs ++ sent) stands.sent_is ∙ ap (λ fs. frames w past ++ fs) is ∙ sym (frames_more w past (step_of s e));
   servers_are =
       all_set s node old.servers.items new.servers.items (entries past) (entries (Met (step_of s e) ∷ past))
       (record {
@@ -119,15 +120,15 @@ server_stepped n past s e node sent old new stands h is node_is = record {
         others = λ r ne. entries_there s r e (steps past) ne;
         each = stands.servers_are;
       });
-  client_is = subst (λ c. clients.Stands (client_opening n) (client_entries (steps past)) c) (sym h.client_is) stands.client_is;
+  client_is = subst (λ c. clients.Stands (client_opening w) (client_entries (steps past)) c) (sym h.client_is) stands.client_is;
   files = ap (λ fs. length fs.items) h.files_are ∙ stands.files;
   files_are = λ r j disk l at. stands.files_are r j disk l (ap (λ fs. slice_get fs.items (16 * r + j)) (sym h.files_are) ∙ at);
 }
 
 -- The node of server s stands for what it did, and nothing was sent.
-pub server_kept : (n : ℕ) (past : List Change) (s : ℕ) (node : ServerNode) (old new : World) → StandsFor n past old → HasMoved s node [] old new
-    → servers.Stands (opening_of s) (entries past s) node → StandsFor n past new
-server_kept n past s node old new stands h node_is = record {
+pub server_kept : (w : Setup) (past : List Change) (s : ℕ) (node : ServerNode) (old new : World) → StandsFor w past old → HasMoved s node [] old new
+    → servers.Stands (opening_of s) (entries past s) node → StandsFor w past new
+server_kept w past s node old new stands h node_is = record {
   some = stands.some;
   few = stands.few;
   number = count s node [] old new h ∙ stands.number;
@@ -135,7 +136,7 @@ server_kept n past s node old new stands h node_is = record {
   servers_are =
       all_set s node old.servers.items new.servers.items (entries past) (entries past)
       (record { there = h.there; set_is = set_at s node [] old new h; node_is = node_is; others = λ r ne. refl; each = stands.servers_are });
-  client_is = subst (λ c. clients.Stands (client_opening n) (client_entries (steps past)) c) (sym h.client_is) stands.client_is;
+  client_is = subst (λ c. clients.Stands (client_opening w) (client_entries (steps past)) c) (sym h.client_is) stands.client_is;
   files = ap (λ fs. length fs.items) h.files_are ∙ stands.files;
   files_are = λ r j disk l at. stands.files_are r j disk l (ap (λ fs. slice_get fs.items (16 * r + j)) (sym h.files_are) ∙ at);
 }

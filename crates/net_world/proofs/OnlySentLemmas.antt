@@ -23,6 +23,7 @@ use Rattle.messages.specs.Hearing.{Rules, Heard, Coming, Comes, Happens, Meaning
 use Rattle.disk_model.specs.declared.left.Left.{Left}
 use Rattle.server_core.specs.History as server
 use Rattle.client_core.specs.History as client
+use Rattle.net_world.specs.Setup.{Setup}
 use Rattle.net_world.specs.Trace.{Step, AtServer, AtClient, IsTrace, WasSentTo, taken_by, sent}
 use Rattle.net_world.specs.Frames.{FrameStep, OfServer, OfClient, of_server, of_client, at_server, at_client, frames_sent, to_of, MayHappen, IsFrameTrace, step_heard, trace_heard}
 use Rattle.net_world.specs.InRange.{EntryFits, StepFits, FrameStepFits, Fits, FitsFrames, SentAreInRange}
@@ -73,8 +74,8 @@ of_frames (p ∷ ps) f h all in_it =
       | inr i ↦ of_frames ps f i all (λ q j. in_it q (later_in p ps q j))
     ]
 
-pub frame_is : FramesAreOfPackets → (n : ℕ) (past : List FrameStep) (f : Frame) → Contains (frames_sent n past) f → IsFrameOf (sent n (trace_heard n past)) f
-frame_is frames n past f h = of_frames (sent n (trace_heard n past)) f (subst (λ fs. Contains fs f) (frames n past) h) (sent n (trace_heard n past)) (λ p i. i)
+pub frame_is : FramesAreOfPackets → (w : Setup) (past : List FrameStep) (f : Frame) → Contains (frames_sent w past) f → IsFrameOf (sent w (trace_heard w past)) f
+frame_is frames w past f h = of_frames (sent w (trace_heard w past)) f (subst (λ fs. Contains fs f) (frames w past) h) (sent w (trace_heard w past)) (λ p i. i)
 
 piece_goes : (p : PacketParts) (q : PieceParts) → Contains (pieces_of p) q → p.to ≡ q.to
 piece_goes p q h = let s = of_map (piece_at p) (places (length_of p.body)) q h in let e : piece_at p s.0 ≡ q = s.2 in ap (λ (x : PieceParts). x.to) e
@@ -125,43 +126,43 @@ keeps law r ps are one h w node (Piece q) i to left =
 -- ---- each step keeps the trace, and what has come together
 
 -- What has come together at a node is of sent packets, and with the step the trace is one.
-record Kept {E L : Type 0} (r : Rules E L) (n : ℕ) (t : List Step) (h : Heard E) (c : Coming E L) (step : E → Step) : Type 0 where
-  pub rows : WasSent (sent n t) (rows_of r h c)
-  pub trace : IsTrace n (with_entry (option_map step (entry_of r h c)) t)
+record Kept {E L : Type 0} (r : Rules E L) (w : Setup) (t : List Step) (h : Heard E) (c : Coming E L) (step : E → Step) : Type 0 where
+  pub rows : WasSent (sent w t) (rows_of r h c)
+  pub trace : IsTrace w (with_entry (option_map step (entry_of r h c)) t)
 
-server_says : (n s : ℕ) (t : List Step) (left : Left) (m : Meaning) → IsTrace n t → SaysSent (sent n t) (Server s) m → IsTrace n (with_entry (option_map (AtServer s) (heard_by (at_server s) left m)) t)
-server_says n s t left (Says p) h i = (h, (i, tt), refl)
-server_says n s t left Waits h i = h
-server_says n s t left Spoils h i = h
-server_says n s t left Strays h i = h
+server_says : (w : Setup) (s : ℕ) (t : List Step) (left : Left) (m : Meaning) → IsTrace w t → SaysSent (sent w t) (Server s) m → IsTrace w (with_entry (option_map (AtServer s) (heard_by (at_server s) left m)) t)
+server_says w s t left (Says p) h i = (h, (i, tt), refl)
+server_says w s t left Waits h i = h
+server_says w s t left Spoils h i = h
+server_says w s t left Strays h i = h
 
-client_says : (n : ℕ) (t : List Step) (left : Left) (m : Meaning) → IsTrace n t → SaysSent (sent n t) Client m → IsTrace n (with_entry (option_map AtClient (heard_by (at_client n) left m)) t)
-client_says n t left (Says p) h i = (h, (i, tt), refl)
-client_says n t left Waits h i = h
-client_says n t left Spoils h i = h
-client_says n t left Strays h i = h
+client_says : (w : Setup) (t : List Step) (left : Left) (m : Meaning) → IsTrace w t → SaysSent (sent w t) Client m → IsTrace w (with_entry (option_map AtClient (heard_by (at_client w) left m)) t)
+client_says w t left (Says p) h i = (h, (i, tt), refl)
+client_says w t left Waits h i = h
+client_says w t left Spoils h i = h
+client_says w t left Strays h i = h
 
 takes_none : (ps : List PacketParts) (node : Node) (taken : List PacketParts) → taken ≡ [] → AllByRecursion (WasSentTo ps node) taken
 takes_none ps node taken e = subst (λ xs. AllByRecursion (WasSentTo ps node) xs) (sym e) tt
 
-server_step : OnlySentComesTogether → FramesAreOfPackets → (n s : ℕ) (past : List FrameStep) → IsTrace n (trace_heard n past) → ArePackets (sent n (trace_heard n past)) → OneBodyOfEachTag (sent n (trace_heard n past))
-    → (h : Heard server.Entry) → WasSent (sent n (trace_heard n past)) h.rows → (c : Coming server.Entry Left) → MayHappen (frames_sent n past) (OfServer s c) → Kept (at_server s) n (trace_heard n past) h c (AtServer s)
-server_step law frames n s past t are one h w (Comes f left) i =
-    let k = keeps law (at_server s) (sent n (trace_heard n past)) are one h w (Server s) f (frame_is frames n past f i.0) i.1 left in
-    record { rows = k.rows; trace = server_says n s (trace_heard n past) left (meaning (at_server s) h f) t k.says }
-server_step law frames n s past t are one h w (Happens e) i = record {
-  rows = either (sent n (trace_heard n past)) ((at_server s).ends e) [] h.rows tt w;
-  trace = (t, takes_none (sent n (trace_heard n past)) (Server s) (taken_by (AtServer s e)) i, refl);
+server_step : OnlySentComesTogether → FramesAreOfPackets → (w : Setup) (s : ℕ) (past : List FrameStep) → IsTrace w (trace_heard w past) → ArePackets (sent w (trace_heard w past)) → OneBodyOfEachTag (sent w (trace_heard w past))
+    → (h : Heard server.Entry) → WasSent (sent w (trace_heard w past)) h.rows → (c : Coming server.Entry Left) → MayHappen (frames_sent w past) (OfServer s c) → Kept (at_server s) w (trace_heard w past) h c (AtServer s)
+server_step law frames w s past t are one h was (Comes f left) i =
+    let k = keeps law (at_server s) (sent w (trace_heard w past)) are one h was (Server s) f (frame_is frames w past f i.0) i.1 left in
+    record { rows = k.rows; trace = server_says w s (trace_heard w past) left (meaning (at_server s) h f) t k.says }
+server_step law frames w s past t are one h was (Happens e) i = record {
+  rows = either (sent w (trace_heard w past)) ((at_server s).ends e) [] h.rows tt was;
+  trace = (t, takes_none (sent w (trace_heard w past)) (Server s) (taken_by (AtServer s e)) i, refl);
 }
 
-client_step : OnlySentComesTogether → FramesAreOfPackets → (n : ℕ) (past : List FrameStep) → IsTrace n (trace_heard n past) → ArePackets (sent n (trace_heard n past)) → OneBodyOfEachTag (sent n (trace_heard n past))
-    → (h : Heard client.Entry) → WasSent (sent n (trace_heard n past)) h.rows → (c : Coming client.Entry Left) → MayHappen (frames_sent n past) (OfClient c) → Kept (at_client n) n (trace_heard n past) h c AtClient
-client_step law frames n past t are one h w (Comes f left) i =
-    let k = keeps law (at_client n) (sent n (trace_heard n past)) are one h w Client f (frame_is frames n past f i.0) i.1 left in
-    record { rows = k.rows; trace = client_says n (trace_heard n past) left (meaning (at_client n) h f) t k.says }
-client_step law frames n past t are one h w (Happens e) i = record {
-  rows = either (sent n (trace_heard n past)) ((at_client n).ends e) [] h.rows tt w;
-  trace = (t, takes_none (sent n (trace_heard n past)) Client (taken_by (AtClient e)) i.0, i.1);
+client_step : OnlySentComesTogether → FramesAreOfPackets → (w : Setup) (past : List FrameStep) → IsTrace w (trace_heard w past) → ArePackets (sent w (trace_heard w past)) → OneBodyOfEachTag (sent w (trace_heard w past))
+    → (h : Heard client.Entry) → WasSent (sent w (trace_heard w past)) h.rows → (c : Coming client.Entry Left) → MayHappen (frames_sent w past) (OfClient c) → Kept (at_client w) w (trace_heard w past) h c AtClient
+client_step law frames w past t are one h was (Comes f left) i =
+    let k = keeps law (at_client w) (sent w (trace_heard w past)) are one h was Client f (frame_is frames w past f i.0) i.1 left in
+    record { rows = k.rows; trace = client_says w (trace_heard w past) left (meaning (at_client w) h f) t k.says }
+client_step law frames w past t are one h was (Happens e) i = record {
+  rows = either (sent w (trace_heard w past)) ((at_client w).ends e) [] h.rows tt was;
+  trace = (t, takes_none (sent w (trace_heard w past)) Client (taken_by (AtClient e)) i.0, i.1);
 }
 
 -- ---- ranges
@@ -191,24 +192,24 @@ unfolding SomeFits
 server_adds s h (Comes f left) t k a = server_added s (heard_by (at_server s) left (meaning (at_server s) h f)) t k (meaning_fits s left (meaning (at_server s) h f)) a
 server_adds s h (Happens e) t k a = (k, a)
 
-steps_fit : (n : ℕ) (t : List FrameStep) → AllByRecursion FrameStepFits t → AllByRecursion StepFits (trace_heard n t)
-steps_fit n [] h = tt
-steps_fit n (OfServer s c ∷ past) h = server_adds s (heard (at_server s) (of_server s past)) c (trace_heard n past) h.0 (steps_fit n past h.1)
-steps_fit n (OfClient c ∷ past) h = client_added (entry_of (at_client n) (heard (at_client n) (of_client past)) c) (trace_heard n past) (steps_fit n past h.1)
+steps_fit : (w : Setup) (t : List FrameStep) → AllByRecursion FrameStepFits t → AllByRecursion StepFits (trace_heard w t)
+steps_fit w [] h = tt
+steps_fit w (OfServer s c ∷ past) h = server_adds s (heard (at_server s) (of_server s past)) c (trace_heard w past) h.0 (steps_fit w past h.1)
+steps_fit w (OfClient c ∷ past) h = client_added (entry_of (at_client w) (heard (at_client w) (of_client past)) c) (trace_heard w past) (steps_fit w past h.1)
 
-pub heard_fits : (n : ℕ) (t : List FrameStep) → FitsFrames n t → Fits n (trace_heard n t)
-heard_fits n t f = record { few = f.few; steps = steps_fit n t f.steps }
+pub heard_fits : (w : Setup) (t : List FrameStep) → FitsFrames w t → Fits w (trace_heard w t)
+heard_fits w t f = record { few = f.few; steps = steps_fit w t f.steps }
 
 -- ---- the whole list
 
 -- A trace of frames says a trace, and what has come together at each node is of sent packets.
-pub record Stands (n : ℕ) (t : List FrameStep) : Type 0 where
-  pub trace : IsTrace n (trace_heard n t)
-  pub servers : (s : ℕ) → WasSent (sent n (trace_heard n t)) (heard (at_server s) (of_server s t)).rows
-  pub client_rows : WasSent (sent n (trace_heard n t)) (heard (at_client n) (of_client t)).rows
+pub record Stands (w : Setup) (t : List FrameStep) : Type 0 where
+  pub trace : IsTrace w (trace_heard w t)
+  pub servers : (s : ℕ) → WasSent (sent w (trace_heard w t)) (heard (at_server s) (of_server s t)).rows
+  pub client_rows : WasSent (sent w (trace_heard w t)) (heard (at_client w) (of_client t)).rows
 
-more_sent : (n : ℕ) (x : Option Step) (t : List Step) → IsIn (sent n t) (sent n (with_entry x t))
-more_sent n x t p i = subst (λ ps. Contains ps p) (sym (sent_with n x t)) (Contains-append_left (sent n t) (packets_by n t x) p i)
+more_sent : (w : Setup) (x : Option Step) (t : List Step) → IsIn (sent w t) (sent w (with_entry x t))
+more_sent w x t p i = subst (λ ps. Contains ps p) (sym (sent_with w x t)) (Contains-append_left (sent w t) (packets_by w t x) p i)
 
 server_rows : (ps : List PacketParts) (s r : ℕ) (b : Bool) → (b ≡ true → r ≡ s) → (c : Coming server.Entry Left) (past : List FrameStep)
     → WasSent ps (rows_of (at_server r) (heard (at_server r) (of_server r past)) c) → WasSent ps (heard (at_server s) (of_server s past)).rows
@@ -216,33 +217,33 @@ server_rows : (ps : List PacketParts) (s r : ℕ) (b : Bool) → (b ≡ true →
 server_rows ps s r true is c past v w = subst (λ x. WasSent ps (rows_of (at_server x) (heard (at_server x) (of_server x past)) c)) (is refl) v
 server_rows ps s r false is c past v w = w
 
-pub stands : OnlySentComesTogether → FramesAreOfPackets → TagsNameOneBody → SentAreInRange → (n : ℕ) (t : List FrameStep) → IsFrameTrace n t → FitsFrames n t → Stands n t
-stands law frames tags ranges n [] h fits = record { trace = tt; servers = λ s. tt; client_rows = tt }
-stands law frames tags ranges n (OfServer r c ∷ past) h fits =
-    let t = trace_heard n past in
-    let x = step_heard n past (OfServer r c) in
-    let f : FitsFrames n past = record { few = fits.few; steps = fits.steps.1 } in
-    let s = stands law frames tags ranges n past h.0 f in
-    let are = ranges n t s.trace (heard_fits n past f) in
-    let k = server_step law frames n r past s.trace are (tags n t s.trace are) (heard (at_server r) (of_server r past)) (s.servers r) c h.1 in
+pub stands : OnlySentComesTogether → FramesAreOfPackets → TagsNameOneBody → SentAreInRange → (w : Setup) (t : List FrameStep) → IsFrameTrace w t → FitsFrames w t → Stands w t
+stands law frames tags ranges w [] h fits = record { trace = tt; servers = λ s. tt; client_rows = tt }
+stands law frames tags ranges w (OfServer r c ∷ past) h fits =
+    let t = trace_heard w past in
+    let x = step_heard w past (OfServer r c) in
+    let f : FitsFrames w past = record { few = fits.few; steps = fits.steps.1 } in
+    let s = stands law frames tags ranges w past h.0 f in
+    let are = ranges w t s.trace (heard_fits w past f) in
+    let k = server_step law frames w r past s.trace are (tags w t s.trace are) (heard (at_server r) (of_server r past)) (s.servers r) c h.1 in
     record {
       trace = k.trace;
-      servers = λ i. rows_more (sent n t) (sent n (with_entry x t)) (more_sent n x t) (heard (at_server i) (of_server i (OfServer r c ∷ past))).rows
-          (server_rows (sent n t) i r (r == i) (eqb-true r i) c past k.rows (s.servers i));
-      client_rows = rows_more (sent n t) (sent n (with_entry x t)) (more_sent n x t) (heard (at_client n) (of_client past)).rows s.client_rows;
+      servers = λ i. rows_more (sent w t) (sent w (with_entry x t)) (more_sent w x t) (heard (at_server i) (of_server i (OfServer r c ∷ past))).rows
+          (server_rows (sent w t) i r (r == i) (eqb-true r i) c past k.rows (s.servers i));
+      client_rows = rows_more (sent w t) (sent w (with_entry x t)) (more_sent w x t) (heard (at_client w) (of_client past)).rows s.client_rows;
     }
-stands law frames tags ranges n (OfClient c ∷ past) h fits =
-    let t = trace_heard n past in
-    let x = step_heard n past (OfClient c) in
-    let f : FitsFrames n past = record { few = fits.few; steps = fits.steps.1 } in
-    let s = stands law frames tags ranges n past h.0 f in
-    let are = ranges n t s.trace (heard_fits n past f) in
-    let k = client_step law frames n past s.trace are (tags n t s.trace are) (heard (at_client n) (of_client past)) s.client_rows c h.1 in
+stands law frames tags ranges w (OfClient c ∷ past) h fits =
+    let t = trace_heard w past in
+    let x = step_heard w past (OfClient c) in
+    let f : FitsFrames w past = record { few = fits.few; steps = fits.steps.1 } in
+    let s = stands law frames tags ranges w past h.0 f in
+    let are = ranges w t s.trace (heard_fits w past f) in
+    let k = client_step law frames w past s.trace are (tags w t s.trace are) (heard (at_client w) (of_client past)) s.client_rows c h.1 in
     record {
       trace = k.trace;
-      servers = λ i. rows_more (sent n t) (sent n (with_entry x t)) (more_sent n x t) (heard (at_server i) (of_server i past)).rows (s.servers i);
-      client_rows = rows_more (sent n t) (sent n (with_entry x t)) (more_sent n x t) (heard (at_client n) (of_client (OfClient c ∷ past))).rows k.rows;
+      servers = λ i. rows_more (sent w t) (sent w (with_entry x t)) (more_sent w x t) (heard (at_server i) (of_server i past)).rows (s.servers i);
+      client_rows = rows_more (sent w t) (sent w (with_entry x t)) (more_sent w x t) (heard (at_client w) (of_client (OfClient c ∷ past))).rows k.rows;
     }
 
 pub only_sent_is_heard : OnlySentComesTogether → FramesAreOfPackets → TagsNameOneBody → SentAreInRange → OnlySentIsHeard
-only_sent_is_heard law frames tags ranges n t h fits = (stands law frames tags ranges n t h fits).trace
+only_sent_is_heard law frames tags ranges w t h fits = (stands law frames tags ranges w t h fits).trace

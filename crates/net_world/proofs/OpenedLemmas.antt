@@ -9,6 +9,7 @@ use Rattle.server_core.specs.Hearing.{Restart}
 use Rattle.client_core.specs.Hearing as client
 use Rattle.net_world.specs.declared.server_node.ServerNode.{ServerNode}
 use Rattle.net_world.specs.declared.world.World.{World}
+use Rattle.net_world.specs.Setup.{Setup, servers_of}
 use Rattle.net_world.specs.Trace.{opening_of, client_opening}
 use Rattle.net_world.specs.Frames.{frames_sent}
 use Rattle.net_world.specs.World.{frames}
@@ -65,16 +66,16 @@ one_blank k disks now disk all one is =
       each = λ i x h. elim (pushed disks disk x i h) [ inl e ↦ all.each i x e | inr e ↦ sym (ap file_of e.1) ∙ one ];
     })
 
-none_sent : (n : ℕ) → frames n [] ≡ []
+none_sent : (w : Setup) → frames w [] ≡ []
 unfolding frames_sent
-none_sent n = refl
+none_sent w = refl
 
-pub opened : (n : ℕ) (w : World) → 1 ≤ n → n ≤ 8 → AreOpened n w.servers.items → clients.Stands (client_opening n) (client.Restart false ∷ []) w.client → AreBlank (16 * n) w.files.items → sent_in w.sent ≡ [] → StandsFor n [] w
-opened n w some few nodes client_is files sent = record {
+pub opened : (w : Setup) (now : World) → 1 ≤ servers_of w → servers_of w ≤ 8 → AreOpened w now.servers.items → clients.Stands (client_opening w) (client.Restart false ∷ []) now.client → AreBlank (16 * servers_of w) now.files.items → sent_in now.sent ≡ [] → StandsFor w [] now
+opened w now some few nodes client_is files sent = record {
   some = some;
   few = few;
   number = nodes.number;
-  sent_is = sent ∙ sym (none_sent n);
+  sent_is = sent ∙ sym (none_sent w);
   servers_are = nodes.each;
   client_is = client_is;
   files = files.number;

@@ -27,6 +27,7 @@ use Rattle.server_core.specs.Hearing.{rules, heard_at, packets_heard}
 use Rattle.server_core.specs.FrameAnswers as framed
 use Rattle.server_core.specs.FrameAnswers.{sense_of, sense, refusal_in, due_in, act_in}
 use Rattle.server_core.specs.FrameEnds.{is_drop}
+use Rattle.net_world.specs.Setup.{Setup}
 use Rattle.net_world.specs.Trace.{Step, AtServer, of_server, opening_of}
 use Rattle.net_world.specs.Frames.{OfServer, at_server}
 use Rattle.net_world.specs.Changes.{Change, Met as Changed, steps, trace}
@@ -116,25 +117,25 @@ piece_err t s q list fault is on Spoils h = inr (refl, bad_field fault h, refl)
 piece_err t s q list fault is on Strays h = inl (refl, ap Refuses (misdirected (words.is_on list) fault on h))
 
 -- What a frame says is the same by the server's own list.
-pub said_is : (n s : ℕ) (past : List Change) (f : Frame) → meaning (rules (opening_of s)) (heard_at (opening_of s) (entries past s)) f ≡ said_to_server (steps past) s f
-said_is n s past f = ap (λ (h : Heard server.Entry). meaning (at_server s) h f) (servers_stand n s (steps past)).hears
+pub said_is : (w : Setup) (s : ℕ) (past : List Change) (f : Frame) → meaning (rules (opening_of s)) (heard_at (opening_of s) (entries past s)) f ≡ said_to_server (steps past) s f
+said_is w s past f = ap (λ (h : Heard server.Entry). meaning (at_server s) h f) (servers_stand w s (steps past)).hears
 
-pub frame_ok : (n : ℕ) (past : List Change) (s : ℕ) (f : Frame) → framed.refusal (opening_of s) (entries past s) (inputs.Deliver f) ≡ None
-    → comes_to_server (trace n past) s f (said_to_server (steps past) s f) ≡ Does (Changed (step_by past s (inputs.Deliver f)))
+pub frame_ok : (w : Setup) (past : List Change) (s : ℕ) (f : Frame) → framed.refusal (opening_of s) (entries past s) (inputs.Deliver f) ≡ None
+    → comes_to_server (trace w past) s f (said_to_server (steps past) s f) ≡ Does (Changed (step_by past s (inputs.Deliver f)))
 unfolding come
-frame_ok n past s (Whole p) h = says_ok (trace n past) s (Whole p) p (packets_heard (opening_of s) (entries past s)) (heard_is n past s) h
-frame_ok n past s (Piece q) h =
-    ap (comes_to_server (trace n past) s (Piece q)) (sym (said_is n s past (Piece q)))
-    ∙ piece_ok (trace n past) s q (packets_heard (opening_of s) (entries past s)) (heard_is n past s) (meaning (rules (opening_of s)) (heard_at (opening_of s) (entries past s)) (Piece q)) h
+frame_ok w past s (Whole p) h = says_ok (trace w past) s (Whole p) p (packets_heard (opening_of s) (entries past s)) (heard_is w past s) h
+frame_ok w past s (Piece q) h =
+    ap (comes_to_server (trace w past) s (Piece q)) (sym (said_is w s past (Piece q)))
+    ∙ piece_ok (trace w past) s q (packets_heard (opening_of s) (entries past s)) (heard_is w past s) (meaning (rules (opening_of s)) (heard_at (opening_of s) (entries past s)) (Piece q)) h
 
-pub frame_err : (n : ℕ) (past : List Change) (s : ℕ) (f : Frame) (fault : Fault) → words.is_on (packets_heard (opening_of s) (entries past s)) ≡ true
+pub frame_err : (w : Setup) (past : List Change) (s : ℕ) (f : Frame) (fault : Fault) → words.is_on (packets_heard (opening_of s) (entries past s)) ≡ true
     → framed.refusal (opening_of s) (entries past s) (inputs.Deliver f) ≡ Some fault
-    → DroppedOr s f fault (is_drop (sense (opening_of s) (entries past s) (inputs.Deliver f))) (comes_to_server (trace n past) s f (said_to_server (steps past) s f))
-frame_err n past s (Whole p) fault on h = unfold DroppedOr in inl (refl, says_err (trace n past) s (Whole p) p (packets_heard (opening_of s) (entries past s)) fault (heard_is n past s) h)
-frame_err n past s (Piece q) fault on h =
+    → DroppedOr s f fault (is_drop (sense (opening_of s) (entries past s) (inputs.Deliver f))) (comes_to_server (trace w past) s f (said_to_server (steps past) s f))
+frame_err w past s (Whole p) fault on h = unfold DroppedOr in inl (refl, says_err (trace w past) s (Whole p) p (packets_heard (opening_of s) (entries past s)) fault (heard_is w past s) h)
+frame_err w past s (Piece q) fault on h =
     let m = meaning (rules (opening_of s)) (heard_at (opening_of s) (entries past s)) (Piece q) in
-    subst (λ x. DroppedOr s (Piece q) fault (is_drop (sense_of q m)) (comes_to_server (trace n past) s (Piece q) x)) (said_is n s past (Piece q))
-    (piece_err (trace n past) s q (packets_heard (opening_of s) (entries past s)) fault (heard_is n past s) on m h)
+    subst (λ x. DroppedOr s (Piece q) fault (is_drop (sense_of q m)) (comes_to_server (trace w past) s (Piece q) x)) (said_is w s past (Piece q))
+    (piece_err (trace w past) s q (packets_heard (opening_of s) (entries past s)) fault (heard_is w past s) on m h)
 
 -- ---- what the server asks of its caller
 
@@ -153,14 +154,14 @@ act_said t s q list is Waits = refl
 act_said t s q list is Spoils = refl
 act_said t s q list is Strays = refl
 
-pub act_is : (n : ℕ) (past : List Change) (s : ℕ) (e : Input) → act n past (Changed (step_by past s e)) ≡ framed.act (opening_of s) (entries past s) e
-act_is n past s (inputs.Deliver (Whole p)) = act_here (trace n past) s (events.Deliver p) (framed.due (opening_of s) (entries past s) (inputs.Deliver (Whole p))) (packets_heard (opening_of s) (entries past s)) (heard_is n past s)
-act_is n past s (inputs.Deliver (Piece q)) =
+pub act_is : (w : Setup) (past : List Change) (s : ℕ) (e : Input) → act w past (Changed (step_by past s e)) ≡ framed.act (opening_of s) (entries past s) e
+act_is w past s (inputs.Deliver (Whole p)) = act_here (trace w past) s (events.Deliver p) (framed.due (opening_of s) (entries past s) (inputs.Deliver (Whole p))) (packets_heard (opening_of s) (entries past s)) (heard_is w past s)
+act_is w past s (inputs.Deliver (Piece q)) =
     let o = opening_of s in
     let list = packets_heard o (entries past s) in
     let m = meaning (rules o) (heard_at o (entries past s)) (Piece q) in
-    ap (λ x. act_of (trace n past) (option_map (AtServer s) (heard_by (rules o) (saved_for (due_in o list (sense_of q m))) x))) (sym (said_is n s past (Piece q)))
-    ∙ act_said (trace n past) s q list (heard_is n past s) m
-act_is n past s (inputs.Issue j) = act_here (trace n past) s (events.Issue j) (framed.due (opening_of s) (entries past s) (inputs.Issue j)) (packets_heard (opening_of s) (entries past s)) (heard_is n past s)
-act_is n past s (inputs.WriteDone ticket end) = act_here (trace n past) s (events.WriteDone ticket end) (framed.due (opening_of s) (entries past s) (inputs.WriteDone ticket end)) (packets_heard (opening_of s) (entries past s)) (heard_is n past s)
-act_is n past s (inputs.CheckDone boot a j report) = act_here (trace n past) s (events.CheckDone boot a j report) (framed.due (opening_of s) (entries past s) (inputs.CheckDone boot a j report)) (packets_heard (opening_of s) (entries past s)) (heard_is n past s)
+    ap (λ x. act_of (trace w past) (option_map (AtServer s) (heard_by (rules o) (saved_for (due_in o list (sense_of q m))) x))) (sym (said_is w s past (Piece q)))
+    ∙ act_said (trace w past) s q list (heard_is w past s) m
+act_is w past s (inputs.Issue j) = act_here (trace w past) s (events.Issue j) (framed.due (opening_of s) (entries past s) (inputs.Issue j)) (packets_heard (opening_of s) (entries past s)) (heard_is w past s)
+act_is w past s (inputs.WriteDone ticket end) = act_here (trace w past) s (events.WriteDone ticket end) (framed.due (opening_of s) (entries past s) (inputs.WriteDone ticket end)) (packets_heard (opening_of s) (entries past s)) (heard_is w past s)
+act_is w past s (inputs.CheckDone boot a j report) = act_here (trace w past) s (events.CheckDone boot a j report) (framed.due (opening_of s) (entries past s) (inputs.CheckDone boot a j report)) (packets_heard (opening_of s) (entries past s)) (heard_is w past s)

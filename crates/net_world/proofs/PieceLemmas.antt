@@ -17,7 +17,7 @@ use Rattle.net_world.proofs.ListLemmas.{first_in, later_in}
 use Rattle.net_world.proofs.OnlySentLemmas.{IsFrameOf, frame_is, heard_fits}
 
 pub heard_is_the_taken : OnlySentIsHeard → OfEachTrace HeldIsTheTaken → OfEachFrameTrace (OfTheHeard HeldIsTheTaken)
-heard_is_the_taken heard one n t h fits = one n (trace_heard n t) (heard n t h fits)
+heard_is_the_taken heard one w t h fits = one w (trace_heard w t) (heard w t h fits)
 
 all_sent : OnlySentComesTogether → (ps : List PacketParts) → ArePackets ps → OneBodyOfEachTag ps → (qs : List PieceParts) → ((q : PieceParts) → Contains qs q → IsFrameOf ps (Piece q)) → WasSent ps (all_taken [] qs)
 all_sent law ps are one [] f = tt
@@ -31,13 +31,13 @@ given_sent ps p q i x (inl e) g = let no : Waits ≡ Gives q = sym e ∙ g in ab
 given_sent ps p q i x (inr e) g = let same : Gives p ≡ Gives q = sym e ∙ g in let p_is : p ≡ q = cc in subst (Contains ps) p_is i
 
 pub pieces_hold_the_taken : OnlySentComesTogether → FramesAreOfPackets → TagsNameOneBody → SentAreInRange → OnlySentIsHeard → OfEachTrace HeldIsTheTaken → OfEachFrameTrace PiecesHoldTheTaken
-pieces_hold_the_taken law frames tags ranges heard one n t h fits key state k =
-    let ps = sent n (trace_heard n t) in
-    let trace = heard n t h fits in
-    let are = ranges n (trace_heard n t) trace (heard_fits n t fits) in
-    let single = tags n (trace_heard n t) trace are in
-    let w = all_sent law ps are single k.others (λ q i. frame_is frames n t (Piece q) (k.each q (later_in k.last k.others q i))) in
-    let i = frame_is frames n t (Piece k.last) (k.each k.last (first_in k.last k.others)) in
-    let told = law ps are single (all_taken [] k.others) w i.0 i.1 k.last i.2 in
+pieces_hold_the_taken law frames tags ranges heard one w t h fits key state k =
+    let ps = sent w (trace_heard w t) in
+    let trace = heard w t h fits in
+    let are = ranges w (trace_heard w t) trace (heard_fits w t fits) in
+    let single = tags w (trace_heard w t) trace are in
+    let others = all_sent law ps are single k.others (λ q i. frame_is frames w t (Piece q) (k.each q (later_in k.last k.others q i))) in
+    let i = frame_is frames w t (Piece k.last) (k.each k.last (first_in k.last k.others)) in
+    let told = law ps are single (all_taken [] k.others) others i.0 i.1 k.last i.2 in
     let was : Contains ps k.packet = given_sent ps i.0 k.packet i.1 (look (all_taken [] k.others) k.last) told.0 k.together in
-    one n (trace_heard n t) trace key state (ByPacket k.packet was k.state_is k.key_is)
+    one w (trace_heard w t) trace key state (ByPacket k.packet was k.state_is k.key_is)

@@ -18,6 +18,7 @@ use Rattle.client_core.specs.History as entry
 use Rattle.client_core.specs.Note.{IsNoted, blank}
 use Rattle.client_core.specs.Ranges.{packet_in, came}
 use Rattle.client_core.specs.Laws as clients
+use Rattle.net_world.specs.Setup.{Setup, servers_of}
 use Rattle.net_world.specs.Trace.{Step, AtServer, AtClient, IsTrace, WasSentTo, taken_by, node_of, sent, packets_of, of_server, of_client, opening_of, client_opening}
 use Rattle.net_world.specs.InRange.{ReportFits, EntryFits, StepFits, SentAreInRange}
 use Rattle.net_world.proofs.ListLemmas.{none_in, each_of}
@@ -45,18 +46,18 @@ if_its true xs ys h k = h
 if_its false xs ys h k = k
 
 -- All that was sent before a step is sent after it.
-before : (n : ℕ) (step : Step) (past : List Step) → ArePackets (sent n (step ∷ past)) → ArePackets (sent n past)
+before : (w : Setup) (step : Step) (past : List Step) → ArePackets (sent w (step ∷ past)) → ArePackets (sent w past)
 unfolding sent
-before n step past are p i = are p (Contains-append_left (sent n past) (packets_of n past step) p i)
+before w step past are p i = are p (Contains-append_left (sent w past) (packets_of w past step) p i)
 
-came_to : (n s : ℕ) (t : List Step) → IsTrace n t → AllByRecursion StepFits t → ArePackets (sent n t) → ranges.CameInRange (of_server s t)
+came_to : (w : Setup) (s : ℕ) (t : List Step) → IsTrace w t → AllByRecursion StepFits t → ArePackets (sent w t) → ranges.CameInRange (of_server s t)
 unfolding AllSent
-came_to n s [] h f are = tt
-came_to n s (AtServer r e ∷ past) h f are =
-    let a = before n (AtServer r e) past are in
-    let k = came_to n s past h.0 f.1 a in
-    if_its (r == s) (e ∷ of_server s past) (of_server s past) (more_in (sent n past) r e (of_server s past) a h.1 f.0.1 k) k
-came_to n s (AtClient e ∷ past) h f are = came_to n s past h.0 f.1 (before n (AtClient e) past are)
+came_to w s [] h f are = tt
+came_to w s (AtServer r e ∷ past) h f are =
+    let a = before w (AtServer r e) past are in
+    let k = came_to w s past h.0 f.1 a in
+    if_its (r == s) (e ∷ of_server s past) (of_server s past) (more_in (sent w past) r e (of_server s past) a h.1 f.0.1 k) k
+came_to w s (AtClient e ∷ past) h f are = came_to w s past h.0 f.1 (before w (AtClient e) past are)
 
 call_in : (ps : List PacketParts) (c : Call) (left : Left) (older : List PacketParts) → ArePackets ps → AllSent ps (AtClient (entry.Met c left)) → AllByRecursion IsPacket older → AllByRecursion IsPacket (packet_in (entry.Met c left) ++ older)
 unfolding AllSent
@@ -74,13 +75,13 @@ more_heard ps (entry.Restart mirror) past are w h = h
 more_heard ps (entry.Renew g left) past are w h = h
 more_heard ps entry.Lose past are w h = h
 
-came_back : (n : ℕ) (t : List Step) → IsTrace n t → ArePackets (sent n t) → AllByRecursion IsPacket (came (of_client t))
+came_back : (w : Setup) (t : List Step) → IsTrace w t → ArePackets (sent w t) → AllByRecursion IsPacket (came (of_client t))
 unfolding AllSent
-came_back n [] h are = tt
-came_back n (AtServer r e ∷ past) h are = came_back n past h.0 (before n (AtServer r e) past are)
-came_back n (AtClient e ∷ past) h are =
-    let a = before n (AtClient e) past are in
-    more_heard (sent n past) e (of_client past) a h.1 (came_back n past h.0 a)
+came_back w [] h are = tt
+came_back w (AtServer r e ∷ past) h are = came_back w past h.0 (before w (AtServer r e) past are)
+came_back w (AtClient e ∷ past) h are =
+    let a = before w (AtClient e) past are in
+    more_heard (sent w past) e (of_client past) a h.1 (came_back w past h.0 a)
 
 blank_noted : IsNoted blank
 blank_noted = record { generation = omega arith; runs = omega arith; attempts = omega arith; count = omega arith; states = tt; keys = refl }
@@ -88,23 +89,23 @@ blank_noted = record { generation = omega arith; runs = omega arith; attempts = 
 each : (ps : List PacketParts) → AllByRecursion IsPacket ps → ArePackets ps
 each ps h p i = each_of IsPacket ps p h i
 
-step_in : servers.PacketsAreInRange → clients.PacketsAreInRange → (n : ℕ) (step : Step) (past : List Step) → n ≤ 8 → IsTrace n (step ∷ past) → AllByRecursion StepFits (step ∷ past) → ArePackets (sent n past) → ArePackets (packets_of n past step)
+step_in : servers.PacketsAreInRange → clients.PacketsAreInRange → (w : Setup) (step : Step) (past : List Step) → servers_of w ≤ 8 → IsTrace w (step ∷ past) → AllByRecursion StepFits (step ∷ past) → ArePackets (sent w past) → ArePackets (packets_of w past step)
 unfolding AllSent
-step_in by_server by_client n (AtServer s e) past l h f are =
-    each _ (by_server (opening_of s) (of_server s past) e (record { me = f.0.0; last = omega arith }) (more_in (sent n past) s e (of_server s past) are h.1 f.0.1 (came_to n s past h.0 f.1 are)))
-step_in by_server by_client n (AtClient e) past l h f are =
-    each _ (by_client (client_opening n) (of_client past) e (record { servers = l; note = blank_noted }) (more_heard (sent n past) e (of_client past) are h.1 (came_back n past h.0 are)))
+step_in by_server by_client w (AtServer s e) past l h f are =
+    each _ (by_server (opening_of s) (of_server s past) e (record { me = f.0.0; last = omega arith }) (more_in (sent w past) s e (of_server s past) are h.1 f.0.1 (came_to w s past h.0 f.1 are)))
+step_in by_server by_client w (AtClient e) past l h f are =
+    each _ (by_client (client_opening w) (of_client past) e (record { servers = l; note = blank_noted }) (more_heard (sent w past) e (of_client past) are h.1 (came_back w past h.0 are)))
 
-none_sent : (n : ℕ) → ArePackets (sent n [])
+none_sent : (w : Setup) → ArePackets (sent w [])
 unfolding sent
-none_sent n p i = absurd (none_in p i)
+none_sent w p i = absurd (none_in p i)
 
-one_step : (n : ℕ) (step : Step) (past : List Step) → ArePackets (sent n past) → ArePackets (packets_of n past step) → ArePackets (sent n (step ∷ past))
+one_step : (w : Setup) (step : Step) (past : List Step) → ArePackets (sent w past) → ArePackets (packets_of w past step) → ArePackets (sent w (step ∷ past))
 unfolding sent
-one_step n step past a b = both (sent n past) (packets_of n past step) a b
+one_step w step past a b = both (sent w past) (packets_of w past step) a b
 
 pub sent_are_in_range : servers.PacketsAreInRange → clients.PacketsAreInRange → SentAreInRange
-sent_are_in_range by_server by_client n [] h f = none_sent n
-sent_are_in_range by_server by_client n (step ∷ past) h f =
-    let are = sent_are_in_range by_server by_client n past h.0 (record { few = f.few; steps = f.steps.1 }) in
-    one_step n step past are (step_in by_server by_client n step past f.few h f.steps are)
+sent_are_in_range by_server by_client w [] h f = none_sent w
+sent_are_in_range by_server by_client w (step ∷ past) h f =
+    let are = sent_are_in_range by_server by_client w past h.0 (record { few = f.few; steps = f.steps.1 }) in
+    one_step w step past are (step_in by_server by_client w step past f.few h f.steps are)

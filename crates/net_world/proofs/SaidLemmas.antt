@@ -16,6 +16,7 @@ use Rattle.server_core.specs.Laws as served
 use Rattle.server_core.specs.Sent.{PacketsGoToClient}
 use Rattle.client_core.specs.Laws as asked
 use Rattle.client_core.specs.Words.{has_mirror}
+use Rattle.net_world.specs.Setup.{Setup}
 use Rattle.net_world.specs.Trace.{Step, AtServer, AtClient, opening_of, client_opening, of_server, of_client, packets_of, sent}
 use Rattle.net_world.proofs.TraceLemmas.{own_step, sent_cases, sent_none}
 use Rattle.net_world.proofs.BegunLemmas.{begun, work_begun, begun_stays}
@@ -56,25 +57,25 @@ later : (s : ℕ) (step : Step) (past : List Step) (p : PacketParts) → SentBy 
 later s (AtServer r e) past p h = more_if s (r == s) (of_server s past) e p h
 later s (AtClient e) past p h = h
 
-sent_now : Sayings → (n s : ℕ) (step : Step) (past : List Step) (p : PacketParts) → p.from ≡ Server s → Contains (packets_of n past step) p → SentBy s (of_server s (step ∷ past)) p
-sent_now laws n s (AtServer r e) past p from h =
+sent_now : Sayings → (w : Setup) (s : ℕ) (step : Step) (past : List Step) (p : PacketParts) → p.from ≡ Server s → Contains (packets_of w past step) p → SentBy s (of_server s (step ∷ past)) p
+sent_now laws w s (AtServer r e) past p from h =
     let k = laws.to_client (opening_of r) (of_server r past) e p h in
     let same : r ≡ s = server_apart r s (sym (ap (λ (q : PacketParts). q.from) k.ends) ∙ from) in
     rw (own_step r s e past same)
     (record { newer = []; entry = e; older = of_server s past; split = refl; sends = subst (λ m. Contains (servers.packets (opening_of m) (of_server m past) e) p) same h })
-sent_now laws n s (AtClient e) past p from h =
-    absurd (not_client s (sym (from_client (laws.to_peers (client_opening n) (of_client past) e p h)) ∙ from))
+sent_now laws w s (AtClient e) past p from h =
+    absurd (not_client s (sym (from_client (laws.to_peers (client_opening w) (of_client past) e p h)) ∙ from))
   where
-    from_client : asked.GoesToServer n p ⊎ asked.GoesToMirror (has_mirror (of_client past)) p → p.from ≡ Client
+    from_client : asked.GoesToServer w p ⊎ asked.GoesToMirror (has_mirror (of_client past)) p → p.from ≡ Client
     from_client (inl k) = ap (λ (q : PacketParts). q.from) k.2
     from_client (inr k) = ap (λ (q : PacketParts). q.from) k.1
 
-pub sent_by : Sayings → (n s : ℕ) (t : List Step) (p : PacketParts) → p.from ≡ Server s → Contains (sent n t) p → SentBy s (of_server s t) p
-sent_by laws n s [] p from h = absurd (sent_none n p h)
-sent_by laws n s (step ∷ past) p from h =
-    elim (sent_cases n step past p h) [
-      | inl before ↦ later s step past p (sent_by laws n s past p from before)
-      | inr now ↦ sent_now laws n s step past p from now
+pub sent_by : Sayings → (w : Setup) (s : ℕ) (t : List Step) (p : PacketParts) → p.from ≡ Server s → Contains (sent w t) p → SentBy s (of_server s t) p
+sent_by laws w s [] p from h = absurd (sent_none w p h)
+sent_by laws w s (step ∷ past) p from h =
+    elim (sent_cases w step past p h) [
+      | inl before ↦ later s step past p (sent_by laws w s past p from before)
+      | inr now ↦ sent_now laws w s step past p from now
     ]
 
 begun_on : served.NumbersGrow → (o : Opening) (run : ℕ) (newer older : List Entry) (jobs : List Job) → begun o run older ≡ Some jobs → begun o run (newer ++ older) ≡ Some jobs

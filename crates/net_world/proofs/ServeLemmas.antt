@@ -37,6 +37,7 @@ use Rattle.server_core.specs.FrameAnswers as answers
 use Rattle.net_world.specs.declared.served.Served.{Served}
 use Rattle.net_world.specs.declared.server_node.ServerNode.{ServerNode}
 use Rattle.net_world.specs.declared.world.World.{World}
+use Rattle.net_world.specs.Setup.{Setup, servers_of}
 use Rattle.net_world.specs.Trace.{of_server, opening_of, client_opening}
 use Rattle.net_world.specs.Frames.{frames_sent, frames_of_step, client_entries}
 use Rattle.net_world.specs.Changes.{Change, steps, trace}
@@ -54,17 +55,17 @@ use Rattle.net_world.proofs.MetLemmas.{entry_again, HasMoved, server_stepped, se
 
 -- ---- a server's list, in frames and in packets
 
-pub heard_is : (n : ℕ) (past : List Change) (s : ℕ) → packets_heard (opening_of s) (entries past s) ≡ of_server s (trace n past)
-heard_is n past s =
-    ap (λ (h : Heard server.Entry). h.entries) (servers_stand n s (steps past)).hears ∙ sym ((nodes_hear_their_own n (steps past)).servers s)
+pub heard_is : (w : Setup) (past : List Change) (s : ℕ) → packets_heard (opening_of s) (entries past s) ≡ of_server s (trace w past)
+heard_is w past s =
+    ap (λ (h : Heard server.Entry). h.entries) (servers_stand w s (steps past)).hears ∙ sym ((nodes_hear_their_own w (steps past)).servers s)
 
-pub up_is : (n : ℕ) (past : List Change) (s : ℕ) → is_up (opening_of s) (entries past s) ≡ is_on (trace n past) (nodes.Server s)
-up_is n past s = ap words.is_on (heard_is n past s)
+pub up_is : (w : Setup) (past : List Change) (s : ℕ) → is_up (opening_of s) (entries past s) ≡ is_on (trace w past) (nodes.Server s)
+up_is w past s = ap words.is_on (heard_is w past s)
 
 -- The frames of an entry are those of its step.
-pub frames_are : (n : ℕ) (past : List Change) (s : ℕ) (e : FrameEntry) → answers.frames (opening_of s) (entries past s) e ≡ frames_of_step n (steps past) (step_of s e)
-frames_are n past s e =
-    ap (answers.frames (opening_of s) (entries past s)) (sym (entry_again e)) ∙ (servers_stand n s (steps past)).sends (coming e)
+pub frames_are : (w : Setup) (past : List Change) (s : ℕ) (e : FrameEntry) → answers.frames (opening_of s) (entries past s) e ≡ frames_of_step w (steps past) (step_of s e)
+frames_are w past s e =
+    ap (answers.frames (opening_of s) (entries past s)) (sym (entry_again e)) ∙ (servers_stand w s (steps past)).sends (coming e)
 
 -- ---- whether there is such a server, and whether it is on
 
@@ -83,22 +84,22 @@ first_fails a b f g h = rw h refl
 second_fails : (a b : Bool) (f g : Fault) → a ≡ true → b ≡ false → option_or (unless a f) (unless b g) ≡ Some g
 second_fails a b f g h k = rw (h, k) refl
 
-pub none_there : (n : ℕ) (past : List Change) (s : ℕ) → n ≤ s → off n (trace n past) (nodes.Server s) ≡ Some NoServer
-none_there n past s h = first_fails (nat_lt s n) (is_on (trace n past) (nodes.Server s)) NoServer NodeOff (lt_false s n h)
+pub none_there : (w : Setup) (past : List Change) (s : ℕ) → servers_of w ≤ s → off w (trace w past) (nodes.Server s) ≡ Some NoServer
+none_there w past s h = first_fails (nat_lt s (servers_of w)) (is_on (trace w past) (nodes.Server s)) NoServer NodeOff (lt_false s (servers_of w) h)
 
-pub is_off : (n : ℕ) (past : List Change) (s : ℕ) → s < n → is_up (opening_of s) (entries past s) ≡ false → off n (trace n past) (nodes.Server s) ≡ Some NodeOff
-is_off n past s l h = second_fails (nat_lt s n) (is_on (trace n past) (nodes.Server s)) NoServer NodeOff (lt_true s n l) (sym (up_is n past s) ∙ h)
+pub is_off : (w : Setup) (past : List Change) (s : ℕ) → s < servers_of w → is_up (opening_of s) (entries past s) ≡ false → off w (trace w past) (nodes.Server s) ≡ Some NodeOff
+is_off w past s l h = second_fails (nat_lt s (servers_of w)) (is_on (trace w past) (nodes.Server s)) NoServer NodeOff (lt_true s (servers_of w) l) (sym (up_is w past s) ∙ h)
 
-pub is_there : (n : ℕ) (past : List Change) (s : ℕ) → s < n → is_up (opening_of s) (entries past s) ≡ true → off n (trace n past) (nodes.Server s) ≡ None
-is_there n past s l h = tests_pass (nat_lt s n) (is_on (trace n past) (nodes.Server s)) NoServer NodeOff (lt_true s n l) (sym (up_is n past s) ∙ h)
+pub is_there : (w : Setup) (past : List Change) (s : ℕ) → s < servers_of w → is_up (opening_of s) (entries past s) ≡ true → off w (trace w past) (nodes.Server s) ≡ None
+is_there w past s l h = tests_pass (nat_lt s (servers_of w)) (is_on (trace w past) (nodes.Server s)) NoServer NodeOff (lt_true s (servers_of w) l) (sym (up_is w past s) ∙ h)
 
 -- ---- frames are counted
 
-count_frames : (n : ℕ) (past : List Change) (sent : List (List ℕ)) → sent ≡ frames n past → length sent ≡ length (frames_sent n (steps past))
-count_frames n past sent h = ap (λ (fs : List (List ℕ)). length fs) h ∙ length-map (frames_sent n (steps past)) frame_spelling
+count_frames : (w : Setup) (past : List Change) (sent : List (List ℕ)) → sent ≡ frames w past → length sent ≡ length (frames_sent w (steps past))
+count_frames w past sent h = ap (λ (fs : List (List ℕ)). length fs) h ∙ length-map (frames_sent w (steps past)) frame_spelling
 
-pub first_is : (n : ℕ) (past : List Change) (w : World) → StandsFor n past w → length (sent_in w.sent) ≡ length (frames_sent n (steps past))
-first_is n past w stands = count_frames n past (sent_in w.sent) stands.sent_is
+pub first_is : (w : Setup) (past : List Change) (now : World) → StandsFor w past now → length (sent_in now.sent) ≡ length (frames_sent w (steps past))
+first_is w past now stands = count_frames w past (sent_in now.sent) stands.sent_is
 
 -- ---- what is refused sends nothing
 
@@ -139,51 +140,51 @@ pub record IsOf (sent : List (List ℕ)) (outs : Outs) (served : Served) : Type 
   pub issue : served.issue ≡ outs.issue
   pub act : served.act ≡ outs.act
 
-pub serve_ends : (n : ℕ) (past : List Change) (s : ℕ) (e : Input) (outs : Outs) (served : Served) (old new : World) → StandsFor n past old → HasServed s e (Ok outs) outs.frames old new → IsOf (sent_in old.sent) outs served
-    → Serves n past s e new served
-serve_ends n past s e outs served old new stands h is =
+pub serve_ends : (w : Setup) (past : List Change) (s : ℕ) (e : Input) (outs : Outs) (served : Served) (old new : World) → StandsFor w past old → HasServed s e (Ok outs) outs.frames old new → IsOf (sent_in old.sent) outs served
+    → Serves w past s e new served
+serve_ends w past s e outs served old new stands h is =
     let o = opening_of s in
     let es = entries past s in
     let a = h.stepped o es (stands.servers_are s h.was h.was_is) in
-    let l : s < n = omega (arith, h.moved.there, stands.number) in
-    let same = frames_are n past s (answers.answered o es e) in
-    let sent : outs.frames ≡ map frame_spelling (frames_of_step n (steps past) (step_by past s e)) = a.frames_are ∙ ap (map frame_spelling) same in
+    let l : s < servers_of w = omega (arith, h.moved.there, stands.number) in
+    let same = frames_are w past s (answers.answered o es e) in
+    let sent : outs.frames ≡ map frame_spelling (frames_of_step w (steps past) (step_by past s e)) = a.frames_are ∙ ap (map frame_spelling) same in
     record {
-      on = is_there n past s l a.on;
+      on = is_there w past s l a.on;
       free = a.free;
-      first_is = is.first ∙ first_is n past old stands;
-      sent_is = is.sent_is ∙ ap (λ (fs : List (List ℕ)). length fs) sent ∙ length-map (frames_of_step n (steps past) (step_by past s e)) frame_spelling;
+      first_is = is.first ∙ first_is w past old stands;
+      sent_is = is.sent_is ∙ ap (λ (fs : List (List ℕ)). length fs) sent ∙ length-map (frames_of_step w (steps past) (step_by past s e)) frame_spelling;
       issue_is = is.issue ∙ a.issue_is;
       act_is = is.act ∙ a.act_is;
-      stands = server_stepped n past s (answers.answered o es e) h.node outs.frames old new stands h.moved sent a.stands;
+      stands = server_stepped w past s (answers.answered o es e) h.node outs.frames old new stands h.moved sent a.stands;
     }
 
-refused : (n : ℕ) (past : List Change) (s : ℕ) (e : Input) (fault : Fault) (old new : World) → StandsFor n past old → (h : HasServed s e (Err fault) [] old new) → s < n
+refused : (w : Setup) (past : List Change) (s : ℕ) (e : Input) (fault : Fault) (old new : World) → StandsFor w past old → (h : HasServed s e (Err fault) [] old new) → s < servers_of w
     → nodes_of.IsOff (opening_of s) (entries past s) fault h.node ⊎ nodes_of.Refuses (opening_of s) (entries past s) e fault h.node
-    → IsBarred n past s fault new ⊎ Refuses n past s e fault new
-refused n past s e fault old new stands h l (inl off) =
-    inl (record { why = is_off n past s l off.off ∙ ap Some (sym off.why); unchanged = server_kept n past s h.node old new stands h.moved off.unchanged })
-refused n past s e fault old new stands h l (inr r) =
-    let nothing : [] ≡ map frame_spelling (frames_of_step n (steps past) (step_of s (Met e NoSave))) =
-    ap (map frame_spelling) (sym (refused_sends (opening_of s) (entries past s) e fault r.why) ∙ frames_are n past s (Met e NoSave)) in
+    → IsBarred w past s fault new ⊎ Refuses w past s e fault new
+refused w past s e fault old new stands h l (inl off) =
+    inl (record { why = is_off w past s l off.off ∙ ap Some (sym off.why); unchanged = server_kept w past s h.node old new stands h.moved off.unchanged })
+refused w past s e fault old new stands h l (inr r) =
+    let nothing : [] ≡ map frame_spelling (frames_of_step w (steps past) (step_of s (Met e NoSave))) =
+    ap (map frame_spelling) (sym (refused_sends (opening_of s) (entries past s) e fault r.why) ∙ frames_are w past s (Met e NoSave)) in
     inr (record {
-      on = is_there n past s l r.on;
+      on = is_there w past s l r.on;
       why = r.why;
-      stands = server_stepped n past s (Met e NoSave) h.node [] old new stands h.moved nothing r.stands;
-      unchanged = λ d. server_kept n past s h.node old new stands h.moved (r.unchanged d);
+      stands = server_stepped w past s (Met e NoSave) h.node [] old new stands h.moved nothing r.stands;
+      unchanged = λ d. server_kept w past s h.node old new stands h.moved (r.unchanged d);
     })
 
-by_sort : (n : ℕ) (past : List Change) (s : ℕ) (e : Input) (fault : Fault) (old new : World) → StandsFor n past old → (h : HasServed s e (Err fault) [] old new) → s < n
-    → (sort : FaultSort) → nodes_of.Faults (opening_of s) (entries past s) e sort fault h.node → Faults n past s e sort fault new
-by_sort n past s e fault old new stands h l sorts.Memory f = (f.0, server_kept n past s h.node old new stands h.moved f.1)
-by_sort n past s e fault old new stands h l sorts.Save f = f
-by_sort n past s e fault old new stands h l sorts.Refusal f = refused n past s e fault old new stands h l f
+by_sort : (w : Setup) (past : List Change) (s : ℕ) (e : Input) (fault : Fault) (old new : World) → StandsFor w past old → (h : HasServed s e (Err fault) [] old new) → s < servers_of w
+    → (sort : FaultSort) → nodes_of.Faults (opening_of s) (entries past s) e sort fault h.node → Faults w past s e sort fault new
+by_sort w past s e fault old new stands h l sorts.Memory f = (f.0, server_kept w past s h.node old new stands h.moved f.1)
+by_sort w past s e fault old new stands h l sorts.Save f = f
+by_sort w past s e fault old new stands h l sorts.Refusal f = refused w past s e fault old new stands h l f
 
-pub serve_fails : (n : ℕ) (past : List Change) (s : ℕ) (e : Input) (fault : Fault) (old new : World) → StandsFor n past old → HasServed s e (Err fault) [] old new
-    → ServerEnds n past s e new (Err fault)
-serve_fails n past s e fault old new stands h =
-    let l : s < n = omega (arith, h.moved.there, stands.number) in
-    by_sort n past s e fault old new stands h l (sort_of fault) (h.stepped (opening_of s) (entries past s) (stands.servers_are s h.was h.was_is))
+pub serve_fails : (w : Setup) (past : List Change) (s : ℕ) (e : Input) (fault : Fault) (old new : World) → StandsFor w past old → HasServed s e (Err fault) [] old new
+    → ServerEnds w past s e new (Err fault)
+serve_fails w past s e fault old new stands h =
+    let l : s < servers_of w = omega (arith, h.moved.there, stands.number) in
+    by_sort w past s e fault old new stands h l (sort_of fault) (h.stepped (opening_of s) (entries past s) (stands.servers_are s h.was h.was_is))
 
 -- ---- nothing comes of it
 
@@ -194,51 +195,51 @@ pub le_of : (a b : ℕ) → nat_lt a b ≡ false → b ≤ a
 le_of a b h = grind (arith, nat_tests)
 
 -- There is no such server.
-pub none_serves : (n : ℕ) (past : List Change) (s : ℕ) (e : Input) (w : World) → StandsFor n past w → nat_lt s (length w.servers.items) ≡ false → ServerEnds n past s e w (Err NoServer)
-none_serves n past s e w stands h =
-    let l : n ≤ s = omega (arith, stands.number, le_of s (length w.servers.items) h) in
-    inl (record { why = none_there n past s l; unchanged = stands })
+pub none_serves : (w : Setup) (past : List Change) (s : ℕ) (e : Input) (now : World) → StandsFor w past now → nat_lt s (length now.servers.items) ≡ false → ServerEnds w past s e now (Err NoServer)
+none_serves w past s e now stands h =
+    let l : servers_of w ≤ s = omega (arith, stands.number, le_of s (length now.servers.items) h) in
+    inl (record { why = none_there w past s l; unchanged = stands })
 
 -- All but the frames' places in memory is as it was.
-pub settled : (n : ℕ) (past : List Change) (old new : World) → StandsFor n past old → sent_in new.sent ≡ sent_in old.sent → new.servers ≡ old.servers → new.client ≡ old.client → new.files ≡ old.files → StandsFor n past new
-settled n past old new stands sent servers client files = record {
+pub settled : (w : Setup) (past : List Change) (old new : World) → StandsFor w past old → sent_in new.sent ≡ sent_in old.sent → new.servers ≡ old.servers → new.client ≡ old.client → new.files ≡ old.files → StandsFor w past new
+settled w past old new stands sent servers client files = record {
   some = stands.some;
   few = stands.few;
   number = ap (λ (v : Vec ServerNode Global). length v.items) servers ∙ stands.number;
   sent_is = sent ∙ stands.sent_is;
   servers_are = λ s node at. stands.servers_are s node (ap (λ (v : Vec ServerNode Global). slice_get v.items s) (sym servers) ∙ at);
-  client_is = subst (λ x. clients.Stands (client_opening n) (client_entries (steps past)) x) (sym client) stands.client_is;
+  client_is = subst (λ x. clients.Stands (client_opening w) (client_entries (steps past)) x) (sym client) stands.client_is;
   files = ap (λ (v : Vec MemDisk Global). length v.items) files ∙ stands.files;
   files_are = λ s j disk l at. stands.files_are s j disk l (ap (λ (v : Vec MemDisk Global). slice_get v.items (16 * s + j)) (sym files) ∙ at);
 }
 
 -- Memory has run out.
-pub lacks : (n : ℕ) (past : List Change) (s : ℕ) (e : Input) (old new : World) → StandsFor n past old → sent_in new.sent ≡ sent_in old.sent → new.servers ≡ old.servers → new.client ≡ old.client → new.files ≡ old.files
-    → ServerEnds n past s e new (Err NoMemory)
-lacks n past s e old new stands sent servers client files = (refl, settled n past old new stands sent servers client files)
+pub lacks : (w : Setup) (past : List Change) (s : ℕ) (e : Input) (old new : World) → StandsFor w past old → sent_in new.sent ≡ sent_in old.sent → new.servers ≡ old.servers → new.client ≡ old.client → new.files ≡ old.files
+    → ServerEnds w past s e new (Err NoMemory)
+lacks w past s e old new stands sent servers client files = (refl, settled w past old new stands sent servers client files)
 
 -- What was read at the place of server s.
 pub node_at : {X : Type 0} (xs : List X) (s place : ℕ) (x : X) → place ≡ s → s < length xs → x ≡ get_or xs place x → slice_get xs s ≡ Some x
 node_at xs s place x is l h = slice_get_read xs (length xs) s x refl l (h ∙ ap (λ i. get_or xs i x) is)
 
 -- A server that is on is there.
-pub on_below : (n : ℕ) (past : List Change) (s : ℕ) → off n (trace n past) (nodes.Server s) ≡ None → s < n
-on_below n past s h = by_test (nat_lt s n) refl
+pub on_below : (w : Setup) (past : List Change) (s : ℕ) → off w (trace w past) (nodes.Server s) ≡ None → s < servers_of w
+on_below w past s h = by_test (nat_lt s (servers_of w)) refl
   where
-    by_test : (b : Bool) → nat_lt s n ≡ b → s < n
-    by_test true e = lt_of s n e
-    by_test false e = absurd (some_none (sym (first_fails (nat_lt s n) (is_on (trace n past) (nodes.Server s)) NoServer NodeOff e) ∙ h))
+    by_test : (b : Bool) → nat_lt s (servers_of w) ≡ b → s < servers_of w
+    by_test true e = lt_of s (servers_of w) e
+    by_test false e = absurd (some_none (sym (first_fails (nat_lt s (servers_of w)) (is_on (trace w past) (nodes.Server s)) NoServer NodeOff e) ∙ h))
       where
         some_none : Some NoServer ≡ None → ⊥
         some_none e = cc
 
 -- A server that is on is up by its list.
-pub up_of : (n : ℕ) (past : List Change) (s : ℕ) → off n (trace n past) (nodes.Server s) ≡ None → is_up (opening_of s) (entries past s) ≡ true
-up_of n past s h = up_is n past s ∙ by_test (is_on (trace n past) (nodes.Server s)) refl
+pub up_of : (w : Setup) (past : List Change) (s : ℕ) → off w (trace w past) (nodes.Server s) ≡ None → is_up (opening_of s) (entries past s) ≡ true
+up_of w past s h = up_is w past s ∙ by_test (is_on (trace w past) (nodes.Server s)) refl
   where
-    by_test : (b : Bool) → is_on (trace n past) (nodes.Server s) ≡ b → is_on (trace n past) (nodes.Server s) ≡ true
+    by_test : (b : Bool) → is_on (trace w past) (nodes.Server s) ≡ b → is_on (trace w past) (nodes.Server s) ≡ true
     by_test true e = e
-    by_test false e = absurd (some_none (sym (second_fails (nat_lt s n) (is_on (trace n past) (nodes.Server s)) NoServer NodeOff (lt_true s n (on_below n past s h)) e) ∙ h))
+    by_test false e = absurd (some_none (sym (second_fails (nat_lt s (servers_of w)) (is_on (trace w past) (nodes.Server s)) NoServer NodeOff (lt_true s (servers_of w) (on_below w past s h)) e) ∙ h))
       where
         some_none : Some NodeOff ≡ None → ⊥
         some_none e = cc

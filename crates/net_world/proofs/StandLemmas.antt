@@ -45,7 +45,7 @@ frames_same s list None = refl
 frames_same s list (Some e) = refl
 
 pub servers_stand : ServersStand
-servers_stand n s t =
+servers_stand w s t =
     let h = heard (at_server s) (of_server s t) in
     let same = hears_same s (of_server s t) in
     record {

@@ -101,4 +101,4 @@ started_distinct grow o (Cut ∷ past) = started_distinct grow o past
 started_distinct grow o (Restart left ∷ past) = started_distinct grow o past
 
 pub starts_are_accepted_once : NumbersGrow → OfEachList StartsAreAcceptedOnce
-starts_are_accepted_once grow n t s = started_distinct grow (opening_of s) (of_server s t)
+starts_are_accepted_once grow w t s = started_distinct grow (opening_of s) (of_server s t)

@@ -20,6 +20,7 @@ use Rattle.client_core.specs.History as client
 use Rattle.client_core.specs.Laws.{loses_nothing}
 use Rattle.client_core.specs.Ranges.{packet_in, came}
 use Rattle.client_core.specs.Words.{has_mirror}
+use Rattle.net_world.specs.Setup.{Setup}
 use Rattle.net_world.specs.Trace.{Step, AtServer, AtClient, opening_of, of_server, of_client, packets_of, sent, taken_by, node_of, WasSentTo, is_alone, IsTrace}
 use Rattle.net_world.specs.Holders.{taken_of}
 use Rattle.net_world.proofs.ListLemmas.{none_in, later_in, each_of}
@@ -48,10 +49,10 @@ loses_no_more (client.Renew g left) past h k = k
 loses_no_more client.Lose past h k = cc
 
 -- Its note isn't lost.
-pub loses_none : (n : ℕ) (t : List Step) → IsTrace n t → loses_nothing (of_client t) ≡ true
-loses_none n [] trace = refl
-loses_none n (AtServer s e ∷ past) trace = loses_none n past trace.0
-loses_none n (AtClient e ∷ past) trace = loses_no_more e (of_client past) trace.2 (loses_none n past trace.0)
+pub loses_none : (w : Setup) (t : List Step) → IsTrace w t → loses_nothing (of_client t) ≡ true
+loses_none w [] trace = refl
+loses_none w (AtServer s e ∷ past) trace = loses_none w past trace.0
+loses_none w (AtClient e ∷ past) trace = loses_no_more e (of_client past) trace.2 (loses_none w past trace.0)
 
 not_true : (b : Bool) → not b ≡ true → b ≡ false
 not_true true h = cc
@@ -65,10 +66,10 @@ gets_no_mirror (client.Renew g left) past h k = cc
 gets_no_mirror client.Lose past h k = refl
 
 -- It gets none.
-pub no_mirror : (n : ℕ) (t : List Step) → IsTrace n t → has_mirror (of_client t) ≡ false
-no_mirror n [] trace = refl
-no_mirror n (AtServer s e ∷ past) trace = no_mirror n past trace.0
-no_mirror n (AtClient e ∷ past) trace = gets_no_mirror e (of_client past) trace.2 (no_mirror n past trace.0)
+pub no_mirror : (w : Setup) (t : List Step) → IsTrace w t → has_mirror (of_client t) ≡ false
+no_mirror w [] trace = refl
+no_mirror w (AtServer s e ∷ past) trace = no_mirror w past trace.0
+no_mirror w (AtClient e ∷ past) trace = gets_no_mirror e (of_client past) trace.2 (no_mirror w past trace.0)
 
 -- ---- what was taken stays taken
 
@@ -96,38 +97,38 @@ taken_stays_so key (step ∷ later) past state h = taken_stays key step (later +
 
 -- ---- each front of a trace is one
 
-pub front_is_trace : (n : ℕ) (later t : List Step) → IsTrace n (later ++ t) → IsTrace n t
-front_is_trace n [] t h = h
-front_is_trace n (step ∷ later) t h = front_is_trace n later t h.0
+pub front_is_trace : (w : Setup) (later t : List Step) → IsTrace w (later ++ t) → IsTrace w t
+front_is_trace w [] t h = h
+front_is_trace w (step ∷ later) t h = front_is_trace w later t h.0
 
 -- ---- what was sent stays sent
 
-pub sent_cases : (n : ℕ) (step : Step) (past : List Step) (p : PacketParts) → Contains (sent n (step ∷ past)) p → Contains (sent n past) p ⊎ Contains (packets_of n past step) p
+pub sent_cases : (w : Setup) (step : Step) (past : List Step) (p : PacketParts) → Contains (sent w (step ∷ past)) p → Contains (sent w past) p ⊎ Contains (packets_of w past step) p
 unfolding sent
-sent_cases n step past p h = Contains-append_cases (sent n past) (packets_of n past step) p h
+sent_cases w step past p h = Contains-append_cases (sent w past) (packets_of w past step) p h
 
-pub sent_stays : (n : ℕ) (step : Step) (past : List Step) (p : PacketParts) → Contains (sent n past) p → Contains (sent n (step ∷ past)) p
+pub sent_stays : (w : Setup) (step : Step) (past : List Step) (p : PacketParts) → Contains (sent w past) p → Contains (sent w (step ∷ past)) p
 unfolding sent
-sent_stays n step past p h = Contains-append_left (sent n past) (packets_of n past step) p h
+sent_stays w step past p h = Contains-append_left (sent w past) (packets_of w past step) p h
 
-pub sent_none : (n : ℕ) (p : PacketParts) → Contains (sent n []) p → ⊥
+pub sent_none : (w : Setup) (p : PacketParts) → Contains (sent w []) p → ⊥
 unfolding sent
-sent_none n p h = none_in p h
+sent_none w p h = none_in p h
 
 -- ---- what came was sent
 
 -- What a step of a trace takes was sent before.
-pub taken_was_sent : (n : ℕ) (step : Step) (past : List Step) (p : PacketParts) → AllByRecursion (WasSentTo (sent n past) (node_of step)) (taken_by step) → Contains (taken_by step) p → Contains (sent n past) p
-taken_was_sent n step past p h c = (each_of (WasSentTo (sent n past) (node_of step)) (taken_by step) p h c).0
+pub taken_was_sent : (w : Setup) (step : Step) (past : List Step) (p : PacketParts) → AllByRecursion (WasSentTo (sent w past) (node_of step)) (taken_by step) → Contains (taken_by step) p → Contains (sent w past) p
+taken_was_sent w step past p h c = (each_of (WasSentTo (sent w past) (node_of step)) (taken_by step) p h c).0
 
 -- All that came to the client.
-pub came_was_sent : (n : ℕ) (t : List Step) (p : PacketParts) → IsTrace n t → Contains (came (of_client t)) p → Contains (sent n t) p
-came_was_sent n [] p h c = absurd (none_in p c)
-came_was_sent n (AtServer r e ∷ past) p h c = sent_stays n (AtServer r e) past p (came_was_sent n past p h.0 c)
-came_was_sent n (AtClient e ∷ past) p h c =
-    sent_stays n (AtClient e) past p (elim (Contains-append_cases (packet_in e) (came (of_client past)) p c) [
-      | inl now ↦ taken_was_sent n (AtClient e) past p h.1 now
-      | inr before ↦ came_was_sent n past p h.0 before
+pub came_was_sent : (w : Setup) (t : List Step) (p : PacketParts) → IsTrace w t → Contains (came (of_client t)) p → Contains (sent w t) p
+came_was_sent w [] p h c = absurd (none_in p c)
+came_was_sent w (AtServer r e ∷ past) p h c = sent_stays w (AtServer r e) past p (came_was_sent w past p h.0 c)
+came_was_sent w (AtClient e ∷ past) p h c =
+    sent_stays w (AtClient e) past p (elim (Contains-append_cases (packet_in e) (came (of_client past)) p c) [
+      | inl now ↦ taken_was_sent w (AtClient e) past p h.1 now
+      | inr before ↦ came_was_sent w past p h.0 before
     ])
 
 -- An entry of a server brings a packet, or it came before.
@@ -142,15 +143,15 @@ heard_now (server.Met e left) past p h = heard_by e (heard past) p h
 heard_now server.Cut past p h = absurd (none_in p h)
 heard_now (server.Restart left) past p h = absurd (none_in p h)
 
-heard_if : (n r s : ℕ) (t : Bool) (e : server.Entry) (past : List Step) (p : PacketParts) → AllByRecursion (WasSentTo (sent n past) (Server r)) (heard (e ∷ []))
-    → (Contains (heard (of_server s past)) p → Contains (sent n past) p) → Contains (heard (if t then e ∷ of_server s past else of_server s past)) p → Contains (sent n past) p
-heard_if n r s false e past p w before h = before h
-heard_if n r s true e past p w before h =
-    elim (heard_now e (of_server s past) p h) [ inl now ↦ taken_was_sent n (AtServer r e) past p w now | inr i ↦ before i ]
+heard_if : (w : Setup) (r s : ℕ) (t : Bool) (e : server.Entry) (past : List Step) (p : PacketParts) → AllByRecursion (WasSentTo (sent w past) (Server r)) (heard (e ∷ []))
+    → (Contains (heard (of_server s past)) p → Contains (sent w past) p) → Contains (heard (if t then e ∷ of_server s past else of_server s past)) p → Contains (sent w past) p
+heard_if w r s false e past p was before h = before h
+heard_if w r s true e past p was before h =
+    elim (heard_now e (of_server s past) p h) [ inl now ↦ taken_was_sent w (AtServer r e) past p was now | inr i ↦ before i ]
 
 -- All that came to a server in this life.
-pub heard_was_sent : (n s : ℕ) (t : List Step) (p : PacketParts) → IsTrace n t → Contains (heard (of_server s t)) p → Contains (sent n t) p
-heard_was_sent n s [] p trace h = absurd (none_in p h)
-heard_was_sent n s (AtServer r e ∷ past) p trace h =
-    sent_stays n (AtServer r e) past p (heard_if n r s (r == s) e past p trace.1 (heard_was_sent n s past p trace.0) h)
-heard_was_sent n s (AtClient e ∷ past) p trace h = sent_stays n (AtClient e) past p (heard_was_sent n s past p trace.0 h)
+pub heard_was_sent : (w : Setup) (s : ℕ) (t : List Step) (p : PacketParts) → IsTrace w t → Contains (heard (of_server s t)) p → Contains (sent w t) p
+heard_was_sent w s [] p trace h = absurd (none_in p h)
+heard_was_sent w s (AtServer r e ∷ past) p trace h =
+    sent_stays w (AtServer r e) past p (heard_if w r s (r == s) e past p trace.1 (heard_was_sent w s past p trace.0) h)
+heard_was_sent w s (AtClient e ∷ past) p trace h = sent_stays w (AtClient e) past p (heard_was_sent w s past p trace.0 h)

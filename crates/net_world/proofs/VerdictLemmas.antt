@@ -17,6 +17,7 @@ use Rattle.server_core.specs.Accepted.{IsTaking}
 use Rattle.server_core.specs.Laws.{TakenAtMostOnce, CountsTheDone, WithWasHeard, QuietUntilChecked}
 use Rattle.client_core.specs.Words.{kept}
 use Rattle.client_core.specs.Packets.{to_server}
+use Rattle.net_world.specs.Setup.{Setup}
 use Rattle.net_world.specs.Trace.{Step, IsTrace, opening_of, client_opening, of_server, of_client, sent}
 use Rattle.net_world.specs.Holders.{taken_of, taken_in_life, carried, Holds, ByTaking, ByCheck, ByClient, ByPacket}
 use Rattle.net_world.specs.Passes.{SentStatesWereTaken, KeptStatesWereSent, SavedStatesWereKept, NoCopyIsSent, CheckedStatesWereSent}
@@ -35,18 +36,18 @@ pub record Passes : Type 0 where
   pub checked_sent : OfEachTrace CheckedStatesWereSent
 
 -- What is kept was taken.
-pub kept_was_taken : Passes → (n : ℕ) (t : List Step) (key : Key) (state : State) → IsTrace n t → kept (client_opening n) (of_client t) key ≡ Some state → Contains (taken_of key t) state
-kept_was_taken passes n t key state trace h =
-    let k = passes.kept_sent n t trace key state h in
-    subst (λ i. Contains (taken_of i t) state) k.key_is (passes.sent_taken n t _ k.jobs state k.sent_in refl)
+pub kept_was_taken : Passes → (w : Setup) (t : List Step) (key : Key) (state : State) → IsTrace w t → kept (client_opening w) (of_client t) key ≡ Some state → Contains (taken_of key t) state
+kept_was_taken passes w t key state trace h =
+    let k = passes.kept_sent w t trace key state h in
+    subst (λ i. Contains (taken_of i t) state) k.key_is (passes.sent_taken w t _ k.jobs state k.sent_in refl)
 
 -- What was sent in a Saved was taken.
-saved_was_taken : Passes → (n : ℕ) (t : List Step) (p : PacketParts) (attempt : ℕ) (state : State) → IsTrace n t → Contains (sent n t) p → p.body ≡ bodies.Saved attempt state → Contains (taken_of state.key t) state
-saved_was_taken passes n t p attempt state trace h is =
-    let k = passes.saved_kept n t p attempt state h is in
-    let front = front_is_trace n k.later k.earlier (subst (IsTrace n) k.split trace) in
+saved_was_taken : Passes → (w : Setup) (t : List Step) (p : PacketParts) (attempt : ℕ) (state : State) → IsTrace w t → Contains (sent w t) p → p.body ≡ bodies.Saved attempt state → Contains (taken_of state.key t) state
+saved_was_taken passes w t p attempt state trace h is =
+    let k = passes.saved_kept w t p attempt state h is in
+    let front = front_is_trace w k.later k.earlier (subst (IsTrace w) k.split trace) in
     subst (λ (l : List Step). Contains (taken_of state.key l) state) (sym k.split)
-    (taken_stays_so state.key k.later k.earlier state (kept_was_taken passes n k.earlier state.key state front k.kept_there))
+    (taken_stays_so state.key k.later k.earlier state (kept_was_taken passes w k.earlier state.key state front k.kept_there))
 
 -- What was taken in this life was taken.
 taken_or : (lost : Bool) (x : Option State) (states all : List State) (state : State) → (Contains states state → Contains all state) → Contains (if lost then [] else and_those x states) state → Contains (and_those x all) state
@@ -62,30 +63,30 @@ taken_in_life_was_taken o run j (Cut ∷ past) state h = absurd (none_in state h
 taken_in_life_was_taken o run j (Restart left ∷ past) state h = absurd (none_in state h)
 
 -- A packet that carries a state carries one that was taken.
-carried_was_taken : Passes → (n : ℕ) (t : List Step) (p : PacketParts) (state : State) (b : Body) → p.body ≡ b → IsTrace n t → Contains (sent n t) p → carried b ≡ Some state → Contains (taken_of state.key t) state
-carried_was_taken passes n t p state (bodies.State jobs x) is trace h e = let same : x ≡ state = cc in passes.sent_taken n t p jobs state h (is ∙ ap (bodies.State jobs) same)
-carried_was_taken passes n t p state (bodies.Saved attempt x) is trace h e = let same : x ≡ state = cc in saved_was_taken passes n t p attempt state trace h (is ∙ ap (bodies.Saved attempt) same)
-carried_was_taken passes n t p state (bodies.Copy x) is trace h e = absurd (passes.no_copy n t trace p x h is)
-carried_was_taken passes n t p state _ is trace h e = absurd cc
+carried_was_taken : Passes → (w : Setup) (t : List Step) (p : PacketParts) (state : State) (b : Body) → p.body ≡ b → IsTrace w t → Contains (sent w t) p → carried b ≡ Some state → Contains (taken_of state.key t) state
+carried_was_taken passes w t p state (bodies.State jobs x) is trace h e = let same : x ≡ state = cc in passes.sent_taken w t p jobs state h (is ∙ ap (bodies.State jobs) same)
+carried_was_taken passes w t p state (bodies.Saved attempt x) is trace h e = let same : x ≡ state = cc in saved_was_taken passes w t p attempt state trace h (is ∙ ap (bodies.Saved attempt) same)
+carried_was_taken passes w t p state (bodies.Copy x) is trace h e = absurd (passes.no_copy w t trace p x h is)
+carried_was_taken passes w t p state _ is trace h e = absurd cc
 
 -- Whoever holds a state holds one that was taken.
-pub held_was_taken : Passes → (n : ℕ) (t : List Step) (key : Key) (state : State) → IsTrace n t → Holds n t key state → Contains (taken_of key t) state
-held_was_taken passes n t key state trace (ByTaking h) = taken_in_life_was_taken (opening_of key.server) key.run key.job (of_server key.server t) state h
-held_was_taken passes n t key state trace (ByCheck m j h is) =
-    let k = passes.checked_sent n t trace m j state h in
-    subst (λ i. Contains (taken_of i t) state) is (saved_was_taken passes n t (to_server (bodies.Saved k.0 state) m) k.0 state trace k.1 refl)
-held_was_taken passes n t key state trace (ByClient h) = kept_was_taken passes n t key state trace h
-held_was_taken passes n t key state trace (ByPacket p h carries is) = subst (λ i. Contains (taken_of i t) state) is (carried_was_taken passes n t p state p.body refl trace h carries)
+pub held_was_taken : Passes → (w : Setup) (t : List Step) (key : Key) (state : State) → IsTrace w t → Holds w t key state → Contains (taken_of key t) state
+held_was_taken passes w t key state trace (ByTaking h) = taken_in_life_was_taken (opening_of key.server) key.run key.job (of_server key.server t) state h
+held_was_taken passes w t key state trace (ByCheck m j h is) =
+    let k = passes.checked_sent w t trace m j state h in
+    subst (λ i. Contains (taken_of i t) state) is (saved_was_taken passes w t (to_server (bodies.Saved k.0 state) m) k.0 state trace k.1 refl)
+held_was_taken passes w t key state trace (ByClient h) = kept_was_taken passes w t key state trace h
+held_was_taken passes w t key state trace (ByPacket p h carries is) = subst (λ i. Contains (taken_of i t) state) is (carried_was_taken passes w t p state p.body refl trace h carries)
 
 pub one_taking : TakenAtMostOnce → OfEachList OneTaking
-one_taking once n t key = once (opening_of key.server) key.run key.job (of_server key.server t)
+one_taking once w t key = once (opening_of key.server) key.run key.job (of_server key.server t)
 
 pub held_is_the_taken : Passes → TakenAtMostOnce → OfEachTrace HeldIsTheTaken
-held_is_the_taken passes once n t trace key state h = single (taken_of key t) state (one_taking once n t key) (held_was_taken passes n t key state trace h)
+held_is_the_taken passes once w t trace key state h = single (taken_of key t) state (one_taking once w t key) (held_was_taken passes w t key state trace h)
 
 pub counts_the_completed : Passes → CountsTheDone → OfEachTrace CountsTheCompleted
-counts_the_completed passes counts n t trace key state h =
-    counts (opening_of key.server) key.run key.job (of_server key.server t) state (held_was_taken passes n t key state trace h)
+counts_the_completed passes counts w t trace key state h =
+    counts (opening_of key.server) key.run key.job (of_server key.server t) state (held_was_taken passes w t key state trace h)
 
 -- A list behind a taking, split once more.
 split_more : (list newer later between rest : List Entry) (x y : Entry) → list ≡ newer ++ y ∷ rest → newer ≡ later ++ x ∷ between → list ≡ later ++ x ∷ (between ++ y ∷ rest)
@@ -100,9 +101,9 @@ since_is_quiet quiet o run j list state is with taking later between e left g =
     is
 
 pub quiet_until_the_check : Passes → CountsTheDone → WithWasHeard → QuietUntilChecked → OfEachTrace QuietUntilTheCheck
-quiet_until_the_check passes counts heard quiet n t trace m j state h =
+quiet_until_the_check passes counts heard quiet w t trace m j state h =
     let o = opening_of m in
     let run = last_run o (of_server m t) in
     let key : state.key ≡ record { run = run; server = m; job = j } = (heard o (of_server m t) j state h).key in
-    let taking : IsTaking o run j (of_server m t) state = counts_the_completed passes counts n t trace (record { run = run; server = m; job = j }) state (ByCheck m j h key) in
+    let taking : IsTaking o run j (of_server m t) state = counts_the_completed passes counts w t trace (record { run = run; server = m; job = j }) state (ByCheck m j h key) in
     record { run = run; key = key; taking = taking; quiet = since_is_quiet quiet o run j (of_server m t) state (ap (λ (k : Key). k.run) key) h taking }

@@ -22,6 +22,7 @@ use Rattle.server_core.specs.Answers as answers
 use Rattle.client_core.specs.declared.call.Call.{Call}
 use Rattle.client_core.specs.declared.call.Call.TheVariants as calls
 use Rattle.client_core.specs.Words as clients
+use Rattle.net_world.specs.Setup.{Setup}
 use Rattle.net_world.specs.Happenings.{Happening, Begin, Trigger, StopRun, Verify, Tick, Deliver, Issue, Land, Done, Fail, Rot, Cut, Restart, CutIn}
 use Rattle.net_world.specs.Happenings as happenings
 use Rattle.net_world.specs.Trace.{Step, IsTrace, of_server, of_client, opening_of, client_opening, sent}
@@ -56,12 +57,12 @@ pub record Peace : Type 0 where
 -- ---- a frame that comes
 
 -- A packet that a frame says to the client was sent.
-said_was_sent : Peace → (n : ℕ) (t : List FrameStep) → IsFrameTrace n t → FitsFrames n t → (f : Frame) → Contains (frames_sent n t) f → to_of f ≡ Client → (p : PacketParts) → said_to_client n t f ≡ Says p → Contains (sent n (trace_heard n t)) p
-said_was_sent laws n t steps_are fits f i to p is =
-    let s = stands laws.law laws.frames laws.tags laws.ranges n t steps_are fits in
-    let ps = sent n (trace_heard n t) in
-    let are = laws.ranges n (trace_heard n t) s.trace (heard_fits n t fits) in
-    let k = keeps laws.law (at_client n) ps are (laws.tags n (trace_heard n t) s.trace are) (heard (at_client n) (frames.of_client t)) s.client_rows Client f (frame_is laws.frames n t f i) to lefts.NoSave in
+said_was_sent : Peace → (w : Setup) (t : List FrameStep) → IsFrameTrace w t → FitsFrames w t → (f : Frame) → Contains (frames_sent w t) f → to_of f ≡ Client → (p : PacketParts) → said_to_client w t f ≡ Says p → Contains (sent w (trace_heard w t)) p
+said_was_sent laws w t steps_are fits f i to p is =
+    let s = stands laws.law laws.frames laws.tags laws.ranges w t steps_are fits in
+    let ps = sent w (trace_heard w t) in
+    let are = laws.ranges w (trace_heard w t) s.trace (heard_fits w t fits) in
+    let k = keeps laws.law (at_client w) ps are (laws.tags w (trace_heard w t) s.trace are) (heard (at_client w) (frames.of_client t)) s.client_rows Client f (frame_is laws.frames w t f i) to lefts.NoSave in
     let says : SaysSent ps Client (Says p) = subst (SaysSent ps Client) is k.says in
     says.0
 
@@ -72,36 +73,36 @@ fine_to_server t s f Waits h = cc
 fine_to_server t s f Spoils h = cc
 fine_to_server t s f Strays h = cc
 
-fine_to_client : (n : ℕ) (t : List Step) (f : Frame) (m : Meaning) → ((p : PacketParts) → m ≡ Says p → Fine (clients.refusal (client_opening n) (of_client t) (calls.Deliver p))) → FineCome (comes_to_client n t f m)
+fine_to_client : (w : Setup) (t : List Step) (f : Frame) (m : Meaning) → ((p : PacketParts) → m ≡ Says p → Fine (clients.refusal (client_opening w) (of_client t) (calls.Deliver p))) → FineCome (comes_to_client w t f m)
 unfolding FineCome
-fine_to_client n t f (Says p) g h = fine_step _ (fine_unless (clients.refusal (client_opening n) (of_client t) (calls.Deliver p)) _ (g p refl)) h
-fine_to_client n t f Waits g h = cc
-fine_to_client n t f Spoils g h = cc
-fine_to_client n t f Strays g h = cc
+fine_to_client w t f (Says p) g h = fine_step _ (fine_unless (clients.refusal (client_opening w) (of_client t) (calls.Deliver p)) _ (g p refl)) h
+fine_to_client w t f Waits g h = cc
+fine_to_client w t f Spoils g h = cc
+fine_to_client w t f Strays g h = cc
 
-fine_to : Peace → (n : ℕ) (past : List Change) → IsFrameTrace n (steps past) → FitsFrames n (steps past) → IsTrace n (trace n past) → (node : Node) (f : Frame) → Contains (frames_sent n (steps past)) f → to_of f ≡ node → FineCome (comes_to n past node f)
+fine_to : Peace → (w : Setup) (past : List Change) → IsFrameTrace w (steps past) → FitsFrames w (steps past) → IsTrace w (trace w past) → (node : Node) (f : Frame) → Contains (frames_sent w (steps past)) f → to_of f ≡ node → FineCome (comes_to w past node f)
 unfolding Fine FineCome
-fine_to laws n past steps_are fits t (Server s) f i to = fine_to_server (trace n past) s f (said_to_server (steps past) s f)
-fine_to laws n past steps_are fits t Client f i to =
-    fine_to_client n (trace n past) f (said_to_client n (steps past) f)
-    (λ p is. laws.never n (trace n past) t p (said_was_sent laws n (steps past) steps_are fits f i to p is))
-fine_to laws n past steps_are fits t Mirror f i to = λ h. cc
+fine_to laws w past steps_are fits t (Server s) f i to = fine_to_server (trace w past) s f (said_to_server (steps past) s f)
+fine_to laws w past steps_are fits t Client f i to =
+    fine_to_client w (trace w past) f (said_to_client w (steps past) f)
+    (λ p is. laws.never w (trace w past) t p (said_was_sent laws w (steps past) steps_are fits f i to p is))
+fine_to laws w past steps_are fits t Mirror f i to = λ h. cc
 
 sent_at : (fs : List Frame) (i : ℕ) (f : Frame) → slice_get fs i ≡ Some f → Contains fs f
 sent_at fs i f h = (i, slice_get_within fs i f h, get_or_from_slice_get fs i f f h)
 
-fine_delivered : Peace → (n : ℕ) (past : List Change) → IsFrameTrace n (steps past) → FitsFrames n (steps past) → IsTrace n (trace n past) → (x : Option Frame) → ((f : Frame) → x ≡ Some f → Contains (frames_sent n (steps past)) f) → FineCome (delivered n past x)
+fine_delivered : Peace → (w : Setup) (past : List Change) → IsFrameTrace w (steps past) → FitsFrames w (steps past) → IsTrace w (trace w past) → (x : Option Frame) → ((f : Frame) → x ≡ Some f → Contains (frames_sent w (steps past)) f) → FineCome (delivered w past x)
 unfolding FineCome
-fine_delivered laws n past steps_are fits t None g h = cc
-fine_delivered laws n past steps_are fits t (Some f) g h = fine_to laws n past steps_are fits t (to_of f) f (g f refl) refl h
+fine_delivered laws w past steps_are fits t None g h = cc
+fine_delivered laws w past steps_are fits t (Some f) g h = fine_to laws w past steps_are fits t (to_of f) f (g f refl) refl h
 
 -- ---- the rest
 
 fine_met_server : (t : List Step) (s : ℕ) (e : Event) → FineStep (met_by_server t s e)
 fine_met_server t s e = fine_unless (answers.refusal (opening_of s) (of_server s t) e) _ (fine_server s (of_server s t) e)
 
-fine_met_client : (n : ℕ) (t : List Step) (c : Call) → NoPacket c → FineStep (met_by_client n t c)
-fine_met_client n t c k = fine_unless (clients.refusal (client_opening n) (of_client t) c) _ (fine_call n (of_client t) c k)
+fine_met_client : (w : Setup) (t : List Step) (c : Call) → NoPacket c → FineStep (met_by_client w t c)
+fine_met_client w t c k = fine_unless (clients.refusal (client_opening w) (of_client t) c) _ (fine_call w (of_client t) c k)
 
 fine_ended : (t : List Step) (s k : ℕ) (end : WriteEnd) (x : Option Origin) → FineStep (ended t s k end x)
 unfolding FineStep
@@ -136,76 +137,76 @@ fine_restart_cut t landed (Server s) h = fine_if_step (has_boot t s) _ NoSave (�
 fine_restart_cut t landed Client h = cc
 fine_restart_cut t landed Mirror h = cc
 
-fine_frame_cut : (n : ℕ) (past : List Change) (landed : Bool) (node : Node) (f : Frame) → FineStep (frame_cut n past landed node f)
+fine_frame_cut : (w : Setup) (past : List Change) (landed : Bool) (node : Node) (f : Frame) → FineStep (frame_cut w past landed node f)
 unfolding FineStep
-fine_frame_cut n past landed (Server s) f = by (said_to_server (steps past) s f)
+fine_frame_cut w past landed (Server s) f = by (said_to_server (steps past) s f)
   where
-    by : (m : Meaning) → server_frame_cut (trace n past) s landed f m ≡ Err Conflict → ⊥
-    by (Says p) h = fine_save (servers.due (opening_of s) (of_server s (trace n past)) (events.Deliver p)) _ h
+    by : (m : Meaning) → server_frame_cut (trace w past) s landed f m ≡ Err Conflict → ⊥
+    by (Says p) h = fine_save (servers.due (opening_of s) (of_server s (trace w past)) (events.Deliver p)) _ h
     by Waits h = cc
     by Spoils h = cc
     by Strays h = cc
-fine_frame_cut n past landed Client f = by (said_to_client n (steps past) f)
+fine_frame_cut w past landed Client f = by (said_to_client w (steps past) f)
   where
-    by : (m : Meaning) → client_frame_cut n (trace n past) landed f m ≡ Err Conflict → ⊥
-    by (Says p) h = fine_save (clients.due (client_opening n) (of_client (trace n past)) (calls.Deliver p)) _ h
+    by : (m : Meaning) → client_frame_cut w (trace w past) landed f m ≡ Err Conflict → ⊥
+    by (Says p) h = fine_save (clients.due (client_opening w) (of_client (trace w past)) (calls.Deliver p)) _ h
     by Waits h = cc
     by Spoils h = cc
     by Strays h = cc
-fine_frame_cut n past landed Mirror f = λ h. cc
+fine_frame_cut w past landed Mirror f = λ h. cc
 
-fine_delivery_cut : (n : ℕ) (past : List Change) (landed : Bool) (x : Option Frame) → FineStep (delivery_cut_in n past landed x)
+fine_delivery_cut : (w : Setup) (past : List Change) (landed : Bool) (x : Option Frame) → FineStep (delivery_cut_in w past landed x)
 unfolding FineStep
-fine_delivery_cut n past landed None h = cc
-fine_delivery_cut n past landed (Some f) h = fine_frame_cut n past landed (to_of f) f h
+fine_delivery_cut w past landed None h = cc
+fine_delivery_cut w past landed (Some f) h = fine_frame_cut w past landed (to_of f) f h
 
-fine_cut_in : (n : ℕ) (past : List Change) (landed : Bool) (e : Happening) → FineStep (cut_in n past landed e)
+fine_cut_in : (w : Setup) (past : List Change) (landed : Bool) (e : Happening) → FineStep (cut_in w past landed e)
 unfolding FineStep
-fine_cut_in n past landed (Begin text) h = fine_save (clients.due (client_opening n) (of_client (trace n past)) (calls.Begin text)) _ h
-fine_cut_in n past landed (Verify run text) h = fine_save (clients.due (client_opening n) (of_client (trace n past)) (calls.Verify run text)) _ h
-fine_cut_in n past landed (Deliver i) h = fine_delivery_cut n past landed (slice_get (frames_sent n (steps past)) i) h
-fine_cut_in n past landed (Restart node) h = fine_restart_cut (trace n past) landed node h
-fine_cut_in n past landed (Trigger run act) h = cc
-fine_cut_in n past landed (StopRun run) h = cc
-fine_cut_in n past landed Tick h = cc
-fine_cut_in n past landed (Issue s j) h = cc
-fine_cut_in n past landed (Land s j k mask) h = cc
-fine_cut_in n past landed (Done s j k) h = cc
-fine_cut_in n past landed (Fail s j k) h = cc
-fine_cut_in n past landed (Rot s j sector bytes) h = cc
-fine_cut_in n past landed (happenings.Check s j) h = cc
-fine_cut_in n past landed (Cut node) h = cc
-fine_cut_in n past landed (CutIn again e) h = cc
+fine_cut_in w past landed (Begin text) h = fine_save (clients.due (client_opening w) (of_client (trace w past)) (calls.Begin text)) _ h
+fine_cut_in w past landed (Verify run text) h = fine_save (clients.due (client_opening w) (of_client (trace w past)) (calls.Verify run text)) _ h
+fine_cut_in w past landed (Deliver i) h = fine_delivery_cut w past landed (slice_get (frames_sent w (steps past)) i) h
+fine_cut_in w past landed (Restart node) h = fine_restart_cut (trace w past) landed node h
+fine_cut_in w past landed (Trigger run act) h = cc
+fine_cut_in w past landed (StopRun run) h = cc
+fine_cut_in w past landed Tick h = cc
+fine_cut_in w past landed (Issue s j) h = cc
+fine_cut_in w past landed (Land s j k mask) h = cc
+fine_cut_in w past landed (Done s j k) h = cc
+fine_cut_in w past landed (Fail s j k) h = cc
+fine_cut_in w past landed (Rot s j sector bytes) h = cc
+fine_cut_in w past landed (happenings.Check s j) h = cc
+fine_cut_in w past landed (Cut node) h = cc
+fine_cut_in w past landed (CutIn again e) h = cc
 
-fine_bring : Peace → (n : ℕ) (past : List Change) → IsFrameTrace n (steps past) → FitsFrames n (steps past) → IsTrace n (trace n past) → (e : Happening) → FineCome (brings n past e)
+fine_bring : Peace → (w : Setup) (past : List Change) → IsFrameTrace w (steps past) → FitsFrames w (steps past) → IsTrace w (trace w past) → (e : Happening) → FineCome (brings w past e)
 unfolding FineCome NoPacket
-fine_bring laws n past steps_are fits t (Begin text) h = fine_step _ (fine_met_client n (trace n past) (calls.Begin text) tt) h
-fine_bring laws n past steps_are fits t (Trigger run act) h = fine_step _ (fine_met_client n (trace n past) (calls.Trigger run act) tt) h
-fine_bring laws n past steps_are fits t (StopRun run) h = fine_step _ (fine_met_client n (trace n past) (calls.Stop run) tt) h
-fine_bring laws n past steps_are fits t (Verify run text) h = fine_step _ (fine_met_client n (trace n past) (calls.Verify run text) tt) h
-fine_bring laws n past steps_are fits t Tick h = fine_step _ (fine_met_client n (trace n past) calls.Tick tt) h
-fine_bring laws n past steps_are fits t (Deliver i) h = fine_delivered laws n past steps_are fits t (slice_get (frames_sent n (steps past)) i) (sent_at (frames_sent n (steps past)) i) h
-fine_bring laws n past steps_are fits t (Issue s j) h = fine_step _ (fine_met_server (trace n past) s (events.Issue j)) h
-fine_bring laws n past steps_are fits t (Land s j k mask) h = cc
-fine_bring laws n past steps_are fits t (Done s j k) h = fine_step _ (fine_ended (trace n past) s k ends.Done (open_at (trace n past) s j k)) h
-fine_bring laws n past steps_are fits t (Fail s j k) h = fine_step _ (fine_ended (trace n past) s k ends.Failed (open_at (trace n past) s j k)) h
-fine_bring laws n past steps_are fits t (Rot s j sector bytes) h = cc
-fine_bring laws n past steps_are fits t (happenings.Check s j) h = fine_step _ (fine_reported (trace n past) s (checked n past s j)) h
-fine_bring laws n past steps_are fits t (Cut node) h = fine_step _ (fine_cut node) h
-fine_bring laws n past steps_are fits t (Restart node) h = fine_step _ (fine_restarted (trace n past) node) h
-fine_bring laws n past steps_are fits t (CutIn landed e) h = fine_step _ (fine_cut_in n past landed e) h
+fine_bring laws w past steps_are fits t (Begin text) h = fine_step _ (fine_met_client w (trace w past) (calls.Begin text) tt) h
+fine_bring laws w past steps_are fits t (Trigger run act) h = fine_step _ (fine_met_client w (trace w past) (calls.Trigger run act) tt) h
+fine_bring laws w past steps_are fits t (StopRun run) h = fine_step _ (fine_met_client w (trace w past) (calls.Stop run) tt) h
+fine_bring laws w past steps_are fits t (Verify run text) h = fine_step _ (fine_met_client w (trace w past) (calls.Verify run text) tt) h
+fine_bring laws w past steps_are fits t Tick h = fine_step _ (fine_met_client w (trace w past) calls.Tick tt) h
+fine_bring laws w past steps_are fits t (Deliver i) h = fine_delivered laws w past steps_are fits t (slice_get (frames_sent w (steps past)) i) (sent_at (frames_sent w (steps past)) i) h
+fine_bring laws w past steps_are fits t (Issue s j) h = fine_step _ (fine_met_server (trace w past) s (events.Issue j)) h
+fine_bring laws w past steps_are fits t (Land s j k mask) h = cc
+fine_bring laws w past steps_are fits t (Done s j k) h = fine_step _ (fine_ended (trace w past) s k ends.Done (open_at (trace w past) s j k)) h
+fine_bring laws w past steps_are fits t (Fail s j k) h = fine_step _ (fine_ended (trace w past) s k ends.Failed (open_at (trace w past) s j k)) h
+fine_bring laws w past steps_are fits t (Rot s j sector bytes) h = cc
+fine_bring laws w past steps_are fits t (happenings.Check s j) h = fine_step _ (fine_reported (trace w past) s (checked w past s j)) h
+fine_bring laws w past steps_are fits t (Cut node) h = fine_step _ (fine_cut node) h
+fine_bring laws w past steps_are fits t (Restart node) h = fine_step _ (fine_restarted (trace w past) node) h
+fine_bring laws w past steps_are fits t (CutIn landed e) h = fine_step _ (fine_cut_in w past landed e) h
 
-told_is : (n : ℕ) (past : List Change) (e : Happening) (r : Outcome) → told_by n past e r ≡ Err Conflict → r ≡ Refuses Conflict
-told_is n past e (Refuses fault) h = let same : fault ≡ Conflict = cc in ap Refuses same
-told_is n past e (Drops step) h = absurd cc
-told_is n past e (Does change) h = absurd cc
+told_is : (w : Setup) (past : List Change) (e : Happening) (r : Outcome) → told_by w past e r ≡ Err Conflict → r ≡ Refuses Conflict
+told_is w past e (Refuses fault) h = let same : fault ≡ Conflict = cc in ap Refuses same
+told_is w past e (Drops step) h = absurd cc
+told_is w past e (Does change) h = absurd cc
 
 pub none_is_a_conflict : Peace → OfEachWorld NoConflict
 unfolding FineCome
-none_is_a_conflict laws n events few e h =
-    let past = world n events in
-    let steps_are = laws.traces n events in
-    let fits = world_fits laws.reports n events few in
-    let t = (stands laws.law laws.frames laws.tags laws.ranges n (steps past) steps_are fits).trace in
-    fine_barred (barred n (trace n past) (frames_sent n (steps past)) e) (brings n past e) (fine_bar n (trace n past) (frames_sent n (steps past)) e) (fine_bring laws n past steps_are fits t e)
-    (told_is n past e (outcome n past e) h)
+none_is_a_conflict laws w events few e h =
+    let past = world w events in
+    let steps_are = laws.traces w events in
+    let fits = world_fits laws.reports w events few in
+    let t = (stands laws.law laws.frames laws.tags laws.ranges w (steps past) steps_are fits).trace in
+    fine_barred (barred w (trace w past) (frames_sent w (steps past)) e) (brings w past e) (fine_bar w (trace w past) (frames_sent w (steps past)) e) (fine_bring laws w past steps_are fits t e)
+    (told_is w past e (outcome w past e) h)

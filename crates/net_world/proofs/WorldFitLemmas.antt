@@ -35,6 +35,7 @@ use Rattle.client_core.specs.declared.call.Call.{Call}
 use Rattle.client_core.specs.declared.call.Call.TheVariants as calls
 use Rattle.client_core.specs.History as client
 use Rattle.client_core.specs.Words as clients
+use Rattle.net_world.specs.Setup.{Setup, servers_of}
 use Rattle.net_world.specs.Happenings.{Happening, Begin, Trigger, StopRun, Verify, Tick, Deliver, Issue, Land, Done, Fail, Rot, Cut, Restart, CutIn}
 use Rattle.net_world.specs.Happenings as happenings
 use Rattle.net_world.specs.Trace.{Step, of_server, of_client, opening_of, client_opening}
@@ -82,22 +83,22 @@ fit_if false step fault h = tt
 
 -- ---- a server that is there has a number below 8
 
-below : (n s : ℕ) (b : Bool) → nat_lt s n ≡ b → (x : Option Fault) → option_or (if b then None else Some NoServer) x ≡ None → n ≤ 8 → s < 8
-below n s true e x h l = grind (arith, nat_tests)
-below n s false e x h l = absurd cc
+below : (w : Setup) (s : ℕ) (b : Bool) → nat_lt s (servers_of w) ≡ b → (x : Option Fault) → option_or (if b then None else Some NoServer) x ≡ None → servers_of w ≤ 8 → s < 8
+below w s true e x h l = grind (arith, nat_tests)
+below w s false e x h l = absurd cc
 
-server_there : (n : ℕ) (t : List Step) (s : ℕ) → n ≤ 8 → off n t (Server s) ≡ None → s < 8
-server_there n t s l h = below n s (nat_lt s n) refl (unless (is_on t (Server s)) NodeOff) h l
+server_there : (w : Setup) (t : List Step) (s : ℕ) → servers_of w ≤ 8 → off w t (Server s) ≡ None → s < 8
+server_there w t s l h = below w s (nat_lt s (servers_of w)) refl (unless (is_on t (Server s)) NodeOff) h l
 
-server_off : (n : ℕ) (t : List Step) (s : ℕ) → n ≤ 8 → on n t (Server s) ≡ None → s < 8
-server_off n t s l h = below n s (nat_lt s n) refl (unless (not (is_on t (Server s))) NodeOn) h l
+server_off : (w : Setup) (t : List Step) (s : ℕ) → servers_of w ≤ 8 → on w t (Server s) ≡ None → s < 8
+server_off w t s l h = below w s (nat_lt s (servers_of w)) refl (unless (not (is_on t (Server s))) NodeOn) h l
 
 first_none : (x y : Option Fault) → option_or x y ≡ None → x ≡ None
 first_none None y h = refl
 first_none (Some fault) y h = absurd cc
 
-write_there : (n : ℕ) (t : List Step) (s j k : ℕ) → n ≤ 8 → unopen n t s j k ≡ None → s < 8
-write_there n t s j k l h = server_there n t s l (first_none (off n t (Server s)) (unless (is_some (open_at t s j k)) NoWrite) h)
+write_there : (w : Setup) (t : List Step) (s j k : ℕ) → servers_of w ≤ 8 → unopen w t s j k ≡ None → s < 8
+write_there w t s j k l h = server_there w t s l (first_none (off w t (Server s)) (unless (is_some (open_at t s j k)) NoWrite) h)
 
 -- ---- reports
 
@@ -142,9 +143,9 @@ fit_server : (t : List Step) (s : ℕ) (e : Event) → s < 8 → ReportFits e �
 unfolding FitBe
 fit_server t s e l r = fit_unless (answers.refusal (opening_of s) (of_server s t) e) _ (l, r)
 
-fit_client : (n : ℕ) (t : List Step) (c : Call) → FitBe (met_by_client n t c)
+fit_client : (w : Setup) (t : List Step) (c : Call) → FitBe (met_by_client w t c)
 unfolding FitBe
-fit_client n t c = fit_unless (clients.refusal (client_opening n) (of_client t) c) _ tt
+fit_client w t c = fit_unless (clients.refusal (client_opening w) (of_client t) c) _ tt
 
 fit_ended : (t : List Step) (s k : ℕ) (end : WriteEnd) (x : Option Origin) → s < 8 → FitBe (ended t s k end x)
 unfolding FitBe
@@ -156,23 +157,23 @@ unfolding FitBe SomeEnd
 fit_reported t s None l r = tt
 fit_reported t s (Some e) l r = fit_server t s e l r
 
-fit_cut : (n : ℕ) (t : List Step) (node : Node) → n ≤ 8 → off n t node ≡ None → FitBe (cut node)
+fit_cut : (w : Setup) (t : List Step) (node : Node) → servers_of w ≤ 8 → off w t node ≡ None → FitBe (cut node)
 unfolding FitBe
-fit_cut n t (Server s) l h = (server_there n t s l h, tt)
-fit_cut n t Client l h = tt
-fit_cut n t Mirror l h = tt
+fit_cut w t (Server s) l h = (server_there w t s l h, tt)
+fit_cut w t Client l h = tt
+fit_cut w t Mirror l h = tt
 
-fit_restarted : (n : ℕ) (t : List Step) (node : Node) → n ≤ 8 → on n t node ≡ None → FitBe (restarted t node)
+fit_restarted : (w : Setup) (t : List Step) (node : Node) → servers_of w ≤ 8 → on w t node ≡ None → FitBe (restarted t node)
 unfolding FitBe
-fit_restarted n t (Server s) l h = fit_if (has_boot t s) (OfServer s (Happens (server.Restart lefts.Saved))) NumbersSpent (server_off n t s l h, tt)
-fit_restarted n t Client l h = tt
-fit_restarted n t Mirror l h = tt
+fit_restarted w t (Server s) l h = fit_if (has_boot t s) (OfServer s (Happens (server.Restart lefts.Saved))) NumbersSpent (server_off w t s l h, tt)
+fit_restarted w t Client l h = tt
+fit_restarted w t Mirror l h = tt
 
-fit_restart_cut : (n : ℕ) (t : List Step) (landed : Bool) (node : Node) → n ≤ 8 → on n t node ≡ None → FitBe (restart_cut_in t landed node)
+fit_restart_cut : (w : Setup) (t : List Step) (landed : Bool) (node : Node) → servers_of w ≤ 8 → on w t node ≡ None → FitBe (restart_cut_in t landed node)
 unfolding FitBe
-fit_restart_cut n t landed (Server s) l h = fit_if (has_boot t s) (OfServer s (Happens (server.Restart (lost_by landed)))) NoSave (server_off n t s l h, tt)
-fit_restart_cut n t landed Client l h = tt
-fit_restart_cut n t landed Mirror l h = tt
+fit_restart_cut w t landed (Server s) l h = fit_if (has_boot t s) (OfServer s (Happens (server.Restart (lost_by landed)))) NoSave (server_off w t s l h, tt)
+fit_restart_cut w t landed Client l h = tt
+fit_restart_cut w t landed Mirror l h = tt
 
 fit_comes_to_server : (t : List Step) (s : ℕ) (f : Frame) (m : Meaning) → s < 8 → FitCome (comes_to_server t s f m)
 unfolding FitCome FitBe
@@ -181,23 +182,23 @@ fit_comes_to_server t s f Waits l = l
 fit_comes_to_server t s f Spoils l = l
 fit_comes_to_server t s f Strays l = tt
 
-fit_comes_to_client : (n : ℕ) (t : List Step) (f : Frame) (m : Meaning) → FitCome (comes_to_client n t f m)
+fit_comes_to_client : (w : Setup) (t : List Step) (f : Frame) (m : Meaning) → FitCome (comes_to_client w t f m)
 unfolding FitCome FitBe
-fit_comes_to_client n t f (Says p) = fit_step _ (fit_unless (clients.refusal (client_opening n) (of_client t) (calls.Deliver p)) _ tt)
-fit_comes_to_client n t f Waits = tt
-fit_comes_to_client n t f Spoils = tt
-fit_comes_to_client n t f Strays = tt
+fit_comes_to_client w t f (Says p) = fit_step _ (fit_unless (clients.refusal (client_opening w) (of_client t) (calls.Deliver p)) _ tt)
+fit_comes_to_client w t f Waits = tt
+fit_comes_to_client w t f Spoils = tt
+fit_comes_to_client w t f Strays = tt
 
-fit_comes_to : (n : ℕ) (past : List Change) (node : Node) (f : Frame) → n ≤ 8 → off n (trace n past) node ≡ None → FitCome (comes_to n past node f)
+fit_comes_to : (w : Setup) (past : List Change) (node : Node) (f : Frame) → servers_of w ≤ 8 → off w (trace w past) node ≡ None → FitCome (comes_to w past node f)
 unfolding FitCome
-fit_comes_to n past (Server s) f l h = fit_comes_to_server (trace n past) s f (said_to_server (steps past) s f) (server_there n (trace n past) s l h)
-fit_comes_to n past Client f l h = fit_comes_to_client n (trace n past) f (said_to_client n (steps past) f)
-fit_comes_to n past Mirror f l h = tt
+fit_comes_to w past (Server s) f l h = fit_comes_to_server (trace w past) s f (said_to_server (steps past) s f) (server_there w (trace w past) s l h)
+fit_comes_to w past Client f l h = fit_comes_to_client w (trace w past) f (said_to_client w (steps past) f)
+fit_comes_to w past Mirror f l h = tt
 
-fit_delivered : (n : ℕ) (past : List Change) (x : Option Frame) → n ≤ 8 → unsent n (trace n past) x ≡ None → FitCome (delivered n past x)
+fit_delivered : (w : Setup) (past : List Change) (x : Option Frame) → servers_of w ≤ 8 → unsent w (trace w past) x ≡ None → FitCome (delivered w past x)
 unfolding FitCome
-fit_delivered n past None l h = tt
-fit_delivered n past (Some f) l h = fit_comes_to n past (to_of f) f l h
+fit_delivered w past None l h = tt
+fit_delivered w past (Some f) l h = fit_comes_to w past (to_of f) f l h
 
 fit_server_frame_cut : (t : List Step) (s : ℕ) (landed : Bool) (f : Frame) (m : Meaning) → s < 8 → FitBe (server_frame_cut t s landed f m)
 unfolding FitBe
@@ -206,70 +207,70 @@ fit_server_frame_cut t s landed f Waits l = tt
 fit_server_frame_cut t s landed f Spoils l = tt
 fit_server_frame_cut t s landed f Strays l = tt
 
-fit_client_frame_cut : (n : ℕ) (t : List Step) (landed : Bool) (f : Frame) (m : Meaning) → FitBe (client_frame_cut n t landed f m)
+fit_client_frame_cut : (w : Setup) (t : List Step) (landed : Bool) (f : Frame) (m : Meaning) → FitBe (client_frame_cut w t landed f m)
 unfolding FitBe
-fit_client_frame_cut n t landed f (Says p) = fit_save (clients.due (client_opening n) (of_client t) (calls.Deliver p)) (OfClient (Comes f (lost_by landed))) tt
-fit_client_frame_cut n t landed f Waits = tt
-fit_client_frame_cut n t landed f Spoils = tt
-fit_client_frame_cut n t landed f Strays = tt
+fit_client_frame_cut w t landed f (Says p) = fit_save (clients.due (client_opening w) (of_client t) (calls.Deliver p)) (OfClient (Comes f (lost_by landed))) tt
+fit_client_frame_cut w t landed f Waits = tt
+fit_client_frame_cut w t landed f Spoils = tt
+fit_client_frame_cut w t landed f Strays = tt
 
-fit_frame_cut : (n : ℕ) (past : List Change) (landed : Bool) (node : Node) (f : Frame) → n ≤ 8 → off n (trace n past) node ≡ None → FitBe (frame_cut n past landed node f)
+fit_frame_cut : (w : Setup) (past : List Change) (landed : Bool) (node : Node) (f : Frame) → servers_of w ≤ 8 → off w (trace w past) node ≡ None → FitBe (frame_cut w past landed node f)
 unfolding FitBe
-fit_frame_cut n past landed (Server s) f l h = fit_server_frame_cut (trace n past) s landed f (said_to_server (steps past) s f) (server_there n (trace n past) s l h)
-fit_frame_cut n past landed Client f l h = fit_client_frame_cut n (trace n past) landed f (said_to_client n (steps past) f)
-fit_frame_cut n past landed Mirror f l h = tt
+fit_frame_cut w past landed (Server s) f l h = fit_server_frame_cut (trace w past) s landed f (said_to_server (steps past) s f) (server_there w (trace w past) s l h)
+fit_frame_cut w past landed Client f l h = fit_client_frame_cut w (trace w past) landed f (said_to_client w (steps past) f)
+fit_frame_cut w past landed Mirror f l h = tt
 
-fit_delivery_cut : (n : ℕ) (past : List Change) (landed : Bool) (x : Option Frame) → n ≤ 8 → unsent n (trace n past) x ≡ None → FitBe (delivery_cut_in n past landed x)
+fit_delivery_cut : (w : Setup) (past : List Change) (landed : Bool) (x : Option Frame) → servers_of w ≤ 8 → unsent w (trace w past) x ≡ None → FitBe (delivery_cut_in w past landed x)
 unfolding FitBe
-fit_delivery_cut n past landed None l h = tt
-fit_delivery_cut n past landed (Some f) l h = fit_frame_cut n past landed (to_of f) f l h
+fit_delivery_cut w past landed None l h = tt
+fit_delivery_cut w past landed (Some f) l h = fit_frame_cut w past landed (to_of f) f l h
 
-fit_client_cut : (n : ℕ) (t : List Step) (landed : Bool) (c : Call) → FitBe (client_cut_in n t landed c)
-fit_client_cut n t landed c = fit_save (clients.due (client_opening n) (of_client t) c) (OfClient (Happens (client.Met c (lost_by landed)))) tt
+fit_client_cut : (w : Setup) (t : List Step) (landed : Bool) (c : Call) → FitBe (client_cut_in w t landed c)
+fit_client_cut w t landed c = fit_save (clients.due (client_opening w) (of_client t) c) (OfClient (Happens (client.Met c (lost_by landed)))) tt
 
 -- The laws on which this rests.
 pub record Reports : Type 0 where
   pub fit : ReportsFit
   pub sets : ChecksHaveSets
 
-fit_cut_in : (n : ℕ) (past : List Change) (landed : Bool) (e : Happening) → n ≤ 8 → barred n (trace n past) (frames_sent n (steps past)) (CutIn landed e) ≡ None → FitBe (cut_in n past landed e)
+fit_cut_in : (w : Setup) (past : List Change) (landed : Bool) (e : Happening) → servers_of w ≤ 8 → barred w (trace w past) (frames_sent w (steps past)) (CutIn landed e) ≡ None → FitBe (cut_in w past landed e)
 unfolding FitBe
-fit_cut_in n past landed (Begin text) l h = fit_client_cut n (trace n past) landed (calls.Begin text)
-fit_cut_in n past landed (Verify run text) l h = fit_client_cut n (trace n past) landed (calls.Verify run text)
-fit_cut_in n past landed (Deliver i) l h = fit_delivery_cut n past landed (slice_get (frames_sent n (steps past)) i) l h
-fit_cut_in n past landed (Restart node) l h = fit_restart_cut n (trace n past) landed node l h
-fit_cut_in n past landed (Trigger run act) l h = tt
-fit_cut_in n past landed (StopRun run) l h = tt
-fit_cut_in n past landed Tick l h = tt
-fit_cut_in n past landed (Issue s j) l h = tt
-fit_cut_in n past landed (Land s j k mask) l h = tt
-fit_cut_in n past landed (Done s j k) l h = tt
-fit_cut_in n past landed (Fail s j k) l h = tt
-fit_cut_in n past landed (Rot s j sector bytes) l h = tt
-fit_cut_in n past landed (happenings.Check s j) l h = tt
-fit_cut_in n past landed (Cut node) l h = tt
-fit_cut_in n past landed (CutIn again e) l h = tt
+fit_cut_in w past landed (Begin text) l h = fit_client_cut w (trace w past) landed (calls.Begin text)
+fit_cut_in w past landed (Verify run text) l h = fit_client_cut w (trace w past) landed (calls.Verify run text)
+fit_cut_in w past landed (Deliver i) l h = fit_delivery_cut w past landed (slice_get (frames_sent w (steps past)) i) l h
+fit_cut_in w past landed (Restart node) l h = fit_restart_cut w (trace w past) landed node l h
+fit_cut_in w past landed (Trigger run act) l h = tt
+fit_cut_in w past landed (StopRun run) l h = tt
+fit_cut_in w past landed Tick l h = tt
+fit_cut_in w past landed (Issue s j) l h = tt
+fit_cut_in w past landed (Land s j k mask) l h = tt
+fit_cut_in w past landed (Done s j k) l h = tt
+fit_cut_in w past landed (Fail s j k) l h = tt
+fit_cut_in w past landed (Rot s j sector bytes) l h = tt
+fit_cut_in w past landed (happenings.Check s j) l h = tt
+fit_cut_in w past landed (Cut node) l h = tt
+fit_cut_in w past landed (CutIn again e) l h = tt
 
-fit_bring : Reports → (n : ℕ) (past : List Change) (e : Happening) → n ≤ 8 → barred n (trace n past) (frames_sent n (steps past)) e ≡ None → FitCome (brings n past e)
+fit_bring : Reports → (w : Setup) (past : List Change) (e : Happening) → servers_of w ≤ 8 → barred w (trace w past) (frames_sent w (steps past)) e ≡ None → FitCome (brings w past e)
 unfolding FitBe FitCome
-fit_bring laws n past (Begin text) l h = fit_step _ (fit_client n (trace n past) (calls.Begin text))
-fit_bring laws n past (Trigger run act) l h = fit_step _ (fit_client n (trace n past) (calls.Trigger run act))
-fit_bring laws n past (StopRun run) l h = fit_step _ (fit_client n (trace n past) (calls.Stop run))
-fit_bring laws n past (Verify run text) l h = fit_step _ (fit_client n (trace n past) (calls.Verify run text))
-fit_bring laws n past Tick l h = fit_step _ (fit_client n (trace n past) calls.Tick)
-fit_bring laws n past (Deliver i) l h = fit_delivered n past (slice_get (frames_sent n (steps past)) i) l h
-fit_bring laws n past (Issue s j) l h = fit_step _ (fit_server (trace n past) s (events.Issue j) (server_there n (trace n past) s l h) tt)
-fit_bring laws n past (Land s j k mask) l h = tt
-fit_bring laws n past (Done s j k) l h = fit_step _ (fit_ended (trace n past) s k ends.Done (open_at (trace n past) s j k) (write_there n (trace n past) s j k l h))
-fit_bring laws n past (Fail s j k) l h = fit_step _ (fit_ended (trace n past) s k ends.Failed (open_at (trace n past) s j k) (write_there n (trace n past) s j k l h))
-fit_bring laws n past (Rot s j sector bytes) l h = tt
-fit_bring laws n past (happenings.Check s j) l h =
-    let list = of_server s (trace n past) in
-    fit_step _ (fit_reported (trace n past) s (checked_in (check (opening_of s) list) j (content n past s j)) (server_there n (trace n past) s l h)
-    (fit_end laws.fit laws.sets s list j (content n past s j) (check (opening_of s) list) refl))
-fit_bring laws n past (Cut node) l h = fit_step _ (fit_cut n (trace n past) node l h)
-fit_bring laws n past (Restart node) l h = fit_step _ (fit_restarted n (trace n past) node l h)
-fit_bring laws n past (CutIn landed e) l h = fit_step _ (fit_cut_in n past landed e l h)
+fit_bring laws w past (Begin text) l h = fit_step _ (fit_client w (trace w past) (calls.Begin text))
+fit_bring laws w past (Trigger run act) l h = fit_step _ (fit_client w (trace w past) (calls.Trigger run act))
+fit_bring laws w past (StopRun run) l h = fit_step _ (fit_client w (trace w past) (calls.Stop run))
+fit_bring laws w past (Verify run text) l h = fit_step _ (fit_client w (trace w past) (calls.Verify run text))
+fit_bring laws w past Tick l h = fit_step _ (fit_client w (trace w past) calls.Tick)
+fit_bring laws w past (Deliver i) l h = fit_delivered w past (slice_get (frames_sent w (steps past)) i) l h
+fit_bring laws w past (Issue s j) l h = fit_step _ (fit_server (trace w past) s (events.Issue j) (server_there w (trace w past) s l h) tt)
+fit_bring laws w past (Land s j k mask) l h = tt
+fit_bring laws w past (Done s j k) l h = fit_step _ (fit_ended (trace w past) s k ends.Done (open_at (trace w past) s j k) (write_there w (trace w past) s j k l h))
+fit_bring laws w past (Fail s j k) l h = fit_step _ (fit_ended (trace w past) s k ends.Failed (open_at (trace w past) s j k) (write_there w (trace w past) s j k l h))
+fit_bring laws w past (Rot s j sector bytes) l h = tt
+fit_bring laws w past (happenings.Check s j) l h =
+    let list = of_server s (trace w past) in
+    fit_step _ (fit_reported (trace w past) s (checked_in (check (opening_of s) list) j (content w past s j)) (server_there w (trace w past) s l h)
+    (fit_end laws.fit laws.sets s list j (content w past s j) (check (opening_of s) list) refl))
+fit_bring laws w past (Cut node) l h = fit_step _ (fit_cut w (trace w past) node l h)
+fit_bring laws w past (Restart node) l h = fit_step _ (fit_restarted w (trace w past) node l h)
+fit_bring laws w past (CutIn landed e) l h = fit_step _ (fit_cut_in w past landed e l h)
 
 fit_pass : (x : Option Fault) (r : Outcome) → (x ≡ None → FitCome r) → FitCome (unless_barred x r)
 unfolding FitCome
@@ -284,12 +285,12 @@ fit_one past (Does (Rotted s j sector bytes)) h f = h
 fit_one past (Refuses fault) h f = h
 fit_one past (Drops step) h f = (f, h)
 
-steps_fit : Reports → (n : ℕ) (events : List Happening) → n ≤ 8 → AllByRecursion FrameStepFits (steps (world n events))
-steps_fit laws n [] l = tt
-steps_fit laws n (e ∷ events) l =
-    let past = world n events in
-    fit_one past (outcome n past e) (steps_fit laws n events l)
-    (fit_pass (barred n (trace n past) (frames_sent n (steps past)) e) (brings n past e) (λ h. fit_bring laws n past e l h))
+steps_fit : Reports → (w : Setup) (events : List Happening) → servers_of w ≤ 8 → AllByRecursion FrameStepFits (steps (world w events))
+steps_fit laws w [] l = tt
+steps_fit laws w (e ∷ events) l =
+    let past = world w events in
+    fit_one past (outcome w past e) (steps_fit laws w events l)
+    (fit_pass (barred w (trace w past) (frames_sent w (steps past)) e) (brings w past e) (λ h. fit_bring laws w past e l h))
 
-pub world_fits : Reports → (n : ℕ) (events : List Happening) → n ≤ 8 → FitsFrames n (steps (world n events))
-world_fits laws n events l = record { few = l; steps = steps_fit laws n events l }
+pub world_fits : Reports → (w : Setup) (events : List Happening) → servers_of w ≤ 8 → FitsFrames w (steps (world w events))
+world_fits laws w events l = record { few = l; steps = steps_fit laws w events l }

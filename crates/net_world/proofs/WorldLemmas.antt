@@ -27,6 +27,7 @@ use Rattle.client_core.specs.declared.call.Call.TheVariants as calls
 use Rattle.client_core.specs.History as client
 use Rattle.client_core.specs.Ranges.{packet_in}
 use Rattle.client_core.specs.Words as clients
+use Rattle.net_world.specs.Setup.{Setup}
 use Rattle.net_world.specs.Happenings.{Happening, Begin, Trigger, StopRun, Verify, Tick, Deliver, Issue, Land, Done, Fail, Rot, Cut, Restart, CutIn}
 use Rattle.net_world.specs.Happenings as happenings
 use Rattle.net_world.specs.Trace.{Step, of_server, of_client, opening_of, client_opening}
@@ -78,9 +79,9 @@ may_server : (frames : List Frame) (t : List Step) (s : ℕ) (e : Event) → hea
 unfolding MayBe
 may_server frames t s e m = may_unless frames (answers.refusal (opening_of s) (of_server s t) e) _ m
 
-may_client : (frames : List Frame) (n : ℕ) (t : List Step) (c : Call) → ((left : Left) → packet_in (client.Met c left) ≡ []) → MayBe frames (met_by_client n t c)
+may_client : (frames : List Frame) (w : Setup) (t : List Step) (c : Call) → ((left : Left) → packet_in (client.Met c left) ≡ []) → MayBe frames (met_by_client w t c)
 unfolding MayBe
-may_client frames n t c m = may_unless frames (clients.refusal (client_opening n) (of_client t) c) _ (m (left_for (clients.due (client_opening n) (of_client t) c)), refl)
+may_client frames w t c m = may_unless frames (clients.refusal (client_opening w) (of_client t) c) _ (m (left_for (clients.due (client_opening w) (of_client t) c)), refl)
 
 may_end : (frames : List Frame) (t : List Step) (s k : ℕ) (end : WriteEnd) (x : Option Origin) → MayBe frames (ended t s k end x)
 unfolding MayBe
@@ -109,8 +110,8 @@ may_restart frames t (Server s) = may_if frames (has_boot t s) (OfServer s (Happ
 may_restart frames t Client = (refl, refl)
 may_restart frames t Mirror = tt
 
-may_client_cut : (frames : List Frame) (n : ℕ) (t : List Step) (landed : Bool) (c : Call) → ((left : Left) → packet_in (client.Met c left) ≡ []) → MayBe frames (client_cut_in n t landed c)
-may_client_cut frames n t landed c m = may_save frames (clients.due (client_opening n) (of_client t) c) (OfClient (Happens (client.Met c (lost_by landed)))) (m (lost_by landed), refl)
+may_client_cut : (frames : List Frame) (w : Setup) (t : List Step) (landed : Bool) (c : Call) → ((left : Left) → packet_in (client.Met c left) ≡ []) → MayBe frames (client_cut_in w t landed c)
+may_client_cut frames w t landed c m = may_save frames (clients.due (client_opening w) (of_client t) c) (OfClient (Happens (client.Met c (lost_by landed)))) (m (lost_by landed), refl)
 
 may_restart_cut : (frames : List Frame) (t : List Step) (landed : Bool) (node : Node) → MayBe frames (restart_cut_in t landed node)
 unfolding MayBe
@@ -127,26 +128,26 @@ may_come_to_server frames t s f Waits i to = (i, to)
 may_come_to_server frames t s f Spoils i to = (i, to)
 may_come_to_server frames t s f Strays i to = tt
 
-may_come_to_client : (frames : List Frame) (n : ℕ) (t : List Step) (f : Frame) (m : Meaning) → Contains frames f → to_of f ≡ Client → MayCome frames (comes_to_client n t f m)
+may_come_to_client : (frames : List Frame) (w : Setup) (t : List Step) (f : Frame) (m : Meaning) → Contains frames f → to_of f ≡ Client → MayCome frames (comes_to_client w t f m)
 unfolding MayCome MayBe
-may_come_to_client frames n t f (Says p) i to = may_step frames _ (may_unless frames (clients.refusal (client_opening n) (of_client t) (calls.Deliver p)) _ (i, to))
-may_come_to_client frames n t f Waits i to = (i, to)
-may_come_to_client frames n t f Spoils i to = (i, to)
-may_come_to_client frames n t f Strays i to = tt
+may_come_to_client frames w t f (Says p) i to = may_step frames _ (may_unless frames (clients.refusal (client_opening w) (of_client t) (calls.Deliver p)) _ (i, to))
+may_come_to_client frames w t f Waits i to = (i, to)
+may_come_to_client frames w t f Spoils i to = (i, to)
+may_come_to_client frames w t f Strays i to = tt
 
-may_come_to : (frames : List Frame) (n : ℕ) (past : List Change) (node : Node) (f : Frame) → Contains frames f → to_of f ≡ node → MayCome frames (comes_to n past node f)
+may_come_to : (frames : List Frame) (w : Setup) (past : List Change) (node : Node) (f : Frame) → Contains frames f → to_of f ≡ node → MayCome frames (comes_to w past node f)
 unfolding MayCome
-may_come_to frames n past (Server s) f i to = may_come_to_server frames (trace n past) s f (said_to_server (steps past) s f) i to
-may_come_to frames n past Client f i to = may_come_to_client frames n (trace n past) f (said_to_client n (steps past) f) i to
-may_come_to frames n past Mirror f i to = tt
+may_come_to frames w past (Server s) f i to = may_come_to_server frames (trace w past) s f (said_to_server (steps past) s f) i to
+may_come_to frames w past Client f i to = may_come_to_client frames w (trace w past) f (said_to_client w (steps past) f) i to
+may_come_to frames w past Mirror f i to = tt
 
 sent_at : (frames : List Frame) (i : ℕ) (f : Frame) → slice_get frames i ≡ Some f → Contains frames f
 sent_at frames i f h = (i, slice_get_within frames i f h, get_or_from_slice_get frames i f f h)
 
-may_deliver : (frames : List Frame) (n : ℕ) (past : List Change) (x : Option Frame) → ((f : Frame) → x ≡ Some f → Contains frames f) → MayCome frames (delivered n past x)
+may_deliver : (frames : List Frame) (w : Setup) (past : List Change) (x : Option Frame) → ((f : Frame) → x ≡ Some f → Contains frames f) → MayCome frames (delivered w past x)
 unfolding MayCome
-may_deliver frames n past None h = tt
-may_deliver frames n past (Some f) h = may_come_to frames n past (to_of f) f (h f refl) refl
+may_deliver frames w past None h = tt
+may_deliver frames w past (Some f) h = may_come_to frames w past (to_of f) f (h f refl) refl
 
 may_server_frame_cut : (frames : List Frame) (t : List Step) (s : ℕ) (landed : Bool) (f : Frame) (m : Meaning) → Contains frames f → to_of f ≡ Server s → MayBe frames (server_frame_cut t s landed f m)
 unfolding MayBe
@@ -155,78 +156,78 @@ may_server_frame_cut frames t s landed f Waits i to = tt
 may_server_frame_cut frames t s landed f Spoils i to = tt
 may_server_frame_cut frames t s landed f Strays i to = tt
 
-may_client_frame_cut : (frames : List Frame) (n : ℕ) (t : List Step) (landed : Bool) (f : Frame) (m : Meaning) → Contains frames f → to_of f ≡ Client → MayBe frames (client_frame_cut n t landed f m)
+may_client_frame_cut : (frames : List Frame) (w : Setup) (t : List Step) (landed : Bool) (f : Frame) (m : Meaning) → Contains frames f → to_of f ≡ Client → MayBe frames (client_frame_cut w t landed f m)
 unfolding MayBe
-may_client_frame_cut frames n t landed f (Says p) i to = may_save frames (clients.due (client_opening n) (of_client t) (calls.Deliver p)) (OfClient (Comes f (lost_by landed))) (i, to)
-may_client_frame_cut frames n t landed f Waits i to = tt
-may_client_frame_cut frames n t landed f Spoils i to = tt
-may_client_frame_cut frames n t landed f Strays i to = tt
+may_client_frame_cut frames w t landed f (Says p) i to = may_save frames (clients.due (client_opening w) (of_client t) (calls.Deliver p)) (OfClient (Comes f (lost_by landed))) (i, to)
+may_client_frame_cut frames w t landed f Waits i to = tt
+may_client_frame_cut frames w t landed f Spoils i to = tt
+may_client_frame_cut frames w t landed f Strays i to = tt
 
-may_frame_cut : (frames : List Frame) (n : ℕ) (past : List Change) (landed : Bool) (node : Node) (f : Frame) → Contains frames f → to_of f ≡ node → MayBe frames (frame_cut n past landed node f)
+may_frame_cut : (frames : List Frame) (w : Setup) (past : List Change) (landed : Bool) (node : Node) (f : Frame) → Contains frames f → to_of f ≡ node → MayBe frames (frame_cut w past landed node f)
 unfolding MayBe
-may_frame_cut frames n past landed (Server s) f i to = may_server_frame_cut frames (trace n past) s landed f (said_to_server (steps past) s f) i to
-may_frame_cut frames n past landed Client f i to = may_client_frame_cut frames n (trace n past) landed f (said_to_client n (steps past) f) i to
-may_frame_cut frames n past landed Mirror f i to = tt
+may_frame_cut frames w past landed (Server s) f i to = may_server_frame_cut frames (trace w past) s landed f (said_to_server (steps past) s f) i to
+may_frame_cut frames w past landed Client f i to = may_client_frame_cut frames w (trace w past) landed f (said_to_client w (steps past) f) i to
+may_frame_cut frames w past landed Mirror f i to = tt
 
-may_delivery_cut : (frames : List Frame) (n : ℕ) (past : List Change) (landed : Bool) (x : Option Frame) → ((f : Frame) → x ≡ Some f → Contains frames f) → MayBe frames (delivery_cut_in n past landed x)
+may_delivery_cut : (frames : List Frame) (w : Setup) (past : List Change) (landed : Bool) (x : Option Frame) → ((f : Frame) → x ≡ Some f → Contains frames f) → MayBe frames (delivery_cut_in w past landed x)
 unfolding MayBe
-may_delivery_cut frames n past landed None h = tt
-may_delivery_cut frames n past landed (Some f) h = may_frame_cut frames n past landed (to_of f) f (h f refl) refl
+may_delivery_cut frames w past landed None h = tt
+may_delivery_cut frames w past landed (Some f) h = may_frame_cut frames w past landed (to_of f) f (h f refl) refl
 
-may_cut_in : (n : ℕ) (past : List Change) (landed : Bool) (e : Happening) → MayBe (frames_sent n (steps past)) (cut_in n past landed e)
+may_cut_in : (w : Setup) (past : List Change) (landed : Bool) (e : Happening) → MayBe (frames_sent w (steps past)) (cut_in w past landed e)
 unfolding MayBe
-may_cut_in n past landed (Begin text) = may_client_cut (frames_sent n (steps past)) n (trace n past) landed (calls.Begin text) (λ left. refl)
-may_cut_in n past landed (Verify run text) = may_client_cut (frames_sent n (steps past)) n (trace n past) landed (calls.Verify run text) (λ left. refl)
-may_cut_in n past landed (Deliver i) = may_delivery_cut (frames_sent n (steps past)) n past landed (slice_get (frames_sent n (steps past)) i) (sent_at (frames_sent n (steps past)) i)
-may_cut_in n past landed (Restart node) = may_restart_cut (frames_sent n (steps past)) (trace n past) landed node
-may_cut_in n past landed (Trigger run act) = tt
-may_cut_in n past landed (StopRun run) = tt
-may_cut_in n past landed Tick = tt
-may_cut_in n past landed (Issue s j) = tt
-may_cut_in n past landed (Land s j k mask) = tt
-may_cut_in n past landed (Done s j k) = tt
-may_cut_in n past landed (Fail s j k) = tt
-may_cut_in n past landed (Rot s j sector bytes) = tt
-may_cut_in n past landed (happenings.Check s j) = tt
-may_cut_in n past landed (Cut node) = tt
-may_cut_in n past landed (CutIn again e) = tt
+may_cut_in w past landed (Begin text) = may_client_cut (frames_sent w (steps past)) w (trace w past) landed (calls.Begin text) (λ left. refl)
+may_cut_in w past landed (Verify run text) = may_client_cut (frames_sent w (steps past)) w (trace w past) landed (calls.Verify run text) (λ left. refl)
+may_cut_in w past landed (Deliver i) = may_delivery_cut (frames_sent w (steps past)) w past landed (slice_get (frames_sent w (steps past)) i) (sent_at (frames_sent w (steps past)) i)
+may_cut_in w past landed (Restart node) = may_restart_cut (frames_sent w (steps past)) (trace w past) landed node
+may_cut_in w past landed (Trigger run act) = tt
+may_cut_in w past landed (StopRun run) = tt
+may_cut_in w past landed Tick = tt
+may_cut_in w past landed (Issue s j) = tt
+may_cut_in w past landed (Land s j k mask) = tt
+may_cut_in w past landed (Done s j k) = tt
+may_cut_in w past landed (Fail s j k) = tt
+may_cut_in w past landed (Rot s j sector bytes) = tt
+may_cut_in w past landed (happenings.Check s j) = tt
+may_cut_in w past landed (Cut node) = tt
+may_cut_in w past landed (CutIn again e) = tt
 
 -- ---- what happens
 
-may_bring : (n : ℕ) (past : List Change) (e : Happening) → MayCome (frames_sent n (steps past)) (brings n past e)
+may_bring : (w : Setup) (past : List Change) (e : Happening) → MayCome (frames_sent w (steps past)) (brings w past e)
 unfolding MayBe MayCome
-may_bring n past (Begin text) = may_step _ _ (may_client _ n (trace n past) (calls.Begin text) (λ left. refl))
-may_bring n past (Trigger run act) = may_step _ _ (may_client _ n (trace n past) (calls.Trigger run act) (λ left. refl))
-may_bring n past (StopRun run) = may_step _ _ (may_client _ n (trace n past) (calls.Stop run) (λ left. refl))
-may_bring n past (Verify run text) = may_step _ _ (may_client _ n (trace n past) (calls.Verify run text) (λ left. refl))
-may_bring n past Tick = may_step _ _ (may_client _ n (trace n past) calls.Tick (λ left. refl))
-may_bring n past (Deliver i) = may_deliver _ n past (slice_get (frames_sent n (steps past)) i) (sent_at (frames_sent n (steps past)) i)
-may_bring n past (Issue s j) = may_step _ _ (may_server _ (trace n past) s (events.Issue j) refl)
-may_bring n past (Land s j k mask) = tt
-may_bring n past (Done s j k) = may_step _ _ (may_end _ (trace n past) s k ends.Done (open_at (trace n past) s j k))
-may_bring n past (Fail s j k) = may_step _ _ (may_end _ (trace n past) s k ends.Failed (open_at (trace n past) s j k))
-may_bring n past (Rot s j sector bytes) = tt
-may_bring n past (happenings.Check s j) = may_step _ _ (may_check _ (trace n past) s (check (opening_of s) (of_server s (trace n past))) j (content n past s j))
-may_bring n past (Cut node) = may_step _ _ (may_cut _ node)
-may_bring n past (Restart node) = may_step _ _ (may_restart _ (trace n past) node)
-may_bring n past (CutIn landed e) = may_step _ _ (may_cut_in n past landed e)
+may_bring w past (Begin text) = may_step _ _ (may_client _ w (trace w past) (calls.Begin text) (λ left. refl))
+may_bring w past (Trigger run act) = may_step _ _ (may_client _ w (trace w past) (calls.Trigger run act) (λ left. refl))
+may_bring w past (StopRun run) = may_step _ _ (may_client _ w (trace w past) (calls.Stop run) (λ left. refl))
+may_bring w past (Verify run text) = may_step _ _ (may_client _ w (trace w past) (calls.Verify run text) (λ left. refl))
+may_bring w past Tick = may_step _ _ (may_client _ w (trace w past) calls.Tick (λ left. refl))
+may_bring w past (Deliver i) = may_deliver _ w past (slice_get (frames_sent w (steps past)) i) (sent_at (frames_sent w (steps past)) i)
+may_bring w past (Issue s j) = may_step _ _ (may_server _ (trace w past) s (events.Issue j) refl)
+may_bring w past (Land s j k mask) = tt
+may_bring w past (Done s j k) = may_step _ _ (may_end _ (trace w past) s k ends.Done (open_at (trace w past) s j k))
+may_bring w past (Fail s j k) = may_step _ _ (may_end _ (trace w past) s k ends.Failed (open_at (trace w past) s j k))
+may_bring w past (Rot s j sector bytes) = tt
+may_bring w past (happenings.Check s j) = may_step _ _ (may_check _ (trace w past) s (check (opening_of s) (of_server s (trace w past))) j (content w past s j))
+may_bring w past (Cut node) = may_step _ _ (may_cut _ node)
+may_bring w past (Restart node) = may_step _ _ (may_restart _ (trace w past) node)
+may_bring w past (CutIn landed e) = may_step _ _ (may_cut_in w past landed e)
 
 may_pass : (frames : List Frame) (x : Option Fault) (r : Outcome) → MayCome frames r → MayCome frames (unless_barred x r)
 unfolding MayCome
 may_pass frames None r m = m
 may_pass frames (Some fault) r m = tt
 
-and_one : (n : ℕ) (past : List Change) (r : Outcome) → IsFrameTrace n (steps past) → MayCome (frames_sent n (steps past)) r → IsFrameTrace n (steps (and_outcome r past))
+and_one : (w : Setup) (past : List Change) (r : Outcome) → IsFrameTrace w (steps past) → MayCome (frames_sent w (steps past)) r → IsFrameTrace w (steps (and_outcome r past))
 unfolding MayCome
-and_one n past (Does (Met step)) h m = (h, m)
-and_one n past (Does (Landed s j k mask)) h m = h
-and_one n past (Does (Rotted s j sector bytes)) h m = h
-and_one n past (Refuses fault) h m = h
-and_one n past (Drops step) h m = (h, m)
+and_one w past (Does (Met step)) h m = (h, m)
+and_one w past (Does (Landed s j k mask)) h m = h
+and_one w past (Does (Rotted s j sector bytes)) h m = h
+and_one w past (Refuses fault) h m = h
+and_one w past (Drops step) h m = (h, m)
 
 pub each_world_is_a_frame_trace : EachWorldIsAFrameTrace
-each_world_is_a_frame_trace n [] = tt
-each_world_is_a_frame_trace n (e ∷ events) =
-    let past = world n events in
-    and_one n past (outcome n past e) (each_world_is_a_frame_trace n events)
-    (may_pass (frames_sent n (steps past)) (barred n (trace n past) (frames_sent n (steps past)) e) (brings n past e) (may_bring n past e))
+each_world_is_a_frame_trace w [] = tt
+each_world_is_a_frame_trace w (e ∷ events) =
+    let past = world w events in
+    and_one w past (outcome w past e) (each_world_is_a_frame_trace w events)
+    (may_pass (frames_sent w (steps past)) (barred w (trace w past) (frames_sent w (steps past)) e) (brings w past e) (may_bring w past e))

@@ -14,6 +14,7 @@ use Rattle.client_core.specs.FrameAnswers.{is_drop, sense, refusal, answered}
 use Rattle.net_world.specs.declared.asked.Asked.{Asked}
 use Rattle.net_world.specs.declared.told.Told.{Told}
 use Rattle.net_world.specs.declared.world.World.{World}
+use Rattle.net_world.specs.Setup.{Setup}
 use Rattle.net_world.specs.Trace.{client_opening}
 use Rattle.net_world.specs.Frames.{FrameStep, OfClient, frames_sent, frames_of_step, client_entries}
 use Rattle.net_world.specs.Changes as changes
@@ -31,8 +32,8 @@ abbrev pub step_of : FrameEntry → FrameStep
 step_of e = OfClient (coming e)
 
 -- The step of a call that is answered.
-abbrev pub step_by : ℕ → List Change → Input → FrameStep
-step_by n past e = step_of (answered (client_opening n) (entries past) e)
+abbrev pub step_by : Setup → List Change → Input → FrameStep
+step_by w past e = step_of (answered (client_opening w) (entries past) e)
 
 -- What is told of what the client has answered, behind so many frames.
 abbrev pub told_of : ℕ → Asked → Told
@@ -40,37 +41,37 @@ told_of first asked =
     record { answer = asked.answer; first = first; sent = length asked.frames; act = acts.None }
 
 -- The client is on, doesn't refuse what comes, and its step is added.
-pub record IsAnswered (n : ℕ) (past : List Change) (e : Input) (new : World) (told : Told) : Type 0 where
-  pub on : off n (trace n past) Client ≡ None
-  pub free : refusal (client_opening n) (entries past) e ≡ None
+pub record IsAnswered (w : Setup) (past : List Change) (e : Input) (new : World) (told : Told) : Type 0 where
+  pub on : off w (trace w past) Client ≡ None
+  pub free : refusal (client_opening w) (entries past) e ≡ None
   pub told_is :
       told ≡ record {
-        answer = answer_to (client_opening n) (entries past) e;
-        first = length (frames_sent n (steps past));
-        sent = length (frames_of_step n (steps past) (step_by n past e));
+        answer = answer_to (client_opening w) (entries past) e;
+        first = length (frames_sent w (steps past));
+        sent = length (frames_of_step w (steps past) (step_by w past e));
         act = acts.None;
       }
-  pub stands : StandsFor n (changes.Met (step_by n past e) ∷ past) new
+  pub stands : StandsFor w (changes.Met (step_by w past e) ∷ past) new
 
 -- The client is off.
-pub record IsBarred (n : ℕ) (past : List Change) (fault : Fault) (new : World) : Type 0 where
-  pub why : off n (trace n past) Client ≡ Some fault
-  pub unchanged : StandsFor n past new
+pub record IsBarred (w : Setup) (past : List Change) (fault : Fault) (new : World) : Type 0 where
+  pub why : off w (trace w past) Client ≡ Some fault
+  pub unchanged : StandsFor w past new
 
 -- The client refuses what comes. That may stand in the list, or be left out, but where it drops a tag.
-pub record Refuses (n : ℕ) (past : List Change) (e : Input) (fault : Fault) (new : World) : Type 0 where
-  pub on : off n (trace n past) Client ≡ None
-  pub why : refusal (client_opening n) (entries past) e ≡ Some fault
-  pub stands : StandsFor n (changes.Met (step_of (Met e NoSave)) ∷ past) new
-  pub unchanged : is_drop (sense (client_opening n) (entries past) e) ≡ false → StandsFor n past new
+pub record Refuses (w : Setup) (past : List Change) (e : Input) (fault : Fault) (new : World) : Type 0 where
+  pub on : off w (trace w past) Client ≡ None
+  pub why : refusal (client_opening w) (entries past) e ≡ Some fault
+  pub stands : StandsFor w (changes.Met (step_of (Met e NoSave)) ∷ past) new
+  pub unchanged : is_drop (sense (client_opening w) (entries past) e) ≡ false → StandsFor w past new
 
 -- How a call ends that isn't answered.
-abbrev pub Faults : ℕ → List Change → Input → FaultSort → Fault → World → Type 0
-Faults n past e sorts.Memory fault new = (fault ≡ NoMemory) × StandsFor n past new
-Faults n past e sorts.Save fault new = ⊥
-Faults n past e sorts.Refusal fault new = IsBarred n past fault new ⊎ Refuses n past e fault new
+abbrev pub Faults : Setup → List Change → Input → FaultSort → Fault → World → Type 0
+Faults w past e sorts.Memory fault new = (fault ≡ NoMemory) × StandsFor w past new
+Faults w past e sorts.Save fault new = ⊥
+Faults w past e sorts.Refusal fault new = IsBarred w past fault new ⊎ Refuses w past e fault new
 
 -- How a call of the client ends.
-abbrev pub ClientEnds : ℕ → List Change → Input → World → Result Told Fault → Type 0
-ClientEnds n past e new (Ok told) = IsAnswered n past e new told
-ClientEnds n past e new (Err fault) = Faults n past e (sort_of fault) fault new
+abbrev pub ClientEnds : Setup → List Change → Input → World → Result Told Fault → Type 0
+ClientEnds w past e new (Ok told) = IsAnswered w past e new told
+ClientEnds w past e new (Err fault) = Faults w past e (sort_of fault) fault new

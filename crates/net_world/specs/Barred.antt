@@ -10,6 +10,7 @@ use Rattle.messages.specs.declared.node.Node.TheVariants.{Server, Client, Mirror
 use Rattle.messages.specs.declared.frame.Frame.{Frame}
 use Rattle.server_core.specs.Words as servers
 use Rattle.client_core.specs.Words as clients
+use Rattle.net_world.specs.Setup.{Setup, servers_of}
 use Rattle.net_world.specs.Happenings.{Happening, Begin, Trigger, StopRun, Verify, Tick, Deliver, Issue, Land, Done, Fail, Rot, Check, Cut, Restart, CutIn}
 use Rattle.net_world.specs.Trace.{Step, of_server, of_client}
 use Rattle.net_world.specs.Frames.{to_of}
@@ -19,15 +20,15 @@ use Rattle.net_world.specs.Writes.{open_at}
 abbrev pub unless : Bool → Fault → Option Fault
 unless test fault = if test then None else Some fault
 
--- A world of n servers has no such server.
-abbrev pub no_server : ℕ → ℕ → Option Fault
-no_server n s = unless (nat_lt s n) NoServer
+-- A world has no such server.
+abbrev pub no_server : Setup → ℕ → Option Fault
+no_server w s = unless (nat_lt s (servers_of w)) NoServer
 
 -- It has no such node: there is no mirror in it.
-abbrev pub no_node : ℕ → Node → Option Fault
-no_node n (Server s) = no_server n s
-no_node n Client = None
-no_node n Mirror = Some NoMirror
+abbrev pub no_node : Setup → Node → Option Fault
+no_node w (Server s) = no_server w s
+no_node w Client = None
+no_node w Mirror = Some NoMirror
 
 -- A node is on.
 abbrev pub is_on : List Step → Node → Bool
@@ -36,42 +37,42 @@ is_on t Client = clients.is_on (of_client t)
 is_on t Mirror = false
 
 -- The node has to be on.
-abbrev pub off : ℕ → List Step → Node → Option Fault
-off n t node = option_or (no_node n node) (unless (is_on t node) NodeOff)
+abbrev pub off : Setup → List Step → Node → Option Fault
+off w t node = option_or (no_node w node) (unless (is_on t node) NodeOff)
 
 -- The node has to be off.
-abbrev pub on : ℕ → List Step → Node → Option Fault
-on n t node = option_or (no_node n node) (unless (not (is_on t node)) NodeOn)
+abbrev pub on : Setup → List Step → Node → Option Fault
+on w t node = option_or (no_node w node) (unless (not (is_on t node)) NodeOn)
 
 -- The frame has to be there, and the node to which it goes to be on.
-abbrev pub unsent : ℕ → List Step → Option Frame → Option Fault
-unsent n t None = Some NoFrame
-unsent n t (Some f) = off n t (to_of f)
+abbrev pub unsent : Setup → List Step → Option Frame → Option Fault
+unsent w t None = Some NoFrame
+unsent w t (Some f) = off w t (to_of f)
 
 -- The server has to be on, and the write to be open.
-abbrev pub unopen : ℕ → List Step → ℕ → ℕ → ℕ → Option Fault
-unopen n t s j k = option_or (off n t (Server s)) (unless (is_some (open_at t s j k)) NoWrite)
+abbrev pub unopen : Setup → List Step → ℕ → ℕ → ℕ → Option Fault
+unopen w t s j k = option_or (off w t (Server s)) (unless (is_some (open_at t s j k)) NoWrite)
 
 -- A server has 16 files.
-abbrev pub no_file : ℕ → ℕ → ℕ → Option Fault
-no_file n s j = option_or (no_server n s) (unless (nat_lt j MAX_JOBS) NoWrite)
+abbrev pub no_file : Setup → ℕ → ℕ → Option Fault
+no_file w s j = option_or (no_server w s) (unless (nat_lt j MAX_JOBS) NoWrite)
 
 -- Why the world refuses what may happen, by the trace and the frames that were sent. A cut within a
 -- save is refused as what makes the save.
-abbrev pub barred : ℕ → List Step → List Frame → Happening → Option Fault
-barred n t frames (Begin text) = off n t Client
-barred n t frames (Trigger run act) = off n t Client
-barred n t frames (StopRun run) = off n t Client
-barred n t frames (Verify run text) = off n t Client
-barred n t frames Tick = off n t Client
-barred n t frames (Deliver i) = unsent n t (slice_get frames i)
-barred n t frames (Issue s j) = off n t (Server s)
-barred n t frames (Land s j k mask) = unopen n t s j k
-barred n t frames (Done s j k) = unopen n t s j k
-barred n t frames (Fail s j k) = unopen n t s j k
-barred n t frames (Rot s j sector bytes) = no_file n s j
-barred n t frames (Check s j) = off n t (Server s)
-barred n t frames (Cut node) = off n t node
-barred n t frames (Restart node) = on n t node
-barred n t frames (CutIn landed (CutIn again e)) = None
-barred n t frames (CutIn landed e) = barred n t frames e
+abbrev pub barred : Setup → List Step → List Frame → Happening → Option Fault
+barred w t frames (Begin text) = off w t Client
+barred w t frames (Trigger run act) = off w t Client
+barred w t frames (StopRun run) = off w t Client
+barred w t frames (Verify run text) = off w t Client
+barred w t frames Tick = off w t Client
+barred w t frames (Deliver i) = unsent w t (slice_get frames i)
+barred w t frames (Issue s j) = off w t (Server s)
+barred w t frames (Land s j k mask) = unopen w t s j k
+barred w t frames (Done s j k) = unopen w t s j k
+barred w t frames (Fail s j k) = unopen w t s j k
+barred w t frames (Rot s j sector bytes) = no_file w s j
+barred w t frames (Check s j) = off w t (Server s)
+barred w t frames (Cut node) = off w t node
+barred w t frames (Restart node) = on w t node
+barred w t frames (CutIn landed (CutIn again e)) = None
+barred w t frames (CutIn landed e) = barred w t frames e

@@ -1,5 +1,6 @@
 -- What has changed in a world: a list, the newest first.
 use Rattle.std.specs.Prelude.{ℕ, List, [], ◌∷◌}
+use Rattle.net_world.specs.Setup.{Setup}
 use Rattle.net_world.specs.Trace.{Step}
 use Rattle.net_world.specs.Frames.{FrameStep, trace_heard}
 
@@ -17,6 +18,6 @@ steps (Met step ∷ past) = step ∷ steps past
 steps (Landed s j k mask ∷ past) = steps past
 steps (Rotted s j sector bytes ∷ past) = steps past
 
--- The trace of packets that they say, in a world of n servers.
-abbrev pub trace : ℕ → List Change → List Step
-trace n past = trace_heard n (steps past)
+-- The trace of packets that they say.
+abbrev pub trace : Setup → List Change → List Step
+trace w past = trace_heard w (steps past)

@@ -11,6 +11,7 @@ use Rattle.recheck.specs.Report.{report}
 use Rattle.server_core.specs.declared.event.Event.{Event}
 use Rattle.server_core.specs.declared.event.Event.TheVariants.{CheckDone}
 use Rattle.server_core.specs.Check.{Check, Progress, Wanting, Full, With, Refused, Done, check, progress_after}
+use Rattle.net_world.specs.Setup.{Setup}
 use Rattle.net_world.specs.Trace.{of_server, opening_of}
 use Rattle.net_world.specs.Changes.{Change, trace}
 use Rattle.net_world.specs.Contents.{content}
@@ -50,6 +51,6 @@ checked_in None j held = None
 checked_in (Some c) j held = check_end c j (report_for c j (slice_get c.jobs j) held)
 
 -- The end of the check of job j's file at server s, as the file is now, where the job is ready.
-abbrev pub checked : ℕ → List Change → ℕ → ℕ → Option Event
-checked n past s j =
-    checked_in (check (opening_of s) (of_server s (trace n past))) j (content n past s j)
+abbrev pub checked : Setup → List Change → ℕ → ℕ → Option Event
+checked w past s j =
+    checked_in (check (opening_of s) (of_server s (trace w past))) j (content w past s j)

@@ -1,7 +1,8 @@
 -- Where a claim holds: in each trace, in each world, and at each moment of a world.
-use Rattle.std.specs.Prelude.{◌≡◌, ℕ, ◌≤◌, List, ◌++◌, map, reverse}
+use Rattle.std.specs.Prelude.{◌≡◌, ◌≤◌, List, ◌++◌, map, reverse}
 use Rattle.net_world.specs.declared.config.Config.{Config}
 use Rattle.net_world.specs.declared.event.Event.{Event}
+use Rattle.net_world.specs.Setup.{Setup, servers_of}
 use Rattle.net_world.specs.Trace.{Step, IsTrace}
 use Rattle.net_world.specs.Frames.{FrameStep, IsFrameTrace, trace_heard}
 use Rattle.net_world.specs.InRange.{FitsFrames}
@@ -10,33 +11,33 @@ use Rattle.net_world.specs.Changes.{Change, steps, trace}
 use Rattle.net_world.specs.Events.{happening}
 use Rattle.net_world.specs.World.{world}
 
--- The claim holds of each trace of a client with n servers.
-abbrev pub OfEachTrace : (ℕ → List Step → Type 0) → Type 0
-OfEachTrace Claim = (n : ℕ) (t : List Step) → IsTrace n t → Claim n t
+-- The claim holds of each trace of a client with its servers.
+abbrev pub OfEachTrace : (Setup → List Step → Type 0) → Type 0
+OfEachTrace Claim = (w : Setup) (t : List Step) → IsTrace w t → Claim w t
 
 -- The claim holds of each list of steps, whether or not what comes was sent.
-abbrev pub OfEachList : (ℕ → List Step → Type 0) → Type 0
-OfEachList Claim = (n : ℕ) (t : List Step) → Claim n t
+abbrev pub OfEachList : (Setup → List Step → Type 0) → Type 0
+OfEachList Claim = (w : Setup) (t : List Step) → Claim w t
 
 -- The claim holds of each trace of frames in their ranges.
-abbrev pub OfEachFrameTrace : (ℕ → List FrameStep → Type 0) → Type 0
-OfEachFrameTrace Claim = (n : ℕ) (t : List FrameStep) → IsFrameTrace n t → FitsFrames n t → Claim n t
+abbrev pub OfEachFrameTrace : (Setup → List FrameStep → Type 0) → Type 0
+OfEachFrameTrace Claim = (w : Setup) (t : List FrameStep) → IsFrameTrace w t → FitsFrames w t → Claim w t
 
 -- The claim holds of each world of at most 8 servers.
-abbrev pub OfEachWorld : (ℕ → List Change → Type 0) → Type 0
-OfEachWorld Claim = (n : ℕ) (events : List Happening) → n ≤ 8 → Claim n (world n events)
+abbrev pub OfEachWorld : (Setup → List Change → Type 0) → Type 0
+OfEachWorld Claim = (w : Setup) (events : List Happening) → servers_of w ≤ 8 → Claim w (world w events)
 
 -- The claim holds of the trace that is heard in a trace of frames.
-abbrev pub OfTheHeard : (ℕ → List Step → Type 0) → ℕ → List FrameStep → Type 0
-OfTheHeard Claim n t = Claim n (trace_heard n t)
+abbrev pub OfTheHeard : (Setup → List Step → Type 0) → Setup → List FrameStep → Type 0
+OfTheHeard Claim w t = Claim w (trace_heard w t)
 
 -- The claim holds of the frames of a world.
-abbrev pub OfItsFrames : (ℕ → List FrameStep → Type 0) → ℕ → List Change → Type 0
-OfItsFrames Claim n past = Claim n (steps past)
+abbrev pub OfItsFrames : (Setup → List FrameStep → Type 0) → Setup → List Change → Type 0
+OfItsFrames Claim w past = Claim w (steps past)
 
 -- The claim holds of the trace of a world.
-abbrev pub OfItsTrace : (ℕ → List Step → Type 0) → ℕ → List Change → Type 0
-OfItsTrace Claim n past = Claim n (trace n past)
+abbrev pub OfItsTrace : (Setup → List Step → Type 0) → Setup → List Change → Type 0
+OfItsTrace Claim w past = Claim w (trace w past)
 
 -- What has happened once these events came, the first of them first: it is told newest first.
 abbrev pub happened : List Event → List Happening
@@ -47,7 +48,7 @@ abbrev pub played : Config → List Event → List Change
 played config events = world config.servers (happened events)
 
 -- The claim holds of the world at each moment of the list: behind each event, and before the first.
-abbrev pub AtEachMoment : (ℕ → List Change → Type 0) → Config → List Event → Type 0
+abbrev pub AtEachMoment : (Setup → List Change → Type 0) → Config → List Event → Type 0
 AtEachMoment Claim config events =
     (newer older : List Happening) → happened events ≡ newer ++ older →
     Claim config.servers (world config.servers older)

@@ -4,6 +4,7 @@ use Rattle.write_order.specs.Blocks.{block_of}
 use Rattle.write_order.specs.Stamps.{bytes_of}
 use Rattle.disk_model.specs.File.{zeros, landed, put, first_sector, has_bit}
 use Rattle.engine.specs.Running.{Origin}
+use Rattle.net_world.specs.Setup.{Setup}
 use Rattle.net_world.specs.Changes.{Change, Met, Landed, Rotted, trace}
 use Rattle.net_world.specs.Writes.{open_at}
 
@@ -24,11 +25,11 @@ is_file t i s j = (t == s) && (i == j)
 
 -- The bytes of each sector of job j's file at server s: zeros at first, then what has landed and
 -- rotted.
-abbrev pub content : ℕ → List Change → ℕ → ℕ → ℕ → List ℕ
-content n [] s j = λ _. zeros
-content n (Met step ∷ past) s j = content n past s j
-content n (Landed t i k mask ∷ past) s j =
-    if is_file t i s j then with_write k mask (open_at (trace n past) t i k) (content n past s j)
-    else content n past s j
-content n (Rotted t i sector bytes ∷ past) s j =
-    if is_file t i s j then put sector bytes (content n past s j) else content n past s j
+abbrev pub content : Setup → List Change → ℕ → ℕ → ℕ → List ℕ
+content w [] s j = λ _. zeros
+content w (Met step ∷ past) s j = content w past s j
+content w (Landed t i k mask ∷ past) s j =
+    if is_file t i s j then with_write k mask (open_at (trace w past) t i k) (content w past s j)
+    else content w past s j
+content w (Rotted t i sector bytes ∷ past) s j =
+    if is_file t i s j then put sector bytes (content w past s j) else content w past s j

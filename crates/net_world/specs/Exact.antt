@@ -11,6 +11,7 @@ use Rattle.server_core.specs.Accepted.{IsTaking}
 use Rattle.server_core.specs.Answers.{issue}
 use Rattle.server_core.specs.Laws.{gives_write}
 use Rattle.server_core.specs.Check.{Check, Full, With, check, progress}
+use Rattle.net_world.specs.Setup.{Setup}
 use Rattle.net_world.specs.Trace.{opening_of, of_server}
 use Rattle.net_world.specs.Holders.{key_at}
 use Rattle.net_world.specs.Changes.{Change, trace}
@@ -42,11 +43,11 @@ IsMadeWith s j list (Some state) =
 
 -- The report of job j's check at server s, as it is with the file's content now: by the state that the
 -- job is checked with, or in a full pass.
-pub record IsExact (n : ℕ) (past : List Change) (s j : ℕ) (r : ReportParts) : Type 0 where
+pub record IsExact (w : Setup) (past : List Change) (s j : ℕ) (r : ReportParts) : Type 0 where
   pub now : Check
-  pub is_open : check (opening_of s) (of_server s (trace n past)) ≡ Some now
+  pub is_open : check (opening_of s) (of_server s (trace w past)) ≡ Some now
   pub job : Job
   pub has_job : slice_get now.jobs j ≡ Some job
   pub state : Option State
-  pub made : IsMadeWith s j (of_server s (trace n past)) state
-  pub report : r ≡ report_of (key_of now j) job state (content n past s j)
+  pub made : IsMadeWith s j (of_server s (trace w past)) state
+  pub report : r ≡ report_of (key_of now j) job state (content w past s j)

@@ -13,6 +13,7 @@ use Rattle.engine.specs.Running.{Origin}
 use Rattle.messages.specs.declared.node.Node.TheVariants.{Server}
 use Rattle.server_core.specs.Check.{Check, Progress, Full, With, check, progress_after}
 use Rattle.net_world.specs.declared.ready.Ready.{Ready}
+use Rattle.net_world.specs.Setup.{Setup}
 use Rattle.net_world.specs.Trace.{of_server, opening_of}
 use Rattle.net_world.specs.Changes.{Change, trace}
 use Rattle.net_world.specs.Writes.{open_at}
@@ -20,20 +21,20 @@ use Rattle.net_world.specs.Checks.{key_of, checked}
 use Rattle.net_world.specs.Barred.{off, unopen}
 
 -- Write k of job j at server s is open: its ticket, and what its job does.
-pub record IsOpen (n : ℕ) (past : List Change) (s j k : ℕ) (ticket : Ticket) (rec : JobParts) : Type 0 where
-  pub there : unopen n (trace n past) s j k ≡ None
-  pub on : off n (trace n past) (Server s) ≡ None
+pub record IsOpen (w : Setup) (past : List Change) (s j k : ℕ) (ticket : Ticket) (rec : JobParts) : Type 0 where
+  pub there : unopen w (trace w past) s j k ≡ None
+  pub on : off w (trace w past) (Server s) ≡ None
   pub below : j < 16
   pub origin : Origin
-  pub is_open : open_at (trace n past) s j k ≡ Some origin
+  pub is_open : open_at (trace w past) s j k ≡ Some origin
   pub ticket_is : ticket ≡ ticket_of origin k
   pub rec_is : rec ≡ origin.job
 
 -- The open write is found, or the world refuses what asks for it.
-abbrev pub FindsWrite : ℕ → List Change → ℕ → ℕ → ℕ → Result (Ticket × JobParts) Fault → Type 0
-FindsWrite n past s j k (Ok found) = IsOpen n past s j k found.0 found.1
-FindsWrite n past s j k (Err fault) =
-    (unopen n (trace n past) s j k ≡ Some fault) × (sort_of fault ≡ Refusal)
+abbrev pub FindsWrite : Setup → List Change → ℕ → ℕ → ℕ → Result (Ticket × JobParts) Fault → Type 0
+FindsWrite w past s j k (Ok found) = IsOpen w past s j k found.0 found.1
+FindsWrite w past s j k (Err fault) =
+    (unopen w (trace w past) s j k ≡ Some fault) × (sort_of fault ≡ Refusal)
 
 -- The state with which a check is made.
 abbrev pub state_of : Progress → Option State
@@ -46,11 +47,11 @@ IsMadeBy c j job None = progress_after c j job c.since ≡ Full
 IsMadeBy c j job (Some state) = progress_after c j job c.since ≡ With state
 
 -- Job j of the open check at server s is ready to be checked.
-pub record IsReady (n : ℕ) (past : List Change) (s j : ℕ) (ready : Ready) : Type 0 where
-  pub on : off n (trace n past) (Server s) ≡ None
+pub record IsReady (w : Setup) (past : List Change) (s j : ℕ) (ready : Ready) : Type 0 where
+  pub on : off w (trace w past) (Server s) ≡ None
   pub below : j < 16
   pub now : Check
-  pub is_open : check (opening_of s) (of_server s (trace n past)) ≡ Some now
+  pub is_open : check (opening_of s) (of_server s (trace w past)) ≡ Some now
   pub job : Job
   pub has_job : slice_get now.jobs j ≡ Some job
   pub made : IsMadeBy now j job ready.state
@@ -61,12 +62,12 @@ pub record IsReady (n : ℕ) (past : List Change) (s j : ℕ) (ready : Ready) : 
   pub fatal : ready.fatal ≡ job.fatal
 
 -- The server is off or isn't there; or it has no such job that is ready.
-abbrev pub IsUnready : ℕ → List Change → ℕ → ℕ → Fault → Type 0
-IsUnready n past s j fault =
-    ((off n (trace n past) (Server s) ≡ Some fault) × (sort_of fault ≡ Refusal))
-    ⊎ ((off n (trace n past) (Server s) ≡ None) × (fault ≡ NotInFlight) × (checked n past s j ≡ None))
+abbrev pub IsUnready : Setup → List Change → ℕ → ℕ → Fault → Type 0
+IsUnready w past s j fault =
+    ((off w (trace w past) (Server s) ≡ Some fault) × (sort_of fault ≡ Refusal))
+    ⊎ ((off w (trace w past) (Server s) ≡ None) × (fault ≡ NotInFlight) × (checked w past s j ≡ None))
 
 -- The job is found, or why it isn't.
-abbrev pub FindsReady : ℕ → List Change → ℕ → ℕ → Result Ready Fault → Type 0
-FindsReady n past s j (Ok ready) = IsReady n past s j ready
-FindsReady n past s j (Err fault) = IsUnready n past s j fault
+abbrev pub FindsReady : Setup → List Change → ℕ → ℕ → Result Ready Fault → Type 0
+FindsReady w past s j (Ok ready) = IsReady w past s j ready
+FindsReady w past s j (Err fault) = IsUnready w past s j fault

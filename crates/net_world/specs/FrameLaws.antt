@@ -14,6 +14,7 @@ use Rattle.disk_model.specs.declared.left.Left.{Left}
 use Rattle.server_core.specs.History.{Entry}
 use Rattle.server_core.specs.Hearing.{heard_at}
 use Rattle.server_core.specs.FrameAnswers as answers
+use Rattle.net_world.specs.Setup.{Setup}
 use Rattle.net_world.specs.Trace as packets
 use Rattle.net_world.specs.Trace.{Step, IsTrace, sent, opening_of}
 use Rattle.net_world.specs.Holders.{carried}
@@ -21,44 +22,44 @@ use Rattle.net_world.specs.Frames.{FrameStep, OfServer, of_server, of_client, at
 use Rattle.net_world.specs.InRange.{FitsFrames}
 
 -- The list of each node in the trace that is heard is what the node hears of its own steps.
-pub record EachHearsItsOwn (n : ℕ) (t : List FrameStep) : Type 0 where
-  pub servers : (s : ℕ) → packets.of_server s (trace_heard n t) ≡ (heard (at_server s) (of_server s t)).entries
-  pub client : packets.of_client (trace_heard n t) ≡ (heard (at_client n) (of_client t)).entries
+pub record EachHearsItsOwn (w : Setup) (t : List FrameStep) : Type 0 where
+  pub servers : (s : ℕ) → packets.of_server s (trace_heard w t) ≡ (heard (at_server s) (of_server s t)).entries
+  pub client : packets.of_client (trace_heard w t) ≡ (heard (at_client w) (of_client t)).entries
 
 abbrev pub NodesHearTheirOwn : Type 0
-NodesHearTheirOwn = (n : ℕ) (t : List FrameStep) → EachHearsItsOwn n t
+NodesHearTheirOwn = (w : Setup) (t : List FrameStep) → EachHearsItsOwn w t
 
 -- The frames that were sent are those of the packets that were sent.
 abbrev pub FramesAreOfPackets : Type 0
 FramesAreOfPackets =
-    (n : ℕ) (t : List FrameStep) → frames_sent n t ≡ flat_map frames_of (sent n (trace_heard n t))
+    (w : Setup) (t : List FrameStep) → frames_sent w t ≡ flat_map frames_of (sent w (trace_heard w t))
 
 -- In each trace a tag names one body.
 abbrev pub TagsNameOneBody : Type 0
 TagsNameOneBody =
-    (n : ℕ) (t : List Step) → IsTrace n t → ArePackets (sent n t) → OneBodyOfEachTag (sent n t)
+    (w : Setup) (t : List Step) → IsTrace w t → ArePackets (sent w t) → OneBodyOfEachTag (sent w t)
 
 -- What a trace of frames says is a trace: each packet that is heard was sent.
 abbrev pub OnlySentIsHeard : Type 0
 OnlySentIsHeard =
-    (n : ℕ) (t : List FrameStep) → IsFrameTrace n t → FitsFrames n t → IsTrace n (trace_heard n t)
+    (w : Setup) (t : List FrameStep) → IsFrameTrace w t → FitsFrames w t → IsTrace w (trace_heard w t)
 
 -- Pieces that were sent give a packet with this state, taken in this order.
-pub record PiecesHold (n : ℕ) (t : List FrameStep) (key : Key) (state : State) : Type 0 where
+pub record PiecesHold (w : Setup) (t : List FrameStep) (key : Key) (state : State) : Type 0 where
   pub last : PieceParts
   pub others : List PieceParts
-  pub each : (q : PieceParts) → Contains (last ∷ others) q → Contains (frames_sent n t) (Piece q)
+  pub each : (q : PieceParts) → Contains (last ∷ others) q → Contains (frames_sent w t) (Piece q)
   pub packet : PacketParts
   pub together : look (all_taken [] others) last ≡ Gives packet
   pub state_is : carried packet.body ≡ Some state
   pub key_is : state.key ≡ key
 
 -- A server's list of frames says what the server hears in the trace, and it sends what the trace sends.
-pub record ServerStands (n s : ℕ) (t : List FrameStep) : Type 0 where
+pub record ServerStands (w : Setup) (s : ℕ) (t : List FrameStep) : Type 0 where
   pub hears : heard_at (opening_of s) (server_entries s t) ≡ heard (at_server s) (of_server s t)
   pub sends :
       (c : Coming Entry Left)
-      → answers.frames (opening_of s) (server_entries s t) (frame_entry c) ≡ frames_of_step n t (OfServer s c)
+      → answers.frames (opening_of s) (server_entries s t) (frame_entry c) ≡ frames_of_step w t (OfServer s c)
 
 abbrev pub ServersStand : Type 0
-ServersStand = (n s : ℕ) (t : List FrameStep) → ServerStands n s t
+ServersStand = (w : Setup) (s : ℕ) (t : List FrameStep) → ServerStands w s t

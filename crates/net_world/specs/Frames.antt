@@ -22,6 +22,7 @@ use Rattle.client_core.specs.declared.input.Input.TheVariants as client_inputs
 use Rattle.client_core.specs.History as client
 use Rattle.client_core.specs.Packets as clients
 use Rattle.client_core.specs.Hearing as client_hearing
+use Rattle.net_world.specs.Setup.{Setup}
 use Rattle.net_world.specs.Trace.{Step, AtServer, AtClient, opening_of, client_opening, taken_by, is_alone}
 
 -- A step: a frame comes to the server with this number, or anything else happens to it; or to the
@@ -46,8 +47,8 @@ of_client (OfClient c ∷ past) = c ∷ of_client past
 abbrev pub at_server : ℕ → Rules server.Entry Left
 at_server s = server_hearing.rules (opening_of s)
 
-abbrev pub at_client : ℕ → Rules client.Entry Left
-at_client n = client_hearing.rules (client_opening n)
+abbrev pub at_client : Setup → Rules client.Entry Left
+at_client w = client_hearing.rules (client_opening w)
 
 -- The frames of the packets that a node sends with what it hears; none where it hears nothing.
 abbrev pub frames_by : {E : Type 0} → (List E → E → List PacketParts) → List E → Option E → List Frame
@@ -60,17 +61,17 @@ abbrev pub frames_with :
     → Coming E Left → List Frame
 frames_with r sends past c = frames_by sends (heard r past).entries (entry_of r (heard r past) c)
 
--- The frames that a step sends, in a trace of a client with n servers.
-abbrev pub frames_of_step : ℕ → List FrameStep → FrameStep → List Frame
-frames_of_step n past (OfServer s c) =
+-- The frames that a step sends, in a trace of a client with its servers.
+abbrev pub frames_of_step : Setup → List FrameStep → FrameStep → List Frame
+frames_of_step w past (OfServer s c) =
     frames_with (at_server s) (servers.packets (opening_of s)) (of_server s past) c
-frames_of_step n past (OfClient c) =
-    frames_with (at_client n) (clients.packets (client_opening n)) (of_client past) c
+frames_of_step w past (OfClient c) =
+    frames_with (at_client w) (clients.packets (client_opening w)) (of_client past) c
 
 -- Every frame that was ever sent, the oldest first.
-unfoldable pub frames_sent : ℕ → List FrameStep → List Frame
-frames_sent n [] = []
-frames_sent n (step ∷ past) = frames_sent n past ++ frames_of_step n past step
+unfoldable pub frames_sent : Setup → List FrameStep → List Frame
+frames_sent w [] = []
+frames_sent w (step ∷ past) = frames_sent w past ++ frames_of_step w past step
 
 -- The node that a frame is for.
 abbrev pub to_of : Frame → Node
@@ -86,21 +87,21 @@ MayHappen frames (OfClient (Comes f left)) = Contains frames f × (to_of f ≡ C
 MayHappen frames (OfClient (Happens e)) = (taken_by (AtClient e) ≡ []) × IsTrue (is_alone e)
 
 -- A trace of frames: each frame that a node takes was sent to it earlier.
-abbrev pub IsFrameTrace : ℕ → List FrameStep → Type 0
-IsFrameTrace n [] = Unit {0}
-IsFrameTrace n (step ∷ past) = IsFrameTrace n past × MayHappen (frames_sent n past) step
+abbrev pub IsFrameTrace : Setup → List FrameStep → Type 0
+IsFrameTrace w [] = Unit {0}
+IsFrameTrace w (step ∷ past) = IsFrameTrace w past × MayHappen (frames_sent w past) step
 
 -- The step of packets that a step says, if it says one.
-abbrev pub step_heard : ℕ → List FrameStep → FrameStep → Option Step
-step_heard n past (OfServer s c) =
+abbrev pub step_heard : Setup → List FrameStep → FrameStep → Option Step
+step_heard w past (OfServer s c) =
     option_map (AtServer s) (entry_of (at_server s) (heard (at_server s) (of_server s past)) c)
-step_heard n past (OfClient c) =
-    option_map AtClient (entry_of (at_client n) (heard (at_client n) (of_client past)) c)
+step_heard w past (OfClient c) =
+    option_map AtClient (entry_of (at_client w) (heard (at_client w) (of_client past)) c)
 
 -- The trace of packets that steps of frames say.
-abbrev pub trace_heard : ℕ → List FrameStep → List Step
-trace_heard n [] = []
-trace_heard n (step ∷ past) = with_entry (step_heard n past step) (trace_heard n past)
+abbrev pub trace_heard : Setup → List FrameStep → List Step
+trace_heard w [] = []
+trace_heard w (step ∷ past) = with_entry (step_heard w past step) (trace_heard w past)
 
 -- What happens to a server, as an entry of its list of frames. A packet that comes besides the frames,
 -- as none does in a trace, is one that comes whole.

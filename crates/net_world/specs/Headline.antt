@@ -23,6 +23,7 @@ use Rattle.client_core.specs.Words.{kept}
 use Rattle.client_core.specs.Laws.{runs_in, attempts_in}
 use Rattle.net_world.specs.declared.told.Answer.TheVariants.{Checked}
 use Rattle.net_world.specs.declared.told.Told.{Told}
+use Rattle.net_world.specs.Setup.{Setup}
 use Rattle.net_world.specs.Trace.{Step, AtServer, opening_of, of_server, of_client, client_opening, sent}
 use Rattle.net_world.specs.Holders.{Holds, taken_of, key_at}
 use Rattle.net_world.specs.Started.{started}
@@ -36,101 +37,101 @@ use Rattle.net_world.specs.Exact.{IsBased, IsExact}
 use Rattle.net_world.specs.Honest.{AreHonest, AreWhole, IsCheckedWith, IsFaulty, WasInFlight}
 
 -- Of a job of a run one state is taken at most.
-abbrev pub OneTaking : ℕ → List Step → Type 0
-OneTaking n t = (key : Key) → length (taken_of key t) ≤ 1
+abbrev pub OneTaking : Setup → List Step → Type 0
+OneTaking w t = (key : Key) → length (taken_of key t) ≤ 1
 
 -- Whoever holds a state of a job of a run holds the one that was taken.
-abbrev pub HeldIsTheTaken : ℕ → List Step → Type 0
-HeldIsTheTaken n t = (key : Key) (state : State) → Holds n t key state → taken_of key t ≡ state ∷ []
+abbrev pub HeldIsTheTaken : Setup → List Step → Type 0
+HeldIsTheTaken w t = (key : Key) (state : State) → Holds w t key state → taken_of key t ≡ state ∷ []
 
 -- So do pieces that were sent and hold one together.
-abbrev pub PiecesHoldTheTaken : ℕ → List FrameStep → Type 0
-PiecesHoldTheTaken n t =
-    (key : Key) (state : State) → PiecesHold n t key state → taken_of key (trace_heard n t) ≡ state ∷ []
+abbrev pub PiecesHoldTheTaken : Setup → List FrameStep → Type 0
+PiecesHoldTheTaken w t =
+    (key : Key) (state : State) → PiecesHold w t key state → taken_of key (trace_heard w t) ≡ state ∷ []
 
 -- A state that is held was taken at its server, by a Trigger behind the accepted Start of its run, and
 -- counts exactly the writes that were completed between the two.
-abbrev pub CountsTheCompleted : ℕ → List Step → Type 0
-CountsTheCompleted n t =
-    (key : Key) (state : State) → Holds n t key state →
+abbrev pub CountsTheCompleted : Setup → List Step → Type 0
+CountsTheCompleted w t =
+    (key : Key) (state : State) → Holds w t key state →
     IsTaking (opening_of key.server) key.run key.job (of_server key.server t) state
 
 -- A state with which a job is checked was taken at this server, which has issued no write since.
-abbrev pub QuietUntilTheCheck : ℕ → List Step → Type 0
-QuietUntilTheCheck n t =
+abbrev pub QuietUntilTheCheck : Setup → List Step → Type 0
+QuietUntilTheCheck w t =
     (s j : ℕ) (state : State) → progress (opening_of s) (of_server s t) j ≡ Some (With state) →
     IsBased s j (of_server s t) state
 
 -- A check that isn't refused answers the exact report.
-abbrev pub ExactReports : ℕ → List Change → Type 0
-ExactReports n past =
-    (s j : ℕ) (t : Told) → told n past (happenings.Check s j) ≡ Ok t →
-    (r : ReportParts) × (t.answer ≡ Checked r) × IsExact n past s j r
+abbrev pub ExactReports : Setup → List Change → Type 0
+ExactReports w past =
+    (s j : ℕ) (t : Told) → told w past (happenings.Check s j) ≡ Ok t →
+    (r : ReportParts) × (t.answer ≡ Checked r) × IsExact w past s j r
 
 -- On honest disks a check with a state faults only blocks to which a write was in flight at the taking.
-abbrev pub FewFaults : ℕ → List Change → Type 0
-FewFaults n past =
+abbrev pub FewFaults : Setup → List Change → Type 0
+FewFaults w past =
     (s j : ℕ) (c : Check) (job : Job) (state : State) (block : ℕ) →
-    AreHonest n past → IsCheckedWith n past s j c job state
-    → IsFaulty n past s j c job state block → WasInFlight state block
+    AreHonest w past → IsCheckedWith w past s j c job state
+    → IsFaulty w past s j c job state block → WasInFlight state block
 
 -- Where writes are whole besides, it faults none.
-abbrev pub NoFaults : ℕ → List Change → Type 0
-NoFaults n past =
+abbrev pub NoFaults : Setup → List Change → Type 0
+NoFaults w past =
     (s j : ℕ) (c : Check) (job : Job) (state : State) (block : ℕ) →
-    AreHonest n past → AreWhole n past → IsCheckedWith n past s j c job state
-    → IsFaulty n past s j c job state block → ⊥
+    AreHonest w past → AreWhole w past → IsCheckedWith w past s j c job state
+    → IsFaulty w past s j c job state block → ⊥
 
 -- Nothing that happens is refused as another state of a kept key.
-abbrev pub NoConflict : ℕ → List Change → Type 0
-NoConflict n past = (e : Happening) → told n past e ≡ Err Conflict → ⊥
+abbrev pub NoConflict : Setup → List Change → Type 0
+NoConflict w past = (e : Happening) → told w past e ≡ Err Conflict → ⊥
 
 -- Two State packets of one key are equal, and so are their bytes.
-abbrev pub StatePacketsAreEqual : ℕ → List Step → Type 0
-StatePacketsAreEqual n t =
+abbrev pub StatePacketsAreEqual : Setup → List Step → Type 0
+StatePacketsAreEqual w t =
     (p q : PacketParts) (jobs more : ℕ) (a b : State) →
-    Contains (sent n t) p → p.body ≡ bodies.State jobs a →
-    Contains (sent n t) q → q.body ≡ bodies.State more b → a.key ≡ b.key → p ≡ q
+    Contains (sent w t) p → p.body ≡ bodies.State jobs a →
+    Contains (sent w t) q → q.body ≡ bodies.State more b → a.key ≡ b.key → p ≡ q
 
 -- Where a trigger has ended well at a server, each state that this server took in the run is kept.
-abbrev pub KeptWhereServed : ℕ → List Step → Type 0
-KeptWhereServed n t =
+abbrev pub KeptWhereServed : Setup → List Step → Type 0
+KeptWhereServed w t =
     (key : Key) (state : State) →
-    trigger_at key.run key.server (life (client_opening n) (of_client t)) ≡ Served →
-    Contains (taken_of key t) state → kept (client_opening n) (of_client t) key ≡ Some state
+    trigger_at key.run key.server (life (client_opening w) (of_client t)) ≡ Served →
+    Contains (taken_of key t) state → kept (client_opening w) (of_client t) key ≡ Some state
 
 -- Where a server asked for the cut, each state that it took in its run was kept by then.
-abbrev pub KeptWhereCut : ℕ → List Step → Type 0
-KeptWhereCut n t =
-    (later earlier : List Step) (s : ℕ) (e : Event) (left : Left) (w : Work) (j : ℕ) (state : State) →
-    t ≡ later ++ AtServer s (Met e left) ∷ earlier → work (opening_of s) (of_server s earlier) ≡ Some w
+abbrev pub KeptWhereCut : Setup → List Step → Type 0
+KeptWhereCut w t =
+    (later earlier : List Step) (s : ℕ) (e : Event) (left : Left) (now : Work) (j : ℕ) (state : State) →
+    t ≡ later ++ AtServer s (Met e left) ∷ earlier → work (opening_of s) (of_server s earlier) ≡ Some now
     → act (opening_of s) (of_server s earlier) e ≡ acts.Cut
-    → Contains (taken_of (key_at w.run s j) earlier) state
-    → kept (client_opening n) (of_client earlier) (key_at w.run s j) ≡ Some state
+    → Contains (taken_of (key_at now.run s j) earlier) state
+    → kept (client_opening w) (of_client earlier) (key_at now.run s j) ≡ Some state
 
 -- No run is given twice, whatever was cut and lost.
-abbrev pub RunsAreGivenOnce : ℕ → List Step → Type 0
-RunsAreGivenOnce n t = IsTrue (is_distinct (runs_in (done (client_opening n) (of_client t))))
+abbrev pub RunsAreGivenOnce : Setup → List Step → Type 0
+RunsAreGivenOnce w t = IsTrue (is_distinct (runs_in (done (client_opening w) (of_client t))))
 
 -- No attempt is given twice.
-abbrev pub AttemptsAreGivenOnce : ℕ → List Step → Type 0
-AttemptsAreGivenOnce n t = IsTrue (is_distinct (attempts_in (done (client_opening n) (of_client t))))
+abbrev pub AttemptsAreGivenOnce : Setup → List Step → Type 0
+AttemptsAreGivenOnce w t = IsTrue (is_distinct (attempts_in (done (client_opening w) (of_client t))))
 
 -- A server accepts a Start of a run once.
-abbrev pub StartsAreAcceptedOnce : ℕ → List Step → Type 0
-StartsAreAcceptedOnce n t = (s : ℕ) → IsTrue (is_distinct (started (opening_of s) (of_server s t)))
+abbrev pub StartsAreAcceptedOnce : Setup → List Step → Type 0
+StartsAreAcceptedOnce w t = (s : ℕ) → IsTrue (is_distinct (started (opening_of s) (of_server s t)))
 
 -- All Jobs packets of a run carry one text, to whichever servers they go.
-abbrev pub OneTextOfEachRun : ℕ → List Step → Type 0
-OneTextOfEachRun n t =
+abbrev pub OneTextOfEachRun : Setup → List Step → Type 0
+OneTextOfEachRun w t =
     (p q : PacketParts) (run : ℕ) (text other : List ℕ) →
-    Contains (sent n t) p → p.body ≡ bodies.Jobs run text →
-    Contains (sent n t) q → q.body ≡ bodies.Jobs run other → text ≡ other
+    Contains (sent w t) p → p.body ≡ bodies.Jobs run text →
+    Contains (sent w t) q → q.body ≡ bodies.Jobs run other → text ≡ other
 
 -- All Verify packets of an attempt carry one run and text.
-abbrev pub OneTextOfEachAttempt : ℕ → List Step → Type 0
-OneTextOfEachAttempt n t =
+abbrev pub OneTextOfEachAttempt : Setup → List Step → Type 0
+OneTextOfEachAttempt w t =
     (p q : PacketParts) (attempt run run_there : ℕ) (text other : List ℕ) →
-    Contains (sent n t) p → p.body ≡ bodies.Verify run attempt text →
-    Contains (sent n t) q → q.body ≡ bodies.Verify run_there attempt other →
+    Contains (sent w t) p → p.body ≡ bodies.Verify run attempt text →
+    Contains (sent w t) q → q.body ≡ bodies.Verify run_there attempt other →
     (run ≡ run_there) × (text ≡ other)

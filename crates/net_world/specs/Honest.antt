@@ -16,6 +16,7 @@ use Rattle.server_core.specs.declared.event.WriteEnd.TheVariants.{Done}
 use Rattle.server_core.specs.History as server
 use Rattle.server_core.specs.Check.{Check, With, check, progress_after}
 use Rattle.messages.specs.Hearing.{Happens}
+use Rattle.net_world.specs.Setup.{Setup}
 use Rattle.net_world.specs.Trace.{opening_of, of_server}
 use Rattle.net_world.specs.Frames.{FrameStep, OfServer}
 use Rattle.net_world.specs.Changes.{Change, Met, Landed, Rotted, trace}
@@ -28,32 +29,32 @@ abbrev pub HoldsWrite : (ℕ → List ℕ) → Key → JobParts → ℕ → Type
 HoldsWrite held key job k = block_bytes held job.bs (block_of job k) ≡ bytes_of key job k
 
 -- A write that is told as done is in its file.
-abbrev pub IsInFile : ℕ → List Change → FrameStep → Type 0
-IsInFile n past (OfServer s (Happens (server.Met (WriteDone ticket Done) left))) =
-    (origin : Origin) → open_at (trace n past) s ticket.key.job ticket.seq ≡ Some origin →
-    HoldsWrite (content n past s ticket.key.job) origin.key origin.job ticket.seq
-IsInFile n past _ = Unit {0}
+abbrev pub IsInFile : Setup → List Change → FrameStep → Type 0
+IsInFile w past (OfServer s (Happens (server.Met (WriteDone ticket Done) left))) =
+    (origin : Origin) → open_at (trace w past) s ticket.key.job ticket.seq ≡ Some origin →
+    HoldsWrite (content w past s ticket.key.job) origin.key origin.job ticket.seq
+IsInFile w past _ = Unit {0}
 
 -- The disks were honest: no sector has rotted, and each write that was told as done was in its file by
 -- then.
-abbrev pub AreHonest : ℕ → List Change → Type 0
-AreHonest n [] = Unit {0}
-AreHonest n (Met step ∷ past) = AreHonest n past × IsInFile n past step
-AreHonest n (Landed s j k mask ∷ past) = AreHonest n past
-AreHonest n (Rotted s j sector bytes ∷ past) = ⊥
+abbrev pub AreHonest : Setup → List Change → Type 0
+AreHonest w [] = Unit {0}
+AreHonest w (Met step ∷ past) = AreHonest w past × IsInFile w past step
+AreHonest w (Landed s j k mask ∷ past) = AreHonest w past
+AreHonest w (Rotted s j sector bytes ∷ past) = ⊥
 
 -- The mask has each sector of the job's blocks.
 abbrev pub HasAllSectors : ℕ → JobParts → Type 0
 HasAllSectors mask job = (i : ℕ) → i < job.bs / 512 → has_bit mask i ≡ true
 
 -- Writes were whole: each that landed has landed with all its sectors.
-abbrev pub AreWhole : ℕ → List Change → Type 0
-AreWhole n [] = Unit {0}
-AreWhole n (Met step ∷ past) = AreWhole n past
-AreWhole n (Landed s j k mask ∷ past) =
-    AreWhole n past
-    × ((origin : Origin) → open_at (trace n past) s j k ≡ Some origin → HasAllSectors mask origin.job)
-AreWhole n (Rotted s j sector bytes ∷ past) = AreWhole n past
+abbrev pub AreWhole : Setup → List Change → Type 0
+AreWhole w [] = Unit {0}
+AreWhole w (Met step ∷ past) = AreWhole w past
+AreWhole w (Landed s j k mask ∷ past) =
+    AreWhole w past
+    × ((origin : Origin) → open_at (trace w past) s j k ≡ Some origin → HasAllSectors mask origin.job)
+AreWhole w (Rotted s j sector bytes ∷ past) = AreWhole w past
 
 -- A write to this block was in flight when the state was taken.
 pub record WasInFlight (state : State) (block : ℕ) : Type 0 where
@@ -63,13 +64,13 @@ pub record WasInFlight (state : State) (block : ℕ) : Type 0 where
   pub there : block_of state.job write ≡ block
 
 -- Job j of the open check at server s is checked with this state.
-pub record IsCheckedWith (n : ℕ) (past : List Change) (s j : ℕ) (c : Check) (job : Job) (state : State) : Type 0 where
-  pub is_open : check (opening_of s) (of_server s (trace n past)) ≡ Some c
+pub record IsCheckedWith (w : Setup) (past : List Change) (s j : ℕ) (c : Check) (job : Job) (state : State) : Type 0 where
+  pub is_open : check (opening_of s) (of_server s (trace w past)) ≡ Some c
   pub has_job : slice_get c.jobs j ≡ Some job
   pub made : progress_after c j job c.since ≡ With state
 
 -- The block is faulty, as job j of this check sees it with this state.
-abbrev pub IsFaulty : ℕ → List Change → ℕ → ℕ → Check → Job → State → ℕ → Type 0
-IsFaulty n past s j c job state block =
+abbrev pub IsFaulty : Setup → List Change → ℕ → ℕ → Check → Job → State → ℕ → Type 0
+IsFaulty w past s j c job state block =
     is_fault (expected_by (key_of c j) job.rec (Some state))
-    (λ b. block_bytes (content n past s j) job.rec.bs b) block ≡ true
+    (λ b. block_bytes (content w past s j) job.rec.bs b) block ≡ true

@@ -1,5 +1,5 @@
 -- Which steps are within the ranges of what servers and reports may be.
-use Rattle.std.specs.Prelude.{ℕ, ◌<◌, ◌≤◌, List, IsTrue}
+use Rattle.std.specs.Prelude.{◌<◌, ◌≤◌, List, IsTrue}
 use Rattle.std.specs.List.{AllByRecursion}
 use Rattle.fc_base.specs.Report.{is_report}
 use Rattle.messages.specs.PieceLaws.{ArePackets}
@@ -7,6 +7,7 @@ use Rattle.messages.specs.Hearing.{Comes, Happens}
 use Rattle.server_core.specs.declared.event.Event.{Event}
 use Rattle.server_core.specs.declared.event.Event.TheVariants.{Deliver, Issue, WriteDone, CheckDone}
 use Rattle.server_core.specs.History.{Entry, Met, Cut, Restart}
+use Rattle.net_world.specs.Setup.{Setup, servers_of}
 use Rattle.net_world.specs.Trace.{Step, AtServer, AtClient, IsTrace, sent}
 use Rattle.net_world.specs.Frames.{FrameStep, OfServer, OfClient}
 
@@ -35,14 +36,14 @@ FrameStepFits (OfServer s (Happens e)) = (s < 8) × EntryFits e
 FrameStepFits (OfClient c) = Unit {0}
 
 -- There are at most 8 servers, and each step is within its ranges.
-pub record Fits (n : ℕ) (t : List Step) : Type 0 where
-  pub few : n ≤ 8
+pub record Fits (w : Setup) (t : List Step) : Type 0 where
+  pub few : servers_of w ≤ 8
   pub steps : AllByRecursion StepFits t
 
-pub record FitsFrames (n : ℕ) (t : List FrameStep) : Type 0 where
-  pub few : n ≤ 8
+pub record FitsFrames (w : Setup) (t : List FrameStep) : Type 0 where
+  pub few : servers_of w ≤ 8
   pub steps : AllByRecursion FrameStepFits t
 
 -- All that is sent in a trace is within the ranges of packets.
 abbrev pub SentAreInRange : Type 0
-SentAreInRange = (n : ℕ) (t : List Step) → IsTrace n t → Fits n t → ArePackets (sent n t)
+SentAreInRange = (w : Setup) (t : List Step) → IsTrace w t → Fits w t → ArePackets (sent w t)

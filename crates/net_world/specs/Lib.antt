@@ -1,3 +1,4 @@
+pub mod Setup
 pub mod Trace
 pub mod Holders
 pub mod Passes

@@ -21,6 +21,7 @@ use Rattle.client_core.specs.declared.call.Call.{Call}
 use Rattle.client_core.specs.declared.call.Call.TheVariants as calls
 use Rattle.client_core.specs.History as client
 use Rattle.client_core.specs.Words as clients
+use Rattle.net_world.specs.Setup.{Setup}
 use Rattle.net_world.specs.Happenings.{Happening, Begin, Trigger, StopRun, Verify, Tick, Deliver, Issue, Land, Done, Fail, Rot, Check, Cut, Restart, CutIn}
 use Rattle.net_world.specs.Trace.{Step, of_server, of_client, opening_of, client_opening}
 use Rattle.net_world.specs.Frames as frames
@@ -70,9 +71,9 @@ met_by_server t s e =
     (Ok (OfServer s (Happens (server.Met e (left_for (servers.due o past e))))))
 
 -- The client meets a call and saves what is due, unless it refuses the call.
-abbrev pub met_by_client : ℕ → List Step → Call → Result FrameStep Fault
-met_by_client n t c =
-    let o = client_opening n in
+abbrev pub met_by_client : Setup → List Step → Call → Result FrameStep Fault
+met_by_client w t c =
+    let o = client_opening w in
     let past = of_client t in
     unless_fault (clients.refusal o past c)
     (Ok (OfClient (Happens (client.Met c (left_for (clients.due o past c))))))
@@ -90,32 +91,32 @@ comes_to_server t s f Spoils = Drops (OfServer s (Comes f lefts.NoSave))
 comes_to_server t s f Strays = Refuses Misdirected
 
 -- The same of the client.
-abbrev pub comes_to_client : ℕ → List Step → Frame → Meaning → Outcome
-comes_to_client n t f (Says p) =
-    let o = client_opening n in
+abbrev pub comes_to_client : Setup → List Step → Frame → Meaning → Outcome
+comes_to_client w t f (Says p) =
+    let o = client_opening w in
     let past = of_client t in
     stepped (unless_fault (clients.refusal o past (calls.Deliver p))
     (Ok (OfClient (Comes f (left_for (clients.due o past (calls.Deliver p)))))))
-comes_to_client n t f Waits = Does (Met (OfClient (Comes f lefts.NoSave)))
-comes_to_client n t f Spoils = Drops (OfClient (Comes f lefts.NoSave))
-comes_to_client n t f Strays = Refuses Misdirected
+comes_to_client w t f Waits = Does (Met (OfClient (Comes f lefts.NoSave)))
+comes_to_client w t f Spoils = Drops (OfClient (Comes f lefts.NoSave))
+comes_to_client w t f Strays = Refuses Misdirected
 
 -- What a frame says to a server, and to the client, behind these steps.
 abbrev pub said_to_server : List FrameStep → ℕ → Frame → Meaning
 said_to_server past s f = meaning (at_server s) (heard (at_server s) (frames.of_server s past)) f
 
-abbrev pub said_to_client : ℕ → List FrameStep → Frame → Meaning
-said_to_client n past f = meaning (at_client n) (heard (at_client n) (frames.of_client past)) f
+abbrev pub said_to_client : Setup → List FrameStep → Frame → Meaning
+said_to_client w past f = meaning (at_client w) (heard (at_client w) (frames.of_client past)) f
 
 -- A frame comes to its node. None comes to a mirror, which isn't there.
-abbrev pub comes_to : ℕ → List Change → Node → Frame → Outcome
-comes_to n past (Server s) f = comes_to_server (trace n past) s f (said_to_server (steps past) s f)
-comes_to n past Client f = comes_to_client n (trace n past) f (said_to_client n (steps past) f)
-comes_to n past Mirror f = Refuses NoMirror
+abbrev pub comes_to : Setup → List Change → Node → Frame → Outcome
+comes_to w past (Server s) f = comes_to_server (trace w past) s f (said_to_server (steps past) s f)
+comes_to w past Client f = comes_to_client w (trace w past) f (said_to_client w (steps past) f)
+comes_to w past Mirror f = Refuses NoMirror
 
-abbrev pub delivered : ℕ → List Change → Option Frame → Outcome
-delivered n past None = Refuses NoFrame
-delivered n past (Some f) = comes_to n past (to_of f) f
+abbrev pub delivered : Setup → List Change → Option Frame → Outcome
+delivered w past None = Refuses NoFrame
+delivered w past (Some f) = comes_to w past (to_of f) f
 
 -- The worker of an open write tells how it ended.
 abbrev pub ended : List Step → ℕ → ℕ → WriteEnd → Option Origin → Result FrameStep Fault
@@ -145,9 +146,9 @@ restarted t Client = Ok (OfClient (Happens (client.Restart false)))
 restarted t Mirror = Err NoMirror
 
 -- The client loses its power within the save that a call is due to make.
-abbrev pub client_cut_in : ℕ → List Step → Bool → Call → Result FrameStep Fault
-client_cut_in n t landed c =
-    where_saved (clients.due (client_opening n) (of_client t) c)
+abbrev pub client_cut_in : Setup → List Step → Bool → Call → Result FrameStep Fault
+client_cut_in w t landed c =
+    where_saved (clients.due (client_opening w) (of_client t) c)
     (OfClient (Happens (client.Met c (lost_by landed))))
 
 -- A server, or the client, loses its power within the save that a frame's packet is due to make.
@@ -157,23 +158,23 @@ server_frame_cut t s landed f (Says p) =
     (OfServer s (Comes f (lost_by landed)))
 server_frame_cut t s landed f _ = Err NoSave
 
-abbrev pub client_frame_cut : ℕ → List Step → Bool → Frame → Meaning → Result FrameStep Fault
-client_frame_cut n t landed f (Says p) =
-    where_saved (clients.due (client_opening n) (of_client t) (calls.Deliver p))
+abbrev pub client_frame_cut : Setup → List Step → Bool → Frame → Meaning → Result FrameStep Fault
+client_frame_cut w t landed f (Says p) =
+    where_saved (clients.due (client_opening w) (of_client t) (calls.Deliver p))
     (OfClient (Comes f (lost_by landed)))
-client_frame_cut n t landed f _ = Err NoSave
+client_frame_cut w t landed f _ = Err NoSave
 
 -- The node of a frame does.
-abbrev pub frame_cut : ℕ → List Change → Bool → Node → Frame → Result FrameStep Fault
-frame_cut n past landed (Server s) f =
-    server_frame_cut (trace n past) s landed f (said_to_server (steps past) s f)
-frame_cut n past landed Client f =
-    client_frame_cut n (trace n past) landed f (said_to_client n (steps past) f)
-frame_cut n past landed Mirror f = Err NoMirror
+abbrev pub frame_cut : Setup → List Change → Bool → Node → Frame → Result FrameStep Fault
+frame_cut w past landed (Server s) f =
+    server_frame_cut (trace w past) s landed f (said_to_server (steps past) s f)
+frame_cut w past landed Client f =
+    client_frame_cut w (trace w past) landed f (said_to_client w (steps past) f)
+frame_cut w past landed Mirror f = Err NoMirror
 
-abbrev pub delivery_cut_in : ℕ → List Change → Bool → Option Frame → Result FrameStep Fault
-delivery_cut_in n past landed None = Err NoFrame
-delivery_cut_in n past landed (Some f) = frame_cut n past landed (to_of f) f
+abbrev pub delivery_cut_in : Setup → List Change → Bool → Option Frame → Result FrameStep Fault
+delivery_cut_in w past landed None = Err NoFrame
+delivery_cut_in w past landed (Some f) = frame_cut w past landed (to_of f) f
 
 -- A server loses its power within the save of its boot. The client's restart makes no save.
 abbrev pub restart_cut_in : List Step → Bool → Node → Result FrameStep Fault
@@ -183,31 +184,31 @@ restart_cut_in t landed Client = Err NoSave
 restart_cut_in t landed Mirror = Err NoMirror
 
 -- A node loses its power within the save of what happens. Only these four make one.
-abbrev pub cut_in : ℕ → List Change → Bool → Happening → Result FrameStep Fault
-cut_in n past landed (Begin text) = client_cut_in n (trace n past) landed (calls.Begin text)
-cut_in n past landed (Verify run text) = client_cut_in n (trace n past) landed (calls.Verify run text)
-cut_in n past landed (Deliver i) =
-    delivery_cut_in n past landed (slice_get (frames_sent n (steps past)) i)
-cut_in n past landed (Restart node) = restart_cut_in (trace n past) landed node
-cut_in n past landed _ = Err NoSave
+abbrev pub cut_in : Setup → List Change → Bool → Happening → Result FrameStep Fault
+cut_in w past landed (Begin text) = client_cut_in w (trace w past) landed (calls.Begin text)
+cut_in w past landed (Verify run text) = client_cut_in w (trace w past) landed (calls.Verify run text)
+cut_in w past landed (Deliver i) =
+    delivery_cut_in w past landed (slice_get (frames_sent w (steps past)) i)
+cut_in w past landed (Restart node) = restart_cut_in (trace w past) landed node
+cut_in w past landed _ = Err NoSave
 
 -- What comes of what the world doesn't refuse.
-abbrev pub brings : ℕ → List Change → Happening → Outcome
-brings n past (Begin text) = stepped (met_by_client n (trace n past) (calls.Begin text))
-brings n past (Trigger run act) = stepped (met_by_client n (trace n past) (calls.Trigger run act))
-brings n past (StopRun run) = stepped (met_by_client n (trace n past) (calls.Stop run))
-brings n past (Verify run text) = stepped (met_by_client n (trace n past) (calls.Verify run text))
-brings n past Tick = stepped (met_by_client n (trace n past) calls.Tick)
-brings n past (Deliver i) = delivered n past (slice_get (frames_sent n (steps past)) i)
-brings n past (Issue s j) = stepped (met_by_server (trace n past) s (events.Issue j))
-brings n past (Land s j k mask) = Does (Landed s j k mask)
-brings n past (Done s j k) = stepped (ended (trace n past) s k ends.Done (open_at (trace n past) s j k))
-brings n past (Fail s j k) = stepped (ended (trace n past) s k ends.Failed (open_at (trace n past) s j k))
-brings n past (Rot s j sector bytes) = Does (Rotted s j sector bytes)
-brings n past (Check s j) = stepped (reported (trace n past) s (checked n past s j))
-brings n past (Cut node) = stepped (cut node)
-brings n past (Restart node) = stepped (restarted (trace n past) node)
-brings n past (CutIn landed e) = stepped (cut_in n past landed e)
+abbrev pub brings : Setup → List Change → Happening → Outcome
+brings w past (Begin text) = stepped (met_by_client w (trace w past) (calls.Begin text))
+brings w past (Trigger run act) = stepped (met_by_client w (trace w past) (calls.Trigger run act))
+brings w past (StopRun run) = stepped (met_by_client w (trace w past) (calls.Stop run))
+brings w past (Verify run text) = stepped (met_by_client w (trace w past) (calls.Verify run text))
+brings w past Tick = stepped (met_by_client w (trace w past) calls.Tick)
+brings w past (Deliver i) = delivered w past (slice_get (frames_sent w (steps past)) i)
+brings w past (Issue s j) = stepped (met_by_server (trace w past) s (events.Issue j))
+brings w past (Land s j k mask) = Does (Landed s j k mask)
+brings w past (Done s j k) = stepped (ended (trace w past) s k ends.Done (open_at (trace w past) s j k))
+brings w past (Fail s j k) = stepped (ended (trace w past) s k ends.Failed (open_at (trace w past) s j k))
+brings w past (Rot s j sector bytes) = Does (Rotted s j sector bytes)
+brings w past (Check s j) = stepped (reported (trace w past) s (checked w past s j))
+brings w past (Cut node) = stepped (cut node)
+brings w past (Restart node) = stepped (restarted (trace w past) node)
+brings w past (CutIn landed e) = stepped (cut_in w past landed e)
 
 -- What happens, unless the world refuses it.
 abbrev pub unless_barred : Option Fault → Outcome → Outcome
@@ -215,6 +216,6 @@ unless_barred None x = x
 unless_barred (Some fault) x = Refuses fault
 
 -- What comes of what happens: first the world may refuse it, and then its node.
-abbrev pub outcome : ℕ → List Change → Happening → Outcome
-outcome n past e =
-    unless_barred (barred n (trace n past) (frames_sent n (steps past)) e) (brings n past e)
+abbrev pub outcome : Setup → List Change → Happening → Outcome
+outcome w past e =
+    unless_barred (barred w (trace w past) (frames_sent w (steps past)) e) (brings w past e)

@@ -11,53 +11,54 @@ use Rattle.client_core.specs.declared.call.Call.TheVariants.{Deliver}
 use Rattle.client_core.specs.Words.{kept, refusal}
 use Rattle.client_core.specs.Laws.{from_server}
 use Rattle.client_core.specs.Packets.{to_server}
+use Rattle.net_world.specs.Setup.{Setup}
 use Rattle.net_world.specs.Trace.{Step, opening_of, client_opening, of_server, of_client, sent}
 use Rattle.net_world.specs.Holders.{taken_of}
 
 -- Each state that was sent in a State was taken by the server that its key names.
-abbrev pub SentStatesWereTaken : ℕ → List Step → Type 0
-SentStatesWereTaken n t =
+abbrev pub SentStatesWereTaken : Setup → List Step → Type 0
+SentStatesWereTaken w t =
     (p : PacketParts) (jobs : ℕ) (state : State) →
-    Contains (sent n t) p → p.body ≡ bodies.State jobs state → Contains (taken_of state.key t) state
+    Contains (sent w t) p → p.body ≡ bodies.State jobs state → Contains (taken_of state.key t) state
 
 -- A state of this key was sent to the client, by the server that the key names.
-pub record WasSentAs (n : ℕ) (t : List Step) (key : Key) (state : State) : Type 0 where
+pub record WasSentAs (w : Setup) (t : List Step) (key : Key) (state : State) : Type 0 where
   pub key_is : state.key ≡ key
   pub jobs : ℕ
-  pub sent_in : Contains (sent n t) (from_server (bodies.State jobs state) key.server)
+  pub sent_in : Contains (sent w t) (from_server (bodies.State jobs state) key.server)
 
 -- Each state that the client keeps was sent to it.
-abbrev pub KeptStatesWereSent : ℕ → List Step → Type 0
-KeptStatesWereSent n t =
+abbrev pub KeptStatesWereSent : Setup → List Step → Type 0
+KeptStatesWereSent w t =
     (key : Key) (state : State) →
-    kept (client_opening n) (of_client t) key ≡ Some state → WasSentAs n t key state
+    kept (client_opening w) (of_client t) key ≡ Some state → WasSentAs w t key state
 
 -- There was a moment at which the client kept the state.
-pub record WasKept (n : ℕ) (t : List Step) (key : Key) (state : State) : Type 0 where
+pub record WasKept (w : Setup) (t : List Step) (key : Key) (state : State) : Type 0 where
   pub later : List Step
   pub earlier : List Step
   pub split : t ≡ later ++ earlier
-  pub kept_there : kept (client_opening n) (of_client earlier) key ≡ Some state
+  pub kept_there : kept (client_opening w) (of_client earlier) key ≡ Some state
 
 -- Each state that was sent in a Saved was by then the kept one of its key.
-abbrev pub SavedStatesWereKept : ℕ → List Step → Type 0
-SavedStatesWereKept n t =
+abbrev pub SavedStatesWereKept : Setup → List Step → Type 0
+SavedStatesWereKept w t =
     (p : PacketParts) (attempt : ℕ) (state : State) →
-    Contains (sent n t) p → p.body ≡ bodies.Saved attempt state → WasKept n t state.key state
+    Contains (sent w t) p → p.body ≡ bodies.Saved attempt state → WasKept w t state.key state
 
 -- No state is sent in a Copy: there is no mirror.
-abbrev pub NoCopyIsSent : ℕ → List Step → Type 0
-NoCopyIsSent n t =
-    (p : PacketParts) (state : State) → Contains (sent n t) p → p.body ≡ bodies.Copy state → ⊥
+abbrev pub NoCopyIsSent : Setup → List Step → Type 0
+NoCopyIsSent w t =
+    (p : PacketParts) (state : State) → Contains (sent w t) p → p.body ≡ bodies.Copy state → ⊥
 
 -- Each state that a job is checked with was sent to its server.
-abbrev pub CheckedStatesWereSent : ℕ → List Step → Type 0
-CheckedStatesWereSent n t =
+abbrev pub CheckedStatesWereSent : Setup → List Step → Type 0
+CheckedStatesWereSent w t =
     (s j : ℕ) (state : State) → progress (opening_of s) (of_server s t) j ≡ Some (With state) →
-    (attempt : ℕ) × Contains (sent n t) (to_server (bodies.Saved attempt state) s)
+    (attempt : ℕ) × Contains (sent w t) (to_server (bodies.Saved attempt state) s)
 
 -- No packet that was sent is refused by the client as another state of a kept key.
-abbrev pub NoPacketConflicts : ℕ → List Step → Type 0
-NoPacketConflicts n t =
-    (p : PacketParts) → Contains (sent n t) p →
-    refusal (client_opening n) (of_client t) (Deliver p) ≡ Some Conflict → ⊥
+abbrev pub NoPacketConflicts : Setup → List Step → Type 0
+NoPacketConflicts w t =
+    (p : PacketParts) → Contains (sent w t) p →
+    refusal (client_opening w) (of_client t) (Deliver p) ≡ Some Conflict → ⊥

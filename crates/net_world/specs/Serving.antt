@@ -13,6 +13,7 @@ use Rattle.server_core.specs.FrameAnswers.{sense, refusal, issue, act, answered}
 use Rattle.server_core.specs.FrameEnds.{is_drop}
 use Rattle.net_world.specs.declared.served.Served.{Served}
 use Rattle.net_world.specs.declared.world.World.{World}
+use Rattle.net_world.specs.Setup.{Setup}
 use Rattle.net_world.specs.Trace.{opening_of}
 use Rattle.net_world.specs.Frames.{FrameStep, OfServer, frames_sent, frames_of_step, server_entries}
 use Rattle.net_world.specs.Changes as changes
@@ -33,34 +34,34 @@ abbrev pub step_by : List Change → ℕ → Input → FrameStep
 step_by past s e = step_of s (answered (opening_of s) (entries past s) e)
 
 -- The server is there and on, doesn't refuse what comes, and its step is added.
-pub record Serves (n : ℕ) (past : List Change) (s : ℕ) (e : Input) (new : World) (served : Served) : Type 0 where
-  pub on : off n (trace n past) (nodes.Server s) ≡ None
+pub record Serves (w : Setup) (past : List Change) (s : ℕ) (e : Input) (new : World) (served : Served) : Type 0 where
+  pub on : off w (trace w past) (nodes.Server s) ≡ None
   pub free : refusal (opening_of s) (entries past s) e ≡ None
-  pub first_is : served.first ≡ length (frames_sent n (steps past))
-  pub sent_is : served.sent ≡ length (frames_of_step n (steps past) (step_by past s e))
+  pub first_is : served.first ≡ length (frames_sent w (steps past))
+  pub sent_is : served.sent ≡ length (frames_of_step w (steps past) (step_by past s e))
   pub issue_is : served.issue ≡ issue (opening_of s) (entries past s) e
   pub act_is : served.act ≡ act (opening_of s) (entries past s) e
-  pub stands : StandsFor n (changes.Met (step_by past s e) ∷ past) new
+  pub stands : StandsFor w (changes.Met (step_by past s e) ∷ past) new
 
 -- There is no such server, or it is off.
-pub record IsBarred (n : ℕ) (past : List Change) (s : ℕ) (fault : Fault) (new : World) : Type 0 where
-  pub why : off n (trace n past) (nodes.Server s) ≡ Some fault
-  pub unchanged : StandsFor n past new
+pub record IsBarred (w : Setup) (past : List Change) (s : ℕ) (fault : Fault) (new : World) : Type 0 where
+  pub why : off w (trace w past) (nodes.Server s) ≡ Some fault
+  pub unchanged : StandsFor w past new
 
 -- The server refuses what comes. That may stand in the list, or be left out, but where it drops a tag.
-pub record Refuses (n : ℕ) (past : List Change) (s : ℕ) (e : Input) (fault : Fault) (new : World) : Type 0 where
-  pub on : off n (trace n past) (nodes.Server s) ≡ None
+pub record Refuses (w : Setup) (past : List Change) (s : ℕ) (e : Input) (fault : Fault) (new : World) : Type 0 where
+  pub on : off w (trace w past) (nodes.Server s) ≡ None
   pub why : refusal (opening_of s) (entries past s) e ≡ Some fault
-  pub stands : StandsFor n (changes.Met (step_of s (Met e NoSave)) ∷ past) new
-  pub unchanged : is_drop (sense (opening_of s) (entries past s) e) ≡ false → StandsFor n past new
+  pub stands : StandsFor w (changes.Met (step_of s (Met e NoSave)) ∷ past) new
+  pub unchanged : is_drop (sense (opening_of s) (entries past s) e) ≡ false → StandsFor w past new
 
 -- How what comes to a server ends that isn't answered.
-abbrev pub Faults : ℕ → List Change → ℕ → Input → FaultSort → Fault → World → Type 0
-Faults n past s e sorts.Memory fault new = (fault ≡ NoMemory) × StandsFor n past new
-Faults n past s e sorts.Save fault new = ⊥
-Faults n past s e sorts.Refusal fault new = IsBarred n past s fault new ⊎ Refuses n past s e fault new
+abbrev pub Faults : Setup → List Change → ℕ → Input → FaultSort → Fault → World → Type 0
+Faults w past s e sorts.Memory fault new = (fault ≡ NoMemory) × StandsFor w past new
+Faults w past s e sorts.Save fault new = ⊥
+Faults w past s e sorts.Refusal fault new = IsBarred w past s fault new ⊎ Refuses w past s e fault new
 
 -- How what comes to a server ends.
-abbrev pub ServerEnds : ℕ → List Change → ℕ → Input → World → Result Served Fault → Type 0
-ServerEnds n past s e new (Ok served) = Serves n past s e new served
-ServerEnds n past s e new (Err fault) = Faults n past s e (sort_of fault) fault new
+abbrev pub ServerEnds : Setup → List Change → ℕ → Input → World → Result Served Fault → Type 0
+ServerEnds w past s e new (Ok served) = Serves w past s e new served
+ServerEnds w past s e new (Err fault) = Faults w past s e (sort_of fault) fault new

@@ -5,6 +5,7 @@ use Rattle.disk_model.specs.MemDisk.{file_of}
 use Rattle.disk_model.specs.declared.mem_disk.MemDisk.{MemDisk}
 use Rattle.net_world.specs.declared.server_node.ServerNode.{ServerNode}
 use Rattle.net_world.specs.declared.world.World.{World}
+use Rattle.net_world.specs.Setup.{Setup, servers_of}
 use Rattle.net_world.specs.Trace.{opening_of, client_opening}
 use Rattle.net_world.specs.Frames.{server_entries, client_entries}
 use Rattle.net_world.specs.Changes.{Change, steps}
@@ -15,21 +16,21 @@ use Rattle.net_world.specs.ServerNodes as servers
 use Rattle.net_world.specs.ClientNodes as clients
 
 -- The file of job j at server s. Its disk is never off.
-abbrev pub file : ℕ → List Change → ℕ → ℕ → File
-file n past s j = record { content = content n past s j; power = Some 0; failures = 0 }
+abbrev pub file : Setup → List Change → ℕ → ℕ → File
+file w past s j = record { content = content w past s j; power = Some 0; failures = 0 }
 
--- A world of n servers stands for changes: its frames are those that were sent, each node stands for its
+-- A world stands for changes: its frames are those that were sent, each node stands for its
 -- own list, and each file holds what it holds by them. A server has 16 files.
-pub record StandsFor (n : ℕ) (past : List Change) (w : World) : Type 0 where
-  pub some : 1 ≤ n
-  pub few : n ≤ 8
-  pub number : length w.servers.items ≡ n
-  pub sent_is : sent_in w.sent ≡ frames n past
+pub record StandsFor (w : Setup) (past : List Change) (now : World) : Type 0 where
+  pub some : 1 ≤ servers_of w
+  pub few : servers_of w ≤ 8
+  pub number : length now.servers.items ≡ servers_of w
+  pub sent_is : sent_in now.sent ≡ frames w past
   pub servers_are :
-      (s : ℕ) (node : ServerNode) → slice_get w.servers.items s ≡ Some node
+      (s : ℕ) (node : ServerNode) → slice_get now.servers.items s ≡ Some node
       → servers.Stands (opening_of s) (server_entries s (steps past)) node
-  pub client_is : clients.Stands (client_opening n) (client_entries (steps past)) w.client
-  pub files : length w.files.items ≡ 16 * n
+  pub client_is : clients.Stands (client_opening w) (client_entries (steps past)) now.client
+  pub files : length now.files.items ≡ 16 * servers_of w
   pub files_are :
-      (s j : ℕ) (disk : MemDisk) → j < 16 → slice_get w.files.items (16 * s + j) ≡ Some disk
-      → file_of disk ≡ file n past s j
+      (s j : ℕ) (disk : MemDisk) → j < 16 → slice_get now.files.items (16 * s + j) ≡ Some disk
+      → file_of disk ≡ file w past s j

@@ -12,6 +12,7 @@ use Rattle.client_core.specs.History as client
 use Rattle.client_core.specs.Note.{blank}
 use Rattle.client_core.specs.Ranges.{packet_in}
 use Rattle.client_core.specs.Packets as clients
+use Rattle.net_world.specs.Setup.{Setup, servers_of}
 
 -- A step: something comes to the server with this number, or to the client.
 pub data Step : Type 0 where
@@ -22,9 +23,9 @@ pub data Step : Type 0 where
 abbrev pub opening_of : ℕ → server.Opening
 opening_of s = record { me = s; boot = 0; last = 0 }
 
--- A client of n servers opens on an empty note.
-abbrev pub client_opening : ℕ → client.Opening
-client_opening n = record { servers = n; noted = blank }
+-- The client of a world opens on an empty note.
+abbrev pub client_opening : Setup → client.Opening
+client_opening w = record { servers = servers_of w; noted = blank }
 
 -- The list of server s: its first restart, and what came to it since.
 abbrev pub of_server : ℕ → List Step → List server.Entry
@@ -38,15 +39,15 @@ of_client [] = client.Restart false ∷ []
 of_client (AtServer s e ∷ past) = of_client past
 of_client (AtClient e ∷ past) = e ∷ of_client past
 
--- The packets that a step sends, in a trace of a client with n servers.
-abbrev pub packets_of : ℕ → List Step → Step → List PacketParts
-packets_of n past (AtServer s e) = servers.packets (opening_of s) (of_server s past) e
-packets_of n past (AtClient e) = clients.packets (client_opening n) (of_client past) e
+-- The packets that a step sends, in a trace of a client with its servers.
+abbrev pub packets_of : Setup → List Step → Step → List PacketParts
+packets_of w past (AtServer s e) = servers.packets (opening_of s) (of_server s past) e
+packets_of w past (AtClient e) = clients.packets (client_opening w) (of_client past) e
 
 -- Every packet that was ever sent, the oldest first.
-unfoldable pub sent : ℕ → List Step → List PacketParts
-sent n [] = []
-sent n (step ∷ past) = sent n past ++ packets_of n past step
+unfoldable pub sent : Setup → List Step → List PacketParts
+sent w [] = []
+sent w (step ∷ past) = sent w past ++ packets_of w past step
 
 -- The packet that a step takes, if it takes one.
 abbrev pub taken_by : Step → List PacketParts
@@ -75,8 +76,8 @@ is_mirrorless (AtServer s e) = true
 is_mirrorless (AtClient e) = is_alone e
 
 -- A trace: each packet that a node takes was sent to it earlier, and the client has no mirror.
-abbrev pub IsTrace : ℕ → List Step → Type 0
-IsTrace n [] = Unit {0}
-IsTrace n (step ∷ past) =
-    IsTrace n past × AllByRecursion (WasSentTo (sent n past) (node_of step)) (taken_by step)
+abbrev pub IsTrace : Setup → List Step → Type 0
+IsTrace w [] = Unit {0}
+IsTrace w (step ∷ past) =
+    IsTrace w past × AllByRecursion (WasSentTo (sent w past) (node_of step)) (taken_by step)
     × IsTrue (is_mirrorless step)

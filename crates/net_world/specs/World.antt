@@ -20,6 +20,7 @@ use Rattle.client_core.specs.Words as clients
 use Rattle.net_world.specs.declared.told.Answer.{Answer}
 use Rattle.net_world.specs.declared.told.Answer.TheVariants as answers
 use Rattle.net_world.specs.declared.told.Told.{Told}
+use Rattle.net_world.specs.Setup.{Setup, servers_of}
 use Rattle.net_world.specs.Happenings.{Happening, Begin, Verify, Issue, Check}
 use Rattle.net_world.specs.Trace.{Step, AtServer, of_server, of_client, opening_of, client_opening}
 use Rattle.net_world.specs.Frames.{frames_sent, frames_of_step, step_heard}
@@ -34,30 +35,30 @@ and_outcome (Does change) past = change ∷ past
 and_outcome (Refuses fault) past = past
 and_outcome (Drops step) past = Met step ∷ past
 
--- What has changed in a world of n servers once this has happened, the newest first.
-abbrev pub world : ℕ → List Happening → List Change
-world n [] = []
-world n (e ∷ events) = and_outcome (outcome n (world n events) e) (world n events)
+-- What has changed in a world once this has happened, the newest first.
+abbrev pub world : Setup → List Happening → List Change
+world w [] = []
+world w (e ∷ events) = and_outcome (outcome w (world w events) e) (world w events)
 
 -- The frames that were ever sent, numbered from 0.
-abbrev pub frames : ℕ → List Change → List (List ℕ)
-frames n past = map frame_spelling (frames_sent n (steps past))
+abbrev pub frames : Setup → List Change → List (List ℕ)
+frames w past = map frame_spelling (frames_sent w (steps past))
 
 -- What the client's note says.
-abbrev pub noted : ℕ → List Change → Noted
-noted n past = clients.noted (client_opening n) (of_client (trace n past))
+abbrev pub noted : Setup → List Change → Noted
+noted w past = clients.noted (client_opening w) (of_client (trace w past))
 
 -- The state that the client keeps of a key, while it is on.
-abbrev pub saved : ℕ → List Change → Key → Option State
-saved n past key =
-    if is_on (trace n past) Client then clients.kept (client_opening n) (of_client (trace n past)) key
+abbrev pub saved : Setup → List Change → Key → Option State
+saved w past key =
+    if is_on (trace w past) Client then clients.kept (client_opening w) (of_client (trace w past)) key
     else None
 
 -- What a server shows of itself, while it is there and on.
-abbrev pub status : ℕ → List Change → ℕ → Option Status
-status n past s =
-    if nat_lt s n && is_on (trace n past) (Server s)
-    then Some (servers.status (opening_of s) (of_server s (trace n past)))
+abbrev pub status : Setup → List Change → ℕ → Option Status
+status w past s =
+    if nat_lt s (servers_of w) && is_on (trace w past) (Server s)
+    then Some (servers.status (opening_of s) (of_server s (trace w past)))
     else None
 
 -- What is answered to a worker that asks for a write.
@@ -72,19 +73,19 @@ report_in _ = answers.Plain
 
 -- What is answered where it isn't refused: the number of the run or attempt, what the worker is told,
 -- or the report.
-abbrev pub answer : ℕ → List Change → Happening → Answer
-answer n past (Begin text) = answers.Run ((noted n past).runs + 1)
-answer n past (Verify run text) = answers.Attempt ((noted n past).attempts + 1)
-answer n past (Issue s j) =
-    issued (servers.issue (opening_of s) (of_server s (trace n past)) (events.Issue j))
-answer n past (Check s j) = report_in (checked n past s j)
-answer n past _ = answers.Plain
+abbrev pub answer : Setup → List Change → Happening → Answer
+answer w past (Begin text) = answers.Run ((noted w past).runs + 1)
+answer w past (Verify run text) = answers.Attempt ((noted w past).attempts + 1)
+answer w past (Issue s j) =
+    issued (servers.issue (opening_of s) (of_server s (trace w past)) (events.Issue j))
+answer w past (Check s j) = report_in (checked w past s j)
+answer w past _ = answers.Plain
 
 -- How many frames are sent with a change.
-abbrev pub frames_with : ℕ → List Change → Change → ℕ
-frames_with n past (Met step) = length (frames_of_step n (steps past) step)
-frames_with n past (Landed s j k mask) = 0
-frames_with n past (Rotted s j sector bytes) = 0
+abbrev pub frames_with : Setup → List Change → Change → ℕ
+frames_with w past (Met step) = length (frames_of_step w (steps past) step)
+frames_with w past (Landed s j k mask) = 0
+frames_with w past (Rotted s j sector bytes) = 0
 
 -- What a server asks of its caller in a step of packets, if there is one.
 abbrev pub act_of : List Step → Option Step → Act
@@ -93,21 +94,21 @@ act_of t (Some (AtServer s (server.Met e left))) =
 act_of t _ = acts.None
 
 -- What a server asks of its caller with a change.
-abbrev pub act : ℕ → List Change → Change → Act
-act n past (Met step) = act_of (trace n past) (step_heard n (steps past) step)
-act n past _ = acts.None
+abbrev pub act : Setup → List Change → Change → Act
+act w past (Met step) = act_of (trace w past) (step_heard w (steps past) step)
+act w past _ = acts.None
 
 -- What is told of what comes of it.
-abbrev pub told_by : ℕ → List Change → Happening → Outcome → Result Told Fault
-told_by n past e (Refuses fault) = Err fault
-told_by n past e (Drops step) = Err FrameBadField
-told_by n past e (Does change) = Ok (record {
-  answer = answer n past e;
-  first = length (frames_sent n (steps past));
-  sent = frames_with n past change;
-  act = act n past change;
+abbrev pub told_by : Setup → List Change → Happening → Outcome → Result Told Fault
+told_by w past e (Refuses fault) = Err fault
+told_by w past e (Drops step) = Err FrameBadField
+told_by w past e (Does change) = Ok (record {
+  answer = answer w past e;
+  first = length (frames_sent w (steps past));
+  sent = frames_with w past change;
+  act = act w past change;
 })
 
 -- What is told of what happens, or why it is refused.
-abbrev pub told : ℕ → List Change → Happening → Result Told Fault
-told n past e = told_by n past e (outcome n past e)
+abbrev pub told : Setup → List Change → Happening → Result Told Fault
+told w past e = told_by w past e (outcome w past e)

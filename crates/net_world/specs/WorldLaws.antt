@@ -1,8 +1,9 @@
 -- What holds of every world.
-use Rattle.std.specs.Prelude.{◌≡◌, ◌≤◌, ℕ, List, [], Some, Contains}
+use Rattle.std.specs.Prelude.{◌≡◌, ◌≤◌, List, [], Some, Contains}
 use Rattle.messages.specs.declared.frame.Frame.{Frame}
 use Rattle.messages.specs.FrameBytes.{frame_at, frame_faults, frame_spelling, IsShort}
 use Rattle.messages.specs.FrameLaws.{IsFrame}
+use Rattle.net_world.specs.Setup.{Setup, servers_of}
 use Rattle.net_world.specs.Happenings.{Happening}
 use Rattle.net_world.specs.Trace.{IsTrace}
 use Rattle.net_world.specs.Frames.{IsFrameTrace, frames_sent}
@@ -11,17 +12,17 @@ use Rattle.net_world.specs.World.{world}
 
 -- The steps of the nodes of a world are a trace of frames.
 abbrev pub EachWorldIsAFrameTrace : Type 0
-EachWorldIsAFrameTrace = (n : ℕ) (events : List Happening) → IsFrameTrace n (steps (world n events))
+EachWorldIsAFrameTrace = (w : Setup) (events : List Happening) → IsFrameTrace w (steps (world w events))
 
 -- So what they hear is a trace, where the world has at most 8 servers.
 abbrev pub EachWorldIsATrace : Type 0
-EachWorldIsATrace = (n : ℕ) (events : List Happening) → n ≤ 8 → IsTrace n (trace n (world n events))
+EachWorldIsATrace = (w : Setup) (events : List Happening) → servers_of w ≤ 8 → IsTrace w (trace w (world w events))
 
 -- Each frame that was sent in a world is in its ranges, and short enough to be read.
 abbrev pub SentAreFrames : Type 0
 SentAreFrames =
-    (n : ℕ) (events : List Happening) (f : Frame) →
-    n ≤ 8 → Contains (frames_sent n (steps (world n events))) f → IsFrame f × IsShort f
+    (w : Setup) (events : List Happening) (f : Frame) →
+    servers_of w ≤ 8 → Contains (frames_sent w (steps (world w events))) f → IsFrame f × IsShort f
 
 -- A frame's bytes have no fault, and say that frame.
 abbrev pub IsReadBack : Frame → Type 0
@@ -30,5 +31,5 @@ IsReadBack f = (frame_faults (frame_spelling f) ≡ []) × (frame_at (frame_spel
 -- Each frame that was sent in a world is read back from its bytes.
 abbrev pub SentFramesAreRead : Type 0
 SentFramesAreRead =
-    (n : ℕ) (events : List Happening) (f : Frame) →
-    n ≤ 8 → Contains (frames_sent n (steps (world n events))) f → IsReadBack f
+    (w : Setup) (events : List Happening) (f : Frame) →
+    servers_of w ≤ 8 → Contains (frames_sent w (steps (world w events))) f → IsReadBack f

@@ -24,6 +24,7 @@ pub enum ClientNode {
 }
 
 impl ClientNode {
+    ghost use Rattle.net_world.specs.declared.client_node.ClientNode.TheVariants.{Off};
     ghost use Rattle.net_world.specs.ClientNodes.{is_up, Stands, Shows, Restarts};
 
     /// A client of so many servers on a blank note.
@@ -63,11 +64,28 @@ impl ClientNode {
         ensures { (o : Opening) (past : List FrameEntry) → Stands o past self.old →
             Stands o (Cut ∷ past) self.new }
     {
-        let off = ClientNode::Off(MemNotes::new(Vec::new(alloc)));
-        match mem::replace(self, off) {
-            ClientNode::On(client) => *self = ClientNode::Off(client.off()),
-            ClientNode::Off(notes) => *self = ClientNode::Off(notes),
+        let blank = ClientNode::Off(MemNotes::new(Vec::new(alloc)));
+        let notes = mem::replace(self, blank).off();
+        self.set(ClientNode::Off(notes));
+    }
+
+    /// The notes that are left where it loses its power.
+    pub(crate) fn off(self) -> MemNotes
+        ensures { (o : Opening) (past : List FrameEntry) → Stands o past self →
+            Stands o (Cut ∷ past) (Off result) }
+    {
+        match self {
+            ClientNode::On(client) => client.off(),
+            ClientNode::Off(notes) => notes,
         }
+    }
+
+    /// It is this node from now on. The one that it was is switched off, so that only notes are dropped
+    /// here: the proof of `*self = node` would go through all that a node holds.
+    fn set(&mut self, node: ClientNode)
+        ensures { self.new ≡ node }
+    {
+        let _notes = mem::replace(self, node).off();
     }
 
     /// Starts again.
@@ -79,22 +97,20 @@ impl ClientNode {
         ensures { (o : Opening) (past : List FrameEntry) → o.servers ≡ servers → Stands o past self.old →
             Restarts o past self.new result }
     {
-        let off = ClientNode::Off(MemNotes::new(Vec::new(alloc)));
-        match mem::replace(self, off) {
-            ClientNode::On(client) => {
-                *self = ClientNode::On(client);
-                Err(Fault::NodeOn)
+        let kept = match self {
+            ClientNode::On(_) => return Err(Fault::NodeOn),
+            ClientNode::Off(notes) => notes,
+        };
+        let notes = mem::replace(kept, MemNotes::new(Vec::new(alloc)));
+        match Client::restart(alloc, servers, false, notes) {
+            Ok(client) => {
+                self.set(ClientNode::On(client));
+                Ok(())
             }
-            ClientNode::Off(notes) => match Client::restart(alloc, servers, false, notes) {
-                Ok(client) => {
-                    *self = ClientNode::On(client);
-                    Ok(())
-                }
-                Err((notes, fault)) => {
-                    *self = ClientNode::Off(notes);
-                    Err(fault)
-                }
-            },
+            Err((notes, fault)) => {
+                *kept = notes;
+                Err(fault)
+            }
         }
     }
 }

@@ -26,6 +26,7 @@ pub enum ServerNode {
 }
 
 impl ServerNode {
+    ghost use Rattle.net_world.specs.declared.server_node.ServerNode.TheVariants.{Off};
     ghost use Rattle.net_world.specs.ServerNodes.{is_up, Stands, Shows, Steps, Restarts, CutsIn, CutsInRestart};
     ghost use Rattle.server_core.specs.FrameAnswers.{would_save};
 
@@ -75,11 +76,28 @@ impl ServerNode {
         ensures { (o : Opening) (past : List FrameEntry) → Stands o past self.old →
             Stands o (Cut ∷ past) self.new }
     {
-        let off = ServerNode::Off(MemNotes::new(Vec::new(alloc)));
-        match mem::replace(self, off) {
-            ServerNode::On(server) => *self = ServerNode::Off(server.off()),
-            ServerNode::Off(notes) => *self = ServerNode::Off(notes),
+        let blank = ServerNode::Off(MemNotes::new(Vec::new(alloc)));
+        let notes = mem::replace(self, blank).off();
+        self.set(ServerNode::Off(notes));
+    }
+
+    /// The notes that are left where it loses its power.
+    fn off(self) -> MemNotes
+        ensures { (o : Opening) (past : List FrameEntry) → Stands o past self →
+            Stands o (Cut ∷ past) (Off result) }
+    {
+        match self {
+            ServerNode::On(server) => server.off(),
+            ServerNode::Off(notes) => notes,
         }
+    }
+
+    /// It is this node from now on. The one that it was is switched off, so that only notes are dropped
+    /// here: the proof of `*self = node` would go through all that a node holds.
+    fn set(&mut self, node: ServerNode)
+        ensures { self.new ≡ node }
+    {
+        let _notes = mem::replace(self, node).off();
     }
 
     /// Starts again, with the next boot.
@@ -90,22 +108,20 @@ impl ServerNode {
         ensures { (o : Opening) (past : List FrameEntry) → o.me ≡ me → Stands o past self.old →
             Restarts o past self.new result }
     {
-        let off = ServerNode::Off(MemNotes::new(Vec::new(alloc)));
-        match mem::replace(self, off) {
-            ServerNode::On(server) => {
-                *self = ServerNode::On(server);
-                Err(Fault::NodeOn)
+        let kept = match self {
+            ServerNode::On(_) => return Err(Fault::NodeOn),
+            ServerNode::Off(notes) => notes,
+        };
+        let notes = mem::replace(kept, MemNotes::new(Vec::new(alloc)));
+        match Server::restart(alloc, me, notes) {
+            Ok(server) => {
+                self.set(ServerNode::On(server));
+                Ok(())
             }
-            ServerNode::Off(notes) => match Server::restart(alloc, me, notes) {
-                Ok(server) => {
-                    *self = ServerNode::On(server);
-                    Ok(())
-                }
-                Err((notes, fault)) => {
-                    *self = ServerNode::Off(notes);
-                    Err(fault)
-                }
-            },
+            Err((notes, fault)) => {
+                *kept = notes;
+                Err(fault)
+            }
         }
     }
 

@@ -1,7 +1,8 @@
 //! A world in memory: its nodes, their notes and files, and every frame that was ever sent.
 
-ghost use Rattle.std.specs.Prelude.{◌≡◌, ◌≤◌, ◌+◌, ◌*◌, ◌&&◌, [], ℕ, List, length, nat_lt, IfOk, OnOk, OnErr, ◌∷◌};
+ghost use Rattle.std.specs.Prelude.{◌≡◌, ◌≤◌, ◌+◌, ◌*◌, ◌&&◌, [], List, length, nat_lt, IfOk, OnOk, OnErr, ◌∷◌};
 ghost use Rattle.std.specs.Option.{option_copied};
+ghost use Rattle.net_world.specs.Setup.{Setup};
 ghost use Rattle.net_world.specs.Opened.{AreOpened, AreBlank, blank};
 ghost use Rattle.disk_model.specs.MemDisk.{file_of};
 
@@ -32,13 +33,27 @@ use verify_state::VerifyState;
 
 /// A world: a client, its servers, 16 files of each, one server's after the other's, and every frame that
 /// was ever sent.
-#[derive(Drop)]
 pub struct World {
     alloc: Global,
     servers: Vec<ServerNode>,
     client: ClientNode,
     files: Vec<MemDisk>,
     sent: Sent,
+}
+
+/// It is written by hand so that it is one function: where it is derived, the proof of each function that
+/// drops a world goes through all that a world holds.
+impl Drop for World {
+    fn drop(self) {
+        let World {
+            alloc: _,
+            servers: _,
+            client,
+            files: _,
+            sent: _,
+        } = self;
+        let _notes = client.off();
+    }
 }
 
 impl World {
@@ -57,10 +72,10 @@ impl World {
         ensures { IfOk result (StandsFor config.servers []) }
     {
         let servers = open_servers(alloc, config.servers)?;
+        let files = open_files(alloc, 16 * config.servers)?;
         let Ok(client) = ClientNode::open(alloc, config.servers) else {
             return Err(AllocError);
         };
-        let files = open_files(alloc, 16 * config.servers)?;
         Ok(World {
             alloc,
             servers,
@@ -77,8 +92,8 @@ impl World {
     /// `FrameBadField`: the node has dropped what came together of the frame's body. `NoMemory`: nothing
     /// has happened.
     pub fn apply(&mut self, event: &Event) -> Result<Told, Fault>
-        ensures { (n : ℕ) (events : List Happening) → StandsFor n (world n events) self.old →
-            Ends n (world n events) (happening event.now) self.new result }
+        ensures { (w : Setup) (events : List Happening) → StandsFor w (world w events) self.old →
+            Ends w (world w events) (happening event.now) self.new result }
     {
         match event {
             Event::Plain(event) => self.happen(event),
@@ -90,10 +105,10 @@ impl World {
     /// Something happens, which is passed over where it is refused. An error is that memory ran out:
     /// nothing has happened.
     pub(crate) fn pass(&mut self, event: &Event) -> Result<(), AllocError>
-        ensures passed { OnOk result ((n : ℕ) (events : List Happening) → StandsFor n (world n events) self.old →
-            StandsFor n (world n (happening event.now ∷ events)) self.new) }
-        ensures spent { OnErr result ((n : ℕ) (events : List Happening) → StandsFor n (world n events) self.old →
-            StandsFor n (world n events) self.new) }
+        ensures passed { OnOk result ((w : Setup) (events : List Happening) → StandsFor w (world w events) self.old →
+            StandsFor w (world w (happening event.now ∷ events)) self.new) }
+        ensures spent { OnErr result ((w : Setup) (events : List Happening) → StandsFor w (world w events) self.old →
+            StandsFor w (world w events) self.new) }
     {
         match self.apply(event) {
             Ok(_) => Ok(()),
@@ -106,8 +121,8 @@ impl World {
 
     /// Something happens, but for a cut within a save.
     fn happen(&mut self, event: &PlainEvent) -> Result<Told, Fault>
-        ensures { (n : ℕ) (events : List Happening) → StandsFor n (world n events) self.old →
-            Ends n (world n events) (plainly event.now) self.new result }
+        ensures { (w : Setup) (events : List Happening) → StandsFor w (world w events) self.old →
+            Ends w (world w events) (plainly event.now) self.new result }
     {
         match event {
             PlainEvent::Begin { text } => self.begin(text),
@@ -143,16 +158,16 @@ impl World {
 
     /// The frames that were ever sent, numbered from 0.
     pub fn frames(&self) -> &Sent
-        ensures { (n : ℕ) (past : List Change) → StandsFor n past self.now →
-            sent_in result.now ≡ frames n past }
+        ensures { (w : Setup) (past : List Change) → StandsFor w past self.now →
+            sent_in result.now ≡ frames w past }
     {
         &self.sent
     }
 
     /// The state that the client keeps of a key, while it is on.
     pub fn saved(&self, key: Key) -> Option<&VerifyState>
-        ensures { (n : ℕ) (past : List Change) → StandsFor n past self.now →
-            option_copied result ≡ saved n past key }
+        ensures { (w : Setup) (past : List Change) → StandsFor w past self.now →
+            option_copied result ≡ saved w past key }
     {
         client_core::looks_at_all();
         match &self.client {
@@ -163,8 +178,8 @@ impl World {
 
     /// What a server shows of itself, while it is there and on.
     pub fn status(&self, server: ServerNo) -> Option<Status>
-        ensures { (n : ℕ) (past : List Change) → StandsFor n past self.now →
-            result ≡ status n past server }
+        ensures { (w : Setup) (past : List Change) → StandsFor w past self.now →
+            result ≡ status w past server }
     {
         looks_at_all();
         if !self.has_server(server) {

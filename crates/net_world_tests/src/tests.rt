@@ -17,7 +17,7 @@ use std::alloc::{AllocGlobal, Global};
 use std::process::Abort;
 use std::test::Fail;
 use stories::saves::STOPS;
-use stories::{Story, disks, numbers, pieces, refusals, runs, stops};
+use stories::{ALL, Story, disks, numbers, pieces, refusals, runs, stops};
 use teller::Teller;
 use trouble::Trouble;
 
@@ -77,12 +77,9 @@ fn disks_that_rot_and_tear(rt: HostRuntime) {
 
 #[test]
 fn stories_that_are_played(rt: HostRuntime) {
-    are_played(&rt, runs::STORIES);
-    are_played(&rt, stops::STORIES);
-    are_played(&rt, refusals::STORIES);
-    are_played(&rt, pieces::STORIES);
-    are_played(&rt, numbers::STORIES);
-    are_played(&rt, disks::STORIES);
+    for stories in ALL.iter() {
+        are_played(&rt, stories);
+    }
 }
 
 /// Wherever a node stops within a save of the stored run, the client keeps of its job the state that was

@@ -1,6 +1,6 @@
 //! The client of a world loses its power within a save.
 
-ghost use Rattle.std.specs.Prelude.{◌≡◌, Bool, List, true, is_some};
+ghost use Rattle.std.specs.Prelude.{◌≡◌, Bool, List, Err, true, is_some, OnOk, IfErr};
 ghost use Rattle.client_core.specs.declared.input.Input.TheVariants as inputs;
 ghost use Rattle.client_core.specs.History.{Opening};
 ghost use Rattle.client_core.specs.Hearing.{FrameEntry};
@@ -71,19 +71,31 @@ impl ClientNode {
         ensures { (o : Opening) (past : List FrameEntry) → Stands o past self.old →
             CutsIn o past landed (inputs.Deliver frame) self.new result }
     {
-        let Some(client) = self.client() else {
-            return Err(Fault::NodeOff);
-        };
-        match client.would_save(&frame) {
-            Ok(true) => {}
-            Ok(false) => return Err(Fault::NoSave),
-            Err(_) => return Err(Fault::NoMemory),
+        if let Err(fault) = self.try_delivery(&frame) {
+            return Err(fault);
         }
         if landed {
             return self.cut_behind_delivery(alloc, frame);
         }
         self.cut(alloc);
         Ok(())
+    }
+
+    /// Whether it would make a save of a frame: `NodeOff`, `NoSave`, `NoMemory` where it wouldn't.
+    fn try_delivery(&self, frame: &Frame) -> Result<(), Fault>
+        ensures saves { OnOk result ((o : Opening) (past : List FrameEntry) → Stands o past self.now →
+            is_some (due o past (inputs.Deliver frame.now)) ≡ true) }
+        ensures fails { IfErr result (λ fault. (o : Opening) (past : List FrameEntry) → Stands o past self.now → (landed : Bool) →
+            CutsIn o past landed (inputs.Deliver frame.now) self.now (Err fault)) }
+    {
+        let Some(client) = self.client() else {
+            return Err(Fault::NodeOff);
+        };
+        match client.would_save(frame) {
+            Ok(true) => Ok(()),
+            Ok(false) => Err(Fault::NoSave),
+            Err(_) => Err(Fault::NoMemory),
+        }
     }
 
     /// It loses its power once a run's number is saved.

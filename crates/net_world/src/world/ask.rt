@@ -1,6 +1,7 @@
 //! What the client of a world is asked.
 
-ghost use Rattle.std.specs.Prelude.{◌≡◌, ◌++◌, [], ℕ, List};
+ghost use Rattle.std.specs.Prelude.{◌≡◌, ◌++◌, [], List};
+ghost use Rattle.net_world.specs.Setup.{Setup};
 ghost use Rattle.net_world.specs.Asking.{told_of};
 ghost use Rattle.net_world.specs.Changes.{Change};
 ghost use Rattle.net_world.specs.Ends.{Ends};
@@ -17,8 +18,8 @@ use messages::Act;
 impl World {
     /// The client begins a run.
     pub(super) fn begin(&mut self, text: &[u8]) -> Result<Told, Fault>
-        ensures { (n : ℕ) (past : List Change) → StandsFor n past self.old →
-            Ends n past (Begin text.now) self.new result }
+        ensures { (w : Setup) (past : List Change) → StandsFor w past self.old →
+            Ends w past (Begin text.now) self.new result }
     {
         let Ok(first) = self.sent.settle() else {
             return Err(Fault::NoMemory);
@@ -31,8 +32,8 @@ impl World {
 
     /// The client triggers the states of a run.
     pub(super) fn trigger(&mut self, run: RunNo, act: Act) -> Result<Told, Fault>
-        ensures { (n : ℕ) (past : List Change) → StandsFor n past self.old →
-            Ends n past (Trigger run act) self.new result }
+        ensures { (w : Setup) (past : List Change) → StandsFor w past self.old →
+            Ends w past (Trigger run act) self.new result }
     {
         let Ok(first) = self.sent.settle() else {
             return Err(Fault::NoMemory);
@@ -45,8 +46,8 @@ impl World {
 
     /// The client stops a run.
     pub(super) fn stop_run(&mut self, run: RunNo) -> Result<Told, Fault>
-        ensures { (n : ℕ) (past : List Change) → StandsFor n past self.old →
-            Ends n past (StopRun run) self.new result }
+        ensures { (w : Setup) (past : List Change) → StandsFor w past self.old →
+            Ends w past (StopRun run) self.new result }
     {
         let Ok(first) = self.sent.settle() else {
             return Err(Fault::NoMemory);
@@ -59,8 +60,8 @@ impl World {
 
     /// The client has the files of a run checked.
     pub(super) fn verify(&mut self, run: RunNo, text: &[u8]) -> Result<Told, Fault>
-        ensures { (n : ℕ) (past : List Change) → StandsFor n past self.old →
-            Ends n past (Verify run text.now) self.new result }
+        ensures { (w : Setup) (past : List Change) → StandsFor w past self.old →
+            Ends w past (Verify run text.now) self.new result }
     {
         let Ok(first) = self.sent.settle() else {
             return Err(Fault::NoMemory);
@@ -73,8 +74,8 @@ impl World {
 
     /// The client asks again for all that isn't answered.
     pub(super) fn tick(&mut self) -> Result<Told, Fault>
-        ensures { (n : ℕ) (past : List Change) → StandsFor n past self.old →
-            Ends n past Tick self.new result }
+        ensures { (w : Setup) (past : List Change) → StandsFor w past self.old →
+            Ends w past Tick self.new result }
     {
         let Ok(first) = self.sent.settle() else {
             return Err(Fault::NoMemory);

@@ -1,10 +1,11 @@
 //! What a world refuses before a node is asked.
 
-ghost use Rattle.std.specs.Prelude.{◌≡◌, ℕ, List, Err, unwrap_or, IfSome};
+ghost use Rattle.std.specs.Prelude.{◌≡◌, List, Err, unwrap_or, IfSome};
 ghost use Rattle.fc_base.specs.declared.fault.Fault.TheVariants.{NoSave};
 ghost use Rattle.fc_base.specs.declared.fault.FaultSort.TheVariants.{Refusal};
 ghost use Rattle.fc_base.specs.Fault.{sort_of};
 ghost use Rattle.messages.specs.declared.node.Node.TheVariants.{Server as OfServer, Client as OfClient};
+ghost use Rattle.net_world.specs.Setup.{Setup};
 ghost use Rattle.net_world.specs.Barred.{off, unopen, no_file};
 ghost use Rattle.net_world.specs.Changes.{Change, trace};
 ghost use Rattle.net_world.specs.Stands.{StandsFor};
@@ -16,8 +17,8 @@ use fc_base::{Fault, JobNo, MAX_JOBS, Seq, ServerNo};
 impl World {
     /// The client has to be on.
     pub(super) fn client_off(&self) -> Option<Fault>
-        ensures why { (n : ℕ) (past : List Change) → StandsFor n past self.now →
-            result ≡ off n (trace n past) OfClient }
+        ensures why { (w : Setup) (past : List Change) → StandsFor w past self.now →
+            result ≡ off w (trace w past) OfClient }
         ensures sort { IfSome result (λ fault. sort_of fault ≡ Refusal) }
     {
         if self.client.on() {
@@ -29,8 +30,8 @@ impl World {
 
     /// The server has to be there and on.
     pub(super) fn server_off(&self, server: ServerNo) -> Option<Fault>
-        ensures why { (n : ℕ) (past : List Change) → StandsFor n past self.now →
-            result ≡ off n (trace n past) (OfServer server) }
+        ensures why { (w : Setup) (past : List Change) → StandsFor w past self.now →
+            result ≡ off w (trace w past) (OfServer server) }
         ensures sort { IfSome result (λ fault. sort_of fault ≡ Refusal) }
     {
         if !self.has_server(server) {
@@ -45,9 +46,9 @@ impl World {
 
     /// The write has to be open.
     pub(super) fn write_unopen(&self, server: ServerNo, job: JobNo, write: Seq) -> Option<Fault>
-        ensures why { (n : ℕ) (past : List Change) → StandsFor n past self.now →
-            result ≡ unopen n (trace n past) server job write }
-        ensures sort { (n : ℕ) (past : List Change) → StandsFor n past self.now →
+        ensures why { (w : Setup) (past : List Change) → StandsFor w past self.now →
+            result ≡ unopen w (trace w past) server job write }
+        ensures sort { (w : Setup) (past : List Change) → StandsFor w past self.now →
             IfSome result (λ fault. sort_of fault ≡ Refusal) }
     {
         match self.open_write(server, job, write) {
@@ -58,8 +59,8 @@ impl World {
 
     /// The file has to be there.
     pub(super) fn file_missing(&self, server: ServerNo, job: JobNo) -> Option<Fault>
-        ensures why { (n : ℕ) (past : List Change) → StandsFor n past self.now →
-            result ≡ no_file n server job }
+        ensures why { (w : Setup) (past : List Change) → StandsFor w past self.now →
+            result ≡ no_file w server job }
         ensures sort { IfSome result (λ fault. sort_of fault ≡ Refusal) }
     {
         if !self.has_server(server) {

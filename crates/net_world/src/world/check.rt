@@ -1,6 +1,7 @@
 //! The checks of a world.
 
-ghost use Rattle.std.specs.Prelude.{ℕ, List};
+ghost use Rattle.std.specs.Prelude.{List};
+ghost use Rattle.net_world.specs.Setup.{Setup};
 ghost use Rattle.net_world.specs.Changes.{Change};
 ghost use Rattle.net_world.specs.Ends.{Ends};
 ghost use Rattle.net_world.specs.Happenings.{Check};
@@ -17,8 +18,8 @@ impl World {
     ///
     /// `NotInFlight`: the job isn't ready to be checked.
     pub(super) fn check(&mut self, server: ServerNo, job: JobNo) -> Result<Told, Fault>
-        ensures { (n : ℕ) (past : List Change) → StandsFor n past self.old →
-            Ends n past (Check server job) self.new result }
+        ensures { (w : Setup) (past : List Change) → StandsFor w past self.old →
+            Ends w past (Check server job) self.new result }
     {
         let ready = match self.ready(server, job) {
             Ok(ready) => ready,

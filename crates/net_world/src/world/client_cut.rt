@@ -2,6 +2,7 @@
 
 ghost use Rattle.std.specs.Prelude.{◌≡◌, ℕ, Bool, List, Some, slice_get};
 ghost use Rattle.messages.specs.declared.node.Node.TheVariants.{Client as OfClient};
+ghost use Rattle.net_world.specs.Setup.{Setup};
 ghost use Rattle.net_world.specs.Changes.{Change, steps};
 ghost use Rattle.net_world.specs.Ends.{Ends};
 ghost use Rattle.net_world.specs.Happenings.{Begin, Verify, Deliver, CutIn};
@@ -16,8 +17,8 @@ use messages::Frame;
 impl World {
     /// It loses its power within the save of a run's number.
     pub(super) fn cut_in_begin(&mut self, landed: bool, text: &[u8]) -> Result<Told, Fault>
-        ensures { (n : ℕ) (past : List Change) → StandsFor n past self.old →
-            Ends n past (CutIn landed (Begin text.now)) self.new result }
+        ensures { (w : Setup) (past : List Change) → StandsFor w past self.old →
+            Ends w past (CutIn landed (Begin text.now)) self.new result }
     {
         let Ok(first) = self.sent.settle() else {
             return Err(Fault::NoMemory);
@@ -35,8 +36,8 @@ impl World {
         run: RunNo,
         text: &[u8],
     ) -> Result<Told, Fault>
-        ensures { (n : ℕ) (past : List Change) → StandsFor n past self.old →
-            Ends n past (CutIn landed (Verify run text.now)) self.new result }
+        ensures { (w : Setup) (past : List Change) → StandsFor w past self.old →
+            Ends w past (CutIn landed (Verify run text.now)) self.new result }
     {
         let Ok(first) = self.sent.settle() else {
             return Err(Fault::NoMemory);
@@ -53,9 +54,9 @@ impl World {
         landed: bool,
         frame: Frame,
     ) -> Result<Told, Fault>
-        ensures { (n : ℕ) (past : List Change) (number : ℕ) → StandsFor n past self.old →
-            slice_get (frames_sent n (steps past)) number ≡ Some frame → to_of frame ≡ OfClient →
-            Ends n past (CutIn landed (Deliver number)) self.new result }
+        ensures { (w : Setup) (past : List Change) (number : ℕ) → StandsFor w past self.old →
+            slice_get (frames_sent w (steps past)) number ≡ Some frame → to_of frame ≡ OfClient →
+            Ends w past (CutIn landed (Deliver number)) self.new result }
     {
         let Ok(first) = self.sent.settle() else {
             return Err(Fault::NoMemory);

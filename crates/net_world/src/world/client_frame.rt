@@ -2,6 +2,7 @@
 
 ghost use Rattle.std.specs.Prelude.{◌≡◌, ℕ, List, Some, slice_get};
 ghost use Rattle.messages.specs.declared.node.Node.TheVariants.{Client as OfClient};
+ghost use Rattle.net_world.specs.Setup.{Setup};
 ghost use Rattle.net_world.specs.Changes.{Change, steps};
 ghost use Rattle.net_world.specs.Ends.{Ends};
 ghost use Rattle.net_world.specs.Happenings.{Deliver};
@@ -16,9 +17,9 @@ use messages::Frame;
 impl World {
     /// A frame comes to the client.
     pub(super) fn deliver_to_client(&mut self, frame: Frame) -> Result<Told, Fault>
-        ensures { (n : ℕ) (past : List Change) (number : ℕ) → StandsFor n past self.old →
-            slice_get (frames_sent n (steps past)) number ≡ Some frame → to_of frame ≡ OfClient →
-            Ends n past (Deliver number) self.new result }
+        ensures { (w : Setup) (past : List Change) (number : ℕ) → StandsFor w past self.old →
+            slice_get (frames_sent w (steps past)) number ≡ Some frame → to_of frame ≡ OfClient →
+            Ends w past (Deliver number) self.new result }
     {
         let Ok(first) = self.sent.settle() else {
             return Err(Fault::NoMemory);

@@ -1,7 +1,8 @@
 //! The client of a world loses its power, and is started again.
 
-ghost use Rattle.std.specs.Prelude.{ℕ, List};
+ghost use Rattle.std.specs.Prelude.{List};
 ghost use Rattle.messages.specs.declared.node.Node.TheVariants.{Client as OfClient};
+ghost use Rattle.net_world.specs.Setup.{Setup};
 ghost use Rattle.net_world.specs.Changes.{Change};
 ghost use Rattle.net_world.specs.Ends.{Ends};
 ghost use Rattle.net_world.specs.Happenings.{Cut, Restart};
@@ -14,8 +15,8 @@ use fc_base::{Fault, MAX_SERVERS};
 impl World {
     /// The client loses its power.
     pub(super) fn cut_client(&mut self) -> Result<Told, Fault>
-        ensures { (n : ℕ) (past : List Change) → StandsFor n past self.old →
-            Ends n past (Cut OfClient) self.new result }
+        ensures { (w : Setup) (past : List Change) → StandsFor w past self.old →
+            Ends w past (Cut OfClient) self.new result }
     {
         if !self.client.on() {
             return Err(Fault::NodeOff);
@@ -29,8 +30,8 @@ impl World {
 
     /// The client is started again.
     pub(super) fn restart_client(&mut self) -> Result<Told, Fault>
-        ensures { (n : ℕ) (past : List Change) → StandsFor n past self.old →
-            Ends n past (Restart OfClient) self.new result }
+        ensures { (w : Setup) (past : List Change) → StandsFor w past self.old →
+            Ends w past (Restart OfClient) self.new result }
     {
         let servers = self.servers.as_slice().len();
         if servers < 1 {

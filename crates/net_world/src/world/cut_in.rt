@@ -2,6 +2,7 @@
 
 ghost use Rattle.std.specs.Prelude.{◌≡◌, ℕ, Bool, List, Some, slice_get};
 ghost use Rattle.messages.specs.declared.node.Node.TheVariants.{Server as OfServer, Client as OfClient};
+ghost use Rattle.net_world.specs.Setup.{Setup};
 ghost use Rattle.net_world.specs.Changes.{Change, steps};
 ghost use Rattle.net_world.specs.Ends.{Ends};
 ghost use Rattle.net_world.specs.Frames.{to_of, frames_sent};
@@ -23,8 +24,8 @@ impl World {
     ///
     /// `NoSave`: it would make none; `NoMirror`: it is of a mirror, and there is none.
     pub(super) fn cut_in(&mut self, landed: bool, event: &PlainEvent) -> Result<Told, Fault>
-        ensures { (n : ℕ) (events : List Happening) → StandsFor n (world n events) self.old →
-            Ends n (world n events) (CutIn landed (plainly event.now)) self.new result }
+        ensures { (w : Setup) (events : List Happening) → StandsFor w (world w events) self.old →
+            Ends w (world w events) (CutIn landed (plainly event.now)) self.new result }
     {
         match event {
             PlainEvent::Begin { text } => self.cut_in_begin(landed, text),
@@ -55,8 +56,8 @@ impl World {
 
     /// A cut makes no save.
     fn cut_in_cut(&self, node: Node) -> Result<Told, Fault>
-        ensures { (landed : Bool) (n : ℕ) (past : List Change) → StandsFor n past self.now →
-            Ends n past (CutIn landed (Cut node)) self.now result }
+        ensures { (landed : Bool) (w : Setup) (past : List Change) → StandsFor w past self.now →
+            Ends w past (CutIn landed (Cut node)) self.now result }
     {
         match node {
             Node::Server(server) => no_save(self.server_off(server)),
@@ -67,8 +68,8 @@ impl World {
 
     /// A node loses its power within the save of a frame that comes to it.
     fn cut_in_delivery(&mut self, landed: bool, number: u64) -> Result<Told, Fault>
-        ensures { (n : ℕ) (events : List Happening) → StandsFor n (world n events) self.old →
-            Ends n (world n events) (CutIn landed (Deliver number)) self.new result }
+        ensures { (w : Setup) (events : List Happening) → StandsFor w (world w events) self.old →
+            Ends w (world w events) (CutIn landed (Deliver number)) self.new result }
     {
         let frame = match self.frame(number) {
             Ok(frame) => frame,
@@ -83,8 +84,8 @@ impl World {
 
     /// A node loses its power within the save of its restart.
     fn cut_in_restart(&mut self, landed: bool, node: Node) -> Result<Told, Fault>
-        ensures { (n : ℕ) (past : List Change) → StandsFor n past self.old →
-            Ends n past (CutIn landed (Restart node)) self.new result }
+        ensures { (w : Setup) (past : List Change) → StandsFor w past self.old →
+            Ends w past (CutIn landed (Restart node)) self.new result }
     {
         match node {
             Node::Server(server) => self.cut_in_server_restart(landed, server),
@@ -95,8 +96,8 @@ impl World {
 
     /// The client's restart makes no save.
     fn cut_in_client_restart(&self) -> Result<Told, Fault>
-        ensures { (landed : Bool) (n : ℕ) (past : List Change) → StandsFor n past self.now →
-            Ends n past (CutIn landed (Restart OfClient)) self.now result }
+        ensures { (landed : Bool) (w : Setup) (past : List Change) → StandsFor w past self.now →
+            Ends w past (CutIn landed (Restart OfClient)) self.now result }
     {
         if self.client.on() {
             Err(Fault::NodeOn)
@@ -112,9 +113,9 @@ impl World {
         server: ServerNo,
         frame: Frame,
     ) -> Result<Told, Fault>
-        ensures { (n : ℕ) (past : List Change) (number : ℕ) → StandsFor n past self.old →
-            slice_get (frames_sent n (steps past)) number ≡ Some frame → to_of frame ≡ OfServer server →
-            Ends n past (CutIn landed (Deliver number)) self.new result }
+        ensures { (w : Setup) (past : List Change) (number : ℕ) → StandsFor w past self.old →
+            slice_get (frames_sent w (steps past)) number ≡ Some frame → to_of frame ≡ OfServer server →
+            Ends w past (CutIn landed (Deliver number)) self.new result }
     {
         if !self.has_server(server) {
             return Err(Fault::NoServer);
@@ -130,8 +131,8 @@ impl World {
 
     /// A server loses its power within the save of its boot.
     fn cut_in_server_restart(&mut self, landed: bool, server: ServerNo) -> Result<Told, Fault>
-        ensures { (n : ℕ) (past : List Change) → StandsFor n past self.old →
-            Ends n past (CutIn landed (Restart (OfServer server))) self.new result }
+        ensures { (w : Setup) (past : List Change) → StandsFor w past self.old →
+            Ends w past (CutIn landed (Restart (OfServer server))) self.new result }
     {
         if server.0 >= MAX_SERVERS {
             return Err(Fault::NoServer);

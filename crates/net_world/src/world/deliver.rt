@@ -2,6 +2,7 @@
 
 ghost use Rattle.std.specs.Prelude.{◌≡◌, ℕ, List, Some, slice_get};
 ghost use Rattle.messages.specs.declared.node.Node.TheVariants.{Server as OfServer};
+ghost use Rattle.net_world.specs.Setup.{Setup};
 ghost use Rattle.net_world.specs.Changes.{Change, steps};
 ghost use Rattle.net_world.specs.Ends.{Ends};
 ghost use Rattle.net_world.specs.Happenings.{Happening, Deliver};
@@ -20,8 +21,8 @@ use server_core::Input;
 impl World {
     /// A frame that was sent comes to its node.
     pub(super) fn deliver(&mut self, number: u64) -> Result<Told, Fault>
-        ensures { (n : ℕ) (events : List Happening) → StandsFor n (world n events) self.old →
-            Ends n (world n events) (Deliver number) self.new result }
+        ensures { (w : Setup) (events : List Happening) → StandsFor w (world w events) self.old →
+            Ends w (world w events) (Deliver number) self.new result }
     {
         let frame = match self.frame(number) {
             Ok(frame) => frame,
@@ -36,9 +37,9 @@ impl World {
 
     /// A frame comes to a server.
     fn deliver_to_server(&mut self, server: ServerNo, frame: Frame) -> Result<Told, Fault>
-        ensures { (n : ℕ) (past : List Change) (number : ℕ) → StandsFor n past self.old →
-            slice_get (frames_sent n (steps past)) number ≡ Some frame → to_of frame ≡ OfServer server →
-            Ends n past (Deliver number) self.new result }
+        ensures { (w : Setup) (past : List Change) (number : ℕ) → StandsFor w past self.old →
+            slice_get (frames_sent w (steps past)) number ≡ Some frame → to_of frame ≡ OfServer server →
+            Ends w past (Deliver number) self.new result }
     {
         match self.serve(server, Input::Deliver(frame)) {
             Ok(served) => Ok(served.told(Answer::Plain)),
@@ -48,8 +49,8 @@ impl World {
 
     /// The frame with this number. `NoFrame`; `NoMemory`.
     pub(super) fn frame(&self, number: u64) -> Result<Frame, Fault>
-        ensures { (n : ℕ) (events : List Happening) → StandsFor n (world n events) self.now →
-            FindsFrame n (world n events) number result }
+        ensures { (w : Setup) (events : List Happening) → StandsFor w (world w events) self.now →
+            FindsFrame w (world w events) number result }
     {
         sent_frames_are_read();
         let Some(bytes) = self.sent.get(number as usize) else {

@@ -1,8 +1,9 @@
 //! What a world finds in its servers.
 
-ghost use Rattle.std.specs.Prelude.{◌≡◌, ℕ, List, Some};
+ghost use Rattle.std.specs.Prelude.{◌≡◌, List, Some};
 ghost use Rattle.server_core.specs.Answers.{is_ready};
 ghost use Rattle.server_core.specs.KeptCheck.{progress_of};
+ghost use Rattle.net_world.specs.Setup.{Setup};
 ghost use Rattle.net_world.specs.Changes.{Change};
 ghost use Rattle.net_world.specs.Finding.{FindsWrite, FindsReady, state_of};
 ghost use Rattle.net_world.specs.Stands.{StandsFor};
@@ -26,8 +27,8 @@ impl World {
         job: JobNo,
         write: Seq,
     ) -> Result<(Ticket, JobRecord), Fault>
-        ensures { (n : ℕ) (past : List Change) → StandsFor n past self.now →
-            FindsWrite n past server job write result }
+        ensures { (w : Setup) (past : List Change) → StandsFor w past self.now →
+            FindsWrite w past server job write result }
     {
         looks_at_all();
         tickets_tell_origins();
@@ -51,8 +52,8 @@ impl World {
     ///
     /// `NoServer`, `NodeOff`; `NotInFlight`: it isn't ready.
     pub(super) fn ready(&self, server: ServerNo, job: JobNo) -> Result<Ready, Fault>
-        ensures { (n : ℕ) (past : List Change) → StandsFor n past self.now →
-            FindsReady n past server job result }
+        ensures { (w : Setup) (past : List Change) → StandsFor w past self.now →
+            FindsReady w past server job result }
     {
         looks_at_all();
         open_check_is_last();

@@ -1,7 +1,8 @@
 //! The nodes of a world lose their power, and are started again.
 
-ghost use Rattle.std.specs.Prelude.{ℕ, List};
+ghost use Rattle.std.specs.Prelude.{List};
 ghost use Rattle.messages.specs.declared.node.Node.TheVariants.{Server as OfServer};
+ghost use Rattle.net_world.specs.Setup.{Setup};
 ghost use Rattle.net_world.specs.Changes.{Change};
 ghost use Rattle.net_world.specs.Ends.{Ends};
 ghost use Rattle.net_world.specs.Happenings.{Cut, Restart};
@@ -15,8 +16,8 @@ use messages::Node;
 impl World {
     /// A node loses its power. `NoMirror`: there is none.
     pub(super) fn cut(&mut self, node: Node) -> Result<Told, Fault>
-        ensures { (n : ℕ) (past : List Change) → StandsFor n past self.old →
-            Ends n past (Cut node) self.new result }
+        ensures { (w : Setup) (past : List Change) → StandsFor w past self.old →
+            Ends w past (Cut node) self.new result }
     {
         match node {
             Node::Server(server) => self.cut_server(server),
@@ -27,8 +28,8 @@ impl World {
 
     /// A node is started again. `NoMirror`: there is none.
     pub(super) fn restart(&mut self, node: Node) -> Result<Told, Fault>
-        ensures { (n : ℕ) (past : List Change) → StandsFor n past self.old →
-            Ends n past (Restart node) self.new result }
+        ensures { (w : Setup) (past : List Change) → StandsFor w past self.old →
+            Ends w past (Restart node) self.new result }
     {
         match node {
             Node::Server(server) => self.restart_server(server),
@@ -39,8 +40,8 @@ impl World {
 
     /// A server loses its power.
     pub(super) fn cut_server(&mut self, server: ServerNo) -> Result<Told, Fault>
-        ensures { (n : ℕ) (past : List Change) → StandsFor n past self.old →
-            Ends n past (Cut (OfServer server)) self.new result }
+        ensures { (w : Setup) (past : List Change) → StandsFor w past self.old →
+            Ends w past (Cut (OfServer server)) self.new result }
     {
         if !self.has_server(server) {
             return Err(Fault::NoServer);
@@ -57,8 +58,8 @@ impl World {
 
     /// A server is started again.
     pub(super) fn restart_server(&mut self, server: ServerNo) -> Result<Told, Fault>
-        ensures { (n : ℕ) (past : List Change) → StandsFor n past self.old →
-            Ends n past (Restart (OfServer server)) self.new result }
+        ensures { (w : Setup) (past : List Change) → StandsFor w past self.old →
+            Ends w past (Restart (OfServer server)) self.new result }
     {
         if server.0 >= MAX_SERVERS {
             return Err(Fault::NoServer);

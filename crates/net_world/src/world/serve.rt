@@ -1,6 +1,7 @@
 //! What comes to a server of a world.
 
-ghost use Rattle.std.specs.Prelude.{ℕ, List};
+ghost use Rattle.std.specs.Prelude.{List};
+ghost use Rattle.net_world.specs.Setup.{Setup};
 ghost use Rattle.net_world.specs.Changes.{Change};
 ghost use Rattle.net_world.specs.Stands.{StandsFor};
 ghost use Rattle.net_world.specs.Serving.{ServerEnds};
@@ -15,8 +16,8 @@ impl World {
     ///
     /// `NoServer`, `NodeOff`, `NoMemory`, or the server's own refusal.
     pub(super) fn serve(&mut self, server: ServerNo, input: Input) -> Result<Served, Fault>
-        ensures { (n : ℕ) (past : List Change) → StandsFor n past self.old →
-            ServerEnds n past server input self.new result }
+        ensures { (w : Setup) (past : List Change) → StandsFor w past self.old →
+            ServerEnds w past server input self.new result }
     {
         if !self.has_server(server) {
             return Err(Fault::NoServer);

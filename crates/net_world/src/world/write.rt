@@ -1,7 +1,8 @@
 //! The writes of a world: they are issued, land, and are done or fail.
 
-ghost use Rattle.std.specs.Prelude.{◌≡◌, ℕ, List, IfOk};
+ghost use Rattle.std.specs.Prelude.{◌≡◌, List, IfOk};
 ghost use Rattle.write_order.specs.Stamps.{written_bytes};
+ghost use Rattle.net_world.specs.Setup.{Setup};
 ghost use Rattle.net_world.specs.Changes.{Change};
 ghost use Rattle.net_world.specs.Ends.{Ends};
 ghost use Rattle.net_world.specs.Happenings.{Issue as Issues, Land, Rot};
@@ -18,8 +19,8 @@ use write_order::{fill_block, writes_fill_their_blocks, writes_stay_in_the_regio
 impl World {
     /// A worker asks for the next write of a job.
     pub(super) fn issue(&mut self, server: ServerNo, job: JobNo) -> Result<Told, Fault>
-        ensures { (n : ℕ) (past : List Change) → StandsFor n past self.old →
-            Ends n past (Issues server job) self.new result }
+        ensures { (w : Setup) (past : List Change) → StandsFor w past self.old →
+            Ends w past (Issues server job) self.new result }
     {
         match self.serve(server, Input::Issue(job)) {
             Ok(served) => Ok(served.issued()),
@@ -35,8 +36,8 @@ impl World {
         write: Seq,
         end: WriteEnd,
     ) -> Result<Told, Fault>
-        ensures { (n : ℕ) (past : List Change) → StandsFor n past self.old →
-            Ends n past (ending end server job write) self.new result }
+        ensures { (w : Setup) (past : List Change) → StandsFor w past self.old →
+            Ends w past (ending end server job write) self.new result }
     {
         let ticket = match self.open_write(server, job, write) {
             Ok((ticket, _)) => ticket,
@@ -56,8 +57,8 @@ impl World {
         write: Seq,
         mask: u128,
     ) -> Result<Told, Fault>
-        ensures { (n : ℕ) (past : List Change) → StandsFor n past self.old →
-            Ends n past (Land server job write mask) self.new result }
+        ensures { (w : Setup) (past : List Change) → StandsFor w past self.old →
+            Ends w past (Land server job write mask) self.new result }
     {
         writes_stay_in_the_region();
         writes_fill_their_blocks();
@@ -93,8 +94,8 @@ impl World {
         sector: u64,
         bytes: &[u8; 512],
     ) -> Result<Told, Fault>
-        ensures { (n : ℕ) (past : List Change) → StandsFor n past self.old →
-            Ends n past (Rot server job sector bytes.now) self.new result }
+        ensures { (w : Setup) (past : List Change) → StandsFor w past self.old →
+            Ends w past (Rot server job sector bytes.now) self.new result }
     {
         if !self.has_server(server) {
             return Err(Fault::NoServer);

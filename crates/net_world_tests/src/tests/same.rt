@@ -6,7 +6,7 @@ use server_core::Status;
 use verify_state::VerifyState;
 
 /// What a world shows of itself in short: how many frames there are, and its first servers and keys.
-#[derive(Clone, Copy, Debug, PartialEq, Eq)]
+#[derive(Clone, Copy, PartialEq)]
 pub struct Shown {
     frames: usize,
     servers: [Option<Status>; 2],

@@ -16,3 +16,13 @@ pub mod stops;
 
 /// The name of a story, and its rows.
 pub type Story = (&'static str, &'static str);
+
+/// The stories of each file.
+pub const ALL: [&[Story]; 6] = [
+    runs::STORIES,
+    stops::STORIES,
+    refusals::STORIES,
+    pieces::STORIES,
+    numbers::STORIES,
+    disks::STORIES,
+];

@@ -4,10 +4,10 @@ use Rattle.net_world.proofs.fresh.numbers_are_given_once.Goals as goal
 use Rattle.net_world.specs.Trace.{client_opening, of_client}
 
 pub returns-clause-runs : goal.returns-clause-runs
-returns-clause-runs c n t trace = (c.numbers_are_fresh.ensures.runs (client_opening n) (of_client t) (loses_none n t trace)).distinct
+returns-clause-runs c w t trace = (c.numbers_are_fresh.ensures.runs (client_opening w) (of_client t) (loses_none w t trace)).distinct
 
 pub returns-clause-attempts : goal.returns-clause-attempts
-returns-clause-attempts c n t trace = (c.numbers_are_fresh.ensures.attempts (client_opening n) (of_client t) (loses_none n t trace)).distinct
+returns-clause-attempts c w t trace = (c.numbers_are_fresh.ensures.attempts (client_opening w) (of_client t) (loses_none w t trace)).distinct
 
 pub returns-clause-starts : goal.returns-clause-starts
 returns-clause-starts c = starts_are_accepted_once c.numbers_grow.ensures

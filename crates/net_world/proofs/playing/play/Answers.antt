@@ -10,39 +10,39 @@ use Rattle.net_world.proofs.playing.play.Goals as goal
 
 pub loop-event-preserved : goal.loop-event-preserved
 loop-event-preserved c =
-    let n = c.args.config.servers in
-    subst (λ hs. StandsFor n (world n hs) c.pass.new.self)
+    let w = c.args.config.servers in
+    subst (λ hs. StandsFor w (world w hs) c.pass.new.self)
     (next_is_newest c.args.events.now c.loop-event.event-index c.event-item.result c.loop-event-test.true c.event-item.is)
-    (c.in_ok-pass.ensures.passed n (map happening (reverse (take c.loop-event.event-index c.args.events.now))) c.loop-event.invariant)
+    (c.in_ok-pass.ensures.passed w (map happening (reverse (take c.loop-event.event-index c.args.events.now))) c.loop-event.invariant)
 
 pub returns-clause-one_taking : goal.returns-clause-one_taking
 returns-clause-one_taking c newer older split =
-    let n = c.args.config.servers in
-    c.one_state_of_each_job.ensures.once n (trace n (world n older))
+    let w = c.args.config.servers in
+    c.one_state_of_each_job.ensures.once w (trace w (world w older))
 
 pub returns-clause-one_state : goal.returns-clause-one_state
 returns-clause-one_state c newer older split =
-    let n = c.args.config.servers in
-    c.one_state_of_each_job.ensures.held n (trace n (world n older))
-    (c.each_world_is_a_trace.ensures.packets n older c.requires.few)
+    let w = c.args.config.servers in
+    c.one_state_of_each_job.ensures.held w (trace w (world w older))
+    (c.each_world_is_a_trace.ensures.packets w older c.requires.few)
 
 pub returns-clause-pieces : goal.returns-clause-pieces
 returns-clause-pieces c newer older split =
-    let n = c.args.config.servers in
-    c.frames_hold_the_taken.ensures.together n (steps (world n older)) (c.each_world_is_a_trace.ensures.frames n older)
-    (world_fits (record { fit = c.reports_fit.ensures; sets = c.legal_histories.ensures.checks }) n older c.requires.few)
+    let w = c.args.config.servers in
+    c.frames_hold_the_taken.ensures.together w (steps (world w older)) (c.each_world_is_a_trace.ensures.frames w older)
+    (world_fits (record { fit = c.reports_fit.ensures; sets = c.legal_histories.ensures.checks }) w older c.requires.few)
 
 pub returns-clause-counts : goal.returns-clause-counts
 returns-clause-counts c newer older split =
-    let n = c.args.config.servers in
-    c.one_state_of_each_job.ensures.counted n (trace n (world n older))
-    (c.each_world_is_a_trace.ensures.packets n older c.requires.few)
+    let w = c.args.config.servers in
+    c.one_state_of_each_job.ensures.counted w (trace w (world w older))
+    (c.each_world_is_a_trace.ensures.packets w older c.requires.few)
 
 pub returns-clause-quiet : goal.returns-clause-quiet
 returns-clause-quiet c newer older split =
-    let n = c.args.config.servers in
-    c.one_state_of_each_job.ensures.quiet n (trace n (world n older))
-    (c.each_world_is_a_trace.ensures.packets n older c.requires.few)
+    let w = c.args.config.servers in
+    c.one_state_of_each_job.ensures.quiet w (trace w (world w older))
+    (c.each_world_is_a_trace.ensures.packets w older c.requires.few)
 
 pub returns-clause-exact : goal.returns-clause-exact
 returns-clause-exact c newer older split =
@@ -62,46 +62,46 @@ returns-clause-conflict c newer older split =
 
 pub returns-clause-equal : goal.returns-clause-equal
 returns-clause-equal c newer older split =
-    let n = c.args.config.servers in
-    c.nothing_differs.ensures.packets n (trace n (world n older))
+    let w = c.args.config.servers in
+    c.nothing_differs.ensures.packets w (trace w (world w older))
 
 pub returns-clause-served : goal.returns-clause-served
 returns-clause-served c newer older split =
-    let n = c.args.config.servers in
-    c.ends_are_kept.ensures.served n (trace n (world n older))
-    (c.each_world_is_a_trace.ensures.packets n older c.requires.few)
+    let w = c.args.config.servers in
+    c.ends_are_kept.ensures.served w (trace w (world w older))
+    (c.each_world_is_a_trace.ensures.packets w older c.requires.few)
 
 pub returns-clause-cut : goal.returns-clause-cut
 returns-clause-cut c newer older split =
-    let n = c.args.config.servers in
-    c.ends_are_kept.ensures.cut n (trace n (world n older))
-    (c.each_world_is_a_trace.ensures.packets n older c.requires.few)
+    let w = c.args.config.servers in
+    c.ends_are_kept.ensures.cut w (trace w (world w older))
+    (c.each_world_is_a_trace.ensures.packets w older c.requires.few)
 
 pub returns-clause-runs : goal.returns-clause-runs
 returns-clause-runs c newer older split =
-    let n = c.args.config.servers in
-    c.numbers_are_given_once.ensures.runs n (trace n (world n older))
-    (c.each_world_is_a_trace.ensures.packets n older c.requires.few)
+    let w = c.args.config.servers in
+    c.numbers_are_given_once.ensures.runs w (trace w (world w older))
+    (c.each_world_is_a_trace.ensures.packets w older c.requires.few)
 
 pub returns-clause-attempts : goal.returns-clause-attempts
 returns-clause-attempts c newer older split =
-    let n = c.args.config.servers in
-    c.numbers_are_given_once.ensures.attempts n (trace n (world n older))
-    (c.each_world_is_a_trace.ensures.packets n older c.requires.few)
+    let w = c.args.config.servers in
+    c.numbers_are_given_once.ensures.attempts w (trace w (world w older))
+    (c.each_world_is_a_trace.ensures.packets w older c.requires.few)
 
 pub returns-clause-starts : goal.returns-clause-starts
 returns-clause-starts c newer older split =
-    let n = c.args.config.servers in
-    c.numbers_are_given_once.ensures.starts n (trace n (world n older))
+    let w = c.args.config.servers in
+    c.numbers_are_given_once.ensures.starts w (trace w (world w older))
 
 pub returns-clause-run_texts : goal.returns-clause-run_texts
 returns-clause-run_texts c newer older split =
-    let n = c.args.config.servers in
-    c.one_text_of_each.ensures.runs n (trace n (world n older))
-    (c.each_world_is_a_trace.ensures.packets n older c.requires.few)
+    let w = c.args.config.servers in
+    c.one_text_of_each.ensures.runs w (trace w (world w older))
+    (c.each_world_is_a_trace.ensures.packets w older c.requires.few)
 
 pub returns-clause-attempt_texts : goal.returns-clause-attempt_texts
 returns-clause-attempt_texts c newer older split =
-    let n = c.args.config.servers in
-    c.one_text_of_each.ensures.attempts n (trace n (world n older))
-    (c.each_world_is_a_trace.ensures.packets n older c.requires.few)
+    let w = c.args.config.servers in
+    c.one_text_of_each.ensures.attempts w (trace w (world w older))
+    (c.each_world_is_a_trace.ensures.packets w older c.requires.few)

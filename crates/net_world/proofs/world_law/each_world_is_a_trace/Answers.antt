@@ -8,6 +8,6 @@ pub returns-clause-frames : goal.returns-clause-frames
 returns-clause-frames c = lemmas.each_world_is_a_frame_trace
 
 pub returns-clause-packets : goal.returns-clause-packets
-returns-clause-packets c n events few =
-    c.only_sent_is_heard.ensures n (steps (world n events)) (lemmas.each_world_is_a_frame_trace n events)
-    (world_fits (record { fit = c.reports_fit.ensures; sets = c.legal_histories.ensures.checks }) n events few)
+returns-clause-packets c w events few =
+    c.only_sent_is_heard.ensures w (steps (world w events)) (lemmas.each_world_is_a_frame_trace w events)
+    (world_fits (record { fit = c.reports_fit.ensures; sets = c.legal_histories.ensures.checks }) w events few)

@@ -6,9 +6,9 @@ use Rattle.net_world.proofs.FrameRangeLemmas.{sent_fit}
 use Rattle.net_world.proofs.world_law.sent_are_frames.Goals as goal
 
 pub returns : goal.returns
-returns c n events f few h =
-    let past = world n events in
-    let fits = world_fits (record { fit = c.reports_fit.ensures; sets = c.legal_histories.ensures.checks }) n events few in
-    let ranges = c.sent_are_in_range.ensures n (trace n past) (c.each_world_is_a_trace.ensures.packets n events few) (heard_fits n (steps past) fits) in
-    let well = sent_fit c.lengths_are_bounded.ensures c.frames_are_of_packets.ensures.frames n (steps past) ranges f h in
+returns c w events f few h =
+    let past = world w events in
+    let fits = world_fits (record { fit = c.reports_fit.ensures; sets = c.legal_histories.ensures.checks }) w events few in
+    let ranges = c.sent_are_in_range.ensures w (trace w past) (c.each_world_is_a_trace.ensures.packets w events few) (heard_fits w (steps past) fits) in
+    let well = sent_fit c.lengths_are_bounded.ensures c.frames_are_of_packets.ensures.frames w (steps past) ranges f h in
     (well.frame, well.short)

@@ -10,56 +10,56 @@ use Rattle.net_world.proofs.CheckLemmas.{report_is, unchecked, check_ends, check
 use Rattle.net_world.proofs.world.World.check.Goals as goal
 
 pub returns-in-Err : goal.returns-in-Err
-returns-in-Err c n past stands = unready_ends n past c.args.server c.args.job c.in-Err.fault c.args.self.now stands (c.in-Err.ensures n past stands)
+returns-in-Err c w past stands = unready_ends w past c.args.server c.args.job c.in-Err.fault c.args.self.now stands (c.in-Err.ensures w past stands)
 
 pub returns-then-not-has_file : goal.returns-then-not-has_file
-returns-then-not-has_file c n past stands =
-    let h = c.in-Ok.ensures n past stands in
-    let far = no_slot n c.args.server c.args.job (length c.args.self.now.files.items) (sym c.has_file.ensures ∙ c.if-not-has_file.true) stands.files (on_below n past c.args.server h.on) in
+returns-then-not-has_file c w past stands =
+    let h = c.in-Ok.ensures w past stands in
+    let far = no_slot w c.args.server c.args.job (length c.args.self.now.files.items) (sym c.has_file.ensures ∙ c.if-not-has_file.true) stands.files (on_below w past c.args.server h.on) in
     let below = h.below in
     absurd (omega arith)
 
 pub returns-in_default : goal.returns-in_default
-returns-in_default c n past stands =
+returns-in_default c w past stands =
     let s = c.args.server in
     let j = c.args.job in
     let slot = has_slot s j (length c.args.self.now.files.items) (sym c.has_file.ensures ∙ c.if-not-has_file.false) in
     let at = node_at c.args.self.now.files.items (16 * s + j) c.place_of.result c.index_mut.result.now c.place_of.ensures slot.1 c.index_mut.ensures.value in
     let held = stands.files_are s j c.index_mut.result.now slot.0 at in (
       refl,
-      file_kept n past s j c.check_disk.new.disk c.args.self.now _ stands
+      file_kept w past s j c.check_disk.new.disk c.args.self.now _ stands
           (record { slot = slot.0; there = slot.1; place = c.place_of.result; place_is = c.place_of.ensures; set_is = refl; sent_is = refl; client_is = refl; servers_are = refl })
           (unchecked c.in-Ok.ready.key c.in-Ok.ready.rec (option_copied c.as_ref.result) c.in-Ok.ready.fatal c.in_default.field-0 (file_of c.index_mut.result.now) (file_of c.check_disk.new.disk) c.in_default.ensures ∙ held),
     )
 
 pub returns-in-Ok-serve : goal.returns-in-Ok-serve
-returns-in-Ok-serve c n past stands =
+returns-in-Ok-serve c w past stands =
     let s = c.args.server in
     let j = c.args.job in
     let slot = has_slot s j (length c.args.self.now.files.items) (sym c.has_file.ensures ∙ c.if-not-has_file.false) in
     let at = node_at c.args.self.now.files.items (16 * s + j) c.place_of.result c.index_mut.result.now c.place_of.ensures slot.1 c.index_mut.ensures.value in
     let held = stands.files_are s j c.index_mut.result.now slot.0 at in
-    let h = c.in-Ok.ensures n past stands in
+    let h = c.in-Ok.ensures w past stands in
     let r = c.in-Ok-check_disk.report in
-    let made = report_is n past s j c.in-Ok.ready h r (file_of c.index_mut.result.now) (file_of c.check_disk.new.disk) held refl
+    let made = report_is w past s j c.in-Ok.ready h r (file_of c.index_mut.result.now) (file_of c.check_disk.new.disk) held refl
     (subst (λ (x : Option State). ChecksDisk (Ok r) c.in-Ok.ready.key c.in-Ok.ready.rec x c.in-Ok.ready.fatal (file_of c.index_mut.result.now) (file_of c.check_disk.new.disk)) c.as_ref.ensures.value c.in-Ok-check_disk.ensures) in
-    let kept = file_kept n past s j c.check_disk.new.disk c.args.self.now _ stands
+    let kept = file_kept w past s j c.check_disk.new.disk c.args.self.now _ stands
     (record { slot = slot.0; there = slot.1; place = c.place_of.result; place_is = c.place_of.ensures; set_is = refl; sent_is = refl; client_is = refl; servers_are = refl })
     (made.1 ∙ held) in
-    check_ends n past s j c.in-Ok.ready h r c.in-Ok-serve.served c.told.result c.serve.new.self made.0 (c.in-Ok-serve.ensures n past kept) c.told.ensures
+    check_ends w past s j c.in-Ok.ready h r c.in-Ok-serve.served c.told.result c.serve.new.self made.0 (c.in-Ok-serve.ensures w past kept) c.told.ensures
 
 pub returns-in-Err-serve : goal.returns-in-Err-serve
-returns-in-Err-serve c n past stands =
+returns-in-Err-serve c w past stands =
     let s = c.args.server in
     let j = c.args.job in
     let slot = has_slot s j (length c.args.self.now.files.items) (sym c.has_file.ensures ∙ c.if-not-has_file.false) in
     let at = node_at c.args.self.now.files.items (16 * s + j) c.place_of.result c.index_mut.result.now c.place_of.ensures slot.1 c.index_mut.ensures.value in
     let held = stands.files_are s j c.index_mut.result.now slot.0 at in
-    let h = c.in-Ok.ensures n past stands in
+    let h = c.in-Ok.ensures w past stands in
     let r = c.in-Ok-check_disk.report in
-    let made = report_is n past s j c.in-Ok.ready h r (file_of c.index_mut.result.now) (file_of c.check_disk.new.disk) held refl
+    let made = report_is w past s j c.in-Ok.ready h r (file_of c.index_mut.result.now) (file_of c.check_disk.new.disk) held refl
     (subst (λ (x : Option State). ChecksDisk (Ok r) c.in-Ok.ready.key c.in-Ok.ready.rec x c.in-Ok.ready.fatal (file_of c.index_mut.result.now) (file_of c.check_disk.new.disk)) c.as_ref.ensures.value c.in-Ok-check_disk.ensures) in
-    let kept = file_kept n past s j c.check_disk.new.disk c.args.self.now _ stands
+    let kept = file_kept w past s j c.check_disk.new.disk c.args.self.now _ stands
     (record { slot = slot.0; there = slot.1; place = c.place_of.result; place_is = c.place_of.ensures; set_is = refl; sent_is = refl; client_is = refl; servers_are = refl })
     (made.1 ∙ held) in
-    check_fails n past s j c.in-Ok.ready h r c.in-Err-serve.fault c.serve.new.self made.0 (c.in-Err-serve.ensures n past kept)
+    check_fails w past s j c.in-Ok.ready h r c.in-Err-serve.fault c.serve.new.self made.0 (c.in-Err-serve.ensures w past kept)

@@ -8,13 +8,13 @@ use Rattle.net_world.proofs.EndsLemmas.{no_mirror}
 use Rattle.net_world.proofs.world.World.cut.Goals as goal
 
 pub returns-in-Server : goal.returns-in-Server
-returns-in-Server c n past stands =
-    subst (λ (node : Node). Ends n past (Cut node) c.cut_server.new.self c.cut_server.result) (sym c.in-Server.is) (c.cut_server.ensures n past stands)
+returns-in-Server c w past stands =
+    subst (λ (node : Node). Ends w past (Cut node) c.cut_server.new.self c.cut_server.result) (sym c.in-Server.is) (c.cut_server.ensures w past stands)
 
 pub returns-in-Client : goal.returns-in-Client
-returns-in-Client c n past stands =
-    subst (λ (node : Node). Ends n past (Cut node) c.cut_client.new.self c.cut_client.result) (sym c.in-Client.is) (c.cut_client.ensures n past stands)
+returns-in-Client c w past stands =
+    subst (λ (node : Node). Ends w past (Cut node) c.cut_client.new.self c.cut_client.result) (sym c.in-Client.is) (c.cut_client.ensures w past stands)
 
 pub returns-in-Mirror : goal.returns-in-Mirror
-returns-in-Mirror c n past stands =
-    subst (λ (node : Node). Ends n past (Cut node) c.args.self.now (Err NoMirror)) (sym c.in-Mirror.is) (no_mirror n past (Cut Mirror) c.args.self.now refl stands)
+returns-in-Mirror c w past stands =
+    subst (λ (node : Node). Ends w past (Cut node) c.args.self.now (Err NoMirror)) (sym c.in-Mirror.is) (no_mirror w past (Cut Mirror) c.args.self.now refl stands)

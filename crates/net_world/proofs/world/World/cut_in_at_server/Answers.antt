@@ -1,6 +1,7 @@
 use Rattle.std.proofs.Common.{refl, sym, ◌∙◌, ap, ◌<◌, arith, length, append-nil, List, ℕ}
 use Rattle.server_core.specs.declared.input.Input.TheVariants as inputs
 use Rattle.server_core.specs.Hearing as hearing
+use Rattle.net_world.specs.Setup.{servers_of}
 use Rattle.net_world.specs.Trace.{opening_of}
 use Rattle.net_world.specs.Happenings.{Deliver, CutIn}
 use Rattle.net_world.specs.Outcomes.{lost_by}
@@ -13,35 +14,35 @@ use Rattle.net_world.proofs.CutEndsLemmas.{cut_bar, frame_cut_plain, frame_cut_e
 use Rattle.net_world.proofs.world.World.cut_in_at_server.Goals as goal
 
 pub returns-then-not-has_server : goal.returns-then-not-has_server
-returns-then-not-has_server c n past number stands is goes =
+returns-then-not-has_server c w past number stands is goes =
     let l = le_of c.args.server (length c.args.self.now.servers.items) (sym c.has_server.ensures ∙ c.if-not-has_server.true) in
     let e = CutIn c.args.landed (Deliver number) in
-    refuses n past e _ c.args.self.now refl
-    (stops n past e _ (cut_bar n past number c.args.landed c.args.frame c.args.server (record { is_sent = is; goes_to = goes }) ∙ none_there n past c.args.server (omega (arith, stands.number, l)))) stands
+    refuses w past e _ c.args.self.now refl
+    (stops w past e _ (cut_bar w past number c.args.landed c.args.frame c.args.server (record { is_sent = is; goes_to = goes }) ∙ none_there w past c.args.server (omega (arith, stands.number, l)))) stands
 
 pub returns-in_default : goal.returns-in_default
-returns-in_default c n past number stands is goes = (refl, settled n past c.args.self.now _ stands c.settle.ensures.same refl refl refl)
+returns-in_default c w past number stands is goes = (refl, settled w past c.args.self.now _ stands c.settle.ensures.same refl refl refl)
 
 pub returns-in-Ok-cut_in_delivery : goal.returns-in-Ok-cut_in_delivery
-returns-in-Ok-cut_in_delivery c n past number stands is goes =
+returns-in-Ok-cut_in_delivery c w past number stands is goes =
     let s = c.args.server in
     let l = lt_of s (length c.args.self.now.servers.items) (sym c.has_server.ensures ∙ c.if-not-has_server.false) in
-    let below : s < n = omega (arith, stands.number, l) in
+    let below : s < servers_of w = omega (arith, stands.number, l) in
     let at = node_at c.args.self.now.servers.items s c.server.inside.0 c.index_mut.result.now c.server.view_is l c.index_mut.ensures.value in
     let h = c.in-Ok-cut_in_delivery.ensures (opening_of s) (entries past s) (stands.servers_are s c.index_mut.result.now at) in
-    plain_ends n past s (CutIn c.args.landed (Deliver number)) (hearing.Met (inputs.Deliver c.args.frame) (lost_by c.args.landed)) c.cut_in_delivery.new.self c.in-Ok.first c.plain.result c.args.self.now _ stands
+    plain_ends w past s (CutIn c.args.landed (Deliver number)) (hearing.Met (inputs.Deliver c.args.frame) (lost_by c.args.landed)) c.cut_in_delivery.new.self c.in-Ok.first c.plain.result c.args.self.now _ stands
     (record { there = l; place = c.server.inside.0; place_is = c.server.view_is; set_is = refl; sent_is = c.settle.ensures.same ∙ sym (append-nil (sent_in c.args.self.now.sent)); client_is = refl; files_are = refl })
     h.2
-    (frame_cut_plain n past number c.args.landed c.args.frame s (record { is_sent = is; goes_to = goes }) (is_there n past s below h.0) h.1)
+    (frame_cut_plain w past number c.args.landed c.args.frame s (record { is_sent = is; goes_to = goes }) (is_there w past s below h.0) h.1)
     (c.in-Ok.ensures.first ∙ ap (λ (fs : List (List ℕ)). length fs) c.settle.ensures.same)
     c.plain.ensures
 
 pub returns-in-Err : goal.returns-in-Err
-returns-in-Err c n past number stands is goes =
+returns-in-Err c w past number stands is goes =
     let s = c.args.server in
     let l = lt_of s (length c.args.self.now.servers.items) (sym c.has_server.ensures ∙ c.if-not-has_server.false) in
     let at = node_at c.args.self.now.servers.items s c.server.inside.0 c.index_mut.result.now c.server.view_is l c.index_mut.ensures.value in
-    frame_cut_ends n past number c.args.landed c.args.frame s c.cut_in_delivery.new.self c.in-Err.fault c.args.self.now _ stands
+    frame_cut_ends w past number c.args.landed c.args.frame s c.cut_in_delivery.new.self c.in-Err.fault c.args.self.now _ stands
     (record { there = l; place = c.server.inside.0; place_is = c.server.view_is; set_is = refl; sent_is = c.settle.ensures.same ∙ sym (append-nil (sent_in c.args.self.now.sent)); client_is = refl; files_are = refl })
     (omega (arith, stands.number, l)) (record { is_sent = is; goes_to = goes })
     (c.in-Err.ensures (opening_of s) (entries past s) (stands.servers_are s c.index_mut.result.now at))

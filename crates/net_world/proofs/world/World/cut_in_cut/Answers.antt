@@ -8,5 +8,5 @@ use Rattle.net_world.proofs.EndsLemmas.{no_mirror}
 use Rattle.net_world.proofs.world.World.cut_in_cut.Goals as goal
 
 pub returns-in-Mirror : goal.returns-in-Mirror
-returns-in-Mirror c landed n past stands =
-    subst (λ (node : Node). Ends n past (CutIn landed (Cut node)) c.args.self.now (Err NoMirror)) (sym c.in-Mirror.is) (no_mirror n past (CutIn landed (Cut Mirror)) c.args.self.now refl stands)
+returns-in-Mirror c landed w past stands =
+    subst (λ (node : Node). Ends w past (CutIn landed (Cut node)) c.args.self.now (Err NoMirror)) (sym c.in-Mirror.is) (no_mirror w past (CutIn landed (Cut Mirror)) c.args.self.now refl stands)

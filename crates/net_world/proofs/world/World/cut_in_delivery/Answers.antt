@@ -7,16 +7,16 @@ use Rattle.net_world.proofs.NoSaveLemmas.{lost_cut}
 use Rattle.net_world.proofs.world.World.cut_in_delivery.Goals as goal
 
 pub returns-in-Err : goal.returns-in-Err
-returns-in-Err c n events stands = lost_cut n (world n events) c.args.landed c.args.self.now c.args.number c.in-Err.fault stands (c.in-Err.ensures n events stands)
+returns-in-Err c w events stands = lost_cut w (world w events) c.args.landed c.args.self.now c.args.number c.in-Err.fault stands (c.in-Err.ensures w events stands)
 
 pub returns-in-Server : goal.returns-in-Server
-returns-in-Server c n events stands =
-    c.cut_in_at_server.ensures n (world n events) c.args.number stands (c.in-Ok.ensures n events stands) (sym c.to_of.ensures ∙ c.in-Server.is)
+returns-in-Server c w events stands =
+    c.cut_in_at_server.ensures w (world w events) c.args.number stands (c.in-Ok.ensures w events stands) (sym c.to_of.ensures ∙ c.in-Server.is)
 
 pub returns-in-Client : goal.returns-in-Client
-returns-in-Client c n events stands =
-    c.cut_in_client_delivery.ensures n (world n events) c.args.number stands (c.in-Ok.ensures n events stands) (sym c.to_of.ensures ∙ c.in-Client.is)
+returns-in-Client c w events stands =
+    c.cut_in_client_delivery.ensures w (world w events) c.args.number stands (c.in-Ok.ensures w events stands) (sym c.to_of.ensures ∙ c.in-Client.is)
 
 pub returns-in-Mirror : goal.returns-in-Mirror
-returns-in-Mirror c n events stands =
-    no_mirror n (world n events) (CutIn c.args.landed (Deliver c.args.number)) c.args.self.now (bars_mirror n (world n events) c.args.number c.in-Ok.frame (c.in-Ok.ensures n events stands) (sym c.to_of.ensures ∙ c.in-Mirror.is)) stands
+returns-in-Mirror c w events stands =
+    no_mirror w (world w events) (CutIn c.args.landed (Deliver c.args.number)) c.args.self.now (bars_mirror w (world w events) c.args.number c.in-Ok.frame (c.in-Ok.ensures w events stands) (sym c.to_of.ensures ∙ c.in-Mirror.is)) stands

@@ -8,13 +8,13 @@ use Rattle.net_world.proofs.EndsLemmas.{no_mirror}
 use Rattle.net_world.proofs.world.World.cut_in_restart.Goals as goal
 
 pub returns-in-Server : goal.returns-in-Server
-returns-in-Server c n past stands =
-    subst (λ (node : Node). Ends n past (CutIn c.args.landed (Restart node)) c.cut_in_server_restart.new.self c.cut_in_server_restart.result) (sym c.in-Server.is) (c.cut_in_server_restart.ensures n past stands)
+returns-in-Server c w past stands =
+    subst (λ (node : Node). Ends w past (CutIn c.args.landed (Restart node)) c.cut_in_server_restart.new.self c.cut_in_server_restart.result) (sym c.in-Server.is) (c.cut_in_server_restart.ensures w past stands)
 
 pub returns-in-Client : goal.returns-in-Client
-returns-in-Client c n past stands =
-    subst (λ (node : Node). Ends n past (CutIn c.args.landed (Restart node)) c.args.self.now c.cut_in_client_restart.result) (sym c.in-Client.is) (c.cut_in_client_restart.ensures c.args.landed n past stands)
+returns-in-Client c w past stands =
+    subst (λ (node : Node). Ends w past (CutIn c.args.landed (Restart node)) c.args.self.now c.cut_in_client_restart.result) (sym c.in-Client.is) (c.cut_in_client_restart.ensures c.args.landed w past stands)
 
 pub returns-in-Mirror : goal.returns-in-Mirror
-returns-in-Mirror c n past stands =
-    subst (λ (node : Node). Ends n past (CutIn c.args.landed (Restart node)) c.args.self.now (Err NoMirror)) (sym c.in-Mirror.is) (no_mirror n past (CutIn c.args.landed (Restart Mirror)) c.args.self.now refl stands)
+returns-in-Mirror c w past stands =
+    subst (λ (node : Node). Ends w past (CutIn c.args.landed (Restart node)) c.args.self.now (Err NoMirror)) (sym c.in-Mirror.is) (no_mirror w past (CutIn c.args.landed (Restart Mirror)) c.args.self.now refl stands)

@@ -11,33 +11,33 @@ use Rattle.net_world.proofs.PlainLemmas.{plain_ends, cut_plain}
 use Rattle.net_world.proofs.world.World.cut_server.Goals as goal
 
 pub returns-then-not-has_server : goal.returns-then-not-has_server
-returns-then-not-has_server c n past stands =
+returns-then-not-has_server c w past stands =
     let l = le_of c.args.server (length c.args.self.now.servers.items) (sym c.has_server.ensures ∙ c.if-not-has_server.true) in
     let e = Cut (nodes.Server c.args.server) in
-    refuses n past e _ c.args.self.now refl (stops n past e _ (none_there n past c.args.server (omega (arith, stands.number, l)))) stands
+    refuses w past e _ c.args.self.now refl (stops w past e _ (none_there w past c.args.server (omega (arith, stands.number, l)))) stands
 
 pub returns-then-not-on : goal.returns-then-not-on
-returns-then-not-on c n past stands =
+returns-then-not-on c w past stands =
     let s = c.args.server in
     let l = lt_of s (length c.args.self.now.servers.items) (sym c.has_server.ensures ∙ c.if-not-has_server.false) in
     let at = node_at c.args.self.now.servers.items s c.server.inside.0 c.index.result.now c.server.view_is l c.index.ensures in
     let up = c.on.ensures (opening_of s) (entries past s) (stands.servers_are s c.index.result.now at) in
     let e = Cut (nodes.Server s) in
-    refuses n past e _ c.args.self.now refl (stops n past e _ (is_off n past s (omega (arith, stands.number, l)) (sym up ∙ c.if-not-on.true))) stands
+    refuses w past e _ c.args.self.now refl (stops w past e _ (is_off w past s (omega (arith, stands.number, l)) (sym up ∙ c.if-not-on.true))) stands
 
 pub returns-in_default : goal.returns-in_default
-returns-in_default c n past stands = (refl, settled n past c.args.self.now _ stands c.settle.ensures.same refl refl refl)
+returns-in_default c w past stands = (refl, settled w past c.args.self.now _ stands c.settle.ensures.same refl refl refl)
 
 pub returns : goal.returns
-returns c n past stands =
+returns c w past stands =
     let s = c.args.server in
     let l = lt_of s (length c.args.self.now.servers.items) (sym c.has_server.ensures ∙ c.if-not-has_server.false) in
     let at = node_at c.args.self.now.servers.items s c.server.inside.0 c.index.result.now c.server.view_is l c.index.ensures in
     let up = c.on.ensures (opening_of s) (entries past s) (stands.servers_are s c.index.result.now at) in
     let again = node_at c.args.self.now.servers.items s c.server.inside.0 c.index_mut.result.now c.server.view_is l c.index_mut.ensures.value in
-    plain_ends n past s (Cut (nodes.Server s)) hearing.Cut c.cut.new.self c.in-Ok.first c.plain.result c.args.self.now _ stands
+    plain_ends w past s (Cut (nodes.Server s)) hearing.Cut c.cut.new.self c.in-Ok.first c.plain.result c.args.self.now _ stands
     (record { there = l; place = c.server.inside.0; place_is = c.server.view_is; set_is = refl; sent_is = c.settle.ensures.same ∙ sym (append-nil (sent_in c.args.self.now.sent)); client_is = refl; files_are = refl })
     (c.cut.ensures (opening_of s) (entries past s) (stands.servers_are s c.index_mut.result.now again))
-    (cut_plain n past s (is_there n past s (omega (arith, stands.number, l)) (sym up ∙ c.if-not-on.false)))
+    (cut_plain w past s (is_there w past s (omega (arith, stands.number, l)) (sym up ∙ c.if-not-on.false)))
     (c.in-Ok.ensures.first ∙ ap (λ (fs : List (List ℕ)). length fs) c.settle.ensures.same)
     c.plain.ensures

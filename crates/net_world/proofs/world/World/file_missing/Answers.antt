@@ -4,16 +4,16 @@ use Rattle.net_world.proofs.FileStepLemmas.{rot_none, rot_past, rot_free}
 use Rattle.net_world.proofs.world.World.file_missing.Goals as goal
 
 pub returns-then-not-has_server-clause-why : goal.returns-then-not-has_server-clause-why
-returns-then-not-has_server-clause-why c n past stands =
+returns-then-not-has_server-clause-why c w past stands =
     let l = le_of c.args.server (length c.args.self.now.servers.items) (sym c.has_server.ensures ∙ c.if-not-has_server.true) in
-    sym (rot_none n c.args.server c.args.job (omega (arith, stands.number, l)))
+    sym (rot_none w c.args.server c.args.job (omega (arith, stands.number, l)))
 
 pub returns-then-job-ge-MAX_JOBS-clause-why : goal.returns-then-job-ge-MAX_JOBS-clause-why
-returns-then-job-ge-MAX_JOBS-clause-why c n past stands =
+returns-then-job-ge-MAX_JOBS-clause-why c w past stands =
     let l = lt_of c.args.server (length c.args.self.now.servers.items) (sym c.has_server.ensures ∙ c.if-not-has_server.false) in
-    sym (rot_past n c.args.server c.args.job (omega (arith, stands.number, l)) (omega (arith, c.job.view_is, c.if-job-ge-MAX_JOBS.true)))
+    sym (rot_past w c.args.server c.args.job (omega (arith, stands.number, l)) (omega (arith, c.job.view_is, c.if-job-ge-MAX_JOBS.true)))
 
 pub returns-else-job-ge-MAX_JOBS-clause-why : goal.returns-else-job-ge-MAX_JOBS-clause-why
-returns-else-job-ge-MAX_JOBS-clause-why c n past stands =
+returns-else-job-ge-MAX_JOBS-clause-why c w past stands =
     let l = lt_of c.args.server (length c.args.self.now.servers.items) (sym c.has_server.ensures ∙ c.if-not-has_server.false) in
-    sym (rot_free n c.args.server c.args.job (omega (arith, stands.number, l)) (omega (arith, c.job.view_is, c.if-job-ge-MAX_JOBS.false)))
+    sym (rot_free w c.args.server c.args.job (omega (arith, stands.number, l)) (omega (arith, c.job.view_is, c.if-job-ge-MAX_JOBS.false)))

@@ -20,52 +20,52 @@ land-requires c =
     (ap (λ (bs : List ℕ). length bs) (c.deref.ensures.value ∙ c.in-Ok-bytes_of.ensures) ∙ c.writes_fill_their_blocks.ensures c.in-Ok.found.0.key rec limits c.args.write c.in-Ok.found.0.block)
 
 pub returns-in-Err : goal.returns-in-Err
-returns-in-Err c n past stands =
-    let h = c.in-Err.ensures n past stands in
+returns-in-Err c w past stands =
+    let h = c.in-Err.ensures w past stands in
     let e = Land c.args.server c.args.job c.args.write c.args.mask in
-    refuses n past e c.in-Err.fault c.args.self.now h.1 (stops n past e c.in-Err.fault h.0) stands
+    refuses w past e c.in-Err.fault c.args.self.now h.1 (stops w past e c.in-Err.fault h.0) stands
 
 pub returns-then-not-has_file : goal.returns-then-not-has_file
-returns-then-not-has_file c n past stands =
-    let h = c.in-Ok.ensures n past stands in
-    let far = no_slot n c.args.server c.args.job (length c.args.self.now.files.items) (sym c.has_file.ensures ∙ c.if-not-has_file.true) stands.files (on_below n past c.args.server h.on) in
+returns-then-not-has_file c w past stands =
+    let h = c.in-Ok.ensures w past stands in
+    let far = no_slot w c.args.server c.args.job (length c.args.self.now.files.items) (sym c.has_file.ensures ∙ c.if-not-has_file.true) stands.files (on_below w past c.args.server h.on) in
     let below = h.below in
     absurd (omega arith)
 
 pub returns-then-ticket-ge-MAX_BLOCKS : goal.returns-then-ticket-ge-MAX_BLOCKS
-returns-then-ticket-ge-MAX_BLOCKS c n past stands =
+returns-then-ticket-ge-MAX_BLOCKS c w past stands =
     let limits = subst (λ (r : JobParts). IsTrue (is_within_limits r)) c.parts-within_limits.ensures.value c.parts-within_limits.ensures.limits in
-    let below = block_below c.writes_stay_in_the_region.ensures n past c.args.server c.args.job c.args.write c.in-Ok.found.0 c.in-Ok.found.1 limits (c.in-Ok.ensures n past stands) in
+    let below = block_below c.writes_stay_in_the_region.ensures w past c.args.server c.args.job c.args.write c.in-Ok.found.0 c.in-Ok.found.1 limits (c.in-Ok.ensures w past stands) in
     absurd (omega (arith, c.if-ticket-ge-MAX_BLOCKS.true, below))
 
 pub returns-in-Ok-land : goal.returns-in-Ok-land
-returns-in-Ok-land c n past stands =
+returns-in-Ok-land c w past stands =
     let s = c.args.server in
     let j = c.args.job in
     let k = c.args.write in
-    let h = c.in-Ok.ensures n past stands in
+    let h = c.in-Ok.ensures w past stands in
     let slot = has_slot s j (length c.args.self.now.files.items) (sym c.has_file.ensures ∙ c.if-not-has_file.false) in
     let at = node_at c.args.self.now.files.items (16 * s + j) c.place_of.result c.index_mut.result.now c.place_of.ensures slot.1 c.index_mut.ensures.value in
     let held = stands.files_are s j c.index_mut.result.now slot.0 at in
     let e = Land s j k c.args.mask in
-    quiet_ends n past s j e (Landed s j k c.args.mask) (with_write k c.args.mask (open_at (trace n past) s j k) (content n past s j)) c.land.new.self c.in-Ok-settle.first c.plain.result c.args.self.now _ stands
+    quiet_ends w past s j e (Landed s j k c.args.mask) (with_write k c.args.mask (open_at (trace w past) s j k) (content w past s j)) c.land.new.self c.in-Ok-settle.first c.plain.result c.args.self.now _ stands
     (record { slot = slot.0; there = slot.1; place = c.place_of.result; place_is = c.place_of.ensures; set_is = refl; sent_is = c.settle.ensures.same; client_is = refl; servers_are = refl })
-    (lands n past s j k c.args.mask)
-    (landed_is n past s j k c.args.mask c.in-Ok.found.0 c.in-Ok.found.1 c.deref.result.now (file_of c.index_mut.result.now) (file_of c.land.new.self) h held (c.deref.ensures.value ∙ c.in-Ok-bytes_of.ensures) c.in-Ok-land.ensures.ok)
-    (goes n past e h.there)
+    (lands w past s j k c.args.mask)
+    (landed_is w past s j k c.args.mask c.in-Ok.found.0 c.in-Ok.found.1 c.deref.result.now (file_of c.index_mut.result.now) (file_of c.land.new.self) h held (c.deref.ensures.value ∙ c.in-Ok-bytes_of.ensures) c.in-Ok-land.ensures.ok)
+    (goes w past e h.there)
     refl
     (c.in-Ok-settle.ensures.first ∙ ap (λ (fs : List (List ℕ)). length fs) c.settle.ensures.same)
     c.plain.ensures
 
 pub returns : goal.returns
-returns c n past stands =
+returns c w past stands =
     let s = c.args.server in
     let j = c.args.job in
     let slot = has_slot s j (length c.args.self.now.files.items) (sym c.has_file.ensures ∙ c.if-not-has_file.false) in
     let at = node_at c.args.self.now.files.items (16 * s + j) c.place_of.result c.index_mut.result.now c.place_of.ensures slot.1 c.index_mut.ensures.value in
     let held = stands.files_are s j c.index_mut.result.now slot.0 at in (
       refl,
-      file_kept n past s j c.land.new.self c.args.self.now _ stands
+      file_kept w past s j c.land.new.self c.args.self.now _ stands
           (record { slot = slot.0; there = slot.1; place = c.place_of.result; place_is = c.place_of.ensures; set_is = refl; sent_is = c.settle.ensures.same; client_is = refl; servers_are = refl })
           (c.in-Err-land.ensures.err ∙ held),
     )

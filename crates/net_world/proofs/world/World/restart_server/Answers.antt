@@ -1,4 +1,5 @@
 use Rattle.std.proofs.Common.{refl, sym, ◌∙◌, ap, ◌<◌, arith, length, append-nil, List, ℕ}
+use Rattle.net_world.specs.Setup.{servers_of}
 use Rattle.net_world.specs.Trace.{opening_of}
 use Rattle.net_world.specs.Happenings.{Restart}
 use Rattle.net_world.specs.Sending.{sent_in}
@@ -12,39 +13,39 @@ use Rattle.net_world.proofs.PlainLemmas.{plain_ends, restart_plain, restart_ends
 use Rattle.net_world.proofs.world.World.restart_server.Goals as goal
 
 pub returns-then-not-has_server : goal.returns-then-not-has_server
-returns-then-not-has_server c n past stands =
+returns-then-not-has_server c w past stands =
     let l = le_of c.args.server (length c.args.self.now.servers.items) (sym c.has_server.ensures ∙ c.if-not-has_server.true) in
     let e = Restart (nodes.Server c.args.server) in
-    refuses n past e _ c.args.self.now refl (stops n past e _ (none_on n past c.args.server (omega (arith, stands.number, l)))) stands
+    refuses w past e _ c.args.self.now refl (stops w past e _ (none_on w past c.args.server (omega (arith, stands.number, l)))) stands
 
 pub returns-in_default : goal.returns-in_default
-returns-in_default c n past stands = (refl, settled n past c.args.self.now _ stands c.settle.ensures.same refl refl refl)
+returns-in_default c w past stands = (refl, settled w past c.args.self.now _ stands c.settle.ensures.same refl refl refl)
 
 pub returns-in-Ok-restart : goal.returns-in-Ok-restart
-returns-in-Ok-restart c n past stands =
+returns-in-Ok-restart c w past stands =
     let s = c.args.server in
     let l = lt_of s (length c.args.self.now.servers.items) (sym c.has_server.ensures ∙ c.if-not-has_server.false) in
-    let below : s < n = omega (arith, stands.number, l) in
+    let below : s < servers_of w = omega (arith, stands.number, l) in
     let at = node_at c.args.self.now.servers.items s c.server-2.inside.0 c.index_mut.result.now c.server-2.view_is l c.index_mut.ensures.value in
     let h = c.in-Ok-restart.ensures (opening_of s) (entries past s) refl (stands.servers_are s c.index_mut.result.now at) in
-    plain_ends n past s (Restart (nodes.Server s)) (hearing.Restart Saved) c.restart.new.self c.in-Ok.first c.plain.result c.args.self.now _ stands
+    plain_ends w past s (Restart (nodes.Server s)) (hearing.Restart Saved) c.restart.new.self c.in-Ok.first c.plain.result c.args.self.now _ stands
     (record { there = l; place = c.server-2.inside.0; place_is = c.server-2.view_is; set_is = refl; sent_is = c.settle.ensures.same ∙ sym (append-nil (sent_in c.args.self.now.sent)); client_is = refl; files_are = refl })
     h.2
-    (restart_plain n past s (may_restart n past s below h.0) h.1)
+    (restart_plain w past s (may_restart w past s below h.0) h.1)
     (c.in-Ok.ensures.first ∙ ap (λ (fs : List (List ℕ)). length fs) c.settle.ensures.same)
     c.plain.ensures
 
 pub returns-in-Err : goal.returns-in-Err
-returns-in-Err c n past stands =
+returns-in-Err c w past stands =
     let s = c.args.server in
     let l = lt_of s (length c.args.self.now.servers.items) (sym c.has_server.ensures ∙ c.if-not-has_server.false) in
     let at = node_at c.args.self.now.servers.items s c.server-2.inside.0 c.index_mut.result.now c.server-2.view_is l c.index_mut.ensures.value in
-    restart_ends n past s c.restart.new.self c.in-Err.fault c.args.self.now _ stands
+    restart_ends w past s c.restart.new.self c.in-Err.fault c.args.self.now _ stands
     (record { there = l; place = c.server-2.inside.0; place_is = c.server-2.view_is; set_is = refl; sent_is = c.settle.ensures.same ∙ sym (append-nil (sent_in c.args.self.now.sent)); client_is = refl; files_are = refl })
     (omega (arith, stands.number, l))
     (c.in-Err.ensures (opening_of s) (entries past s) refl (stands.servers_are s c.index_mut.result.now at))
 
 pub returns-then-server-ge-MAX_SERVERS : goal.returns-then-server-ge-MAX_SERVERS
-returns-then-server-ge-MAX_SERVERS c n past stands =
+returns-then-server-ge-MAX_SERVERS c w past stands =
     let e = Restart (nodes.Server c.args.server) in
-    refuses n past e _ c.args.self.now refl (stops n past e _ (none_on n past c.args.server (omega (arith, stands.few, c.server.view_is, c.if-server-ge-MAX_SERVERS.true)))) stands
+    refuses w past e _ c.args.self.now refl (stops w past e _ (none_on w past c.args.server (omega (arith, stands.few, c.server.view_is, c.if-server-ge-MAX_SERVERS.true)))) stands

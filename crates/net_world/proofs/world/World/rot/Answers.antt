@@ -1,5 +1,6 @@
 use Rattle.std.proofs.Common.{refl, sym, ◌∙◌, ap, ◌<◌, ◌+◌, ◌*◌, arith, length, List, ℕ}
 use Rattle.disk_model.specs.File.{with_sector, put}
+use Rattle.net_world.specs.Setup.{servers_of}
 use Rattle.net_world.specs.Happenings.{Rot}
 use Rattle.net_world.specs.Changes.{Rotted}
 use Rattle.net_world.specs.Contents.{content}
@@ -9,52 +10,52 @@ use Rattle.net_world.proofs.FileStepLemmas.{quiet_ends, file_kept, rots, has_slo
 use Rattle.net_world.proofs.world.World.rot.Goals as goal
 
 pub returns-then-not-has_server : goal.returns-then-not-has_server
-returns-then-not-has_server c n past stands =
+returns-then-not-has_server c w past stands =
     let s = c.args.server in
     let l = le_of s (length c.args.self.now.servers.items) (sym c.has_server.ensures ∙ c.if-not-has_server.true) in
     let e = Rot s c.args.job c.args.sector c.args.bytes.now in
-    refuses n past e _ c.args.self.now refl (stops n past e _ (rot_none n s c.args.job (omega (arith, stands.number, l)))) stands
+    refuses w past e _ c.args.self.now refl (stops w past e _ (rot_none w s c.args.job (omega (arith, stands.number, l)))) stands
 
 pub returns-then-not-has_file : goal.returns-then-not-has_file
-returns-then-not-has_file c n past stands =
+returns-then-not-has_file c w past stands =
     let s = c.args.server in
     let l = lt_of s (length c.args.self.now.servers.items) (sym c.has_server.ensures ∙ c.if-not-has_server.false) in
-    let below : s < n = omega (arith, stands.number, l) in
+    let below : s < servers_of w = omega (arith, stands.number, l) in
     let e = Rot s c.args.job c.args.sector c.args.bytes.now in
-    let far = no_slot n s c.args.job (length c.args.self.now.files.items) (sym c.has_file.ensures ∙ c.if-not-has_file.true) stands.files below in
-    refuses n past e _ c.args.self.now refl (stops n past e _ (rot_past n s c.args.job below far)) stands
+    let far = no_slot w s c.args.job (length c.args.self.now.files.items) (sym c.has_file.ensures ∙ c.if-not-has_file.true) stands.files below in
+    refuses w past e _ c.args.self.now refl (stops w past e _ (rot_past w s c.args.job below far)) stands
 
 pub returns-in_default : goal.returns-in_default
-returns-in_default c n past stands = (refl, settled n past c.args.self.now _ stands c.settle.ensures.same refl refl refl)
+returns-in_default c w past stands = (refl, settled w past c.args.self.now _ stands c.settle.ensures.same refl refl refl)
 
 pub returns-in-Ok-rot : goal.returns-in-Ok-rot
-returns-in-Ok-rot c n past stands =
+returns-in-Ok-rot c w past stands =
     let s = c.args.server in
     let j = c.args.job in
     let l = lt_of s (length c.args.self.now.servers.items) (sym c.has_server.ensures ∙ c.if-not-has_server.false) in
-    let below : s < n = omega (arith, stands.number, l) in
+    let below : s < servers_of w = omega (arith, stands.number, l) in
     let slot = has_slot s j (length c.args.self.now.files.items) (sym c.has_file.ensures ∙ c.if-not-has_file.false) in
     let at = node_at c.args.self.now.files.items (16 * s + j) c.place_of.result c.index_mut.result.now c.place_of.ensures slot.1 c.index_mut.ensures.value in
     let held = stands.files_are s j c.index_mut.result.now slot.0 at in
     let e = Rot s j c.args.sector c.args.bytes.now in
-    quiet_ends n past s j e (Rotted s j c.args.sector c.args.bytes.now) (put c.args.sector c.args.bytes.now (content n past s j)) c.rot.new.self c.in-Ok.first c.plain.result c.args.self.now _ stands
+    quiet_ends w past s j e (Rotted s j c.args.sector c.args.bytes.now) (put c.args.sector c.args.bytes.now (content w past s j)) c.rot.new.self c.in-Ok.first c.plain.result c.args.self.now _ stands
     (record { slot = slot.0; there = slot.1; place = c.place_of.result; place_is = c.place_of.ensures; set_is = refl; sent_is = c.settle.ensures.same; client_is = refl; servers_are = refl })
-    (rots n past s j c.args.sector c.args.bytes.now)
+    (rots w past s j c.args.sector c.args.bytes.now)
     (c.in-Ok-rot.ensures.ok ∙ ap (with_sector c.args.sector c.args.bytes.now) held)
-    (goes n past e (rot_free n s j below slot.0))
+    (goes w past e (rot_free w s j below slot.0))
     refl
     (c.in-Ok.ensures.first ∙ ap (λ (fs : List (List ℕ)). length fs) c.settle.ensures.same)
     c.plain.ensures
 
 pub returns-in-Err : goal.returns-in-Err
-returns-in-Err c n past stands =
+returns-in-Err c w past stands =
     let s = c.args.server in
     let j = c.args.job in
     let slot = has_slot s j (length c.args.self.now.files.items) (sym c.has_file.ensures ∙ c.if-not-has_file.false) in
     let at = node_at c.args.self.now.files.items (16 * s + j) c.place_of.result c.index_mut.result.now c.place_of.ensures slot.1 c.index_mut.ensures.value in
     let held = stands.files_are s j c.index_mut.result.now slot.0 at in (
       refl,
-      file_kept n past s j c.rot.new.self c.args.self.now _ stands
+      file_kept w past s j c.rot.new.self c.args.self.now _ stands
           (record { slot = slot.0; there = slot.1; place = c.place_of.result; place_is = c.place_of.ensures; set_is = refl; sent_is = c.settle.ensures.same; client_is = refl; servers_are = refl })
           (c.in-Err.ensures.err ∙ held),
     )

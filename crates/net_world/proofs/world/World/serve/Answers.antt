@@ -4,17 +4,17 @@ use Rattle.net_world.proofs.ServeLemmas.{serve_ends, serve_fails, none_serves, l
 use Rattle.net_world.proofs.world.World.serve.Goals as goal
 
 pub returns-then-not-has_server : goal.returns-then-not-has_server
-returns-then-not-has_server c n past stands =
-    none_serves n past c.args.server c.args.input c.args.self.now stands (sym c.has_server.ensures ∙ c.if-not-has_server.true)
+returns-then-not-has_server c w past stands =
+    none_serves w past c.args.server c.args.input c.args.self.now stands (sym c.has_server.ensures ∙ c.if-not-has_server.true)
 
 pub returns-in_default : goal.returns-in_default
-returns-in_default c n past stands =
-    lacks n past c.args.server c.args.input c.args.self.now _ stands c.settle.ensures.same refl refl refl
+returns-in_default c w past stands =
+    lacks w past c.args.server c.args.input c.args.self.now _ stands c.settle.ensures.same refl refl refl
 
 pub returns-in-Err : goal.returns-in-Err
-returns-in-Err c n past stands =
+returns-in-Err c w past stands =
     let l = lt_of c.args.server (length c.args.self.now.servers.items) (sym c.has_server.ensures ∙ c.if-not-has_server.false) in
-    serve_fails n past c.args.server c.args.input c.in-Err.fault c.args.self.now _ stands
+    serve_fails w past c.args.server c.args.input c.in-Err.fault c.args.self.now _ stands
     (record {
       was = c.index_mut.result.now;
       node = c.step.new.self;
@@ -24,10 +24,10 @@ returns-in-Err c n past stands =
     })
 
 pub returns : goal.returns
-returns c n past stands =
+returns c w past stands =
     let l = lt_of c.args.server (length c.args.self.now.servers.items) (sym c.has_server.ensures ∙ c.if-not-has_server.false) in
     let outs = c.in-Ok-step.outs in
-    serve_ends n past c.args.server c.args.input outs _ c.args.self.now _ stands
+    serve_ends w past c.args.server c.args.input outs _ c.args.self.now _ stands
     (record {
       was = c.index_mut.result.now;
       node = c.step.new.self;

@@ -1,0 +1,13 @@
+use Rattle.std.proofs.Common.{refl, subst}
+use Rattle.net_world.specs.ServerNodes.{Stands}
+use Rattle.net_world.proofs.server_node.ServerNode.off.Goals as goal
+
+pub returns-in-On : goal.returns-in-On
+returns-in-On c o past stands =
+    let h = subst (Stands o past) c.in-On.is stands in
+    (c.off.ensures.says o past h.0, refl)
+
+pub returns-in-Off : goal.returns-in-Off
+returns-in-Off c o past stands =
+    let h = subst (Stands o past) c.in-Off.is stands in
+    (h.0, refl)
