@@ -1,123 +1,110 @@
-//! What a client takes of its servers: a state of a new key, which is saved, and one that is kept, each
-//! beside 0, 100 and 1,000 kept states, and 1,000 requests for kept states: medians of five, in processor
-//! time.
+//! What a client takes of its server: states, of a new key and again, and requests for kept states.
 
-mod deliveries;
-
-use crate::clock::{nanos_since, now};
-use crate::rounds::{ROUNDS, median};
+use crate::jobs::record_of;
+use crate::packets::packet_of;
 use crate::trouble::Trouble;
+use crate::watch::Watch;
 use client_core::Client;
-use deliveries::{client_with, state, want};
-use disk_model::MemNotes;
-use messages::Frame;
-use std::time::CpuClock;
-
-/// How many states are kept.
-const KEPT: [u32; 3] = [0, 100, 1_000];
+use disk_model::{MemNotes, Notes};
+use fc_base::{Attempt, JobNo, JobParts, Key, Kind, RunNo, ServerNo, Verify};
+use messages::{Body, Frame, Node};
+use std::alloc::Global;
+use std::time::{Clock, CpuClock};
+use verify_state::VerifyState;
 
 /// How often a round delivers a state, to a client of its own.
 const TIMES: u64 = 200;
 
-/// The nanoseconds of a delivery of a new state, and of the same state again.
-#[derive(Clone, Copy)]
-struct Times {
-    new: u128,
-    again: u128,
+/// How many kept states are asked for.
+const REQUESTS: u32 = 1_000;
+
+const JOB: JobParts = JobParts {
+    kind: Kind::Sequential,
+    verify: Verify::Stamp,
+    pattern: 0,
+    bs: 4096,
+    blocks: 1_024,
+    total: 1_024,
+    seed: 7,
+    depth: 16,
+    window: 256,
+};
+
+/// A state of a new key comes to clients that keep so many, or comes again.
+pub fn states<R: AllocGlobal + Clock + CpuClock>(
+    rt: &R,
+    watch: &mut Watch,
+    kept: u32,
+    is_again: bool,
+) -> Result<u64, Trouble> {
+    let note = note_of(rt.alloc(), kept)?;
+    for _ in 0..TIMES {
+        take_one(rt, watch, &note, kept, is_again)?;
+    }
+    Ok(TIMES)
 }
 
-/// Prints a line for each of them.
-pub fn measure<R: AllocGlobal + Print + CpuClock>(rt: &R) -> Result<(), Trouble> {
-    for kept in KEPT {
-        let Times { new, again } = time_kept(rt, kept)?;
-        println!(rt; "{kept} kept: a new state {new} ns, the same again {again} ns")?;
-    }
-    let nanos = time_wants(rt)?;
-    println!(rt; "1000 requests for kept states: {nanos} ns")?;
+/// A client over this note takes the state with this index, once or again.
+fn take_one<R: AllocGlobal + Clock + CpuClock>(
+    rt: &R,
+    watch: &mut Watch,
+    note: &[u8],
+    index: u32,
+    is_again: bool,
+) -> Result<(), Trouble> {
+    let mut client = client_over(rt.alloc(), note)?;
+    take_all(
+        &mut client,
+        index,
+        index.saturating_add(u32::from(is_again)),
+    )?;
+    take(rt, watch, &mut client, index)
+}
+
+/// The client takes this state, which the watch measures.
+fn take<R: Clock + CpuClock>(
+    rt: &R,
+    watch: &mut Watch,
+    client: &mut Client<MemNotes>,
+    index: u32,
+) -> Result<(), Trouble> {
+    let frame = state(index)?;
+    watch.start(rt);
+    client.deliver(frame)?;
+    watch.stop(rt);
     Ok(())
 }
 
-/// The medians beside so many kept states.
-fn time_kept<R: AllocGlobal + CpuClock>(rt: &R, kept: u32) -> Result<Times, Trouble> {
-    let mut new = [0; ROUNDS];
-    let mut again = [0; ROUNDS];
-    for round in 0..ROUNDS {
-        let times = time_round(rt, kept)?;
-        new[round] = times.new;
-        again[round] = times.again;
+/// The client takes the states from one index to another.
+fn take_all(client: &mut Client<MemNotes>, from: u32, to: u32) -> Result<(), Trouble> {
+    for index in from..to {
+        client.deliver(state(index)?)?;
     }
-    Ok(Times {
-        new: median(new),
-        again: median(again),
-    })
+    Ok(())
 }
 
-/// The means of a round.
-fn time_round<R: AllocGlobal + CpuClock>(rt: &R, kept: u32) -> Result<Times, Trouble> {
-    let mut new: u128 = 0;
-    let mut again: u128 = 0;
-    for _ in 0..TIMES {
-        let times = time_once(rt, kept)?;
-        new = new.saturating_add(times.new);
-        again = again.saturating_add(times.again);
-    }
-    let count = u128::from(TIMES);
-    Ok(Times {
-        new: new / count,
-        again: again / count,
-    })
-}
-
-/// The times of a client of its own.
-fn time_once<R: AllocGlobal + CpuClock>(rt: &R, kept: u32) -> Result<Times, Trouble> {
-    let mut client = client_with(rt.alloc(), kept)?;
-    time_state(rt, &mut client, kept)
-}
-
-/// The times of the state with this index.
-fn time_state<R: CpuClock>(
+/// A client is asked for kept states, which it sends: with the making of the packets.
+pub fn requests<R: AllocGlobal + Clock + CpuClock>(
     rt: &R,
-    client: &mut Client<MemNotes>,
-    index: u32,
-) -> Result<Times, Trouble> {
-    let new = time_delivery(rt, client, state(index)?)?;
-    let again = time_delivery(rt, client, state(index)?)?;
-    Ok(Times { new, again })
+    watch: &mut Watch,
+) -> Result<u64, Trouble> {
+    let note = note_of(rt.alloc(), REQUESTS)?;
+    let mut client = client_over(rt.alloc(), &note)?;
+    ask_all(rt, watch, &mut client)
 }
 
-/// The nanoseconds of a delivery.
-fn time_delivery<R: CpuClock>(
+/// The same of this client.
+fn ask_all<R: Clock + CpuClock>(
     rt: &R,
+    watch: &mut Watch,
     client: &mut Client<MemNotes>,
-    frame: Frame,
-) -> Result<u128, Trouble> {
-    let start = now(rt)?;
-    client.deliver(frame)?;
-    nanos_since(rt, start)
-}
-
-/// The median time of 1,000 requests for kept states, with the making of the packets, in nanoseconds.
-fn time_wants<R: AllocGlobal + CpuClock>(rt: &R) -> Result<u128, Trouble> {
-    let mut times = [0; ROUNDS];
-    for round in 0..ROUNDS {
-        times[round] = time_wants_once(rt)?;
-    }
-    Ok(median(times))
-}
-
-/// The time at a client of its own.
-fn time_wants_once<R: AllocGlobal + CpuClock>(rt: &R) -> Result<u128, Trouble> {
-    let mut client = client_with(rt.alloc(), 1_000)?;
-    time_wants_at(rt, &mut client)
-}
-
-/// The time at this client.
-fn time_wants_at<R: CpuClock>(rt: &R, client: &mut Client<MemNotes>) -> Result<u128, Trouble> {
-    let start = now(rt)?;
-    for index in 0..1_000 {
+) -> Result<u64, Trouble> {
+    watch.start(rt);
+    for index in 0..REQUESTS {
         ask(client, index)?;
     }
-    nanos_since(rt, start)
+    watch.stop(rt);
+    Ok(u64::from(REQUESTS))
 }
 
 /// A check asks for the state of the key with this index, which is sent.
@@ -127,4 +114,54 @@ fn ask(client: &mut Client<MemNotes>, index: u32) -> Result<(), Trouble> {
     } else {
         Err(Trouble::NoPacket)
     }
+}
+
+/// The note of a client that keeps so many states.
+fn note_of(alloc: Global, kept: u32) -> Result<Vec<u8>, Trouble> {
+    let mut client = client_over(alloc, &[])?;
+    take_all(&mut client, 0, kept)?;
+    Ok(client.off().load()?)
+}
+
+/// A client of one server, over this note.
+fn client_over(alloc: Global, note: &[u8]) -> Result<Client<MemNotes>, Trouble> {
+    let notes = MemNotes::new(Vec::from_slice(alloc, note)?);
+    match Client::restart(alloc, 1, false, notes) {
+        Ok(client) => Ok(client),
+        Err((_, fault)) => Err(Trouble::Refused(fault)),
+    }
+}
+
+/// The key with this index: there are 16 jobs in a run.
+fn key(index: u32) -> Key {
+    Key {
+        run: RunNo(u64::from(index / 16) + 1),
+        server: ServerNo(0),
+        job: JobNo(index % 16),
+    }
+}
+
+/// The State of the key with this index.
+fn state(index: u32) -> Result<Frame, Trouble> {
+    let job = record_of(JOB)?;
+    let state = VerifyState::make_marked(
+        key(index),
+        &job,
+        100,
+        [1, 2, 3, 4],
+        [u64::MAX, (1 << 36) - 1, 0, 0],
+    )?;
+    frame(Body::State { jobs: 16, state })
+}
+
+/// A check asks for the state of the key with this index.
+fn want(index: u32) -> Result<Frame, Trouble> {
+    let Key { run, job, .. } = key(index);
+    let attempt = Attempt(1);
+    frame(Body::WantState { run, attempt, job })
+}
+
+fn frame(body: Body) -> Result<Frame, Trouble> {
+    let packet = packet_of(Node::Server(ServerNo(0)), Node::Client, body)?;
+    Ok(Frame::Whole(packet))
 }

@@ -1,19 +1,24 @@
-//! A server and its client, each of which can stand under a lock, and the network between them.
+//! A server and its client, each of which can stand under a lock, the network between them, and the writes of
+//! a job at a server under its lock.
 
 ghost use Rattle.std.specs.Prelude.{◌≤◌};
 
 use crate::jobs::issued;
 use crate::packets::text_of;
+use crate::servers::RANDOM_TEXT;
 use crate::trouble::Trouble;
+use crate::watch::Watch;
 use client_cell::{ClientCell, Command, Request};
 use disk_model::MemNotes;
 use engine::Ticket;
-use fc_base::{Fault, JobNo, ServerNo};
+use fc_base::{Fault, JobNo, MAX_WRITES, ServerNo};
 use hub::Hub;
 use node_history::{Answer, Node, Told};
 use server_cell::{Seat, ServerCell, Task};
 use server_core::WriteEnd;
 use std::alloc::Global;
+use std::sync::{Mutex, Wait};
+use std::time::{Clock, CpuClock};
 
 /// A server, over a note in memory.
 pub type Server = ServerCell<MemNotes>;
@@ -125,4 +130,33 @@ fn told(answer: Result<Told, Fault>) -> Result<(), Trouble> {
         Ok(_) => Ok(()),
         Err(fault) => Err(Trouble::Refused(fault)),
     }
+}
+
+/// A million writes are asked for and done, each call under the lock.
+pub fn under_a_lock<R: AllocGlobal + Clock + CpuClock + Wait>(
+    rt: &R,
+    watch: &mut Watch,
+) -> Result<u64, Trouble> {
+    let Begun { server, mut seats } = begin_run(rt.alloc(), 1, RANDOM_TEXT)?;
+    let cell = Mutex::new(server);
+    match seats.first_mut() {
+        Some(seat) => write_all(rt, watch, &cell, seat),
+        None => Err(Trouble::NoSeat),
+    }
+}
+
+/// The same from this seat.
+fn write_all<R: Clock + CpuClock + Wait>(
+    rt: &R,
+    watch: &mut Watch,
+    cell: &Mutex<Server>,
+    seat: &mut Seat,
+) -> Result<u64, Trouble> {
+    watch.start(rt);
+    for _ in 0..MAX_WRITES {
+        let ticket = issue(&mut cell.lock(rt), seat)?;
+        end(&mut cell.lock(rt), seat, ticket)?;
+    }
+    watch.stop(rt);
+    Ok(MAX_WRITES)
 }

@@ -1,99 +1,116 @@
-//! The longest text, which is cut into pieces, read and put together, beside a copy of as many bytes:
-//! medians of five, in processor time.
+//! The longest text, which is cut into pieces, read and put together.
 
-mod load;
-
-use crate::clock::{nanos_since, now};
-use crate::copies::copy;
-use crate::rounds::{ROUNDS, median};
+use crate::packets::{frame_at, packet_of, text_of};
 use crate::trouble::Trouble;
-use fc_base::MAX_TEXT;
-use load::{Load, Work, make_load};
-use std::time::CpuClock;
+use crate::watch::Watch;
+use fc_base::{MAX_TEXT, RunNo, ServerNo};
+use messages::{Assembly, Body, Frame, Frames, Node, Packet, Piece, frames_of};
+use std::alloc::Global;
+use std::time::{Clock, CpuClock};
 
 /// How often a round does what it measures.
-const TIMES: u32 = 20_000;
+const TIMES: u64 = 20_000;
 
-/// What is measured, with its name.
-const WORKS: [(&str, Work); 3] = [
-    ("cut", Work::Cut),
-    ("read", Work::Read),
-    ("join", Work::Join),
-];
-
-/// Prints a line for each kind of work, and one for the copy.
-pub fn measure<R: AllocGlobal + Print + CpuClock>(rt: &R) -> Result<(), Trouble> {
-    let load = make_load(rt.alloc())?;
-    measure_with(rt, &load)
+/// What is done with a text.
+#[derive(Clone, Copy)]
+pub enum Part {
+    /// Its packet is cut.
+    Cut,
+    /// The frames of its pieces are read.
+    Read,
+    /// The pieces are taken, the last one first, and the packet is given.
+    Join,
 }
 
-/// The same of this packet.
-fn measure_with<R: AllocGlobal + Print + CpuClock>(rt: &R, load: &Load) -> Result<(), Trouble> {
-    for (name, work) in WORKS {
-        let nanos = time(rt, load, work)?;
-        println!(rt; "{name}: {nanos} ns for a text of {MAX_TEXT} bytes")?;
-    }
-    let nanos = time_copy(rt)?;
-    println!(rt; "copy: {nanos} ns for {MAX_TEXT} bytes")?;
-    Ok(())
+/// A packet, its frames, and its pieces.
+#[derive(Drop)]
+struct Load {
+    packet: Packet,
+    frames: Frames,
+    pieces: Vec<Piece>,
 }
 
-/// The median time of a work, in nanoseconds.
-fn time<R: AllocGlobal + CpuClock>(rt: &R, load: &Load, work: Work) -> Result<u128, Trouble> {
-    let mut times = [0; ROUNDS];
-    for round in 0..ROUNDS {
-        times[round] = time_round(rt, load, work)?;
-    }
-    Ok(median(times))
-}
-
-/// The time of one work, in the mean of a round.
-fn time_round<R: AllocGlobal + CpuClock>(rt: &R, load: &Load, work: Work) -> Result<u128, Trouble> {
-    let start = now(rt)?;
-    for _ in 0..TIMES {
-        load.work_once(rt.alloc(), work)?;
-    }
-    Ok(nanos_since(rt, start)? / u128::from(TIMES))
-}
-
-/// The median time of a copy between two buffers, in nanoseconds.
-fn time_copy<R: AllocGlobal + CpuClock>(rt: &R) -> Result<u128, Trouble> {
-    let mut times = [0; ROUNDS];
-    for round in 0..ROUNDS {
-        times[round] = time_copies(rt)?;
-    }
-    Ok(median(times))
-}
-
-/// The time of one copy, in the mean of a round.
-fn time_copies<R: AllocGlobal + CpuClock>(rt: &R) -> Result<u128, Trouble> {
-    let mut source = vec![in rt.alloc(); 0u8; MAX_TEXT]?;
-    let mut target = vec![in rt.alloc(); 1u8; MAX_TEXT]?;
-    time_between(rt, &mut source, &mut target)
-}
-
-/// The same between these buffers. Each copies other bytes.
-fn time_between<R: CpuClock>(
+/// Does this to the longest text.
+pub fn round<R: AllocGlobal + Clock + CpuClock>(
     rt: &R,
-    source: &mut [u8],
-    target: &mut [u8],
-) -> Result<u128, Trouble> {
-    let start = now(rt)?;
-    for time in 0..TIMES {
-        copy_with((time % 251) as u8, source, target)?;
+    watch: &mut Watch,
+    part: Part,
+) -> Result<u64, Trouble> {
+    let load = make_load(rt.alloc())?;
+    watch.start(rt);
+    for _ in 0..TIMES {
+        load.work(rt.alloc(), part)?;
     }
-    Ok(nanos_since(rt, start)? / u128::from(TIMES))
+    watch.stop(rt);
+    Ok(TIMES)
 }
 
-/// Copies the bytes, of which this is the last.
-fn copy_with(byte: u8, source: &mut [u8], target: &mut [u8]) -> Result<(), Trouble> {
-    if let Some(last) = source.last_mut() {
-        *last = byte;
+/// The packet with the longest text.
+fn make_load(alloc: Global) -> Result<Load, Trouble> {
+    let packet = packet(alloc)?;
+    let frames = frames_of(alloc, &packet)?;
+    let pieces = pieces_in(alloc, &frames)?;
+    Ok(Load {
+        packet,
+        frames,
+        pieces,
+    })
+}
+
+fn packet(alloc: Global) -> Result<Packet, Trouble> {
+    let run = RunNo(1);
+    let text = text_of(vec![in alloc; b'x'; MAX_TEXT]?)?;
+    packet_of(
+        Node::Client,
+        Node::Server(ServerNo(0)),
+        Body::Jobs { run, text },
+    )
+}
+
+impl Load {
+    /// Does this once, which makes frames, pieces or a packet.
+    fn work(&self, alloc: Global, part: Part) -> Result<(), Trouble> {
+        let made = match part {
+            Part::Cut => frames_of(alloc, &self.packet)?.len(),
+            Part::Read => pieces_in(alloc, &self.frames)?.len(),
+            Part::Join => join(alloc, &self.pieces)?,
+        };
+        if made == 0 {
+            Err(Trouble::NoPiece)
+        } else {
+            Ok(())
+        }
     }
-    copy(target, source);
-    if target.last() == Some(&byte) {
-        Ok(())
-    } else {
-        Err(Trouble::Differs)
+}
+
+/// The pieces that these frames are.
+fn pieces_in(alloc: Global, frames: &Frames) -> Result<Vec<Piece>, Trouble> {
+    let mut pieces = Vec::new(alloc);
+    for index in 0..frames.len() {
+        pieces.push(piece_at(alloc, frames, index)?)?;
     }
+    Ok(pieces)
+}
+
+fn piece_at(alloc: Global, frames: &Frames, index: usize) -> Result<Piece, Trouble> {
+    match frame_at(alloc, frames, index)? {
+        Frame::Piece(piece) => Ok(piece),
+        Frame::Whole(_) => Err(Trouble::NoPiece),
+    }
+}
+
+/// Takes the pieces, the last one first, until they give a packet. How many do.
+fn join(alloc: Global, pieces: &[Piece]) -> Result<usize, Trouble> {
+    let mut kept = Assembly::new(alloc);
+    join_in(&mut kept, pieces)
+}
+
+fn join_in(kept: &mut Assembly, pieces: &[Piece]) -> Result<usize, Trouble> {
+    for piece in pieces.iter().rev() {
+        if kept.look(piece)?.is_some() {
+            return Ok(1);
+        }
+        kept.take(piece)?;
+    }
+    Ok(0)
 }

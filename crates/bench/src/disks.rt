@@ -1,0 +1,132 @@
+//! Disks to which each write of a job was written: a check of one, and checks of eight in threads; and a
+//! disk of which many sectors are rotted.
+
+use crate::jobs::{KEY, record_of};
+use crate::trouble::Trouble;
+use crate::watch::Watch;
+use disk_model::{Disk, MemDisk, is_block};
+use fc_base::{CheckReport, JobParts, JobRecord, Kind, Seq, Verify};
+use parallel_checks::{Task, check_jobs};
+use recheck::check_disk;
+use std::alloc::Global;
+use std::thread::Threads;
+use std::time::{Clock, CpuClock};
+use write_order::fill_block;
+
+/// How many bytes a disk has.
+pub const BYTES: u64 = 64 << 20;
+
+/// How many disks threads check.
+const DISKS: u64 = 8;
+
+/// How many sectors are rotted.
+const SECTORS: u64 = 60_000;
+
+/// How far apart they are: 64 KiB, in sectors.
+const STEP: u64 = 128;
+
+/// Checks a disk.
+pub fn check<R: AllocGlobal + Clock + CpuClock>(
+    rt: &R,
+    watch: &mut Watch,
+    verify: Verify,
+    bs: u64,
+) -> Result<u64, Trouble> {
+    let job = job_of(verify, bs)?;
+    let mut disk = written(rt.alloc(), &job)?;
+    watch.start(rt);
+    let report = check_disk(rt.alloc(), &job, KEY, None, false, &mut disk)?;
+    watch.stop(rt);
+    count_sound(&[report], &job)
+}
+
+/// Checks eight disks by so many threads. How many MiB they have.
+pub fn check_by<R: AllocGlobal + Clock + CpuClock + Threads + Sync>(
+    rt: &R,
+    watch: &mut Watch,
+    threads: u32,
+) -> Result<u64, Trouble> {
+    let job = job_of(Verify::Stamp, 4096)?;
+    let tasks = tasks(rt.alloc(), &job)?;
+    watch.start(rt);
+    let reports = check_jobs(rt, rt.alloc(), tasks, threads.clamp(1, 16))?;
+    watch.stop(rt);
+    count_sound(&reports, &job)?;
+    Ok(DISKS * (BYTES >> 20))
+}
+
+/// How many reports there are, if each is of all blocks, and has no fault.
+fn count_sound(reports: &[CheckReport], job: &JobRecord) -> Result<u64, Trouble> {
+    for report in reports {
+        if report.faults() != 0 || report.checked() != job.blocks() {
+            return Err(Trouble::FaultFound);
+        }
+    }
+    Ok(reports.len() as u64)
+}
+
+/// A task for each disk.
+fn tasks(alloc: Global, job: &JobRecord) -> Result<Vec<Task<MemDisk>>, Trouble> {
+    let mut tasks = Vec::new(alloc);
+    for _ in 0..DISKS {
+        tasks.push(task(alloc, job)?)?;
+    }
+    Ok(tasks)
+}
+
+fn task(alloc: Global, job: &JobRecord) -> Result<Task<MemDisk>, Trouble> {
+    Ok(Task {
+        rec: *job,
+        key: KEY,
+        state: None,
+        fatal: false,
+        disk: written(alloc, job)?,
+    })
+}
+
+/// A job that writes each block of a disk once.
+fn job_of(verify: Verify, bs: u64) -> Result<JobRecord, Trouble> {
+    let blocks = BYTES / bs.max(1);
+    record_of(JobParts {
+        kind: Kind::Sequential,
+        verify,
+        pattern: if verify == Verify::Pattern { 0xa5 } else { 0 },
+        bs,
+        blocks,
+        total: blocks,
+        seed: 1,
+        depth: 16,
+        window: 16,
+    })
+}
+
+/// A disk to which each write of the job was written.
+fn written(alloc: Global, job: &JobRecord) -> Result<MemDisk, Trouble> {
+    let mut disk = MemDisk::new(alloc);
+    disk.power_on(1);
+    write_all(alloc, &mut disk, job)?;
+    Ok(disk)
+}
+
+/// Writes each block of the job to this disk.
+fn write_all(alloc: Global, disk: &mut MemDisk, job: &JobRecord) -> Result<(), Trouble> {
+    let mut bytes = vec![in alloc; 0u8; job.bs() as usize]?;
+    for block in 0..job.blocks() {
+        fill_block(KEY, job, Seq(u64::from(block)), block, &mut bytes);
+        if !is_block(block, bytes.len()) {
+            return Err(Trouble::NoBlock);
+        }
+        disk.write(1, block, &bytes)?;
+    }
+    Ok(())
+}
+
+/// Rots sectors of a disk, each in another part of it.
+pub fn rot<R: AllocGlobal + Print>(rt: &R) -> Result<(), Trouble> {
+    let mut disk = MemDisk::new(rt.alloc());
+    for number in 0..SECTORS {
+        disk.rot(number * STEP, [1; 512])?;
+    }
+    println!(rt; "{SECTORS} sectors rotted")?;
+    Ok(())
+}
