@@ -13,22 +13,28 @@ type Client = ClientCell<FaultNotes>;
 
 type Server = ServerCell<FaultNotes>;
 
-/// The servers, and a seat of each.
+/// The place of the first twin among the servers.
+pub const TWINS: usize = 2;
+
+/// The two servers that play, and behind them their twins, which do nothing but elsewhere; and the one seat
+/// of each.
 #[derive(Drop)]
 pub struct Cells {
     pub servers: Vec<Server>,
-    pub seats: Vec<Vec<Seat>>,
+    pub seats: Vec<Seat>,
 }
 
 impl Cells {
-    /// Servers 0 and 1, over these notes.
-    fn open(alloc: Global, first: FaultNotes, second: FaultNotes) -> Result<Cells, Fault> {
+    /// All four, of which the first that plays has the notes of the play.
+    pub fn open(alloc: Global, play: &Play) -> Result<Cells, Fault> {
         let mut cells = Cells {
             servers: Vec::new(alloc),
             seats: Vec::new(alloc),
         };
-        cells.open_one(alloc, 0, first)?;
-        cells.open_one(alloc, 1, second)?;
+        cells.open_one(alloc, 0, notes_of(alloc, play)?)?;
+        for place in 1..4 {
+            cells.open_one(alloc, place % 2, blank(alloc))?;
+        }
         Ok(cells)
     }
 
@@ -43,21 +49,18 @@ impl Cells {
     }
 
     fn add(&mut self, server: Server, seats: Vec<Seat>) -> Result<(), Fault> {
-        push(&mut self.servers, server)?;
-        push(&mut self.seats, seats)
+        for seat in seats {
+            push(&mut self.seats, seat)?;
+        }
+        push(&mut self.servers, server)
     }
 
-    /// What a server is asked from its one seat.
+    /// What a server is asked from its seat.
     pub fn apply(&mut self, number: u32, task: ServerTask) -> Result<Told, Fault> {
-        let Some(server) = self.servers.get_mut(number as usize) else {
-            return Err(Fault::NoServer);
-        };
-        let Some(seats) = self.seats.get_mut(number as usize) else {
-            return Err(Fault::NoServer);
-        };
-        match seats.get_mut(0) {
-            Some(seat) => server.apply(seat, task),
-            None => Err(Fault::WrongSeat),
+        let place = number as usize;
+        match (self.servers.get_mut(place), self.seats.get_mut(place)) {
+            (Some(server), Some(seat)) => server.apply(seat, task),
+            _ => Err(Fault::NoServer),
         }
     }
 }
@@ -76,13 +79,6 @@ pub struct Clients {
     pub rival: Client,
 }
 
-/// The servers that play, and their twins, which do nothing but elsewhere.
-#[derive(Drop)]
-pub struct Sides {
-    pub cells: Cells,
-    pub twins: Cells,
-}
-
 /// Two clients, over blank notes.
 pub fn two_clients(alloc: Global, servers: u32) -> Result<Clients, Fault> {
     let client = client_of(alloc, servers)?;
@@ -99,13 +95,6 @@ fn client_of(alloc: Global, servers: u32) -> Result<Client, Fault> {
         Ok(cell) => Ok(cell),
         Err((_, fault)) => Err(fault),
     }
-}
-
-/// Both sides, of which the first server that plays has the notes of the play.
-pub fn both_sides(alloc: Global, play: &Play) -> Result<Sides, Fault> {
-    let cells = Cells::open(alloc, notes_of(alloc, play)?, blank(alloc))?;
-    let twins = Cells::open(alloc, blank(alloc), blank(alloc))?;
-    Ok(Sides { cells, twins })
 }
 
 /// Blank notes that don't fail.

@@ -3,7 +3,7 @@
 /// What happens. Servers are named by their number, and asked from their one seat; a frame comes to a node
 /// that waits longest for it. What happens elsewhere goes to another hub, and rivals are clients there: one
 /// begins another run, or the same, whose first frame comes to the first server's twin.
-#[derive(Clone, Copy, Debug, PartialEq, Eq)]
+#[derive(Clone, Copy)]
 pub enum Step {
     Begin,
     Tick,
@@ -25,14 +25,13 @@ pub enum Step {
     Forged(u32, u64, u64),
 }
 
-/// What is handed in: the hub, or the one elsewhere; which cells; and of servers and seats whether they are
-/// those that played, or their twins.
+/// What is handed in: the hub, or the one elsewhere; from which place to which the servers, of which 0 and 1
+/// played, and 2 and 3 are their twins; and the place of the seat.
 #[derive(Clone, Copy)]
 pub struct Handed {
     pub elsewhere: bool,
-    pub cells: (usize, usize),
-    pub twins: bool,
-    pub twin_seats: bool,
+    pub servers: (usize, usize),
+    pub seat: usize,
 }
 
 /// How many servers the client has; at which of its saves the first server's notes fail, and what they

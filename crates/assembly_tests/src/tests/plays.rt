@@ -9,14 +9,13 @@ const CLIENT: u32 = 8;
 /// All that took part is handed in.
 pub const OWN: Handed = Handed {
     elsewhere: false,
-    cells: (0, 2),
-    twins: false,
-    twin_seats: false,
+    servers: (0, 2),
+    seat: 0,
 };
 
 /// The client and the first server.
 pub const FIRST: Handed = Handed {
-    cells: (0, 1),
+    servers: (0, 1),
     ..OWN
 };
 

@@ -1,6 +1,6 @@
 //! A client and two servers, with the hub between them, as one thread uses them.
 
-use super::cells::{Cells, Clients, Sides, both_sides, two_clients};
+use super::cells::{Cells, Clients, TWINS, two_clients};
 use super::play::{Handed, Play, Step};
 use assembly::{AssembleFault, Assembled, assemble};
 use client_cell::{Command, Request, Task as ClientTask};
@@ -12,17 +12,32 @@ use node_history::{Node, Told};
 use server_cell::Task as ServerTask;
 use server_core::WriteEnd;
 use std::alloc::Global;
+use std::slice;
 
 const WRITING: &[u8] = b"[a]\nrw=write\nbs=512\nsize=1k\niodepth=2\n";
 
 const LONGER: &[u8] = b"[a]\nrw=write\nbs=512\nsize=2k\niodepth=2\n";
 
-/// What is assembled: this order, or another, which differs at this place; or what isn't alike.
-#[derive(Clone, Copy, Debug, PartialEq, Eq)]
+/// What is assembled: the order that was wanted, or another; or what isn't alike.
+#[derive(Clone, Copy)]
 pub enum Shown {
     Order,
-    Other(usize),
+    Other,
     Unlike(u32, u64),
+}
+
+impl Shown {
+    pub fn is_order(self) -> bool {
+        matches!(self, Shown::Order)
+    }
+
+    /// Whether this node is unlike, at this place.
+    pub fn is_unlike(self, node: u32, at: u64) -> bool {
+        match self {
+            Shown::Unlike(unlike, place) => unlike == node && place == at,
+            _ => false,
+        }
+    }
 }
 
 /// The nodes, and the hubs.
@@ -32,34 +47,41 @@ struct Stage {
     hub: Hub,
     elsewhere: Hub,
     clients: Clients,
-    sides: Sides,
+    cells: Cells,
 }
 
 /// What is assembled after a play; played anew where memory runs out once.
-pub fn outcome_of(alloc: Global, play: &Play, order: &[(u32, u64)]) -> Option<Shown> {
-    match played(alloc, play, order) {
-        Ok(outcome) => Some(outcome),
-        Err(_) => played(alloc, play, order).ok(),
+pub fn outcome_of(alloc: Global, play: &Play, order: &[(u32, u64)]) -> Shown {
+    for _ in 0..2 {
+        if let Ok(shown) = played(alloc, play, order) {
+            return shown;
+        }
     }
+    Shown::Other
 }
 
 fn played(alloc: Global, play: &Play, order: &[(u32, u64)]) -> Result<Shown, Fault> {
     let mut stage = Stage::new(alloc, play)?;
-    stage.take_all(play.steps)?;
-    stage.hand_in(play.handed, order)
+    stage.play(play, order)
 }
 
 impl Stage {
     fn new(alloc: Global, play: &Play) -> Result<Stage, Fault> {
         let clients = two_clients(alloc, play.servers)?;
-        let sides = both_sides(alloc, play)?;
+        let cells = Cells::open(alloc, play)?;
         Ok(Stage {
             alloc,
             hub: Hub::new(alloc),
             elsewhere: Hub::new(alloc),
             clients,
-            sides,
+            cells,
         })
+    }
+
+    /// What is assembled after the steps of a play.
+    fn play(&mut self, play: &Play, order: &[(u32, u64)]) -> Result<Shown, Fault> {
+        self.take_all(play.steps)?;
+        self.hand_in(play.handed, order)
     }
 
     fn take_all(&mut self, steps: &[Step]) -> Result<(), Fault> {
@@ -115,7 +137,7 @@ impl Stage {
     }
 
     fn to_server(&mut self, number: u32) -> Result<Told, Fault> {
-        let Some(server) = self.sides.cells.servers.get_mut(number as usize) else {
+        let Some(server) = self.cells.servers.get_mut(number as usize) else {
             return Err(Fault::NoServer);
         };
         match self.hub.pick(Name::Server(ServerNo(number)), 0) {
@@ -125,14 +147,14 @@ impl Stage {
     }
 
     fn to_twin_elsewhere(&mut self) -> Result<Told, Fault> {
-        match self.sides.twins.servers.get_mut(0) {
+        match self.cells.servers.get_mut(TWINS) {
             Some(server) => server.deliver(&mut self.elsewhere, 0),
             None => Err(Fault::NoServer),
         }
     }
 
     fn ask(&mut self, number: u32, task: ServerTask) -> Result<Told, Fault> {
-        self.sides.cells.apply(number, task)
+        self.cells.apply(number, task)
     }
 
     fn forge(&mut self, node: u32, at: u64, frame: u64) -> Result<(), Fault> {
@@ -155,51 +177,46 @@ impl Stage {
         } else {
             &self.hub
         };
-        let (from, to) = handed.cells;
-        let Some(servers) = self.side(handed.twins).servers.get(from..to) else {
+        let (from, to) = handed.servers;
+        let Some(servers) = self.cells.servers.get(from..to) else {
             return Err(Fault::NoServer);
         };
-        let Some(seats) = self.side(handed.twin_seats).seats.get(from) else {
+        let Some(seat) = self.cells.seats.get(handed.seat) else {
             return Err(Fault::NoServer);
         };
         show(
-            assemble(self.alloc, hub, &self.clients.client, servers, seats),
+            assemble(
+                self.alloc,
+                hub,
+                &self.clients.client,
+                servers,
+                slice::from_ref(seat),
+            ),
             order,
         )
-    }
-
-    fn side(&self, are_twins: bool) -> &Cells {
-        if are_twins {
-            &self.sides.twins
-        } else {
-            &self.sides.cells
-        }
     }
 }
 
 /// What is assembled, against an order.
 fn show(assembled: Result<Assembled, AssembleFault>, order: &[(u32, u64)]) -> Result<Shown, Fault> {
     match assembled {
-        Ok(assembled) => Ok(match first_other(&assembled, order) {
-            Some(at) => Shown::Other(at),
-            None => Shown::Order,
-        }),
+        Ok(assembled) => Ok(order_of(&assembled, order)),
         Err(AssembleFault::Unlike { node, at }) => Ok(Shown::Unlike(node.number(), at)),
         Err(AssembleFault::NoMemory) => Err(Fault::NoMemory),
     }
 }
 
-/// Where the places are others than these, or there are more or fewer.
-fn first_other(assembled: &Assembled, order: &[(u32, u64)]) -> Option<usize> {
-    for (i, (place, wanted)) in assembled.order.iter().zip(order).enumerate() {
+/// Whether the places are these, and no more.
+fn order_of(assembled: &Assembled, order: &[(u32, u64)]) -> Shown {
+    for (place, wanted) in assembled.order.iter().zip(order) {
         if (place.node.number(), place.at) != *wanted {
-            return Some(i);
+            return Shown::Other;
         }
     }
     if assembled.order.len() == order.len() {
-        None
+        Shown::Order
     } else {
-        Some(order.len())
+        Shown::Other
     }
 }
 

@@ -28,22 +28,20 @@ impl Case {
     }
 }
 
-/// The second server's cell alone.
+/// The second server's cell alone, with its seat.
 const SECOND: Handed = Handed {
-    cells: (1, 2),
+    servers: (1, 2),
+    seat: 1,
     ..OWN
 };
 
 /// The first server in another life.
 const TWIN: Handed = Handed {
-    twins: true,
+    servers: (2, 3),
     ..FIRST
 };
 
-const TWIN_SEAT: Handed = Handed {
-    twin_seats: true,
-    ..FIRST
-};
+const TWIN_SEAT: Handed = Handed { seat: 2, ..FIRST };
 
 const ELSEWHERE: Handed = Handed {
     elsewhere: true,
