@@ -44,7 +44,6 @@ pub enum Workers {
 }
 
 /// A client, its one server with the seats and files of that, and the network between them.
-#[derive(Drop)]
 pub struct Site {
     alloc: Global,
     hub: Hub,
@@ -52,6 +51,21 @@ pub struct Site {
     cell: Mutex<Server>,
     seats: Vec<Seat>,
     files: Vec<Mutex<FaultDisk>>,
+}
+
+/// One function lets go of all that a site holds: so the proof of each function that drops one goes through
+/// that once.
+impl Drop for Site {
+    fn drop(self) {
+        let Site {
+            alloc: _,
+            hub: _,
+            client: _,
+            cell: _,
+            seats: _,
+            files: _,
+        } = self;
+    }
 }
 
 impl Site {
@@ -169,8 +183,15 @@ impl Site {
 
     /// How many events there are, in one list of all that has happened.
     pub fn events(self) -> Result<usize, AssembleFault> {
-        let servers = [self.cell.into_inner()];
-        events_of(self.alloc, &self.hub, &self.client, &servers, &self.seats)
+        let Site {
+            alloc,
+            hub,
+            client,
+            cell,
+            seats,
+            files: _,
+        } = self;
+        events_of(alloc, &hub, &client, &[cell.into_inner()], &seats)
     }
 }
 
