@@ -79,7 +79,7 @@ first_kept_stays stays o (Renew g left ∷ more) past key s q h =
 first_kept_stays stays o (Lose ∷ more) past key s q h = cc
 
 -- the packets brought the state: its server sent it, or the mirror copied it
-abbrev Brought : List PacketParts → Key → State → Type 0
+abbrev pub Brought : List PacketParts → Key → State → Type 0
 Brought packets key s = ((jobs : ℕ) × Contains packets (from_server (bodies.State jobs s) key.server)) ⊎ Contains packets (from_mirror (bodies.Copy s))
 
 -- where a state in the table came from
@@ -100,15 +100,19 @@ nothing : (new : Bool) (r : Option Fault) (n : Noted) (packets : List PacketPart
 nothing new (Some f) n packets key s h = inl h
 nothing new None n packets key s h = inl h
 
+pub state_brought : (peers : Peers) (from to : Node) (jobs : ℕ) (state s : State) (key : Key) → is_for_client peers (record { from = from; to = to; body = bodies.State jobs state }) ≡ true
+    → state ≡ s → state.key ≡ key → Brought (record { from = from; to = to; body = bodies.State jobs state } ∷ []) key s
+state_brought peers from to jobs state s key ours e has =
+    let p : record { from = from; to = to; body = bodies.State jobs state } ≡ from_server (bodies.State jobs state) (node_number from) = from_own peers from to (bodies.State jobs state) refl ours in
+    let own : node_number from ≡ key.server = sym (own_state peers from to jobs state ours) ∙ ap (λ (x : Key). x.server) has in
+    let q : from_server (bodies.State jobs state) (node_number from) ≡ from_server (bodies.State jobs s) key.server =
+    λ i. from_server (bodies.State jobs (e i)) (own i) in
+    inl (jobs, one (record { from = from; to = to; body = bodies.State jobs state }) (from_server (bodies.State jobs s) key.server) (p ∙ q))
+
 pushed : (peers : Peers) (n : Noted) (from to : Node) (jobs : ℕ) (state s : State) (key : Key) → is_for_client peers (record { from = from; to = to; body = bodies.State jobs state }) ≡ true
     → (kept_of key n.kept ≡ Some s) ⊎ ((state ≡ s) × (state.key ≡ key)) → CameFrom n (record { from = from; to = to; body = bodies.State jobs state } ∷ []) key s
 pushed peers n from to jobs state s key ours (inl e) = inl e
-pushed peers n from to jobs state s key ours (inr e) =
-    let p : record { from = from; to = to; body = bodies.State jobs state } ≡ from_server (bodies.State jobs state) (node_number from) = from_own peers from to (bodies.State jobs state) refl ours in
-    let own : node_number from ≡ key.server = sym (own_state peers from to jobs state ours) ∙ ap (λ (x : Key). x.server) e.1 in
-    let q : from_server (bodies.State jobs state) (node_number from) ≡ from_server (bodies.State jobs s) key.server =
-    λ i. from_server (bodies.State jobs (e.0 i)) (own i) in
-    inr (inl (jobs, one (record { from = from; to = to; body = bodies.State jobs state }) (from_server (bodies.State jobs s) key.server) (p ∙ q)))
+pushed peers n from to jobs state s key ours (inr e) = inr (state_brought peers from to jobs state s key ours e.0 e.1)
 
 state_came : FoundOrLast → (peers : Peers) (n : Noted) (from to : Node) (jobs : ℕ) (state s : State) (key : Key) (new : Bool) (before : Option State) → is_for_client peers (record { from = from; to = to; body = bodies.State jobs state }) ≡ true
     → kept_of key (noted_after new (unless_kept before state) n).kept ≡ Some s → CameFrom n (record { from = from; to = to; body = bodies.State jobs state } ∷ []) key s
@@ -116,13 +120,17 @@ state_came only peers n from to jobs state s key new (Some before) ours h = inl 
 state_came only peers n from to jobs state s key true None ours h = pushed peers n from to jobs state s key ours (only key n.kept state s h)
 state_came only peers n from to jobs state s key false None ours h = inl h
 
+pub copy_brought : (peers : Peers) (from to : Node) (state s : State) (key : Key) → is_for_client peers (record { from = from; to = to; body = bodies.Copy state }) ≡ true
+    → state ≡ s → Brought (record { from = from; to = to; body = bodies.Copy state } ∷ []) key s
+copy_brought peers from to state s key ours e =
+    let p : record { from = from; to = to; body = bodies.Copy state } ≡ from_mirror (bodies.Copy state) = from_its_mirror peers from to state ours in
+    let q : from_mirror (bodies.Copy state) ≡ from_mirror (bodies.Copy s) = λ i. from_mirror (bodies.Copy (e i)) in
+    inr (one (record { from = from; to = to; body = bodies.Copy state }) (from_mirror (bodies.Copy s)) (p ∙ q))
+
 copied : (peers : Peers) (n : Noted) (from to : Node) (state s : State) (key : Key) → is_for_client peers (record { from = from; to = to; body = bodies.Copy state }) ≡ true
     → (kept_of key n.kept ≡ Some s) ⊎ ((state ≡ s) × (state.key ≡ key)) → CameFrom n (record { from = from; to = to; body = bodies.Copy state } ∷ []) key s
 copied peers n from to state s key ours (inl e) = inl e
-copied peers n from to state s key ours (inr e) =
-    let p : record { from = from; to = to; body = bodies.Copy state } ≡ from_mirror (bodies.Copy state) = from_its_mirror peers from to state ours in
-    let q : from_mirror (bodies.Copy state) ≡ from_mirror (bodies.Copy s) = λ i. from_mirror (bodies.Copy (e.0 i)) in
-    inr (inr (one (record { from = from; to = to; body = bodies.Copy state }) (from_mirror (bodies.Copy s)) (p ∙ q)))
+copied peers n from to state s key ours (inr e) = inr (copy_brought peers from to state s key ours e.0)
 
 copy_came : FoundOrLast → (peers : Peers) (n : Noted) (from to : Node) (state s : State) (key : Key) (new : Bool) (before : Option State) → is_for_client peers (record { from = from; to = to; body = bodies.Copy state }) ≡ true
     → kept_of key (noted_after new (unless_kept before state) n).kept ≡ Some s → CameFrom n (record { from = from; to = to; body = bodies.Copy state } ∷ []) key s
@@ -150,11 +158,11 @@ called only peers on n Tick left key s h = nothing (has_new left) (refusal_by on
 abbrev Source : Opening → List Entry → Key → State → Type 0
 Source o past key s = (kept o [] key ≡ Some s) ⊎ Brought (came past) key s
 
-brought_later : (more packets : List PacketParts) (key : Key) (s : State) → Brought packets key s → Brought (more ++ packets) key s
+pub brought_later : (more packets : List PacketParts) (key : Key) (s : State) → Brought packets key s → Brought (more ++ packets) key s
 brought_later more packets key s (inl h) = inl (h.0, Contains-append_right more packets (from_server (bodies.State h.0 s) key.server) h.1)
 brought_later more packets key s (inr h) = inr (Contains-append_right more packets (from_mirror (bodies.Copy s)) h)
 
-brought_now : (packets past : List PacketParts) (key : Key) (s : State) → Brought packets key s → Brought (packets ++ past) key s
+pub brought_now : (packets past : List PacketParts) (key : Key) (s : State) → Brought packets key s → Brought (packets ++ past) key s
 brought_now packets past key s (inl h) = inl (h.0, Contains-append_left packets past (from_server (bodies.State h.0 s) key.server) h.1)
 brought_now packets past key s (inr h) = inr (Contains-append_left packets past (from_mirror (bodies.Copy s)) h)
 

@@ -32,6 +32,7 @@ mod RenewLemmas
 mod ReportLemmas
 mod RisingLemmas
 mod SentLemmas
+mod SourceLemmas
 mod StandingLemmas
 mod TextLemmas
 mod TickLemmas

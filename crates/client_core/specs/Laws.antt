@@ -57,6 +57,15 @@ KeptWasSent =
     ⊎ (((jobs : ℕ) × Contains (came past) (from_server (bodies.State jobs state) key.server))
     ⊎ Contains (came past) (from_mirror (bodies.Copy state)))
 
+-- Each state in the note was there at the opening, or came in a State from its server, or in a Copy from
+-- the mirror.
+abbrev pub NotedWasSent : Type 0
+NotedWasSent =
+    (o : Opening) (past : List Entry) (state : State) → Contains (noted o past).kept state →
+    Contains o.noted.kept state
+    ⊎ (((jobs : ℕ) × Contains (came past) (from_server (bodies.State jobs state) state.key.server))
+    ⊎ Contains (came past) (from_mirror (bodies.Copy state)))
+
 -- After the loss of its note a client goes on as one that opens with a blank note.
 pub record GoesOnAsBlank (o : Opening) (newer past : List Entry) : Type 0 where
   pub noted_is : noted o (newer ++ Lose ∷ past) ≡ noted (record o { noted = blank }) newer

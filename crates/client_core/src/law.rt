@@ -1,6 +1,6 @@
 //! What holds of every list of what came to a client. The functions have nothing to run.
 
-ghost use Rattle.client_core.specs.Laws.{FirstKeptStays, KeptWasSent, SavedIsKept, CopiesAreOfStates, AcksAreFor, RunsAreFresh, AttemptsAreFresh, NumbersAreGivenOnce, LossBeginsAnew, OneTextOfARun, OneTextOfAnAttempt, LooksAtAll, TickOnlyLooks, NotesKeepRanges, TriggersEndWell, PacketsGoToPeers, PacketsAreInRange, ReportsCame, OneReportEach};
+ghost use Rattle.client_core.specs.Laws.{FirstKeptStays, KeptWasSent, NotedWasSent, SavedIsKept, CopiesAreOfStates, AcksAreFor, RunsAreFresh, AttemptsAreFresh, NumbersAreGivenOnce, LossBeginsAnew, OneTextOfARun, OneTextOfAnAttempt, LooksAtAll, TickOnlyLooks, NotesKeepRanges, TriggersEndWell, PacketsGoToPeers, PacketsAreInRange, ReportsCame, OneReportEach};
 ghost use Rattle.client_core.specs.Bounds.{PacketsAreFew, FramesAreShort};
 ghost use Rattle.client_core.specs.Examples.{Begins, WaitsForTheBusy, KeepsTheFirst, TriggersToTheEnd, Verifies, GoesDown, KeepsWhatIsNoted, ForgetsByACut, AsksAgainInOrder, SpendsNumbers, NumbersOnceGranted, CopiesWhatIsKept, FetchesWhatWasLost, HearsItsMirrorAlone};
 
@@ -11,9 +11,11 @@ pub fn first_kept_stays()
     state_table::found_states();
 }
 
-/// Each kept state was there at the opening, or came from its server or from the mirror.
+/// Each kept state, and each state in the note, was there at the opening, or came from its server or from
+/// the mirror.
 pub fn kept_was_sent()
-    ensures { KeptWasSent }
+    ensures kept { KeptWasSent }
+    ensures noted { NotedWasSent }
 {
     state_table::found_after_a_push();
 }
