@@ -27,23 +27,20 @@ use Rattle.mirror_core.specs.Refusals.{faults_of_request}
 use Rattle.mirror_core.specs.Saves.{Grant, unless_kept, unless_refused, addition_by, addition_of, noted_after, is_answer}
 use Rattle.mirror_core.specs.Words.{is_on, noted, refusal, is_answered}
 use Rattle.mirror_core.specs.Packets.{to_client, copy_of, replies, packets, packets_for}
-use Rattle.mirror_core.specs.Laws.{PacketsGoToTheClient, CopiesAreKept, CopiesAreNoted, CopyOksAreFor, GrantsAreNoted}
+use Rattle.mirror_core.specs.Laws.{GoesToClient, PacketsGoToTheClient, CopiesAreKept, CopiesAreNoted, CopyOksAreFor, GrantsAreNoted}
 use Rattle.mirror_core.proofs.ListLemmas.{all_map, all_where, none_in, behind_one, first_or_behind, where_so}
 use Rattle.mirror_core.proofs.NotedLemmas.{keys_apart}
 use Rattle.mirror_core.proofs.RequestLemmas.{answered_due, not_when, taken_in}
 
 -- ---- to whom
 
-abbrev ToClient : PacketParts → Type 0
-ToClient p = (p.from ≡ nodes.Mirror) × (p.to ≡ nodes.Client)
-
-asked_goes : (n : Noted) (q : Option Request) → AllByRecursion ToClient (packets_for n q)
+asked_goes : (n : Noted) (q : Option Request) → AllByRecursion GoesToClient (packets_for n q)
 asked_goes n None = tt
-asked_goes n (Some (Copy state)) = ((refl, refl), tt)
-asked_goes n (Some (Fetch g)) = ((refl, refl), all_map ToClient copy_of n.kept (λ s. (refl, refl)))
+asked_goes n (Some (Copy state)) = ((refl, refl, refl), tt)
+asked_goes n (Some (Fetch g)) = ((refl, refl, refl), all_map GoesToClient copy_of n.kept (λ s. (refl, refl, refl)))
 
 pub packets_go_to_the_client : PacketsGoToTheClient
-packets_go_to_the_client o past (Met f left) = all_where ToClient (is_answered o past f left) (packets_for (noted o past) (request_in f)) (λ a. asked_goes (noted o past) (request_in f))
+packets_go_to_the_client o past (Met f left) = all_where GoesToClient (is_answered o past f left) (packets_for (noted o past) (request_in f)) (λ a. asked_goes (noted o past) (request_in f))
 packets_go_to_the_client o past Cut = tt
 packets_go_to_the_client o past Restart = tt
 

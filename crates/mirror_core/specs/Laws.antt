@@ -1,5 +1,5 @@
 -- What holds of every list of what came to a mirror.
-use Rattle.std.specs.Prelude.{◌≡◌, ◌⊎◌, ℕ, ◌≤◌, true, List, [], ◌∷◌, ◌++◌, Some, Contains}
+use Rattle.std.specs.Prelude.{◌≡◌, ◌⊎◌, ℕ, ◌≤◌, true, List, [], ◌∷◌, ◌++◌, Some, Contains, IsTrue}
 use Rattle.std.specs.List.{AllByRecursion}
 use Rattle.fc_base.specs.declared.numbers.Key.{Key}
 use Rattle.verify_state.specs.State.{State}
@@ -7,6 +7,8 @@ use Rattle.messages.specs.declared.packet.PacketParts.{PacketParts}
 use Rattle.messages.specs.declared.body.Body.TheVariants as bodies
 use Rattle.messages.specs.declared.frame.Frame.TheVariants.{Whole}
 use Rattle.messages.specs.declared.node.Node.TheVariants as nodes
+use Rattle.messages.specs.Bodies.{kind_of}
+use Rattle.messages.specs.Kinds.{is_of_mirror}
 use Rattle.messages.specs.Laws.{IsPacket}
 use Rattle.mirror_core.specs.declared.noted.Noted.{Noted}
 use Rattle.mirror_core.specs.Note.{IsNoted}
@@ -82,11 +84,15 @@ GrantsAreNoted =
     Contains (packets o past entry) (to_client (bodies.Granted granted)) →
     generation o (entry ∷ past) ≡ granted
 
--- Each packet goes from the mirror to the client.
+-- A packet of the mirror to the client, of a kind that mirrors send.
+abbrev pub GoesToClient : PacketParts → Type 0
+GoesToClient p =
+    (p.from ≡ nodes.Mirror) × (p.to ≡ nodes.Client) × IsTrue (is_of_mirror (kind_of p.body))
+
+-- So goes each packet.
 abbrev pub PacketsGoToTheClient : Type 0
 PacketsGoToTheClient =
-    (o : Noted) (past : List Entry) (entry : Entry) →
-    AllByRecursion (λ p. (p.from ≡ nodes.Mirror) × (p.to ≡ nodes.Client)) (packets o past entry)
+    (o : Noted) (past : List Entry) (entry : Entry) → AllByRecursion GoesToClient (packets o past entry)
 
 -- A mirror that is on answers its looks from all that came.
 abbrev pub LooksAtAll : Type 0

@@ -45,7 +45,7 @@ pub fn grants_are_noted()
     ensures { GrantsAreNoted }
 {}
 
-/// What a mirror sends goes to the client.
+/// What a mirror sends goes to the client, and is of a kind that mirrors send.
 pub fn packets_go_to_the_client()
     ensures { PacketsGoToTheClient }
 {}
