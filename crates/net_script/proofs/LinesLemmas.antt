@@ -1,5 +1,5 @@
 -- Lines as they are written, part by part.
-use Rattle.std.proofs.Common.{◌≡◌, inl, inr, ℕ, ◌+◌, ◌<◌, List, [], ◌∷◌, ◌++◌, length, map, take, drop, Option, Some, Result, Ok, Err, OnOk, slice_get, get_or, codes, decimal, append_assoc, append-nil, refl, sym, ◌∙◌, ap, subst, Contains, arith}
+use Rattle.std.proofs.Common.{◌≡◌, inl, inr, ℕ, ◌+◌, ◌<◌, List, [], ◌∷◌, ◌++◌, length, take, drop, Option, Some, Result, Ok, Err, OnOk, slice_get, get_or, codes, decimal, append_assoc, append-nil, sym, ◌∙◌, ap, subst, Contains, arith}
 use Rattle.std.specs.List.{flat_map}
 use Rattle.std.proofs.lemmas.Grind.{flat_map-append}
 use Rattle.std.proofs.lemmas.List.{get_or-drop, get_or-take, get_or-map, take_more, length-take-le}

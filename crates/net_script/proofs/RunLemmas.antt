@@ -1,38 +1,39 @@
 -- A run of a script's commands, as far as it has come.
-use Rattle.std.proofs.Common.{◌≡◌, ◌⊎◌, inl, inr, ℕ, Bool, true, false, ◌||◌, cond, IsTrue, List, [], ◌∷◌, ◌++◌, Option, append_assoc, append-nil, refl, sym, ◌∙◌, ap, subst}
+use Rattle.std.proofs.Common.{◌≡◌, inl, inr, ℕ, Bool, true, false, ◌||◌, cond, List, [], ◌∷◌, ◌++◌, Option, append_assoc, append-nil, refl, sym, ◌∙◌, ap, subst}
 use Rattle.std.specs.List.{flat_map}
 use Rattle.std.specs.Io.KnownBytes.{Appends}
 use Rattle.std.proofs.KnownBytes.{Appends-nil, Appends-trans}
 use Rattle.std.proofs.lemmas.Grind.{flat_map-append}
 use Rattle.fc_base.specs.declared.fault.Fault.TheVariants.{NoMemory}
+use Rattle.net_world.specs.Setup.{Setup}
 use Rattle.net_world.specs.declared.world.World.{World}
 use Rattle.net_world.specs.Happenings.{Happening}
 use Rattle.net_world.specs.Stands.{StandsFor}
 use Rattle.net_world.specs.World.{world}
 use Rattle.net_script.specs.declared.command.Command.{Command}
-use Rattle.net_script.specs.declared.running.commands.Ran.TheVariants.{Answered, Lacked}
+use Rattle.net_script.specs.declared.running.commands.Ran.TheVariants.{Answered}
 use Rattle.net_script.specs.Commands.{happens}
 use Rattle.net_script.specs.Orders.{Order, Asks, ended}
 use Rattle.net_script.specs.Printed.{lines_at, bad_line, refusal_line}
 use Rattle.net_script.specs.Script.{lines_in, are_commands, some_faults, finds_fault, status_by, status_in}
-use Rattle.net_script.specs.Runs.{Finishes, EndedSoon, RunOrders}
+use Rattle.net_script.specs.Runs.{RunOrders}
 use Rattle.net_script.specs.Running.{HasCome}
 
 -- The front of all orders has run in a world behind these happenings: what is written are its lines, and
 -- whatever may still come is answered behind it.
-pub record RunSoFar (n : ℕ) (before : List Happening) (all left : List Order) (w : World) (old now : Option (List ℕ)) (faults : Bool) : Type 0 where
+pub record RunSoFar (setup : Setup) (before : List Happening) (all left : List Order) (w : World) (old now : Option (List ℕ)) (faults : Bool) : Type 0 where
   pub asked : List Order
   pub behind : List Happening
-  pub stands : StandsFor n (world n behind) w
+  pub stands : StandsFor setup (world setup behind) w
   pub split : all ≡ asked ++ left
-  pub lines : (more : List Order) → lines_in n before (asked ++ more) ≡ lines_in n before asked ++ lines_in n behind more
+  pub lines : (more : List Order) → lines_in setup before (asked ++ more) ≡ lines_in setup before asked ++ lines_in setup behind more
   pub commands : (more : List Order) → are_commands (asked ++ more) ≡ are_commands more
-  pub found : (more : List Order) → some_faults n before (asked ++ more) ≡ (faults || some_faults n behind more)
-  pub written : Appends old now (flat_map ended (lines_in n before asked))
+  pub found : (more : List Order) → some_faults setup before (asked ++ more) ≡ (faults || some_faults setup behind more)
+  pub written : Appends old now (flat_map ended (lines_in setup before asked))
 
-pub none_run : (n : ℕ) (before : List Happening) (all : List Order) (w : World) (old : Option (List ℕ)) → StandsFor n (world n before) w
-    → RunSoFar n before all all w old old false
-none_run n before all w old stands = record {
+pub none_run : (setup : Setup) (before : List Happening) (all : List Order) (w : World) (old : Option (List ℕ)) → StandsFor setup (world setup before) w
+    → RunSoFar setup before all all w old old false
+none_run setup before all w old stands = record {
   asked = [];
   behind = before;
   stands = stands;
@@ -48,25 +49,25 @@ or_assoc true b c = refl
 or_assoc false b c = refl
 
 -- A command has run.
-pub command_run : (n : ℕ) (before : List Happening) (all left : List Order) (w new : World) (old mid now : Option (List ℕ)) (faults more_faults : Bool)
+pub command_run : (setup : Setup) (before : List Happening) (all left : List Order) (w new : World) (old mid now : Option (List ℕ)) (faults more_faults : Bool)
     (line : ℕ) (command : Command) (text : List ℕ) (rest : List Order)
-    → (s : RunSoFar n before all left w old mid faults) → left ≡ Asks line command text ∷ rest
-    → HasCome n s.behind (happens command text) new mid now (Answered more_faults)
-    → RunSoFar n before all rest new old now (faults || more_faults)
-command_run n before all left w new old mid now faults more_faults line command text rest s next come = record {
+    → (s : RunSoFar setup before all left w old mid faults) → left ≡ Asks line command text ∷ rest
+    → HasCome setup s.behind (happens command text) new mid now (Answered more_faults)
+    → RunSoFar setup before all rest new old now (faults || more_faults)
+command_run setup before all left w new old mid now faults more_faults line command text rest s next come = record {
   asked = s.asked ++ o ∷ [];
   behind = e ∷ s.behind;
   stands = come.1;
   split = s.split ∙ ap (λ l. s.asked ++ l) next ∙ sym (append_assoc s.asked (o ∷ []) rest);
-  lines = λ more. ap (lines_in n before) (append_assoc s.asked (o ∷ []) more) ∙ s.lines (o ∷ more)
-      ∙ sym (append_assoc (lines_in n before s.asked) (lines_at n (world n s.behind) e) (lines_in n (e ∷ s.behind) more))
-      ∙ ap (λ l. l ++ lines_in n (e ∷ s.behind) more) (sym asked_lines);
+  lines = λ more. ap (lines_in setup before) (append_assoc s.asked (o ∷ []) more) ∙ s.lines (o ∷ more)
+      ∙ sym (append_assoc (lines_in setup before s.asked) (lines_at setup (world setup s.behind) e) (lines_in setup (e ∷ s.behind) more))
+      ∙ ap (λ l. l ++ lines_in setup (e ∷ s.behind) more) (sym asked_lines);
   commands = λ more. ap are_commands (append_assoc s.asked (o ∷ []) more) ∙ s.commands (o ∷ more);
-  found = λ more. ap (some_faults n before) (append_assoc s.asked (o ∷ []) more) ∙ s.found (o ∷ more)
-      ∙ or_assoc faults (finds_fault n s.behind e) (some_faults n (e ∷ s.behind) more)
-      ∙ ap (λ b. (faults || b) || some_faults n (e ∷ s.behind) more) (sym come.2);
+  found = λ more. ap (some_faults setup before) (append_assoc s.asked (o ∷ []) more) ∙ s.found (o ∷ more)
+      ∙ or_assoc faults (finds_fault setup s.behind e) (some_faults setup (e ∷ s.behind) more)
+      ∙ ap (λ b. (faults || b) || some_faults setup (e ∷ s.behind) more) (sym come.2);
   written = subst (Appends old now)
-      (sym (flat_map-append ended (lines_in n before s.asked) (lines_at n (world n s.behind) e)) ∙ ap (flat_map ended) (sym asked_lines))
+      (sym (flat_map-append ended (lines_in setup before s.asked) (lines_at setup (world setup s.behind) e)) ∙ ap (flat_map ended) (sym asked_lines))
       (Appends-trans old mid now _ _ s.written come.0);
 }
   where
@@ -76,58 +77,58 @@ command_run n before all left w new old mid now faults more_faults line command 
     e : Happening
     e = happens command text
 
-    asked_lines : lines_in n before (s.asked ++ o ∷ []) ≡ lines_in n before s.asked ++ lines_at n (world n s.behind) e
-    asked_lines = s.lines (o ∷ []) ∙ ap (λ l. lines_in n before s.asked ++ l) (append-nil (lines_at n (world n s.behind) e))
+    asked_lines : lines_in setup before (s.asked ++ o ∷ []) ≡ lines_in setup before s.asked ++ lines_at setup (world setup s.behind) e
+    asked_lines = s.lines (o ∷ []) ∙ ap (λ l. lines_in setup before s.asked ++ l) (append-nil (lines_at setup (world setup s.behind) e))
 
 -- No order is left.
-pub all_run : (n : ℕ) (before : List Happening) (all left : List Order) (w : World) (old now : Option (List ℕ)) (faults : Bool) (status : ℕ)
-    → RunSoFar n before all left w old now faults → left ≡ [] → status ≡ cond faults 1 0
-    → RunOrders (lines_in n before) are_commands (status_in n before) all old now status
-all_run n before all left w old now faults status s none ends =
+pub all_run : (setup : Setup) (before : List Happening) (all left : List Order) (w : World) (old now : Option (List ℕ)) (faults : Bool) (status : ℕ)
+    → RunSoFar setup before all left w old now faults → left ≡ [] → status ≡ cond faults 1 0
+    → RunOrders (lines_in setup before) are_commands (status_in setup before) all old now status
+all_run setup before all left w old now faults status s none ends =
     inl (subst (λ l. Appends old now (flat_map ended l)) (sym lines_are) s.written, ends ∙ sym status_is)
   where
     whole : all ≡ s.asked ++ []
     whole = s.split ∙ ap (λ l. s.asked ++ l) none
 
-    lines_are : lines_in n before all ≡ lines_in n before s.asked
-    lines_are = ap (lines_in n before) whole ∙ s.lines [] ∙ append-nil (lines_in n before s.asked)
+    lines_are : lines_in setup before all ≡ lines_in setup before s.asked
+    lines_are = ap (lines_in setup before) whole ∙ s.lines [] ∙ append-nil (lines_in setup before s.asked)
 
     by_faults : (f : Bool) → status_by true (f || false) ≡ cond f 1 0
     by_faults true = refl
     by_faults false = refl
 
-    status_is : status_in n before all ≡ cond faults 1 0
+    status_is : status_in setup before all ≡ cond faults 1 0
     status_is =
-        ap (λ os. status_in n before os) whole
-        ∙ ap (λ b. status_by b (some_faults n before (s.asked ++ []))) (s.commands [])
+        ap (λ os. status_in setup before os) whole
+        ∙ ap (λ b. status_by b (some_faults setup before (s.asked ++ []))) (s.commands [])
         ∙ ap (status_by true) (s.found [])
         ∙ by_faults faults
 
 -- A line is bad.
-pub bad_run : (n : ℕ) (before : List Happening) (all left : List Order) (w : World) (old mid now : Option (List ℕ)) (faults : Bool) (status number : ℕ)
-    → (s : RunSoFar n before all left w old mid faults) → are_commands left ≡ false → ((behind : List Happening) → lines_in n behind left ≡ bad_line number ∷ [])
+pub bad_run : (setup : Setup) (before : List Happening) (all left : List Order) (w : World) (old mid now : Option (List ℕ)) (faults : Bool) (status number : ℕ)
+    → (s : RunSoFar setup before all left w old mid faults) → are_commands left ≡ false → ((behind : List Happening) → lines_in setup behind left ≡ bad_line number ∷ [])
     → Appends mid now (ended (bad_line number)) → status ≡ 2
-    → RunOrders (lines_in n before) are_commands (status_in n before) all old now status
-bad_run n before all left w old mid now faults status number s bad prints wrote ends =
+    → RunOrders (lines_in setup before) are_commands (status_in setup before) all old now status
+bad_run setup before all left w old mid now faults status number s bad prints wrote ends =
     inl (subst (Appends old now) (sym lines_are) (Appends-trans old mid now _ _ s.written wrote), ends ∙ sym status_is)
   where
-    lines_are : flat_map ended (lines_in n before all) ≡ flat_map ended (lines_in n before s.asked) ++ ended (bad_line number)
+    lines_are : flat_map ended (lines_in setup before all) ≡ flat_map ended (lines_in setup before s.asked) ++ ended (bad_line number)
     lines_are =
-        ap (λ os. flat_map ended (lines_in n before os)) s.split
-        ∙ ap (flat_map ended) (s.lines left ∙ ap (λ l. lines_in n before s.asked ++ l) (prints s.behind))
-        ∙ flat_map-append ended (lines_in n before s.asked) (bad_line number ∷ [])
-        ∙ ap (λ l. flat_map ended (lines_in n before s.asked) ++ l) (append-nil (ended (bad_line number)))
+        ap (λ os. flat_map ended (lines_in setup before os)) s.split
+        ∙ ap (flat_map ended) (s.lines left ∙ ap (λ l. lines_in setup before s.asked ++ l) (prints s.behind))
+        ∙ flat_map-append ended (lines_in setup before s.asked) (bad_line number ∷ [])
+        ∙ ap (λ l. flat_map ended (lines_in setup before s.asked) ++ l) (append-nil (ended (bad_line number)))
 
-    status_is : status_in n before all ≡ 2
+    status_is : status_in setup before all ≡ 2
     status_is =
-        ap (λ os. status_in n before os) s.split
-        ∙ ap (λ b. status_by b (some_faults n before (s.asked ++ left))) (s.commands left ∙ bad)
+        ap (λ os. status_in setup before os) s.split
+        ∙ ap (λ b. status_by b (some_faults setup before (s.asked ++ left))) (s.commands left ∙ bad)
 
 -- Memory ran out at a command.
-pub lacks : (n : ℕ) (before : List Happening) (all left : List Order) (w : World) (old mid now : Option (List ℕ)) (faults : Bool) (status line : ℕ) (command : Command) (text : List ℕ) (rest : List Order)
-    → (s : RunSoFar n before all left w old mid faults) → left ≡ Asks line command text ∷ rest → Appends mid now (ended (refusal_line NoMemory)) → status ≡ 2
-    → RunOrders (lines_in n before) are_commands (status_in n before) all old now status
-lacks n before all left w old mid now faults status line command text rest s next wrote ends = inr (record {
+pub lacks : (setup : Setup) (before : List Happening) (all left : List Order) (w : World) (old mid now : Option (List ℕ)) (faults : Bool) (status line : ℕ) (command : Command) (text : List ℕ) (rest : List Order)
+    → (s : RunSoFar setup before all left w old mid faults) → left ≡ Asks line command text ∷ rest → Appends mid now (ended (refusal_line NoMemory)) → status ≡ 2
+    → RunOrders (lines_in setup before) are_commands (status_in setup before) all old now status
+lacks setup before all left w old mid now faults status line command text rest s next wrote ends = inr (record {
   before = s.asked;
   lacking = Asks line command text;
   rest = rest;

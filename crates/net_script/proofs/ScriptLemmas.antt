@@ -1,5 +1,5 @@
 -- A script's run from its first order on, and the script that was read.
-use Rattle.std.proofs.Common.{◌≡◌, ◌⊎◌, inl, inr, ◌≤◌, ◌<◌, ◌+◌, ℕ, Bool, true, false, cond, nat_lt, List, [], ◌∷◌, ◌++◌, length, Option, Some, None, IfSome, Result, Ok, Err, OnOk, IfOk, codes, append-nil, length-append, refl, sym, ◌∙◌, ap, subst, arith}
+use Rattle.std.proofs.Common.{◌≡◌, inl, inr, ◌≤◌, ◌<◌, ℕ, true, false, cond, List, [], ◌∷◌, ◌++◌, length, Option, Some, None, IfSome, Result, Ok, Err, OnOk, IfOk, codes, append-nil, length-append, refl, sym, ◌∙◌, ap, subst, arith}
 use Rattle.std.specs.List.{flat_map}
 use Rattle.std.specs.Io.KnownBytes.{Appends, Keeps}
 use Rattle.std.proofs.KnownBytes.{Appends-nil, Appends-trans, Appends-kept}
@@ -7,10 +7,11 @@ use Rattle.std.proofs.lemmas.Bool.{cases_lt}
 use Rattle.std.proofs.lemmas.Bool.Decides.{nat_tests}
 use Rattle.fc_base.specs.declared.fault.Fault.TheVariants.{NoMemory}
 use Rattle.bounded_input.specs.Input.{IsRead}
-use Rattle.net_script.specs.Orders.{Order, Opens, Asks, Fails, ended, orders_of}
+use Rattle.net_world.specs.Setup.{without_mirror}
+use Rattle.net_script.specs.Orders.{Order, Opens, ended, orders_of}
 use Rattle.net_script.specs.Printed.{bad_line, refusal_line}
 use Rattle.net_script.specs.Script.{are_commands, lines_in, lines_of_orders, status_by, status_in, status_of_orders, reads_well, finds_faults, is_too_long, text_of, status_of}
-use Rattle.net_script.specs.Runs.{Finishes, EndedSoon, RunOrders, HasRun}
+use Rattle.net_script.specs.Runs.{RunOrders, HasRun}
 
 -- No order.
 pub nothing_run : (orders : List Order) (old : Option (List ℕ)) → orders ≡ [] → RunOrders lines_of_orders reads_well status_of_orders orders old old 0
@@ -18,7 +19,7 @@ nothing_run orders old none = inl (subst (λ os. Appends old old (flat_map ended
 
 -- The world is made, and the orders behind have run in it.
 pub opened : (line n : ℕ) (orders : List Order) (old mid new : Option (List ℕ)) (status : ℕ) → Appends old mid (codes "ok\n")
-    → RunOrders (lines_in n []) are_commands (status_in n []) orders mid new status
+    → RunOrders (lines_in (without_mirror n) []) are_commands (status_in (without_mirror n) []) orders mid new status
     → RunOrders lines_of_orders reads_well status_of_orders (Opens line n ∷ orders) old new status
 opened line n orders old mid new status ok (inl ran) = inl (Appends-trans old mid new _ _ ok ran.0, ran.1)
 opened line n orders old mid new status ok (inr soon) = inr (record {

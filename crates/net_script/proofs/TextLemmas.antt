@@ -1,8 +1,8 @@
 -- The text of the lines below a command, as far as it is read.
-use Rattle.std.proofs.Common.{◌≡◌, ◌⊎◌, inl, inr, ℕ, ◌+◌, Bool, true, false, cond, not, ◌||◌, List, [], ◌∷◌, ◌++◌, length, take, append_assoc, append-nil, refl, sym, ◌∙◌, ap, subst, suc, arith}
-use Rattle.std.specs.List.{list_any, flat_map, before_first, position_or_len}
+use Rattle.std.proofs.Common.{◌≡◌, ◌⊎◌, inl, inr, ℕ, ◌+◌, true, false, cond, not, ◌||◌, List, [], ◌∷◌, ◌++◌, take, append_assoc, append-nil, refl, sym, ◌∙◌, ap, suc, arith}
+use Rattle.std.specs.List.{list_any, flat_map, position_or_len}
 use Rattle.net_script.specs.Words.{lines_of}
-use Rattle.net_script.specs.Orders.{closes, ended, text_in, orders_from}
+use Rattle.net_script.specs.Orders.{closes, ended, text_in}
 
 -- The front of what stands below is read: no line of it closes the text.
 pub record Below (below rest : List ℕ) : Type 0 where

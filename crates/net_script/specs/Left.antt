@@ -1,5 +1,5 @@
 -- What is left of a script as it is read.
-use Rattle.std.specs.Prelude.{◌≤◌, ℕ, false, List, Option, Some, None}
+use Rattle.std.specs.Prelude.{◌≤◌, false, List, Option, Some, None}
 use Rattle.net_script.specs.declared.order.Order.{Order as Given}
 use Rattle.net_script.specs.declared.order.Order.TheVariants as given
 use Rattle.net_script.specs.declared.orders.Orders.{Orders}

@@ -17,6 +17,7 @@ use Rattle.messages.specs.declared.refusal.Act.TheVariants as acts
 use Rattle.messages.specs.declared.reading.look.FrameLook.{FrameLook}
 use Rattle.messages.specs.FrameBytes.{frame_spelling}
 use Rattle.messages.specs.Looks.{look_of, sort_name}
+use Rattle.net_world.specs.Setup.{Setup}
 use Rattle.net_world.specs.declared.told.Answer.{Answer}
 use Rattle.net_world.specs.declared.told.Answer.TheVariants.{Plain, Run, Attempt, Issued, Checked}
 use Rattle.net_world.specs.Happenings.{Happening, Deliver}
@@ -105,15 +106,15 @@ sent_lines i [] = []
 sent_lines i (f ∷ fs) = sent_line i f ∷ sent_lines (i + 1) fs
 
 -- The frames that are sent with a change.
-abbrev pub frames_with : ℕ → List Change → Change → List Frame
-frames_with n past (Met step) = frames_of_step n (steps past) step
-frames_with n past (Landed s j k mask) = []
-frames_with n past (Rotted s j sector bytes) = []
+abbrev pub frames_with : Setup → List Change → Change → List Frame
+frames_with setup past (Met step) = frames_of_step setup (steps past) step
+frames_with setup past (Landed s j k mask) = []
+frames_with setup past (Rotted s j sector bytes) = []
 
 -- The node to which a frame comes.
-abbrev pub addressee : ℕ → List Change → Happening → Option Node
-addressee n past (Deliver i) = option_map to_of (slice_get (frames_sent n (steps past)) i)
-addressee n past e = None
+abbrev pub addressee : Setup → List Change → Happening → Option Node
+addressee setup past (Deliver i) = option_map to_of (slice_get (frames_sent setup (steps past)) i)
+addressee setup past e = None
 
 -- The line of a cut that a server asks for.
 abbrev pub cut_line : Node → List ℕ
@@ -126,13 +127,13 @@ act_lines (Some node) acts.None = []
 act_lines None asked = []
 
 -- The lines of what happens, by what comes of it.
-abbrev pub lines_by : ℕ → List Change → Happening → Outcome → List (List ℕ)
-lines_by n past e (Refuses fault) = refusal_line fault ∷ []
-lines_by n past e (Drops step) = refusal_line FrameBadField ∷ []
-lines_by n past e (Does change) =
-    (answer_line (answer n past e) ∷ sent_lines (length (frames_sent n (steps past))) (frames_with n past change))
-    ++ act_lines (addressee n past e) (act n past change)
+abbrev pub lines_by : Setup → List Change → Happening → Outcome → List (List ℕ)
+lines_by setup past e (Refuses fault) = refusal_line fault ∷ []
+lines_by setup past e (Drops step) = refusal_line FrameBadField ∷ []
+lines_by setup past e (Does change) =
+    (answer_line (answer setup past e) ∷ sent_lines (length (frames_sent setup (steps past))) (frames_with setup past change))
+    ++ act_lines (addressee setup past e) (act setup past change)
 
 -- The lines of what happens.
-abbrev pub lines_at : ℕ → List Change → Happening → List (List ℕ)
-lines_at n past e = lines_by n past e (outcome n past e)
+abbrev pub lines_at : Setup → List Change → Happening → List (List ℕ)
+lines_at setup past e = lines_by setup past e (outcome setup past e)

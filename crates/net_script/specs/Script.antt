@@ -1,6 +1,7 @@
 -- What a script prints, and its status.
 use Rattle.std.specs.Prelude.{ℕ, Bool, true, false, ◌||◌, nat_lt, List, [], ◌∷◌, ◌++◌, length, codes, if◌then◌else◌}
 use Rattle.std.specs.List.{flat_map}
+use Rattle.net_world.specs.Setup.{Setup, without_mirror}
 use Rattle.net_world.specs.declared.told.Answer.{Answer}
 use Rattle.net_world.specs.Happenings.{Happening}
 use Rattle.net_world.specs.Outcomes.{Outcome, Does, Refuses, Drops, outcome}
@@ -11,18 +12,18 @@ use Rattle.net_script.specs.Printed.{lines_at, bad_line, has_faults}
 
 -- The lines of orders behind these happenings, the newest first: each command answered in the world
 -- that those before it have made; a bad line ends them. `servers` stands first, and only there.
-abbrev pub lines_in : ℕ → List Happening → List Order → List (List ℕ)
-lines_in n before [] = []
-lines_in n before (Asks line command text ∷ orders) =
-    lines_at n (world n before) (happens command text)
-    ++ lines_in n (happens command text ∷ before) orders
-lines_in n before (Fails line at ∷ orders) = bad_line at ∷ []
-lines_in n before (Opens line more ∷ orders) = bad_line line ∷ []
+abbrev pub lines_in : Setup → List Happening → List Order → List (List ℕ)
+lines_in setup before [] = []
+lines_in setup before (Asks line command text ∷ orders) =
+    lines_at setup (world setup before) (happens command text)
+    ++ lines_in setup (happens command text ∷ before) orders
+lines_in setup before (Fails line at ∷ orders) = bad_line at ∷ []
+lines_in setup before (Opens line more ∷ orders) = bad_line line ∷ []
 
 -- The lines of all orders: the first makes the world.
 abbrev pub lines_of_orders : List Order → List (List ℕ)
 lines_of_orders [] = []
-lines_of_orders (Opens line n ∷ orders) = codes "ok" ∷ lines_in n [] orders
+lines_of_orders (Opens line n ∷ orders) = codes "ok" ∷ lines_in (without_mirror n) [] orders
 lines_of_orders (Asks line command text ∷ orders) = bad_line line ∷ []
 lines_of_orders (Fails line at ∷ orders) = bad_line line ∷ []
 
@@ -44,29 +45,29 @@ tells_faults answer (Does change) = has_faults answer
 tells_faults answer (Refuses fault) = false
 tells_faults answer (Drops step) = false
 
--- What happens in a world of n servers behind these happenings tells of faults.
-abbrev pub finds_fault : ℕ → List Happening → Happening → Bool
-finds_fault n before e = tells_faults (answer n (world n before) e) (outcome n (world n before) e)
+-- What happens in a world of this setup behind these happenings tells of faults.
+abbrev pub finds_fault : Setup → List Happening → Happening → Bool
+finds_fault setup before e = tells_faults (answer setup (world setup before) e) (outcome setup (world setup before) e)
 
 -- Some command tells of faults.
-abbrev pub some_faults : ℕ → List Happening → List Order → Bool
-some_faults n before (Asks line command text ∷ orders) =
-    finds_fault n before (happens command text)
-    || some_faults n (happens command text ∷ before) orders
-some_faults n before _ = false
+abbrev pub some_faults : Setup → List Happening → List Order → Bool
+some_faults setup before (Asks line command text ∷ orders) =
+    finds_fault setup before (happens command text)
+    || some_faults setup (happens command text ∷ before) orders
+some_faults setup before _ = false
 
 -- Some report of the script has faults.
 abbrev pub finds_faults : List Order → Bool
-finds_faults (Opens line n ∷ orders) = some_faults n [] orders
+finds_faults (Opens line n ∷ orders) = some_faults (without_mirror n) [] orders
 finds_faults _ = false
 
 -- The status: 2 where a line is bad, 1 where a report has faults, else 0.
 abbrev pub status_by : Bool → Bool → ℕ
 status_by well faulty = if well then (if faulty then 1 else 0) else 2
 
--- The status of orders in a world of n servers behind these happenings.
-abbrev pub status_in : ℕ → List Happening → List Order → ℕ
-status_in n before orders = status_by (are_commands orders) (some_faults n before orders)
+-- The status of orders in a world of this setup behind these happenings.
+abbrev pub status_in : Setup → List Happening → List Order → ℕ
+status_in setup before orders = status_by (are_commands orders) (some_faults setup before orders)
 
 -- The status of orders.
 abbrev pub status_of_orders : List Order → ℕ

@@ -47,21 +47,21 @@ pub left_same : (x : Option Addition) → left_for x ≡ left_by x
 left_same None = refl
 left_same (Some a) = refl
 
-met_here : (w : Setup) (t : List Step) (c : Call) → words.refusal (client_opening w) (of_client t) c ≡ None
-    → met_by_client w t c ≡ Ok (OfClient (Happens (client.Met c (left_by (words.due (client_opening w) (of_client t) c)))))
+met_here : (w : Setup) (t : List Step) (c : Call) → words.refusal (client_opening w) (of_client w t) c ≡ None
+    → met_by_client w t c ≡ Ok (OfClient (Happens (client.Met c (left_by (words.due (client_opening w) (of_client w t) c)))))
 met_here w t c h =
     rw h refl
-    ∙ ap (λ left. Ok (OfClient (Happens (client.Met c left)))) (left_same (words.due (client_opening w) (of_client t) c))
+    ∙ ap (λ left. Ok (OfClient (Happens (client.Met c left)))) (left_same (words.due (client_opening w) (of_client w t) c))
 
-pub met_ok : (w : Setup) (t : List Step) (c : Call) (list : List client.Entry) → list ≡ of_client t → words.refusal (client_opening w) list c ≡ None
+pub met_ok : (w : Setup) (t : List Step) (c : Call) (list : List client.Entry) → list ≡ of_client w t → words.refusal (client_opening w) list c ≡ None
     → met_by_client w t c ≡ Ok (OfClient (Happens (client.Met c (left_by (words.due (client_opening w) list c)))))
 met_ok w t c list is =
     subst (λ l. words.refusal (client_opening w) l c ≡ None → met_by_client w t c ≡ Ok (OfClient (Happens (client.Met c (left_by (words.due (client_opening w) l c)))))) (sym is) (met_here w t c)
 
-err_here : (w : Setup) (t : List Step) (c : Call) (fault : Fault) → words.refusal (client_opening w) (of_client t) c ≡ Some fault → met_by_client w t c ≡ Err fault
+err_here : (w : Setup) (t : List Step) (c : Call) (fault : Fault) → words.refusal (client_opening w) (of_client w t) c ≡ Some fault → met_by_client w t c ≡ Err fault
 err_here w t c fault h = rw h refl
 
-pub met_err : (w : Setup) (t : List Step) (c : Call) (list : List client.Entry) (fault : Fault) → list ≡ of_client t → words.refusal (client_opening w) list c ≡ Some fault → met_by_client w t c ≡ Err fault
+pub met_err : (w : Setup) (t : List Step) (c : Call) (list : List client.Entry) (fault : Fault) → list ≡ of_client w t → words.refusal (client_opening w) list c ≡ Some fault → met_by_client w t c ≡ Err fault
 met_err w t c list fault is h = err_here w t c fault (ap (λ l. words.refusal (client_opening w) l c) (sym is) ∙ h)
 
 -- ---- an event that the client meets
@@ -69,26 +69,26 @@ met_err w t c list fault is h = err_here w t c fault (ap (λ l. words.refusal (c
 -- What happens comes to the client as this, and is barred as all that asks for it to be on.
 pub record ComesToClient (w : Setup) (past : List Change) (e : Happening) (i : Input) : Type 0 where
   pub bar : barred w (trace w past) (frames_sent w (steps past)) e ≡ off w (trace w past) Client
-  pub ok : refusal (client_opening w) (entries past) i ≡ None → brings w past e ≡ Does (Met (step_by w past i))
-  pub err : (fault : Fault) → refusal (client_opening w) (entries past) i ≡ Some fault → brings w past e ≡ Refuses fault
-  pub keeps : is_drop (sense (client_opening w) (entries past) i) ≡ false
-  pub answers : answer_to (client_opening w) (entries past) i ≡ answer w past e
+  pub ok : refusal (client_opening w) (entries w past) i ≡ None → brings w past e ≡ Does (Met (step_by w past i))
+  pub err : (fault : Fault) → refusal (client_opening w) (entries w past) i ≡ Some fault → brings w past e ≡ Refuses fault
+  pub keeps : is_drop (sense (client_opening w) (entries w past) i) ≡ false
+  pub answers : answer_to (client_opening w) (entries w past) i ≡ answer w past e
 
 no_act : (t : List Step) (x : Option client.Entry) → act_of t (option_map AtClient x) ≡ acts.None
 no_act t None = refl
 no_act t (Some e) = refl
 
 pub client_act : (w : Setup) (past : List Change) (c : Coming client.Entry Left) → act w past (Met (OfClient c)) ≡ acts.None
-client_act w past c = no_act (trace w past) (entry_of (at_client w) (heard (at_client w) (frames.of_client (steps past))) c)
+client_act w past c = no_act (trace w past) (entry_of (at_client w) (heard (at_client w) (frames.of_client w (steps past))) c)
 
-pub told_is : (w : Setup) (past : List Change) (e : Happening) (i : Input) (t : Told) (new : World) → IsAnswered w past i new t → answer_to (client_opening w) (entries past) i ≡ answer w past e
+pub told_is : (w : Setup) (past : List Change) (e : Happening) (i : Input) (t : Told) (new : World) → IsAnswered w past i new t → answer_to (client_opening w) (entries w past) i ≡ answer w past e
     → told_by w past e (Does (Met (step_by w past i))) ≡ Ok t
 told_is w past e i t new h is =
     ap (λ t. Ok t)
     (sym (h.told_is
     ∙ ap (λ a. record { answer = a; first = length (frames_sent w (steps past)); sent = length (frames_of_step w (steps past) (step_by w past i)); act = acts.None }) is
     ∙ ap (λ a. record { answer = answer w past e; first = length (frames_sent w (steps past)); sent = length (frames_of_step w (steps past) (step_by w past i)); act = a })
-    (sym (client_act w past (coming (answered (client_opening w) (entries past) i))))))
+    (sym (client_act w past (coming (answered (client_opening w) (entries w past) i))))))
 
 pub answered_ends : (w : Setup) (past : List Change) (e : Happening) (i : Input) (t : Told) (new : World) → ComesToClient w past e i → ClientEnds w past i new (Ok t) → Ends w past e new (Ok t)
 answered_ends w past e i t new c h =
@@ -110,16 +110,16 @@ unanswered_ends w past e i fault new c h = by_sort w past e i fault new c (sort_
 -- ---- the five calls
 
 module _ (w : Setup) (past : List Change) where
-  here : packets_heard (client_opening w) (entries past) ≡ of_client (trace w past)
+  here : packets_heard (client_opening w) (entries w past) ≡ of_client w (trace w past)
   here = heard_is w past
 
-  ok_by : (e : Happening) (c : Call) → brings w past e ≡ stepped (met_by_client w (trace w past) c) → words.refusal (client_opening w) (packets_heard (client_opening w) (entries past)) c ≡ None
-      → brings w past e ≡ Does (Met (OfClient (Happens (client.Met c (left_by (words.due (client_opening w) (packets_heard (client_opening w) (entries past)) c))))))
-  ok_by e c is free = is ∙ ap stepped (met_ok w (trace w past) c (packets_heard (client_opening w) (entries past)) here free)
+  ok_by : (e : Happening) (c : Call) → brings w past e ≡ stepped (met_by_client w (trace w past) c) → words.refusal (client_opening w) (packets_heard (client_opening w) (entries w past)) c ≡ None
+      → brings w past e ≡ Does (Met (OfClient (Happens (client.Met c (left_by (words.due (client_opening w) (packets_heard (client_opening w) (entries w past)) c))))))
+  ok_by e c is free = is ∙ ap stepped (met_ok w (trace w past) c (packets_heard (client_opening w) (entries w past)) here free)
 
   err_by : (e : Happening) (c : Call) → brings w past e ≡ stepped (met_by_client w (trace w past) c) → (fault : Fault)
-      → words.refusal (client_opening w) (packets_heard (client_opening w) (entries past)) c ≡ Some fault → brings w past e ≡ Refuses fault
-  err_by e c is fault why = is ∙ ap stepped (met_err w (trace w past) c (packets_heard (client_opening w) (entries past)) fault here why)
+      → words.refusal (client_opening w) (packets_heard (client_opening w) (entries w past)) c ≡ Some fault → brings w past e ≡ Refuses fault
+  err_by e c is fault why = is ∙ ap stepped (met_err w (trace w past) c (packets_heard (client_opening w) (entries w past)) fault here why)
 
   pub begins : (text : List ℕ) → ComesToClient w past (happenings.Begin text) (inputs.Begin text)
   begins text = record {

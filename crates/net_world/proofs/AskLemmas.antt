@@ -47,13 +47,13 @@ use Rattle.net_world.proofs.ServeLemmas.{first_is}
 
 -- ---- whether the client is on
 
-pub up_is : (w : Setup) (past : List Change) → is_up (client_opening w) (entries past) ≡ is_on (trace w past) Client
+pub up_is : (w : Setup) (past : List Change) → is_up (client_opening w) (entries w past) ≡ is_on w (trace w past) Client
 up_is w past = ap words.is_on (heard_is w past)
 
-is_there : (w : Setup) (past : List Change) → is_up (client_opening w) (entries past) ≡ true → off w (trace w past) Client ≡ None
+is_there : (w : Setup) (past : List Change) → is_up (client_opening w) (entries w past) ≡ true → off w (trace w past) Client ≡ None
 is_there w past h = ap (λ on. unless on NodeOff) (sym (up_is w past) ∙ h)
 
-is_off : (w : Setup) (past : List Change) → is_up (client_opening w) (entries past) ≡ false → off w (trace w past) Client ≡ Some NodeOff
+is_off : (w : Setup) (past : List Change) → is_up (client_opening w) (entries w past) ≡ false → off w (trace w past) Client ≡ Some NodeOff
 is_off w past h = ap (λ on. unless on NodeOff) (sym (up_is w past) ∙ h)
 
 -- ---- what is refused sends nothing
@@ -92,24 +92,26 @@ pub record HasAsked (e : Input) (result : Result Asked Fault) (sent : List (List
 
 -- The client has made a step, for which its node stands and whose frames were added.
 pub client_stepped : (w : Setup) (past : List Change) (e : FrameEntry) (sent : List (List ℕ)) (old new : World) → StandsFor w past old → HasMoved sent old new
-    → sent ≡ map frame_spelling (frames_of_step w (steps past) (step_of e)) → nodes.Stands (client_opening w) (e ∷ entries past) new.client → StandsFor w (changes.Met (step_of e) ∷ past) new
+    → sent ≡ map frame_spelling (frames_of_step w (steps past) (step_of e)) → nodes.Stands (client_opening w) (e ∷ entries w past) new.client → StandsFor w (changes.Met (step_of e) ∷ past) new
 client_stepped w past e sent old new stands h is node_is = record {
   some = stands.some;
   few = stands.few;
+  alone = stands.alone;
   number = ap (λ (v : Vec ServerNode Global). length v.items) h.servers_are ∙ stands.number;
   sent_is = h.sent_is ∙ ap (λ fs. fs ++ sent) stands.sent_is ∙ ap (λ fs. frames w past ++ fs) is ∙ sym (frames_more w past (step_of e));
   servers_are = λ s node at. stands.servers_are s node (ap (λ (v : Vec ServerNode Global). slice_get v.items s) (sym h.servers_are) ∙ at);
-  client_is = subst (λ x. nodes.Stands (client_opening w) (x ∷ entries past) new.client) (sym (entry_again e)) node_is;
+  client_is = subst (λ x. nodes.Stands (client_opening w) (x ∷ entries w past) new.client) (sym (entry_again e)) node_is;
   files = ap (λ (v : Vec MemDisk Global). length v.items) h.files_are ∙ stands.files;
   files_are = λ s j disk l at. stands.files_are s j disk l (ap (λ (v : Vec MemDisk Global). slice_get v.items (16 * s + j)) (sym h.files_are) ∙ at);
 }
 
 -- The client stands for what it did, and nothing was sent.
 pub client_kept : (w : Setup) (past : List Change) (old new : World) → StandsFor w past old → HasMoved [] old new
-    → nodes.Stands (client_opening w) (entries past) new.client → StandsFor w past new
+    → nodes.Stands (client_opening w) (entries w past) new.client → StandsFor w past new
 client_kept w past old new stands h node_is = record {
   some = stands.some;
   few = stands.few;
+  alone = stands.alone;
   number = ap (λ (v : Vec ServerNode Global). length v.items) h.servers_are ∙ stands.number;
   sent_is = h.sent_is ∙ append-nil (sent_in old.sent) ∙ stands.sent_is;
   servers_are = λ s node at. stands.servers_are s node (ap (λ (v : Vec ServerNode Global). slice_get v.items s) (sym h.servers_are) ∙ at);
@@ -126,7 +128,7 @@ pub answered : (w : Setup) (past : List Change) (e : Input) (asked : Asked) (fir
     → first ≡ length (sent_in old.sent) → told ≡ told_of first asked → ClientEnds w past e new (Ok told)
 answered w past e asked first told old new stands h is tells =
     let o = client_opening w in
-    let es = entries past in
+    let es = entries w past in
     let a = h.asks o es stands.client_is in
     let sent : asked.frames ≡ map frame_spelling (frames_of_step w (steps past) (step_by w past e)) =
     a.frames_are ∙ ap (map frame_spelling) (frames_are w past (answers.answered o es e)) in
@@ -143,13 +145,13 @@ answered w past e asked first told old new stands h is tells =
     }
 
 refused : (w : Setup) (past : List Change) (e : Input) (fault : Fault) (old new : World) → StandsFor w past old → HasAsked e (Err fault) [] old new
-    → nodes.IsOff (client_opening w) (entries past) fault new.client ⊎ nodes.Refuses (client_opening w) (entries past) e fault new.client
+    → nodes.IsOff (client_opening w) (entries w past) fault new.client ⊎ nodes.Refuses (client_opening w) (entries w past) e fault new.client
     → IsBarred w past fault new ⊎ Refuses w past e fault new
 refused w past e fault old new stands h (inl off) =
     inl (record { why = is_off w past off.off ∙ ap Some (sym off.why); unchanged = client_kept w past old new stands h.moved off.unchanged })
 refused w past e fault old new stands h (inr r) =
     let nothing : [] ≡ map frame_spelling (frames_of_step w (steps past) (step_of (Met e NoSave))) =
-    ap (map frame_spelling) (sym (refused_sends (client_opening w) (entries past) e fault r.why) ∙ frames_are w past (Met e NoSave)) in
+    ap (map frame_spelling) (sym (refused_sends (client_opening w) (entries w past) e fault r.why) ∙ frames_are w past (Met e NoSave)) in
     inr (record {
       on = is_there w past r.on;
       why = r.why;
@@ -158,11 +160,11 @@ refused w past e fault old new stands h (inr r) =
     })
 
 by_sort : (w : Setup) (past : List Change) (e : Input) (fault : Fault) (old new : World) → StandsFor w past old → HasAsked e (Err fault) [] old new
-    → (sort : FaultSort) → nodes.Faults (client_opening w) (entries past) e sort fault new.client → Faults w past e sort fault new
+    → (sort : FaultSort) → nodes.Faults (client_opening w) (entries w past) e sort fault new.client → Faults w past e sort fault new
 by_sort w past e fault old new stands h sorts.Memory f = (f.0, client_kept w past old new stands h.moved f.1)
 by_sort w past e fault old new stands h sorts.Save f = f
 by_sort w past e fault old new stands h sorts.Refusal f = refused w past e fault old new stands h f
 
 -- It isn't answered.
 pub unanswered : (w : Setup) (past : List Change) (e : Input) (fault : Fault) (old new : World) → StandsFor w past old → HasAsked e (Err fault) [] old new → ClientEnds w past e new (Err fault)
-unanswered w past e fault old new stands h = by_sort w past e fault old new stands h (sort_of fault) (h.asks (client_opening w) (entries past) stands.client_is)
+unanswered w past e fault old new stands h = by_sort w past e fault old new stands h (sort_of fault) (h.asks (client_opening w) (entries w past) stands.client_is)

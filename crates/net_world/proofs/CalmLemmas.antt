@@ -2,15 +2,16 @@
 -- state of a kept key.
 use Rattle.std.proofs.Common.{◌≡◌, ap, ℕ, Bool, true, false, ◌&&◌, ◌==◌, List, [], ◌++◌, Option, Some, None, Result, Ok, Err}
 use Rattle.std.specs.Prelude.{if◌then◌else◌, slice_get, nat_lt, not, is_some}
+use Rattle.std.specs.List.{list_all}
 use Rattle.std.specs.Option.{option_or}
 use Rattle.fc_base.specs.declared.fault.Fault.{Fault}
-use Rattle.fc_base.specs.declared.fault.Fault.TheVariants.{Conflict, NoServer, NodeOff, NodeOn, NoWrite, NumbersSpent, JobTooLong, NoSuchRun, Down}
+use Rattle.fc_base.specs.declared.fault.Fault.TheVariants.{Conflict, NoServer, NoMirror, NodeOff, NodeOn, NoWrite, NumbersSpent, BadGeneration, UsedGeneration, JobTooLong, NoSuchRun, Down}
 use Rattle.fc_base.specs.declared.limits.TheConstants.{MAX_JOBS}
 use Rattle.fc_base.specs.Faults.{when}
 use Rattle.messages.specs.declared.frame.Frame.{Frame}
 use Rattle.messages.specs.declared.node.Node.{Node}
 use Rattle.messages.specs.declared.node.Node.TheVariants.{Server, Client, Mirror}
-use Rattle.messages.specs.Ranges.{is_text}
+use Rattle.messages.specs.Ranges.{is_text, is_generation}
 use Rattle.server_core.specs.declared.event.Event.{Event}
 use Rattle.server_core.specs.History as server
 use Rattle.server_core.specs.Request.{Request, ToStage, ToStart, ToTrigger, ToMark, ToStop, ToVerify, ToHold, ToPassFully, ToIssue, ToEnd, ToReport, ToNobody, asked}
@@ -22,14 +23,15 @@ use Rattle.client_core.specs.declared.call.Call.{Call}
 use Rattle.client_core.specs.declared.call.Call.TheVariants as calls
 use Rattle.client_core.specs.History as client
 use Rattle.client_core.specs.Refusals.{has_next, is_begun}
+use Rattle.client_core.specs.Laws.{generations}
 use Rattle.client_core.specs.Words as clients
-use Rattle.net_world.specs.Setup.{Setup, servers_of}
-use Rattle.net_world.specs.Happenings.{Happening, Begin, Trigger, StopRun, Verify, Tick, Deliver, Issue, Land, Done, Fail, Rot, Cut, Restart, CutIn}
+use Rattle.net_world.specs.Setup.{Setup}
+use Rattle.net_world.specs.Happenings.{Happening, Begin, Trigger, StopRun, Verify, Tick, Deliver, Issue, Land, Done, Fail, Rot, Cut, Restart, LoseNote, Renew, CutIn}
 use Rattle.net_world.specs.Happenings as happenings
-use Rattle.net_world.specs.Trace.{Step, opening_of, client_opening}
+use Rattle.net_world.specs.Trace.{Step, of_client, opening_of, client_opening}
 use Rattle.net_world.specs.Frames.{FrameStep, to_of}
 use Rattle.net_world.specs.Writes.{open_at}
-use Rattle.net_world.specs.Barred.{unless, is_on, off, on, unsent, unopen, no_file, barred}
+use Rattle.net_world.specs.Barred.{unless, no_mirror, is_on, off, on, unsent, unopen, no_file, unlosable, unfit, barred}
 use Rattle.net_world.specs.Outcomes.{Outcome, Refuses, stepped, unless_fault, where_saved, unless_barred}
 
 -- ---- no such refusal
@@ -78,15 +80,15 @@ fine_one false g y h = y h
 
 pub fine_off : (w : Setup) (t : List Step) (node : Node) → Fine (off w t node)
 unfolding Fine
-fine_off w t (Server s) = fine_two (nat_lt s (servers_of w)) (is_on t (Server s)) NoServer NodeOff (λ h. cc) (λ h. cc)
-fine_off w t Client = fine_one (is_on t Client) NodeOff (λ h. cc)
-fine_off w t Mirror = λ h. cc
+fine_off w t (Server s) = fine_two (nat_lt s w.servers) (is_on w t (Server s)) NoServer NodeOff (λ h. cc) (λ h. cc)
+fine_off w t Client = fine_one (is_on w t Client) NodeOff (λ h. cc)
+fine_off w t Mirror = fine_two w.mirror (is_on w t Mirror) NoMirror NodeOff (λ h. cc) (λ h. cc)
 
 pub fine_on : (w : Setup) (t : List Step) (node : Node) → Fine (on w t node)
 unfolding Fine
-fine_on w t (Server s) = fine_two (nat_lt s (servers_of w)) (not (is_on t (Server s))) NoServer NodeOn (λ h. cc) (λ h. cc)
-fine_on w t Client = fine_one (not (is_on t Client)) NodeOn (λ h. cc)
-fine_on w t Mirror = λ h. cc
+fine_on w t (Server s) = fine_two (nat_lt s w.servers) (not (is_on w t (Server s))) NoServer NodeOn (λ h. cc) (λ h. cc)
+fine_on w t Client = fine_one (not (is_on w t Client)) NodeOn (λ h. cc)
+fine_on w t Mirror = fine_two w.mirror (not (is_on w t Mirror)) NoMirror NodeOn (λ h. cc) (λ h. cc)
 
 pub fine_or : (x : Option Fault) (b : Bool) (g : Fault) → Fine x → Fine (Some g) → Fine (option_or x (unless b g))
 unfolding Fine
@@ -104,7 +106,20 @@ fine_unopen w t s j k = fine_or (off w t (Server s)) (is_some (open_at t s j k))
 
 pub fine_file : (w : Setup) (s j : ℕ) → Fine (no_file w s j)
 unfolding Fine
-fine_file w s j = fine_two (nat_lt s (servers_of w)) (nat_lt j MAX_JOBS) NoServer NoWrite (λ h. cc) (λ h. cc)
+fine_file w s j = fine_two (nat_lt s w.servers) (nat_lt j MAX_JOBS) NoServer NoWrite (λ h. cc) (λ h. cc)
+
+pub fine_both : (x y : Option Fault) → Fine x → Fine y → Fine (option_or x y)
+unfolding Fine
+fine_both None y f g = g
+fine_both (Some fault) y f g = f
+
+pub fine_unlosable : (w : Setup) (t : List Step) → Fine (unlosable w t)
+unfolding Fine
+fine_unlosable w t = fine_both (no_mirror w) (on w t Client) (fine_one w.mirror NoMirror (λ h. cc)) (fine_on w t Client)
+
+pub fine_unfit : (w : Setup) (t : List Step) (g : ℕ) → Fine (unfit w t g)
+unfolding Fine
+fine_unfit w t g = fine_two (is_generation g) (list_all (λ earlier. nat_lt earlier g) (generations (of_client w t))) BadGeneration UsedGeneration (λ h. cc) (λ h. cc)
 
 pub fine_bar : (w : Setup) (t : List Step) (fs : List Frame) (e : Happening) → Fine (barred w t fs e)
 unfolding Fine
@@ -122,6 +137,8 @@ fine_bar w t fs (Rot s j sector bytes) h = fine_file w s j h
 fine_bar w t fs (happenings.Check s j) h = fine_off w t (Server s) h
 fine_bar w t fs (Cut node) h = fine_off w t node h
 fine_bar w t fs (Restart node) h = fine_on w t node h
+fine_bar w t fs LoseNote h = fine_unlosable w t h
+fine_bar w t fs (Renew g) h = fine_both (unlosable w t) (unfit w t g) (fine_unlosable w t) (fine_unfit w t g) h
 fine_bar w t fs (CutIn landed (CutIn again e)) h = cc
 fine_bar w t fs (CutIn landed (Begin text)) h = fine_bar w t fs (Begin text) h
 fine_bar w t fs (CutIn landed (Trigger run act)) h = fine_bar w t fs (Trigger run act) h
@@ -137,6 +154,8 @@ fine_bar w t fs (CutIn landed (Rot s j sector bytes)) h = fine_bar w t fs (Rot s
 fine_bar w t fs (CutIn landed (happenings.Check s j)) h = fine_bar w t fs (happenings.Check s j) h
 fine_bar w t fs (CutIn landed (Cut node)) h = fine_bar w t fs (Cut node) h
 fine_bar w t fs (CutIn landed (Restart node)) h = fine_bar w t fs (Restart node) h
+fine_bar w t fs (CutIn landed LoseNote) h = fine_bar w t fs LoseNote h
+fine_bar w t fs (CutIn landed (Renew g)) h = fine_bar w t fs (Renew g) h
 
 -- ---- what a server refuses
 

@@ -53,15 +53,15 @@ use Rattle.net_world.proofs.AskEndsLemmas.{client_act}
 -- it what is due.
 pub record CutsClient (w : Setup) (past : List Change) (landed : Bool) (e : Happening) (i : Input) : Type 0 where
   pub bar : barred w (trace w past) (frames_sent w (steps past)) e ≡ off w (trace w past) Client
-  pub saves : is_some (due (client_opening w) (entries past) i) ≡ true → brings w past e ≡ Does (changes.Met (step_of (Met i (lost_by landed))))
-  pub none : due (client_opening w) (entries past) i ≡ None → brings w past e ≡ Refuses NoSave
+  pub saves : is_some (due (client_opening w) (entries w past) i) ≡ true → brings w past e ≡ Does (changes.Met (step_of (Met i (lost_by landed))))
+  pub none : due (client_opening w) (entries w past) i ≡ None → brings w past e ≡ Refuses NoSave
   pub answered : answer w past e ≡ Plain
   pub silent : frames_of_step w (steps past) (step_of (Met i (lost_by landed))) ≡ []
   pub asks : act w past (changes.Met (step_of (Met i (lost_by landed)))) ≡ acts.None
 
 -- It was cut.
 pub cut_ends : (w : Setup) (past : List Change) (landed : Bool) (e : Happening) (i : Input) (first : ℕ) (t : Told) (old new : World) → StandsFor w past old → HasMoved [] old new → CutsClient w past landed e i
-    → CutsIn (client_opening w) (entries past) landed i new.client (Ok tt) → first ≡ length (sent_in old.sent) → t ≡ plainly_told first → Ends w past e new (Ok t)
+    → CutsIn (client_opening w) (entries w past) landed i new.client (Ok tt) → first ≡ length (sent_in old.sent) → t ≡ plainly_told first → Ends w past e new (Ok t)
 cut_ends w past landed e i first t old new stands moved c cut f tells =
     plain_ends w past e (Met i (lost_by landed)) first t old new stands moved cut.2
     (record {
@@ -73,7 +73,7 @@ cut_ends w past landed e i first t old new stands moved c cut f tells =
 
 -- It wasn't.
 pub uncut_ends : (w : Setup) (past : List Change) (landed : Bool) (e : Happening) (i : Input) (fault : Fault) (old new : World) → StandsFor w past old → HasMoved [] old new → CutsClient w past landed e i
-    → CutsIn (client_opening w) (entries past) landed i new.client (Err fault) → Ends w past e new (Err fault)
+    → CutsIn (client_opening w) (entries w past) landed i new.client (Err fault) → Ends w past e new (Err fault)
 uncut_ends w past landed e i NodeOff old new stands moved c cut =
     refuses w past e NodeOff new refl (stops w past e NodeOff (c.bar ∙ ap (λ on. unless on NodeOff) (sym (up_is w past) ∙ cut.0))) (client_kept w past old new stands moved cut.1)
 uncut_ends w past landed e i NoSave old new stands moved c cut =
@@ -110,15 +110,15 @@ no_save : {X Y : Type 0} (x : Option X) (y : Y) → x ≡ None → where_saved x
 no_save x y h = rw h refl
 
 module _ (w : Setup) (past : List Change) (landed : Bool) where
-  call_saves : (c : Call) → is_some (words.due (client_opening w) (packets_heard (client_opening w) (entries past)) c) ≡ true
+  call_saves : (c : Call) → is_some (words.due (client_opening w) (packets_heard (client_opening w) (entries w past)) c) ≡ true
       → stepped (client_cut_in w (trace w past) landed c) ≡ Does (changes.Met (OfClient (Happens (client.Met c (lost_by landed)))))
   call_saves c h =
-      ap stepped (some_save (words.due (client_opening w) (of_client (trace w past)) c) (OfClient (Happens (client.Met c (lost_by landed))))
+      ap stepped (some_save (words.due (client_opening w) (of_client w (trace w past)) c) (OfClient (Happens (client.Met c (lost_by landed))))
       (ap (λ l. is_some (words.due (client_opening w) l c)) (sym (heard_is w past)) ∙ h))
 
-  call_none : (c : Call) → words.due (client_opening w) (packets_heard (client_opening w) (entries past)) c ≡ None → stepped (client_cut_in w (trace w past) landed c) ≡ Refuses NoSave
+  call_none : (c : Call) → words.due (client_opening w) (packets_heard (client_opening w) (entries w past)) c ≡ None → stepped (client_cut_in w (trace w past) landed c) ≡ Refuses NoSave
   call_none c h =
-      ap stepped (no_save (words.due (client_opening w) (of_client (trace w past)) c) (OfClient (Happens (client.Met c (lost_by landed))))
+      ap stepped (no_save (words.due (client_opening w) (of_client w (trace w past)) c) (OfClient (Happens (client.Met c (lost_by landed))))
       (ap (λ l. words.due (client_opening w) l c) (sym (heard_is w past)) ∙ h))
 
   pub cuts_begin : (text : List ℕ) → CutsClient w past landed (CutIn landed (Begin text)) (inputs.Begin text)
@@ -127,7 +127,7 @@ module _ (w : Setup) (past : List Change) (landed : Bool) where
     saves = call_saves (calls.Begin text);
     none = call_none (calls.Begin text);
     answered = refl;
-    silent = sym (frames_are w past (Met (inputs.Begin text) (lost_by landed))) ∙ call_silent (client_opening w) (packets_heard (client_opening w) (entries past)) (calls.Begin text) landed;
+    silent = sym (frames_are w past (Met (inputs.Begin text) (lost_by landed))) ∙ call_silent (client_opening w) (packets_heard (client_opening w) (entries w past)) (calls.Begin text) landed;
     asks = refl;
   }
 
@@ -137,54 +137,54 @@ module _ (w : Setup) (past : List Change) (landed : Bool) where
     saves = call_saves (calls.Verify run text);
     none = call_none (calls.Verify run text);
     answered = refl;
-    silent = sym (frames_are w past (Met (inputs.Verify run text) (lost_by landed))) ∙ call_silent (client_opening w) (packets_heard (client_opening w) (entries past)) (calls.Verify run text) landed;
+    silent = sym (frames_are w past (Met (inputs.Verify run text) (lost_by landed))) ∙ call_silent (client_opening w) (packets_heard (client_opening w) (entries w past)) (calls.Verify run text) landed;
     asks = refl;
   }
 
   -- A frame's packet.
-  said_saves : (f : Frame) (p : PacketParts) → is_some (words.due (client_opening w) (packets_heard (client_opening w) (entries past)) (calls.Deliver p)) ≡ true
+  said_saves : (f : Frame) (p : PacketParts) → is_some (words.due (client_opening w) (packets_heard (client_opening w) (entries w past)) (calls.Deliver p)) ≡ true
       → client_frame_cut w (trace w past) landed f (Says p) ≡ Ok (OfClient (Comes f (lost_by landed)))
   said_saves f p h =
-      some_save (words.due (client_opening w) (of_client (trace w past)) (calls.Deliver p)) (OfClient (Comes f (lost_by landed)))
+      some_save (words.due (client_opening w) (of_client w (trace w past)) (calls.Deliver p)) (OfClient (Comes f (lost_by landed)))
       (ap (λ l. is_some (words.due (client_opening w) l (calls.Deliver p))) (sym (heard_is w past)) ∙ h)
 
-  said_none : (f : Frame) (p : PacketParts) → words.due (client_opening w) (packets_heard (client_opening w) (entries past)) (calls.Deliver p) ≡ None
+  said_none : (f : Frame) (p : PacketParts) → words.due (client_opening w) (packets_heard (client_opening w) (entries w past)) (calls.Deliver p) ≡ None
       → client_frame_cut w (trace w past) landed f (Says p) ≡ Err NoSave
   said_none f p h =
-      no_save (words.due (client_opening w) (of_client (trace w past)) (calls.Deliver p)) (OfClient (Comes f (lost_by landed)))
+      no_save (words.due (client_opening w) (of_client w (trace w past)) (calls.Deliver p)) (OfClient (Comes f (lost_by landed)))
       (ap (λ l. words.due (client_opening w) l (calls.Deliver p)) (sym (heard_is w past)) ∙ h)
 
-  piece_saves : (q : PieceParts) (m : Meaning) → is_some (due_in (client_opening w) (packets_heard (client_opening w) (entries past)) (sense_of q m)) ≡ true
+  piece_saves : (q : PieceParts) (m : Meaning) → is_some (due_in (client_opening w) (packets_heard (client_opening w) (entries w past)) (sense_of q m)) ≡ true
       → client_frame_cut w (trace w past) landed (Piece q) m ≡ Ok (OfClient (Comes (Piece q) (lost_by landed)))
   piece_saves q (Says p) h = said_saves (Piece q) p h
   piece_saves q Waits h = absurd cc
   piece_saves q Spoils h = absurd cc
   piece_saves q Strays h = absurd cc
 
-  piece_none : (q : PieceParts) (m : Meaning) → due_in (client_opening w) (packets_heard (client_opening w) (entries past)) (sense_of q m) ≡ None
+  piece_none : (q : PieceParts) (m : Meaning) → due_in (client_opening w) (packets_heard (client_opening w) (entries w past)) (sense_of q m) ≡ None
       → client_frame_cut w (trace w past) landed (Piece q) m ≡ Err NoSave
   piece_none q (Says p) h = said_none (Piece q) p h
   piece_none q Waits h = refl
   piece_none q Spoils h = refl
   piece_none q Strays h = refl
 
-  frame_saves : (f : Frame) → is_some (due (client_opening w) (entries past) (inputs.Deliver f)) ≡ true
+  frame_saves : (f : Frame) → is_some (due (client_opening w) (entries w past) (inputs.Deliver f)) ≡ true
       → client_frame_cut w (trace w past) landed f (said_to_client w (steps past) f) ≡ Ok (OfClient (Comes f (lost_by landed)))
   frame_saves (Whole p) h = said_saves (Whole p) p h
   frame_saves (Piece q) h =
       ap (client_frame_cut w (trace w past) landed (Piece q)) (sym (said_is w past (Piece q)))
-      ∙ piece_saves q (meaning (rules (client_opening w)) (heard_at (client_opening w) (entries past)) (Piece q)) h
+      ∙ piece_saves q (meaning (rules (client_opening w)) (heard_at (client_opening w) (entries w past)) (Piece q)) h
 
-  frame_none : (f : Frame) → due (client_opening w) (entries past) (inputs.Deliver f) ≡ None
+  frame_none : (f : Frame) → due (client_opening w) (entries w past) (inputs.Deliver f) ≡ None
       → client_frame_cut w (trace w past) landed f (said_to_client w (steps past) f) ≡ Err NoSave
   frame_none (Whole p) h = said_none (Whole p) p h
   frame_none (Piece q) h =
       ap (client_frame_cut w (trace w past) landed (Piece q)) (sym (said_is w past (Piece q)))
-      ∙ piece_none q (meaning (rules (client_opening w)) (heard_at (client_opening w) (entries past)) (Piece q)) h
+      ∙ piece_none q (meaning (rules (client_opening w)) (heard_at (client_opening w) (entries w past)) (Piece q)) h
 
-  frame_silent : (f : Frame) → framed.frames (client_opening w) (entries past) (Met (inputs.Deliver f) (lost_by landed)) ≡ []
-  frame_silent (Whole p) = call_silent (client_opening w) (packets_heard (client_opening w) (entries past)) (calls.Deliver p) landed
-  frame_silent (Piece q) = piece_silent (client_opening w) (packets_heard (client_opening w) (entries past)) landed (meaning (rules (client_opening w)) (heard_at (client_opening w) (entries past)) (Piece q))
+  frame_silent : (f : Frame) → framed.frames (client_opening w) (entries w past) (Met (inputs.Deliver f) (lost_by landed)) ≡ []
+  frame_silent (Whole p) = call_silent (client_opening w) (packets_heard (client_opening w) (entries w past)) (calls.Deliver p) landed
+  frame_silent (Piece q) = piece_silent (client_opening w) (packets_heard (client_opening w) (entries w past)) landed (meaning (rules (client_opening w)) (heard_at (client_opening w) (entries w past)) (Piece q))
 
   brings_is : (number : ℕ) (f : Frame) → GoesTo w past number f → brings w past (CutIn landed (Deliver number)) ≡ stepped (client_frame_cut w (trace w past) landed f (said_to_client w (steps past) f))
   brings_is number f g = ap (λ x. stepped (delivery_cut_in w past landed x)) g.is_sent ∙ ap (λ node. stepped (frame_cut w past landed node f)) g.goes_to

@@ -47,21 +47,21 @@ use Rattle.net_world.proofs.AskEndsLemmas.{left_same, told_is}
 come : Frame → Left → Outcome
 come f left = Does (Met (OfClient (Comes f left)))
 
-says_here : (w : Setup) (t : List Step) (f : Frame) (p : PacketParts) → words.refusal (client_opening w) (of_client t) (calls.Deliver p) ≡ None
-    → comes_to_client w t f (Says p) ≡ come f (left_by (words.due (client_opening w) (of_client t) (calls.Deliver p)))
+says_here : (w : Setup) (t : List Step) (f : Frame) (p : PacketParts) → words.refusal (client_opening w) (of_client w t) (calls.Deliver p) ≡ None
+    → comes_to_client w t f (Says p) ≡ come f (left_by (words.due (client_opening w) (of_client w t) (calls.Deliver p)))
 unfolding come
 says_here w t f p h =
-    rw h refl ∙ ap (λ left. Does (Met (OfClient (Comes f left)))) (left_same (words.due (client_opening w) (of_client t) (calls.Deliver p)))
+    rw h refl ∙ ap (λ left. Does (Met (OfClient (Comes f left)))) (left_same (words.due (client_opening w) (of_client w t) (calls.Deliver p)))
 
-says_ok : (w : Setup) (t : List Step) (f : Frame) (p : PacketParts) (list : List client.Entry) → list ≡ of_client t → words.refusal (client_opening w) list (calls.Deliver p) ≡ None
+says_ok : (w : Setup) (t : List Step) (f : Frame) (p : PacketParts) (list : List client.Entry) → list ≡ of_client w t → words.refusal (client_opening w) list (calls.Deliver p) ≡ None
     → comes_to_client w t f (Says p) ≡ come f (left_by (words.due (client_opening w) list (calls.Deliver p)))
 says_ok w t f p list is =
     subst (λ l. words.refusal (client_opening w) l (calls.Deliver p) ≡ None → comes_to_client w t f (Says p) ≡ come f (left_by (words.due (client_opening w) l (calls.Deliver p)))) (sym is) (says_here w t f p)
 
-refused_here : (w : Setup) (t : List Step) (f : Frame) (p : PacketParts) (fault : Fault) → words.refusal (client_opening w) (of_client t) (calls.Deliver p) ≡ Some fault → comes_to_client w t f (Says p) ≡ Refuses fault
+refused_here : (w : Setup) (t : List Step) (f : Frame) (p : PacketParts) (fault : Fault) → words.refusal (client_opening w) (of_client w t) (calls.Deliver p) ≡ Some fault → comes_to_client w t f (Says p) ≡ Refuses fault
 refused_here w t f p fault h = rw h refl
 
-says_err : (w : Setup) (t : List Step) (f : Frame) (p : PacketParts) (list : List client.Entry) (fault : Fault) → list ≡ of_client t → words.refusal (client_opening w) list (calls.Deliver p) ≡ Some fault
+says_err : (w : Setup) (t : List Step) (f : Frame) (p : PacketParts) (list : List client.Entry) (fault : Fault) → list ≡ of_client w t → words.refusal (client_opening w) list (calls.Deliver p) ≡ Some fault
     → comes_to_client w t f (Says p) ≡ Refuses fault
 says_err w t f p list fault is h = refused_here w t f p fault (ap (λ l. words.refusal (client_opening w) l (calls.Deliver p)) (sym is) ∙ h)
 
@@ -73,7 +73,7 @@ misdirected : (on : Bool) (fault : Fault) → on ≡ true → (if on then Some M
 misdirected true fault h k = cc
 misdirected false fault h k = cc
 
-piece_ok : (w : Setup) (t : List Step) (q : PieceParts) (list : List client.Entry) → list ≡ of_client t → (m : Meaning) → refusal_in (client_opening w) list (sense_of q m) ≡ None
+piece_ok : (w : Setup) (t : List Step) (q : PieceParts) (list : List client.Entry) → list ≡ of_client w t → (m : Meaning) → refusal_in (client_opening w) list (sense_of q m) ≡ None
     → comes_to_client w t (Piece q) m ≡ come (Piece q) (left_by (due_in (client_opening w) list (sense_of q m)))
 unfolding come
 piece_ok w t q list is (Says p) h = says_ok w t (Piece q) p list is h
@@ -88,7 +88,7 @@ DroppedOr f fault drops out = ((drops ≡ false) × (out ≡ Refuses fault)) ⊎
 bad_field : (fault : Fault) → Some FrameBadField ≡ Some fault → fault ≡ FrameBadField
 bad_field fault h = cc
 
-piece_err : (w : Setup) (t : List Step) (q : PieceParts) (list : List client.Entry) (fault : Fault) → list ≡ of_client t → words.is_on list ≡ true → (m : Meaning) → refusal_in (client_opening w) list (sense_of q m) ≡ Some fault
+piece_err : (w : Setup) (t : List Step) (q : PieceParts) (list : List client.Entry) (fault : Fault) → list ≡ of_client w t → words.is_on list ≡ true → (m : Meaning) → refusal_in (client_opening w) list (sense_of q m) ≡ Some fault
     → DroppedOr (Piece q) fault (is_drop (sense_of q m)) (comes_to_client w t (Piece q) m)
 unfolding DroppedOr
 piece_err w t q list fault is on (Says p) h = inl (refl, says_err w t (Piece q) p list fault is h)
@@ -97,25 +97,25 @@ piece_err w t q list fault is on Spoils h = inr (refl, bad_field fault h, refl)
 piece_err w t q list fault is on Strays h = inl (refl, ap Refuses (misdirected (words.is_on list) fault on h))
 
 -- What a frame says is the same by the client's own list.
-pub said_is : (w : Setup) (past : List Change) (f : Frame) → meaning (rules (client_opening w)) (heard_at (client_opening w) (entries past)) f ≡ said_to_client w (steps past) f
-said_is w past f = ap (λ (h : Heard client.Entry). meaning (at_client w) h f) (hears_same w (frames.of_client (steps past)))
+pub said_is : (w : Setup) (past : List Change) (f : Frame) → meaning (rules (client_opening w)) (heard_at (client_opening w) (entries w past)) f ≡ said_to_client w (steps past) f
+said_is w past f = ap (λ (h : Heard client.Entry). meaning (at_client w) h f) (hears_same w (frames.of_client w (steps past)))
 
-frame_ok : (w : Setup) (past : List Change) (f : Frame) → framed.refusal (client_opening w) (entries past) (inputs.Deliver f) ≡ None
+frame_ok : (w : Setup) (past : List Change) (f : Frame) → framed.refusal (client_opening w) (entries w past) (inputs.Deliver f) ≡ None
     → comes_to_client w (trace w past) f (said_to_client w (steps past) f) ≡ Does (Met (step_by w past (inputs.Deliver f)))
 unfolding come
-frame_ok w past (Whole p) h = says_ok w (trace w past) (Whole p) p (packets_heard (client_opening w) (entries past)) (heard_is w past) h
+frame_ok w past (Whole p) h = says_ok w (trace w past) (Whole p) p (packets_heard (client_opening w) (entries w past)) (heard_is w past) h
 frame_ok w past (Piece q) h =
     ap (comes_to_client w (trace w past) (Piece q)) (sym (said_is w past (Piece q)))
-    ∙ piece_ok w (trace w past) q (packets_heard (client_opening w) (entries past)) (heard_is w past) (meaning (rules (client_opening w)) (heard_at (client_opening w) (entries past)) (Piece q)) h
+    ∙ piece_ok w (trace w past) q (packets_heard (client_opening w) (entries w past)) (heard_is w past) (meaning (rules (client_opening w)) (heard_at (client_opening w) (entries w past)) (Piece q)) h
 
-frame_err : (w : Setup) (past : List Change) (f : Frame) (fault : Fault) → words.is_on (packets_heard (client_opening w) (entries past)) ≡ true
-    → framed.refusal (client_opening w) (entries past) (inputs.Deliver f) ≡ Some fault
-    → DroppedOr f fault (is_drop (sense (client_opening w) (entries past) (inputs.Deliver f))) (comes_to_client w (trace w past) f (said_to_client w (steps past) f))
-frame_err w past (Whole p) fault on h = unfold DroppedOr in inl (refl, says_err w (trace w past) (Whole p) p (packets_heard (client_opening w) (entries past)) fault (heard_is w past) h)
+frame_err : (w : Setup) (past : List Change) (f : Frame) (fault : Fault) → words.is_on (packets_heard (client_opening w) (entries w past)) ≡ true
+    → framed.refusal (client_opening w) (entries w past) (inputs.Deliver f) ≡ Some fault
+    → DroppedOr f fault (is_drop (sense (client_opening w) (entries w past) (inputs.Deliver f))) (comes_to_client w (trace w past) f (said_to_client w (steps past) f))
+frame_err w past (Whole p) fault on h = unfold DroppedOr in inl (refl, says_err w (trace w past) (Whole p) p (packets_heard (client_opening w) (entries w past)) fault (heard_is w past) h)
 frame_err w past (Piece q) fault on h =
-    let m = meaning (rules (client_opening w)) (heard_at (client_opening w) (entries past)) (Piece q) in
+    let m = meaning (rules (client_opening w)) (heard_at (client_opening w) (entries w past)) (Piece q) in
     subst (λ x. DroppedOr (Piece q) fault (is_drop (sense_of q m)) (comes_to_client w (trace w past) (Piece q) x)) (said_is w past (Piece q))
-    (piece_err w (trace w past) q (packets_heard (client_opening w) (entries past)) fault (heard_is w past) on m h)
+    (piece_err w (trace w past) q (packets_heard (client_opening w) (entries w past)) fault (heard_is w past) on m h)
 
 -- ---- its delivery
 
@@ -124,8 +124,8 @@ on_of true h = refl
 on_of false h = cc
 
 -- A client that can be reached is on.
-up_of : (w : Setup) (past : List Change) → off w (trace w past) Client ≡ None → words.is_on (packets_heard (client_opening w) (entries past)) ≡ true
-up_of w past h = ap words.is_on (heard_is w past) ∙ on_of (words.is_on (of_client (trace w past))) h
+up_of : (w : Setup) (past : List Change) → off w (trace w past) Client ≡ None → words.is_on (packets_heard (client_opening w) (entries w past)) ≡ true
+up_of w past h = ap words.is_on (heard_is w past) ∙ on_of (words.is_on (of_client w (trace w past))) h
 
 -- It has this number, and goes to the client.
 pub record GoesTo (w : Setup) (past : List Change) (number : ℕ) (f : Frame) : Type 0 where
@@ -147,7 +147,7 @@ delivery_ends w past number f t new g h =
 
 dropped : (w : Setup) (past : List Change) (f : Frame) (fault : Fault) (e : happenings.Happening) (new : World) → outcome w past e ≡ comes_to_client w (trace w past) f (said_to_client w (steps past) f)
     → ClientRefuses w past (inputs.Deliver f) fault new
-    → DroppedOr f fault (is_drop (sense (client_opening w) (entries past) (inputs.Deliver f))) (comes_to_client w (trace w past) f (said_to_client w (steps past) f))
+    → DroppedOr f fault (is_drop (sense (client_opening w) (entries w past) (inputs.Deliver f))) (comes_to_client w (trace w past) f (said_to_client w (steps past) f))
     → (told w past e ≡ Err fault) × StandsFor w (after w past e) new
 unfolding DroppedOr
 dropped w past f fault e new is r (inl d) = refusing w past e fault new (is ∙ d.1) (r.unchanged d.0)

@@ -58,15 +58,15 @@ frames_same w list None = refl
 frames_same w list (Some e) = refl
 
 -- The packets that the client hears are its own in the trace.
-pub heard_is : (w : Setup) (past : List Change) → packets_heard (client_opening w) (client_entries (steps past)) ≡ traces.of_client (trace w past)
+pub heard_is : (w : Setup) (past : List Change) → packets_heard (client_opening w) (client_entries w (steps past)) ≡ traces.of_client w (trace w past)
 heard_is w past =
-    ap (λ (h : Heard client.Entry). h.entries) (hears_same w (of_client (steps past))) ∙ sym (nodes_hear_their_own w (steps past)).client
+    ap (λ (h : Heard client.Entry). h.entries) (hears_same w (of_client w (steps past))) ∙ sym (nodes_hear_their_own w (steps past)).client
 
 -- The frames of what happens are those of its step.
-sends_same : (w : Setup) (t : List FrameStep) (c : Coming client.Entry Left) → answers.frames (client_opening w) (client_entries t) (client_frame_entry c) ≡ frames_of_step w t (OfClient c)
+sends_same : (w : Setup) (t : List FrameStep) (c : Coming client.Entry Left) → answers.frames (client_opening w) (client_entries w t) (client_frame_entry c) ≡ frames_of_step w t (OfClient c)
 sends_same w t c =
-    let same = hears_same w (of_client t) in
-    let h = heard (at_client w) (of_client t) in
+    let same = hears_same w (of_client w t) in
+    let h = heard (at_client w) (of_client w t) in
     ap (λ (k : Heard client.Entry). answers.frames_by (client_opening w) k.entries (entry_of (at_client w) k (coming (client_frame_entry c)))) same
     ∙ ap (λ x. answers.frames_by (client_opening w) h.entries x) (entry_same w h c)
     ∙ frames_same w h.entries (entry_of (at_client w) h c)
@@ -83,6 +83,6 @@ entry_again (hearing.Restart mirror) = refl
 entry_again (hearing.Renew g left) = refl
 entry_again hearing.Lose = refl
 
-pub frames_are : (w : Setup) (past : List Change) (e : FrameEntry) → answers.frames (client_opening w) (client_entries (steps past)) e ≡ frames_of_step w (steps past) (OfClient (coming e))
+pub frames_are : (w : Setup) (past : List Change) (e : FrameEntry) → answers.frames (client_opening w) (client_entries w (steps past)) e ≡ frames_of_step w (steps past) (OfClient (coming e))
 frames_are w past e =
-    ap (answers.frames (client_opening w) (client_entries (steps past))) (sym (entry_again e)) ∙ sends_same w (steps past) (coming e)
+    ap (answers.frames (client_opening w) (client_entries w (steps past))) (sym (entry_again e)) ∙ sends_same w (steps past) (coming e)

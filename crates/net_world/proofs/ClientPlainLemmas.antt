@@ -1,10 +1,13 @@
 -- What happens to the client without a frame or an answer: it is cut, and restarted.
-use Rattle.std.proofs.Common.{◌≡◌, refl, sym, ◌∙◌, ap, ℕ, true, false, List, [], ◌∷◌, length, Ok, Err}
-use Rattle.std.specs.Prelude.{map, not}
+use Rattle.std.proofs.Common.{◌≡◌, refl, sym, ◌∙◌, ap, ℕ, Bool, true, false, ◌&&◌, List, [], ◌∷◌, length, Ok, Err}
+use Rattle.std.specs.Prelude.{map, not, if◌then◌else◌}
 use Rattle.fc_base.specs.declared.fault.Fault.{Fault}
-use Rattle.fc_base.specs.declared.fault.Fault.TheVariants.{NodeOff, NodeOn, NoMemory}
+use Rattle.fc_base.specs.declared.fault.Fault.TheVariants.{BadNote, NodeOff, NodeOn, NoMemory}
 use Rattle.messages.specs.FrameBytes.{frame_spelling}
 use Rattle.messages.specs.declared.node.Node.TheVariants.{Client}
+use Rattle.messages.specs.Hearing.{Happens}
+use Rattle.client_core.specs.History as client
+use Rattle.client_core.specs.Note.{is_blank}
 use Rattle.client_core.specs.Hearing as hearing
 use Rattle.client_core.specs.Hearing.{FrameEntry}
 use Rattle.net_world.specs.declared.told.Told.{Told}
@@ -12,9 +15,10 @@ use Rattle.net_world.specs.declared.world.World.{World}
 use Rattle.net_world.specs.Setup.{Setup}
 use Rattle.net_world.specs.Happenings.{Happening, Cut, Restart}
 use Rattle.net_world.specs.Trace.{client_opening}
-use Rattle.net_world.specs.Changes.{Change, Met}
+use Rattle.net_world.specs.Changes.{Change, Met, trace}
+use Rattle.net_world.specs.Frames.{OfClient}
 use Rattle.net_world.specs.Barred.{unless}
-use Rattle.net_world.specs.Outcomes.{Refuses, outcome}
+use Rattle.net_world.specs.Outcomes.{Refuses, stepped, noted_in, outcome}
 use Rattle.net_world.specs.Telling.{plainly_told}
 use Rattle.net_world.specs.Sending.{sent_in}
 use Rattle.net_world.specs.ClientNodes as nodes
@@ -29,17 +33,17 @@ use Rattle.net_world.proofs.ClientHeardLemmas.{frames_are}
 use Rattle.net_world.proofs.AskLemmas.{up_is, HasMoved, client_stepped, client_kept}
 
 pub plain_ends : (w : Setup) (past : List Change) (e : Happening) (entry : FrameEntry) (first : ℕ) (t : Told) (old new : World) → StandsFor w past old → HasMoved [] old new
-    → nodes.Stands (client_opening w) (entry ∷ entries past) new.client → IsPlain w past e (step_of entry) → first ≡ length (sent_in old.sent) → t ≡ plainly_told first → Ends w past e new (Ok t)
+    → nodes.Stands (client_opening w) (entry ∷ entries w past) new.client → IsPlain w past e (step_of entry) → first ≡ length (sent_in old.sent) → t ≡ plainly_told first → Ends w past e new (Ok t)
 plain_ends w past e entry first t old new stands moved node_is p f tells =
     does w past e (Met (step_of entry)) t new p.comes (told_plainly w past e (step_of entry) first t p (f ∙ first_is w past old stands) tells)
     (client_stepped w past entry [] old new stands moved (ap (map frame_spelling) (sym p.silent)) node_is)
 
 -- ---- a cut
 
-pub cut_off : (w : Setup) (past : List Change) → is_up (client_opening w) (entries past) ≡ false → outcome w past (Cut Client) ≡ Refuses NodeOff
+pub cut_off : (w : Setup) (past : List Change) → is_up (client_opening w) (entries w past) ≡ false → outcome w past (Cut Client) ≡ Refuses NodeOff
 cut_off w past h = stops w past (Cut Client) NodeOff (ap (λ on. unless on NodeOff) (sym (up_is w past) ∙ h))
 
-pub cut_plain : (w : Setup) (past : List Change) → is_up (client_opening w) (entries past) ≡ true → IsPlain w past (Cut Client) (step_of hearing.Cut)
+pub cut_plain : (w : Setup) (past : List Change) → is_up (client_opening w) (entries w past) ≡ true → IsPlain w past (Cut Client) (step_of hearing.Cut)
 cut_plain w past h = record {
   comes = goes w past (Cut Client) (ap (λ on. unless on NodeOff) (sym (up_is w past) ∙ h));
   answered = refl;
@@ -49,19 +53,23 @@ cut_plain w past h = record {
 
 -- ---- a restart
 
-pub restart_on : (w : Setup) (past : List Change) → is_up (client_opening w) (entries past) ≡ true → outcome w past (Restart Client) ≡ Refuses NodeOn
+pub restart_on : (w : Setup) (past : List Change) → is_up (client_opening w) (entries w past) ≡ true → outcome w past (Restart Client) ≡ Refuses NodeOn
 restart_on w past h = stops w past (Restart Client) NodeOn (ap (λ on. unless (not on) NodeOn) (sym (up_is w past) ∙ h))
 
-pub restart_plain : (w : Setup) (past : List Change) → is_up (client_opening w) (entries past) ≡ false → IsPlain w past (Restart Client) (step_of (hearing.Restart false))
-restart_plain w past h = record {
-  comes = goes w past (Restart Client) (ap (λ on. unless (not on) NodeOn) (sym (up_is w past) ∙ h));
+alone_restart : (b blank : Bool) → b ≡ false → (if b && blank then Err BadNote else Ok (OfClient (Happens (client.Restart b)))) ≡ Ok (OfClient (Happens (client.Restart false)))
+alone_restart true blank h = absurd cc
+alone_restart false blank h = refl
+
+pub restart_plain : (w : Setup) (past : List Change) → w.mirror ≡ false → is_up (client_opening w) (entries w past) ≡ false → IsPlain w past (Restart Client) (step_of (hearing.Restart false))
+restart_plain w past alone h = record {
+  comes = goes w past (Restart Client) (ap (λ on. unless (not on) NodeOn) (sym (up_is w past) ∙ h)) ∙ ap stepped (alone_restart w.mirror (is_blank (noted_in w (trace w past))) alone);
   answered = refl;
   silent = sym (frames_are w past (hearing.Restart false));
   asks = refl;
 }
 
 -- How a restart that isn't answered ends.
-pub restart_ends : (w : Setup) (past : List Change) (fault : Fault) (old new : World) → StandsFor w past old → HasMoved [] old new → nodes.Restarts (client_opening w) (entries past) new.client (Err fault)
+pub restart_ends : (w : Setup) (past : List Change) (fault : Fault) (old new : World) → StandsFor w past old → HasMoved [] old new → nodes.Restarts (client_opening w) (entries w past) new.client (Err fault)
     → Ends w past (Restart Client) new (Err fault)
 restart_ends w past NodeOn old new stands h r = refuses w past (Restart Client) NodeOn new refl (restart_on w past r.0) (client_kept w past old new stands h r.1)
 restart_ends w past NoMemory old new stands h r = (refl, client_kept w past old new stands h r.1)

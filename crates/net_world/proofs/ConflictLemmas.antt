@@ -1,9 +1,10 @@
--- Nothing that was sent differs from what is kept, or from another of its key.
-use Rattle.std.proofs.Common.{◌≡◌, ◌⊎◌, refl, sym, ◌∙◌, ap, subst, inl, inr, ℕ, arith, Bool, true, false, ◌==◌, List, [], ◌∷◌, ◌++◌, Option, Some, None}
-use Rattle.std.specs.Prelude.{not, Contains, slice_get, bytes_eq}
+-- Nothing that was sent differs from what is kept, at the client or at the mirror, or from another of its
+-- key.
+use Rattle.std.proofs.Common.{◌≡◌, refl, sym, ◌∙◌, ap, subst, ℕ, arith, Bool, true, false, ◌==◌, List, [], ◌∷◌, ◌++◌, Option, Some, None}
+use Rattle.std.specs.Prelude.{nat_lt, not, Contains, slice_get, bytes_eq, if◌then◌else◌}
 use Rattle.std.proofs.lemmas.Bool.Decides.{nat_tests}
 use Rattle.fc_base.specs.declared.fault.Fault.{Fault}
-use Rattle.fc_base.specs.declared.fault.Fault.TheVariants.{Down, Misdirected, Conflict, TableFull}
+use Rattle.fc_base.specs.declared.fault.Fault.TheVariants.{Old, Down, Misdirected, Conflict, TableFull}
 use Rattle.fc_base.specs.Faults.{when}
 use Rattle.fc_base.specs.declared.numbers.Key.{Key}
 use Rattle.verify_state.specs.State.{State}
@@ -12,21 +13,25 @@ use Rattle.verify_state.specs.Codes.{kind_code, verify_code}
 use Rattle.messages.specs.declared.packet.PacketParts.{PacketParts}
 use Rattle.messages.specs.declared.body.Body.{Body}
 use Rattle.messages.specs.declared.body.Body.TheVariants as bodies
-use Rattle.messages.specs.declared.node.Node.{Node}
-use Rattle.messages.specs.declared.node.Node.TheVariants.{Server, Client}
+use Rattle.messages.specs.declared.node.Node.TheVariants.{Server}
 use Rattle.client_core.specs.declared.noted.Noted.{Noted}
 use Rattle.state_table.specs.Kept.{kept_of}
+use Rattle.state_table.specs.Laws.{FoundHasItsKey}
 use Rattle.client_core.specs.Refusals.{is_for_client, differs, lacks_room, faults_of_body}
-use Rattle.client_core.specs.Words.{is_on, noted, kept, peers}
+use Rattle.client_core.specs.Words.{is_on, noted, peers}
+use Rattle.mirror_core.specs.declared.noted.Noted as mirror_noted
+use Rattle.mirror_core.specs.Requests.{asked_by, is_for_mirror}
+use Rattle.mirror_core.specs.Refusals as mirror_refusals
+use Rattle.mirror_core.specs.Words as mirrors
 use Rattle.net_world.specs.Setup.{Setup}
-use Rattle.net_world.specs.Trace.{Step, AtServer, AtClient, IsTrace, of_client, client_opening, opening_of, of_server, packets_of, sent}
-use Rattle.net_world.specs.Holders.{taken_of}
-use Rattle.net_world.specs.Passes.{SentStatesWereTaken, KeptStatesWereSent, NoCopyIsSent, NoPacketConflicts}
+use Rattle.net_world.specs.Trace.{Step, IsTrace, of_client, client_opening, opening_of, of_server, of_mirror, mirror_opening, sent}
+use Rattle.net_world.specs.Holders.{taken_of, carried}
+use Rattle.net_world.specs.Passes.{SentStatesWereTaken, WasSent, CarriedStatesWereSent, KeptStatesWereSent, CopiedStatesWereSent, NoPacketConflicts, NoCopyConflicts}
 use Rattle.net_world.specs.Claims.{OfEachList, OfEachTrace}
 use Rattle.net_world.specs.Headline.{OneTaking, StatePacketsAreEqual}
-use Rattle.net_world.proofs.ListLemmas.{single}
-use Rattle.net_world.proofs.TraceLemmas.{sent_cases, sent_none}
-use Rattle.net_world.proofs.PassLemmas.{no_state}
+use Rattle.net_world.proofs.ListLemmas.{single, found_in}
+use Rattle.net_world.proofs.PassLemmas.{Going, ends_of, was_taken}
+use Rattle.net_world.proofs.TraceLemmas.{same_packet}
 use Rattle.net_world.proofs.BegunLemmas.{begun}
 use Rattle.net_world.proofs.SaidLemmas.{Sayings, SaysJobs, sent_by, state_says, same_count}
 
@@ -38,11 +43,14 @@ one_of a b xs h g = cc
 pub same_two : OfEachList OneTaking → (w : Setup) (t : List Step) (key : Key) (a b : State) → Contains (taken_of key t) a → Contains (taken_of key t) b → a ≡ b
 same_two once w t key a b h g = one_of a b (taken_of key t) (single (taken_of key t) a (once w t key) h) (single (taken_of key t) b (once w t key) g)
 
--- What is kept was taken.
-pub kept_taken : OfEachList SentStatesWereTaken → OfEachTrace KeptStatesWereSent → (w : Setup) (t : List Step) (key : Key) (state : State) → IsTrace w t → kept (client_opening w) (of_client t) key ≡ Some state → Contains (taken_of key t) state
-kept_taken taken kept_sent w t key state trace h =
-    let k = kept_sent w t trace key state h in
-    subst (λ i. Contains (taken_of i t) state) k.key_is (taken w t _ k.jobs state k.sent_in refl)
+-- The laws on which this rests.
+pub record Conflicts : Type 0 where
+  pub taken : OfEachList SentStatesWereTaken
+  pub in_packets : OfEachTrace CarriedStatesWereSent
+  pub at_client : OfEachTrace KeptStatesWereSent
+  pub at_mirror : OfEachTrace CopiedStatesWereSent
+  pub has : FoundHasItsKey
+  pub once : OfEachList OneTaking
 
 -- ---- a state is the same as itself
 
@@ -77,69 +85,79 @@ kept_differs x (Some y) h = (y, refl, not_true (is_same y x) h)
     not_true true e = absurd cc
     not_true false e = refl
 
--- The body of a packet that is refused so.
-record Differing (n : Noted) (b : Body) : Type 0 where
-  pub jobs : ℕ
+-- The body of a packet that is refused so, by these kept states.
+record Differing (states : List State) (b : Body) : Type 0 where
   pub new : State
   pub old : State
-  pub is : b ≡ bodies.State jobs new
-  pub found : kept_of new.key n.kept ≡ Some old
+  pub carries : carried b ≡ Some new
+  pub found : kept_of new.key states ≡ Some old
   pub other : is_same old new ≡ false
 
-differing : (n : Noted) (b : Body) → slice_get (faults_of_body n b) 0 ≡ Some Conflict → Differing n b ⊎ ((state : State) × (b ≡ bodies.Copy state))
-differing n (bodies.State jobs x) h =
-    let k = kept_differs x (kept_of x.key n.kept) (conflict_differs (differs x (kept_of x.key n.kept)) (lacks_room n.kept (kept_of x.key n.kept)) h) in
-    inl (record { jobs = jobs; new = x; old = k.0; is = refl; found = k.1; other = k.2 })
-differing n (bodies.Copy x) h = inr (x, refl)
+differing_state : (states : List State) (b : Body) (x : State) (l : Bool) → carried b ≡ Some x → slice_get (when (differs x (kept_of x.key states)) Conflict ++ when l TableFull) 0 ≡ Some Conflict → Differing states b
+differing_state states b x l c h =
+    let k = kept_differs x (kept_of x.key states) (conflict_differs (differs x (kept_of x.key states)) l h) in
+    record { new = x; old = k.0; carries = c; found = k.1; other = k.2 }
+
+differing : (n : Noted) (b : Body) → slice_get (faults_of_body n b) 0 ≡ Some Conflict → Differing n.kept b
+differing n (bodies.State jobs x) h = differing_state n.kept (bodies.State jobs x) x (lacks_room n.kept (kept_of x.key n.kept)) refl h
+differing n (bodies.Copy x) h = differing_state n.kept (bodies.Copy x) x (lacks_room n.kept (kept_of x.key n.kept)) refl h
 differing n _ h = absurd cc
 
-differs_not : OfEachList SentStatesWereTaken → OfEachTrace KeptStatesWereSent → OfEachList OneTaking → (w : Setup) (t : List Step) (p : PacketParts) → IsTrace w t → Contains (sent w t) p → Differing (noted (client_opening w) (of_client t)) p.body → ⊥
-differs_not taken kept_sent once w t p trace was d =
-    let new = taken w t p d.jobs d.new was d.is in
-    let old = kept_taken taken kept_sent w t d.new.key d.old trace d.found in
-    let same : d.old ≡ d.new = same_two once w t d.new.key d.old d.new old new in
+-- Two states that were sent don't differ.
+differs_not : Conflicts → (w : Setup) (t : List Step) (p : PacketParts) (states : List State) → IsTrace w t → Contains (sent w t) p → ((state : State) → Contains states state → WasSent w t state) → Differing states p.body → ⊥
+differs_not laws w t p states trace was sent_so d =
+    let new = was_taken laws.taken w t d.new.key d.new refl (laws.in_packets w t trace p d.new was d.carries) in
+    let old = was_taken laws.taken w t d.new.key d.old (laws.has d.new.key states d.old d.found) (sent_so d.old (found_in d.new.key states d.old d.found)) in
+    let same : d.old ≡ d.new = same_two laws.once w t d.new.key d.old d.new old new in
     let yes : is_same d.old d.new ≡ true = subst (λ x. is_same d.old x ≡ true) same (is_same_self d.old) in
     let no = d.other in
     absurd cc
 
-pub no_packet_conflicts : OfEachList SentStatesWereTaken → OfEachTrace KeptStatesWereSent → OfEachTrace NoCopyIsSent → OfEachList OneTaking → OfEachTrace NoPacketConflicts
-no_packet_conflicts taken kept_sent none once w t trace p was h =
-    let note = noted (client_opening w) (of_client t) in
-    elim (differing note p.body (past_the_first (not (is_on (of_client t))) (not (is_for_client (peers (client_opening w) (of_client t)) p)) (faults_of_body note p.body) h)) [
-      | inl d ↦ differs_not taken kept_sent once w t p trace was d
-      | inr copy ↦ none w t trace p copy.0 was copy.1
-    ]
+pub no_packet_conflicts : Conflicts → OfEachTrace NoPacketConflicts
+no_packet_conflicts laws w t trace p was h =
+    let note = noted (client_opening w) (of_client w t) in
+    differs_not laws w t p note.kept trace was (laws.at_client w t trace)
+    (differing note p.body (past_the_first (not (is_on (of_client w t))) (not (is_for_client (peers (client_opening w) (of_client w t)) p)) (faults_of_body note p.body) h))
+
+-- ---- the mirror
+
+mirror_differs : (x : State) (o : Option State) → mirror_refusals.differs x o ≡ true → (y : State) × (o ≡ Some y) × (is_same y x ≡ false)
+mirror_differs x None h = absurd cc
+mirror_differs x (Some y) h = (y, refl, not_true (is_same y x) h)
+  where
+    not_true : (b : Bool) → not b ≡ true → b ≡ false
+    not_true true e = absurd cc
+    not_true false e = refl
+
+old_or_not : (b : Bool) → slice_get (when b Old) 0 ≡ Some Conflict → ⊥
+old_or_not true h = absurd cc
+old_or_not false h = absurd cc
+
+asked_differs : (n : mirror_noted.Noted) (body : Body) → slice_get (mirror_refusals.faults_of n (asked_by body)) 0 ≡ Some Conflict → Differing n.kept body
+asked_differs n (bodies.Copy x) h =
+    let k = mirror_differs x (kept_of x.key n.kept) (conflict_differs (mirror_refusals.differs x (kept_of x.key n.kept)) (mirror_refusals.lacks_room n.kept (kept_of x.key n.kept)) h) in
+    record { new = x; old = k.0; carries = refl; found = k.1; other = k.2 }
+asked_differs n (bodies.Fetch g) h = absurd (old_or_not (nat_lt g n.generation) h)
+asked_differs n _ h = absurd cc
+
+past_down : (a b : Bool) (n : mirror_noted.Noted) (body : Body) → slice_get (when a Down ++ mirror_refusals.faults_of n (if b then asked_by body else None)) 0 ≡ Some Conflict → Differing n.kept body
+past_down true b n body h = absurd cc
+past_down false true n body h = asked_differs n body h
+past_down false false n body h = absurd cc
+
+pub no_copy_conflicts : Conflicts → OfEachTrace NoCopyConflicts
+no_copy_conflicts laws w t trace p was h =
+    let note = mirrors.noted mirror_opening (of_mirror t) in
+    differs_not laws w t p note.kept trace was (laws.at_mirror w t trace)
+    (past_down (not (mirrors.is_on (of_mirror t))) (is_for_mirror p) note p.body h)
 
 -- ---- State packets of one key are equal
 
-make_packet : Node → Node → Body → PacketParts
-make_packet from to body = record { from = from; to = to; body = body }
-
-pub same_packet : (p q : PacketParts) → p.from ≡ q.from → p.to ≡ q.to → p.body ≡ q.body → p ≡ q
-unfolding make_packet
-same_packet p q a b c = ap (λ x. make_packet x p.to p.body) a ∙ ap (λ x. make_packet q.from x p.body) b ∙ ap (λ x. make_packet q.from q.to x) c
-
--- A State that was sent goes to the client, from the server that its key names.
-
-ends_now : Sayings → (w : Setup) (step : Step) (past : List Step) (p : PacketParts) (jobs : ℕ) (a : State) → Contains (packets_of w past step) p → p.body ≡ bodies.State jobs a → (p.from ≡ Server a.key.server) × (p.to ≡ Client)
-ends_now laws w (AtServer r e) past p jobs a h is =
-    let k = laws.to_client (opening_of r) (of_server r past) e p h in
-    let t = laws.sends (opening_of r) (of_server r past) e p jobs a h is in
-    let server : a.key.server ≡ r = ap (λ (i : Key). i.server) (t.1).key in
-    (ap (λ (q : PacketParts). q.from) k.ends ∙ ap Server (sym server), ap (λ (q : PacketParts). q.to) k.ends)
-ends_now laws w (AtClient e) past p jobs a h is = absurd (no_state laws.to_peers (client_opening w) (of_client past) e p jobs a h is)
-
-ends_of : Sayings → (w : Setup) (t : List Step) (p : PacketParts) (jobs : ℕ) (a : State) → Contains (sent w t) p → p.body ≡ bodies.State jobs a → (p.from ≡ Server a.key.server) × (p.to ≡ Client)
-ends_of laws w [] p jobs a h is = absurd (sent_none w p h)
-ends_of laws w (step ∷ past) p jobs a h is = elim (sent_cases w step past p h) [
-  | inl before ↦ ends_of laws w past p jobs a before is
-  | inr now ↦ ends_now laws w step past p jobs a now is
-]
-
 pub state_packets_are_equal : Sayings → OfEachList SentStatesWereTaken → OfEachList OneTaking → OfEachList StatePacketsAreEqual
 state_packets_are_equal laws taken once w t p q jobs more a b hp ip hq iq keys =
-    let fp = ends_of laws w t p jobs a hp ip in
-    let fq = ends_of laws w t q more b hq iq in
+    let going : Going = record { sends = laws.sends; to_client = laws.to_client; to_peers = laws.to_peers; over = laws.over } in
+    let fp = ends_of going w t p jobs a hp ip in
+    let fq = ends_of going w t q more b hq iq in
     let server : a.key.server ≡ b.key.server = ap (λ (k : Key). k.server) keys in
     let same : a ≡ b = same_two once w t a.key a b (taken w t p jobs a hp ip) (subst (λ k. Contains (taken_of k t) b) (sym keys) (taken w t q more b hq iq)) in
     let s = b.key.server in

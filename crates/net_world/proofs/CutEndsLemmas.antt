@@ -33,7 +33,7 @@ use Rattle.server_core.specs.FrameAnswers as framed
 use Rattle.server_core.specs.FrameAnswers.{sense_of, due_in, would_save}
 use Rattle.net_world.specs.declared.server_node.ServerNode.{ServerNode}
 use Rattle.net_world.specs.declared.world.World.{World}
-use Rattle.net_world.specs.Setup.{Setup, servers_of}
+use Rattle.net_world.specs.Setup.{Setup}
 use Rattle.net_world.specs.Happenings.{Deliver, Restart, CutIn}
 use Rattle.net_world.specs.Trace.{Step, AtServer, opening_of, of_server}
 use Rattle.net_world.specs.Frames.{FrameStep, frames_sent}
@@ -158,7 +158,7 @@ frame_cut_plain w past number landed f s g on h = record {
 }
 
 -- How a cut within the save of a frame ends in a world, where it isn't made.
-pub frame_cut_ends : (w : Setup) (past : List Change) (number : ℕ) (landed : Bool) (f : Frame) (s : ℕ) (node : ServerNode) (fault : Fault) (old new : World) → StandsFor w past old → HasMoved s node [] old new → s < servers_of w → GoesTo w past number f s
+pub frame_cut_ends : (w : Setup) (past : List Change) (number : ℕ) (landed : Bool) (f : Frame) (s : ℕ) (node : ServerNode) (fault : Fault) (old new : World) → StandsFor w past old → HasMoved s node [] old new → s < w.servers → GoesTo w past number f s
     → servers.CutsIn (opening_of s) (entries past s) landed f node (Err fault) → Ends w past (CutIn landed (Deliver number)) new (Err fault)
 frame_cut_ends w past number landed f s node NodeOff old new stands moved l g h =
     refuses w past (CutIn landed (Deliver number)) NodeOff new refl (stops w past (CutIn landed (Deliver number)) NodeOff (cut_bar w past number landed f s g ∙ is_off w past s l h.0)) (server_kept w past s node old new stands moved h.1)
@@ -180,7 +180,7 @@ restart_cut_plain w past s landed h b = record {
   asks = refl;
 }
 
-pub restart_cut_ends : (w : Setup) (past : List Change) (s : ℕ) (landed : Bool) (node : ServerNode) (fault : Fault) (old new : World) → StandsFor w past old → HasMoved s node [] old new → s < servers_of w
+pub restart_cut_ends : (w : Setup) (past : List Change) (s : ℕ) (landed : Bool) (node : ServerNode) (fault : Fault) (old new : World) → StandsFor w past old → HasMoved s node [] old new → s < w.servers
     → servers.CutsInRestart (opening_of s) (entries past s) landed node (Err fault) → Ends w past (CutIn landed (Restart (nodes.Server s))) new (Err fault)
 restart_cut_ends w past s landed node NodeOn old new stands moved l h =
     refuses w past (CutIn landed (Restart (nodes.Server s))) NodeOn new refl (stops w past (CutIn landed (Restart (nodes.Server s))) NodeOn (runs_on w past s l h.0)) (server_kept w past s node old new stands moved h.1)

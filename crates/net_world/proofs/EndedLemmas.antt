@@ -1,11 +1,13 @@
--- A trigger that has ended well, and a server that asks for the cut, leave each taken state kept.
-use Rattle.std.proofs.Common.{true, ◌≡◌, refl, sym, ◌∙◌, ap, subst, ◌⊎◌, inl, inr, ℕ, ◌<◌, arith, List, [], ◌∷◌, length, Some}
+-- Where a trigger has ended well each taken state is kept, and where a server asks for the cut it was kept.
+use Rattle.std.proofs.Common.{◌≡◌, refl, sym, ◌∙◌, ap, subst, ◌⊎◌, inl, inr, ℕ, ◌<◌, arith, List, [], ◌∷◌, length, Some}
 use Rattle.std.specs.Prelude.{Contains}
 use Rattle.fc_base.specs.declared.numbers.Key.{Key}
 use Rattle.job_file.specs.declared.job.Job.{Job}
 use Rattle.verify_state.specs.State.{State}
+use Rattle.state_table.specs.Laws.{FoundHasItsKey}
 use Rattle.messages.specs.declared.packet.PacketParts.{PacketParts}
 use Rattle.messages.specs.declared.body.Body.TheVariants as bodies
+use Rattle.messages.specs.declared.node.Node.TheVariants.{Client, Mirror}
 use Rattle.server_core.specs.declared.event.Event.{Event}
 use Rattle.server_core.specs.declared.event.Event.TheVariants as events
 use Rattle.server_core.specs.History.{Met}
@@ -15,23 +17,26 @@ use Rattle.server_core.specs.Laws as served
 use Rattle.client_core.specs.Ranges.{came}
 use Rattle.client_core.specs.Words.{noted, kept}
 use Rattle.client_core.specs.Packets.{to_server}
-use Rattle.client_core.specs.Laws.{FirstKeptStays, AcksAreFor, TriggersEndWell, TellsJobs, HasAnswer, from_server}
+use Rattle.client_core.specs.Laws.{AcksAreFor, TriggersEndWell, TellsJobs, HasAnswer, from_server}
 use Rattle.net_world.specs.Setup.{Setup}
-use Rattle.net_world.specs.Trace.{Step, AtServer, AtClient, is_mirrorless, opening_of, client_opening, of_server, of_client, packets_of, sent, IsTrace}
+use Rattle.net_world.specs.Trace.{Step, AtServer, AtClient, AtMirror, opening_of, client_opening, mirror_opening, of_server, of_client, of_mirror, packets_of, sent, IsTrace}
 use Rattle.net_world.specs.Holders.{taken_of, key_at}
-use Rattle.net_world.specs.Passes.{SentStatesWereTaken, KeptStatesWereSent}
+use Rattle.net_world.specs.Passes.{SentStatesWereTaken, KeptStatesWereSent, WasKept}
 use Rattle.net_world.specs.Claims.{OfEachList, OfEachTrace}
 use Rattle.net_world.specs.Headline.{OneTaking, KeptWhereServed, KeptWhereCut}
 use Rattle.net_world.proofs.ListLemmas.{none_in, first_or_rest}
-use Rattle.net_world.proofs.TraceLemmas.{front_is_trace, loses_no_note, sent_cases, sent_none, sent_stays, taken_was_sent, came_was_sent, heard_was_sent}
+use Rattle.net_world.proofs.TraceLemmas.{front_is_trace, taken_stays_so, sent_cases, sent_none, sent_stays, taken_was_sent, came_was_sent, heard_was_sent}
 use Rattle.net_world.proofs.BegunLemmas.{begun, work_begun, taken_of_set}
 use Rattle.net_world.proofs.SaidLemmas.{Sayings, SaysJobs, SaysNone, sent_by, state_says, none_says, same_count}
-use Rattle.net_world.proofs.ConflictLemmas.{same_two, kept_taken}
+use Rattle.net_world.proofs.ConflictLemmas.{same_two}
+use Rattle.net_world.proofs.MirrorLemmas.{sent_by_mirror}
+use Rattle.net_world.proofs.PassLemmas.{kept_before, kept_was_taken}
 
 -- The laws on which this rests.
 pub record Ending : Type 0 where
   pub sayings : Sayings
   pub taken : OfEachList SentStatesWereTaken
+  pub has : FoundHasItsKey
   pub kept_sent : OfEachTrace KeptStatesWereSent
   pub once : OfEachList OneTaking
 
@@ -46,7 +51,7 @@ said_jobs laws w t s jobs a h =
     state_says laws.sayings s (of_server s t) p jobs a (sent_by laws.sayings w s t p refl h) refl
 
 -- The number of jobs that was told is that of the set with which the run was begun.
-count_told : Ending → (w : Setup) (t : List Step) (run s jobs : ℕ) (set : List Job) → IsTrace w t → begun (opening_of s) run (of_server s t) ≡ Some set → TellsJobs (came (of_client t)) run s jobs → jobs ≡ length set
+count_told : Ending → (w : Setup) (t : List Step) (run s jobs : ℕ) (set : List Job) → IsTrace w t → begun (opening_of s) run (of_server s t) ≡ Some set → TellsJobs (came (of_client w t)) run s jobs → jobs ≡ length set
 count_told laws w t run s jobs set trace is (inl k) =
     let says = said_jobs laws w t s jobs k.0 (came_was_sent w t (from_server (bodies.State jobs k.0) s) trace k.2) in
     same_count (opening_of s) run jobs (of_server s t) set is (subst (λ r. SaysJobs (opening_of s) (of_server s t) r jobs) k.1 says)
@@ -54,46 +59,62 @@ count_told laws w t run s jobs set trace is (inr k) =
     let says = said_none laws w t run s k.0 jobs (came_was_sent w t (from_server (bodies.NoState run k.0 jobs) s) trace k.1) in
     same_count (opening_of s) run jobs (of_server s t) set is says.says
 
--- A state of the key is kept, or its server has said that there is none.
+-- A state of the key was kept by then, or its server has said that there is none.
 KeptOrNone : Setup → List Step → Key → Type 0
 KeptOrNone w t key =
-    ((state : State) × (kept (client_opening w) (of_client t) key ≡ Some state))
+    ((state : State) × WasKept w t key state)
     ⊎ ((jobs : ℕ) × Contains (sent w t) (from_server (bodies.NoState key.run key.job jobs) key.server))
 
 nothing_in : (xs : List State) (x : State) → xs ≡ [] → Contains xs x → ⊥
 nothing_in xs x e h = none_in x (subst (λ l. Contains l x) e h)
 
--- So a state that was taken is kept.
-kept_of : Ending → (w : Setup) (t : List Step) (key : Key) (state : State) → IsTrace w t → Contains (taken_of key t) state → KeptOrNone w t key → kept (client_opening w) (of_client t) key ≡ Some state
+none_taken : Ending → (w : Setup) (t : List Step) (key : Key) (state : State) (jobs : ℕ) → Contains (taken_of key t) state → Contains (sent w t) (from_server (bodies.NoState key.run key.job jobs) key.server) → ⊥
+none_taken laws w t key state jobs taken h =
+    let says = said_none laws w t key.run key.server key.job jobs h in
+    nothing_in (taken_of key t) state says.none taken
+
+-- Two states of a key that were kept and taken are one.
+same_kept : Ending → (w : Setup) (t : List Step) (key : Key) (x state : State) → IsTrace w t → kept (client_opening w) (of_client w t) key ≡ Some x → Contains (taken_of key t) state → x ≡ state
+same_kept laws w t key x state trace h taken = same_two laws.once w t key x state (kept_was_taken laws.taken laws.has laws.kept_sent w t key x trace h) taken
+
+-- So a state that was taken was kept.
+kept_of : Ending → (w : Setup) (t : List Step) (key : Key) (state : State) → IsTrace w t → Contains (taken_of key t) state → KeptOrNone w t key → WasKept w t key state
 unfolding KeptOrNone
 kept_of laws w t key state trace taken (inl k) =
-    k.1 ∙ ap Some (same_two laws.once w t key k.0 state (kept_taken laws.taken laws.kept_sent w t key k.0 trace k.1) taken)
-kept_of laws w t key state trace taken (inr k) =
-    let says = said_none laws w t key.run key.server key.job k.0 k.1 in
-    absurd (nothing_in (taken_of key t) state says.none taken)
+    let was = k.1 in
+    let front = front_is_trace w was.later was.earlier (subst (IsTrace w) was.split trace) in
+    let there = kept_was_taken laws.taken laws.has laws.kept_sent w was.earlier key k.0 front was.kept_there in
+    let here = subst (λ (l : List Step). Contains (taken_of key l) k.0) (sym was.split) (taken_stays_so key was.later was.earlier k.0 there) in
+    let same : k.0 ≡ state = same_two laws.once w t key k.0 state here taken in
+    record { later = was.later; earlier = was.earlier; split = was.split; kept_there = was.kept_there ∙ ap Some same }
+kept_of laws w t key state trace taken (inr k) = absurd (none_taken laws w t key state k.0 taken k.1)
 
-answer_of : (w : Setup) (t : List Step) (key : Key) → IsTrace w t → HasAnswer (noted (client_opening w) (of_client t)) (came (of_client t)) key.run key.server key.job → KeptOrNone w t key
-unfolding KeptOrNone
-answer_of w t key trace (inl k) = inl (k.0, k.1)
-answer_of w t key trace (inr k) = inr (k.0, came_was_sent w t (from_server (bodies.NoState key.run key.job k.0) key.server) trace k.1)
+-- And where the run has ended well, it is kept.
+answer_of : Ending → (w : Setup) (t : List Step) (key : Key) (state : State) → IsTrace w t → Contains (taken_of key t) state
+    → HasAnswer (noted (client_opening w) (of_client w t)) (came (of_client w t)) key.run key.server key.job → kept (client_opening w) (of_client w t) key ≡ Some state
+answer_of laws w t key state trace taken (inl k) = k.1 ∙ ap Some (same_kept laws w t key k.0 state trace k.1 taken)
+answer_of laws w t key state trace taken (inr k) =
+    absurd (none_taken laws w t key state k.0 taken (came_was_sent w t (from_server (bodies.NoState key.run key.job k.0) key.server) trace k.1))
 
 pub kept_where_served : Ending → TriggersEndWell → OfEachTrace KeptWhereServed
 kept_where_served laws law w t trace key state h taken =
     let o = opening_of key.server in
     let list = of_server key.server t in
-    let ends = law (client_opening w) (of_client t) key.run key.server h in
+    let ends = law (client_opening w) (of_client w t) key.run key.server h in
     let set = taken_of_set laws.sayings.grow o key.run key.job list state taken in
     let count = count_told laws w t key.run key.server ends.jobs set.jobs trace set.is ends.told in
     let within = set.within in
-    kept_of laws w t key state trace taken (answer_of w t key trace (ends.each key.job (omega (arith, count, within))))
+    answer_of laws w t key state trace taken (ends.each key.job (omega (arith, count, within)))
 
 -- ---- the cut
 
-kept_more : FirstKeptStays → (w : Setup) (step : Step) (past : List Step) (key : Key) → is_mirrorless step ≡ true → KeptOrNone w past key → KeptOrNone w (step ∷ past) key
+kept_more : (w : Setup) (step : Step) (past : List Step) (key : Key) → KeptOrNone w past key → KeptOrNone w (step ∷ past) key
 unfolding KeptOrNone
-kept_more law w (AtServer r e) past key alone (inl k) = inl k
-kept_more law w (AtClient e) past key alone (inl k) = inl (k.0, law (client_opening w) (e ∷ []) (of_client past) key k.0 (loses_no_note e alone) k.1)
-kept_more law w step past key alone (inr k) = inr (k.0, sent_stays w step past (from_server (bodies.NoState key.run key.job k.0) key.server) k.1)
+kept_more w step past key (inl k) = inl (k.0, kept_before w step past key k.0 k.1)
+kept_more w step past key (inr k) = inr (k.0, sent_stays w step past (from_server (bodies.NoState key.run key.job k.0) key.server) k.1)
+
+not_mirror : Mirror ≡ Client → ⊥
+not_mirror h = cc
 
 -- An acknowledgement of the client for a key.
 ack : Key → PacketParts
@@ -105,16 +126,18 @@ acked_now laws law w (AtServer r e) past key trace h =
     let own = (laws.sayings.to_client (opening_of r) (of_server r past) e (to_server (bodies.StateAck key.run key.job) key.server) h).kind in
     absurd cc
 acked_now laws law w (AtClient e) past key trace h =
-    elim (law (client_opening w) (of_client past) e key.run key.server key.job h) [
-      | inl k ↦ inl k
+    elim (law (client_opening w) (of_client w past) e key.run key.server key.job h) [
+      | inl k ↦ inl (k.0, record { later = []; earlier = AtClient e ∷ past; split = refl; kept_there = k.1 })
       | inr k ↦ let p = from_server (bodies.NoState key.run key.job k.0) key.server in inr (k.0, sent_stays w (AtClient e) past p (taken_was_sent w (AtClient e) past p trace.1 k.1))
     ]
+acked_now laws law w (AtMirror e) past key trace h =
+    absurd (not_mirror (sym (sent_by_mirror laws.sayings.over mirror_opening (of_mirror past) e (to_server (bodies.StateAck key.run key.job) key.server) h).0))
 
--- Of what the client has acknowledged it keeps the state, or there was none.
-acked_kept : Ending → FirstKeptStays → AcksAreFor → (w : Setup) (t : List Step) (key : Key) → IsTrace w t → Contains (sent w t) (ack key) → KeptOrNone w t key
-acked_kept laws first law w [] key trace h = absurd (sent_none w (ack key) h)
-acked_kept laws first law w (step ∷ past) key trace h = elim (sent_cases w step past (ack key) h) [
-  | inl before ↦ kept_more first w step past key trace.2 (acked_kept laws first law w past key trace.0 before)
+-- Of what the client has acknowledged it kept the state, or there was none.
+acked_kept : Ending → AcksAreFor → (w : Setup) (t : List Step) (key : Key) → IsTrace w t → Contains (sent w t) (ack key) → KeptOrNone w t key
+acked_kept laws law w [] key trace h = absurd (sent_none w (ack key) h)
+acked_kept laws law w (step ∷ past) key trace h = elim (sent_cases w step past (ack key) h) [
+  | inl before ↦ kept_more w step past key (acked_kept laws law w past key trace.0 before)
   | inr now ↦ acked_now laws law w step past key trace now
 ]
 
@@ -135,9 +158,9 @@ some_jobs x y h = cc
 some_work : (x y : Work) → Some x ≡ Some y → x ≡ y
 some_work x y h = cc
 
-pub kept_where_cut : Ending → FirstKeptStays → AcksAreFor → served.CutsWhenKept → OfEachTrace KeptWhereCut
+pub kept_where_cut : Ending → AcksAreFor → served.CutsWhenKept → OfEachTrace KeptWhereCut
 unfolding ack
-kept_where_cut laws first acks law w whole whole_is_trace later t s e left now j state split is cut taken =
+kept_where_cut laws acks law w whole whole_is_trace later t s e left now j state split is cut taken =
     let trace : IsTrace w (AtServer s (Met e left) ∷ t) = front_is_trace w later (AtServer s (Met e left) ∷ t) (subst (IsTrace w) split whole_is_trace) in
     let o = opening_of s in
     let list = of_server s t in
@@ -147,4 +170,4 @@ kept_where_cut laws first acks law w whole whole_is_trace later t s e left now j
     let jobs : set.jobs ≡ now.jobs = some_jobs set.jobs now.jobs (sym set.is ∙ work_begun o list now is) in
     let less : j < length k.now.jobs = subst (λ (v : Work). j < length v.jobs) (sym same) (subst (λ (l : List Job). j < length l) jobs set.within) in
     let came_in : Contains (heard_with e (heard list)) (to_server (bodies.StateAck now.run j) s) = subst (λ (v : Work). Contains (heard_with e (heard list)) (to_server (bodies.StateAck v.run j) s)) same (k.kept j less) in
-    kept_of laws w t (key_at now.run s j) state trace.0 taken (acked_kept laws first acks w t (key_at now.run s j) trace.0 (heard_with_sent w s e left t (to_server (bodies.StateAck now.run j) s) trace came_in))
+    kept_of laws w t (key_at now.run s j) state trace.0 taken (acked_kept laws acks w t (key_at now.run s j) trace.0 (heard_with_sent w s e left t (to_server (bodies.StateAck now.run j) s) trace came_in))

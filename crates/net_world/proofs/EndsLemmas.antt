@@ -1,5 +1,5 @@
 -- How what comes to a server ends, as an event of a world.
-use Rattle.std.proofs.Common.{◌≡◌, refl, sym, ◌∙◌, ap, subst, inl, inr, ◌⊎◌, ℕ, false, List, ◌∷◌, length, Some, None, Ok, Err}
+use Rattle.std.proofs.Common.{◌≡◌, refl, sym, ◌∙◌, ap, subst, inl, inr, ◌⊎◌, ℕ, Bool, false, List, ◌∷◌, length, Option, Some, None, Ok, Err}
 use Rattle.fc_base.specs.declared.fault.Fault.{Fault}
 use Rattle.fc_base.specs.declared.fault.Fault.TheVariants.{NoMirror}
 use Rattle.fc_base.specs.declared.fault.FaultSort.{FaultSort}
@@ -29,10 +29,11 @@ use Rattle.net_world.specs.Happenings.{Happening}
 use Rattle.net_world.specs.Happenings as happenings
 use Rattle.net_world.specs.Trace.{opening_of}
 use Rattle.std.specs.Prelude.{slice_get}
+use Rattle.std.specs.Option.{option_or}
 use Rattle.messages.specs.declared.frame.Frame.{Frame}
 use Rattle.net_world.specs.Frames.{frames_sent, to_of}
 use Rattle.net_world.specs.Changes.{Change, Met, steps, trace}
-use Rattle.net_world.specs.Barred.{off, unsent, unopen, barred}
+use Rattle.net_world.specs.Barred.{unless, off, unsent, unopen, barred}
 use Rattle.net_world.specs.Writes.{open_at}
 use Rattle.net_world.specs.Events.{ending}
 use Rattle.net_world.specs.Finding.{IsOpen, FindsWrite}
@@ -68,7 +69,10 @@ refusing w past e fault new is stands = (ap (told_by w past e) is, subst (λ x. 
 pub refuses : (w : Setup) (past : List Change) (e : Happening) (fault : Fault) (new : World) → sort_of fault ≡ sorts.Refusal → outcome w past e ≡ Refuses fault → StandsFor w past new → Ends w past e new (Err fault)
 refuses w past e fault new sort is stands = subst (λ x. ends.Faults w past e x fault new) (sym sort) (refusing w past e fault new is stands)
 
--- What is of a mirror is refused: there is none.
+-- What is of a mirror is refused where there is none.
+pub bars_alone : (b : Bool) (x : Option Fault) → b ≡ false → option_or (unless b NoMirror) x ≡ Some NoMirror
+bars_alone b x alone = rw alone refl
+
 pub no_mirror : (w : Setup) (past : List Change) (e : Happening) (now : World) → barred w (trace w past) (frames_sent w (steps past)) e ≡ Some NoMirror → StandsFor w past now → Ends w past e now (Err NoMirror)
 no_mirror w past e now bar stands = refuses w past e NoMirror now refl (stops w past e NoMirror bar) stands
 

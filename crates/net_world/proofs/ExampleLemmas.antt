@@ -25,7 +25,7 @@ use Rattle.write_order.specs.Words.{word, state_after}
 use Rattle.server_core.specs.Texts.{jobs_for}
 use Rattle.server_core.specs.Run.{has_open, have_ended}
 use Rattle.server_core.specs.Taken.{job_state}
-use Rattle.net_world.specs.Examples.{started, IsHonestlyMade, RefusesByNumber, StartsOnceAfterACut, KeepsBehindACut, ChecksInAFullPass, ChecksByItsState, ComesTogether}
+use Rattle.net_world.specs.Examples.{one, started, IsHonestlyMade, RefusesByNumber, StartsOnceAfterACut, KeepsBehindACut, ChecksInAFullPass, ChecksByItsState, ComesTogether}
 
 pub refuses_by_number : RefusesByNumber
 unfolding frames_sent has_next is_of_generation is_free_to_number is_begun
@@ -70,27 +70,27 @@ issued_both = Issue 0 0 ∷ Issue 0 0 ∷ started
 landed : List Happening
 landed = Land 0 0 0 1 ∷ issued_both
 
-is_open : open_at (trace 1 (world 1 landed)) 0 0 0 ≡ Some the_origin
+is_open : open_at (trace one (world one landed)) 0 0 0 ≡ Some the_origin
 unfolding the_origin landed issued_both frames_sent has_next is_of_generation is_free_to_number is_for_client is_from_server is_from_mirror jobs_for has_open have_ended
 is_open = refl
 
-was_open : open_at (trace 1 (world 1 issued_both)) 0 0 0 ≡ Some the_origin
+was_open : open_at (trace one (world one issued_both)) 0 0 0 ≡ Some the_origin
 unfolding the_origin issued_both frames_sent has_next is_of_generation is_free_to_number is_for_client is_from_server is_from_mirror jobs_for has_open have_ended
 was_open = refl
 
-holds : HoldsWrite (content 1 (world 1 landed) 0 0) the_origin.key the_origin.job 0
+holds : HoldsWrite (content one (world one landed) 0 0) the_origin.key the_origin.job 0
 unfolding the_origin landed issued_both frames_sent has_next is_of_generation is_free_to_number is_for_client is_from_server is_from_mirror jobs_for has_open have_ended zeros counting_bytes stamped_sector
 holds = refl
 
-in_file : (origin : Origin) → open_at (trace 1 (world 1 landed)) 0 0 0 ≡ Some origin → HoldsWrite (content 1 (world 1 landed) 0 0) origin.key origin.job 0
-in_file origin h = subst (λ (x : Origin). HoldsWrite (content 1 (world 1 landed) 0 0) x.key x.job 0) (some_is (sym is_open ∙ h)) holds
+in_file : (origin : Origin) → open_at (trace one (world one landed)) 0 0 0 ≡ Some origin → HoldsWrite (content one (world one landed) 0 0) origin.key origin.job 0
+in_file origin h = subst (λ (x : Origin). HoldsWrite (content one (world one landed) 0 0) x.key x.job 0) (some_is (sym is_open ∙ h)) holds
 
 one_sector : HasAllSectors 1 the_origin.job
 unfolding the_origin
 one_sector zero lt = refl
 one_sector (suc i) lt = absurd (omega (arith, lt))
 
-all_landed : (origin : Origin) → open_at (trace 1 (world 1 issued_both)) 0 0 0 ≡ Some origin → HasAllSectors 1 origin.job
+all_landed : (origin : Origin) → open_at (trace one (world one issued_both)) 0 0 0 ≡ Some origin → HasAllSectors 1 origin.job
 all_landed origin h = subst (λ (x : Origin). HasAllSectors 1 x.job) (some_is (sym was_open ∙ h)) one_sector
 
 pub is_honestly_made : IsHonestlyMade

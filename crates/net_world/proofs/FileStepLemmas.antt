@@ -19,7 +19,7 @@ use Rattle.messages.specs.FrameBytes.{frame_spelling}
 use Rattle.net_world.specs.declared.server_node.ServerNode.{ServerNode}
 use Rattle.net_world.specs.declared.told.Told.{Told}
 use Rattle.net_world.specs.declared.world.World.{World}
-use Rattle.net_world.specs.Setup.{Setup, servers_of}
+use Rattle.net_world.specs.Setup.{Setup}
 use Rattle.net_world.specs.Happenings.{Happening}
 use Rattle.net_world.specs.Trace.{opening_of, client_opening}
 use Rattle.net_world.specs.Frames.{frames_sent, server_entries, client_entries}
@@ -99,14 +99,15 @@ pub file_changed : (w : Setup) (past : List Change) (s j : ℕ) (change : Change
 file_changed w past s j change held disk old new stands wrote f is = record {
   some = stands.some;
   few = stands.few;
+  alone = stands.alone;
   number = ap (λ (v : Vec ServerNode Global). length v.items) wrote.servers_are ∙ stands.number;
   sent_is = wrote.sent_is ∙ stands.sent_is ∙ ap (λ t. map frame_spelling (frames_sent w t)) (sym f.steps_are);
   servers_are = λ r node at.
       subst (λ t. servers.Stands (opening_of r) (server_entries r t) node) (sym f.steps_are)
       (stands.servers_are r node (ap (λ (v : Vec ServerNode Global). slice_get v.items r) (sym wrote.servers_are) ∙ at));
   client_is =
-      subst (λ t. clients.Stands (client_opening w) (client_entries t) new.client) (sym f.steps_are)
-      (subst (λ x. clients.Stands (client_opening w) (client_entries (steps past)) x) (sym wrote.client_is) stands.client_is);
+      subst (λ t. clients.Stands (client_opening w) (client_entries w t) new.client) (sym f.steps_are)
+      (subst (λ x. clients.Stands (client_opening w) (client_entries w (steps past)) x) (sym wrote.client_is) stands.client_is);
   files = ap (λ (xs : List MemDisk). length xs) wrote.set_is ∙ length-set old.files.items wrote.place disk ∙ stands.files;
   files_are = λ t i x l at. each_file w past s j change held disk old new stands wrote f is t i x l at (is_file s j t i) refl;
 }
@@ -145,27 +146,27 @@ lands w past s j k mask = record { steps_are = refl; content_is = λ t i. by_fil
 pub has_slot : (s j len : ℕ) → (nat_lt j 16 && nat_lt (16 * s + j) len) ≡ true → (j < 16) × (16 * s + j < len)
 has_slot s j len h = let p = and_parts (nat_lt j 16) (nat_lt (16 * s + j) len) h in (lt_of j 16 p.0, lt_of (16 * s + j) len p.1)
 
-pub no_slot : (w : Setup) (s j len : ℕ) → (nat_lt j 16 && nat_lt (16 * s + j) len) ≡ false → len ≡ 16 * servers_of w → s < servers_of w → 16 ≤ j
+pub no_slot : (w : Setup) (s j len : ℕ) → (nat_lt j 16 && nat_lt (16 * s + j) len) ≡ false → len ≡ 16 * w.servers → s < w.servers → 16 ≤ j
 no_slot w s j len h e l = by_test (nat_lt j 16) refl
   where
     by_test : (b : Bool) → nat_lt j 16 ≡ b → 16 ≤ j
     by_test false f = le_of j 16 f
     by_test true f = absurd (omega (arith, le_of (16 * s + j) len (ap (λ x. x && nat_lt (16 * s + j) len) (sym f) ∙ h), e, l, lt_of j 16 f))
 
-pub rot_free : (w : Setup) (s j : ℕ) → s < servers_of w → j < 16 → no_file w s j ≡ None
-rot_free w s j l m = both (nat_lt s (servers_of w)) (nat_lt j 16) (lt_true s (servers_of w) l) (lt_true j 16 m)
+pub rot_free : (w : Setup) (s j : ℕ) → s < w.servers → j < 16 → no_file w s j ≡ None
+rot_free w s j l m = both (nat_lt s w.servers) (nat_lt j 16) (lt_true s w.servers l) (lt_true j 16 m)
   where
     both : (a b : Bool) → a ≡ true → b ≡ true → option_or (unless a NoServer) (unless b NoWrite) ≡ None
     both a b h k = rw (h, k) refl
 
-pub rot_none : (w : Setup) (s j : ℕ) → servers_of w ≤ s → no_file w s j ≡ Some NoServer
-rot_none w s j h = first (nat_lt s (servers_of w)) (nat_lt j 16) (lt_false s (servers_of w) h)
+pub rot_none : (w : Setup) (s j : ℕ) → w.servers ≤ s → no_file w s j ≡ Some NoServer
+rot_none w s j h = first (nat_lt s w.servers) (nat_lt j 16) (lt_false s w.servers h)
   where
     first : (a b : Bool) → a ≡ false → option_or (unless a NoServer) (unless b NoWrite) ≡ Some NoServer
     first a b h = rw h refl
 
-pub rot_past : (w : Setup) (s j : ℕ) → s < servers_of w → 16 ≤ j → no_file w s j ≡ Some NoWrite
-rot_past w s j l h = second (nat_lt s (servers_of w)) (nat_lt j 16) (lt_true s (servers_of w) l) (lt_false j 16 h)
+pub rot_past : (w : Setup) (s j : ℕ) → s < w.servers → 16 ≤ j → no_file w s j ≡ Some NoWrite
+rot_past w s j l h = second (nat_lt s w.servers) (nat_lt j 16) (lt_true s w.servers l) (lt_false j 16 h)
   where
     second : (a b : Bool) → a ≡ true → b ≡ false → option_or (unless a NoServer) (unless b NoWrite) ≡ Some NoWrite
     second a b h k = rw (h, k) refl
@@ -195,10 +196,11 @@ pub file_kept : (w : Setup) (past : List Change) (s j : ℕ) (disk : MemDisk) (o
 file_kept w past s j disk old new stands wrote is = record {
   some = stands.some;
   few = stands.few;
+  alone = stands.alone;
   number = ap (λ (v : Vec ServerNode Global). length v.items) wrote.servers_are ∙ stands.number;
   sent_is = wrote.sent_is ∙ stands.sent_is;
   servers_are = λ r node at. stands.servers_are r node (ap (λ (v : Vec ServerNode Global). slice_get v.items r) (sym wrote.servers_are) ∙ at);
-  client_is = subst (λ x. clients.Stands (client_opening w) (client_entries (steps past)) x) (sym wrote.client_is) stands.client_is;
+  client_is = subst (λ x. clients.Stands (client_opening w) (client_entries w (steps past)) x) (sym wrote.client_is) stands.client_is;
   files = ap (λ (xs : List MemDisk). length xs) wrote.set_is ∙ length-set old.files.items wrote.place disk ∙ stands.files;
   files_are = λ t i x l at. same_by w past s j disk old new stands wrote is t i x l at (is_file s j t i) refl;
 }

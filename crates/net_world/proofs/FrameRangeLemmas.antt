@@ -28,9 +28,8 @@ use Rattle.net_world.specs.Setup.{Setup}
 use Rattle.net_world.specs.Trace.{sent}
 use Rattle.net_world.specs.Frames.{FrameStep, frames_sent, trace_heard}
 use Rattle.net_world.specs.FrameLaws.{FramesAreOfPackets}
-use Rattle.net_world.proofs.ListLemmas.{none_in, only_in, first_or_rest, first_in, later_in}
+use Rattle.net_world.proofs.ListLemmas.{none_in, only_in, first_or_rest, first_in, later_in, of_map}
 use Rattle.net_world.proofs.TagLemmas.{Long, OfJobs, OfVerify, long, in_range}
-use Rattle.net_world.proofs.OnlySentLemmas.{of_map}
 
 -- ---- the places of a body
 

@@ -26,7 +26,7 @@ use Rattle.net_world.specs.Changes as changes
 use Rattle.net_world.specs.Changes.{Change, Landed, Rotted, trace}
 use Rattle.messages.specs.Hearing.{Comes, Happens, Meaning, Says, Waits, Spoils, Strays, meaning, heard_by, with_entry, heard}
 use Rattle.net_world.specs.Frames as frames
-use Rattle.net_world.specs.Frames.{OfServer, OfClient, at_server, at_client}
+use Rattle.net_world.specs.Frames.{OfServer, OfClient, OfMirror, at_server, at_client}
 use Rattle.net_world.specs.Changes.{steps}
 use Rattle.net_world.proofs.HearingLemmas.{server_with, server_by_client}
 use Rattle.server_core.specs.OpenWrites.{open_origin_of, open_origin}
@@ -158,6 +158,7 @@ kept {P} laws v w s (changes.Met (OfServer r (Comes f left)) ∷ past) honest ma
     (comes_step laws v w s r past left m (r == s) (eqb-true r s) (kept laws v w s past honest.0 may))
 kept {P} laws v w s (changes.Met (OfClient c) ∷ past) honest may =
     subst (λ list. Kept P (opening_of s) (λ j. content w past s j) list) (sym (server_by_client s _ (trace w past))) (kept laws v w s past honest.0 may)
+kept {P} {May} laws v w s (changes.Met (OfMirror e) ∷ past) honest may = kept {P = P} {May = May} laws v w s past honest.0 may
 kept {P} {May} laws v w s (Landed r i k mask ∷ past) honest may =
     kept_landed laws v (opening_of s) (λ j. content w past s j) (λ j. content w (Landed r i k mask ∷ past) s j) (of_server s (trace w past))
     (λ j. lands_by May w s r i j k mask past (is_file r i s j) (the_file s r i j) may.1) (kept laws v w s past honest may.0)

@@ -1,11 +1,13 @@
 pub mod ListLemmas
 pub mod TraceLemmas
 pub mod KeyLemmas
+pub mod MirrorLemmas
 pub mod PassLemmas
 pub mod VerdictLemmas
 pub mod WorldLemmas
 pub mod ExactLemmas
 pub mod StartLemmas
+pub mod StartedLemmas
 pub mod AskEndsLemmas
 pub mod AskLemmas
 pub mod BegunLemmas
@@ -31,6 +33,7 @@ pub mod ExpectedLemmas
 pub mod FaultLemmas
 pub mod HonestLaws
 pub mod ExampleLemmas
+pub mod MirrorExampleLemmas
 pub mod HearingLemmas
 pub mod TagLemmas
 pub mod RangeLemmas

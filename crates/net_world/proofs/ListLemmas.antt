@@ -1,8 +1,12 @@
 -- Elements of lists.
-use Rattle.std.proofs.Common.{◌≡◌, refl, ap, ◌⊎◌, inl, inr, zero, ◌≤◌, arith, List, [], ◌∷◌, length}
-use Rattle.std.specs.Prelude.{Contains}
+use Rattle.std.proofs.Common.{◌≡◌, refl, ap, subst, ◌⊎◌, inl, inr, zero, ◌≤◌, arith, Bool, true, false, List, [], ◌∷◌, length, Option, Some}
+use Rattle.std.specs.Prelude.{Contains, map, if◌then◌else◌}
 use Rattle.std.specs.List.{AllByRecursion}
 use Rattle.std.proofs.lemmas.List.Elements.{All-contains, All-from_recursion, Contains-append_cases, Contains-append_left, Contains-append_right, Contains-push_cases}
+use Rattle.fc_base.specs.declared.numbers.Key.{Key}
+use Rattle.fc_base.specs.Keys.{is_same_key}
+use Rattle.verify_state.specs.State.{State}
+use Rattle.state_table.specs.Kept.{kept_of}
 
 pub none_in : {X : Type 0} (x : X) → Contains [] x → ⊥
 none_in x h = omega (arith, h.1)
@@ -28,3 +32,20 @@ pub single : {X : Type 0} (xs : List X) (x : X) → length xs ≤ 1 → Contains
 single [] x h c = absurd (none_in x c)
 single (y ∷ []) x h c = let e = only_in y x c in ap (λ z. z ∷ []) e
 single (y ∷ z ∷ zs) x h c = absurd (omega (arith, h))
+
+-- What is in the list of images is the image of something in the list.
+pub of_map : {X Y : Type 0} (f : X → Y) (xs : List X) (y : Y) → Contains (map f xs) y → (x : X) × Contains xs x × (f x ≡ y)
+of_map f [] y h = absurd (none_in y h)
+of_map f (x ∷ xs) y h = elim (first_or_rest (f x) (map f xs) y h) [
+  | inl e ↦ (x, first_in x xs, e)
+  | inr i ↦ let s = of_map f xs y i in (s.0, later_in x xs s.0 s.1, s.2)
+]
+
+found_if : (b : Bool) (here : State) (states : List State) (rest : Option State) (state : State) → (rest ≡ Some state → Contains states state) → (if b then Some here else rest) ≡ Some state → Contains (here ∷ states) state
+found_if true here states rest state f h = let same : here ≡ state = cc in subst (Contains (here ∷ states)) same (first_in here states)
+found_if false here states rest state f h = later_in here states state (f h)
+
+-- The state that is found of a key is one of the table.
+pub found_in : (key : Key) (states : List State) (state : State) → kept_of key states ≡ Some state → Contains states state
+found_in key [] state h = absurd cc
+found_in key (here ∷ states) state h = found_if (is_same_key key here.key) here states (kept_of key states) state (found_in key states state) h

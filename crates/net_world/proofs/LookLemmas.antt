@@ -5,7 +5,7 @@ use Rattle.fc_base.specs.declared.numbers.Key.{Key}
 use Rattle.messages.specs.declared.node.Node.TheVariants.{Server, Client}
 use Rattle.server_core.specs.Answers as servers
 use Rattle.client_core.specs.Words as clients
-use Rattle.net_world.specs.Setup.{Setup, servers_of}
+use Rattle.net_world.specs.Setup.{Setup}
 use Rattle.net_world.specs.Trace.{opening_of, of_server, client_opening, of_client}
 use Rattle.net_world.specs.Changes.{Change, trace}
 use Rattle.net_world.specs.Barred.{is_on}
@@ -26,14 +26,14 @@ if_first a b x h = rw h refl
 if_second : {X : Type 0} (a b : Bool) (x : X) → a ≡ true → b ≡ false → (if a && b then Some x else None) ≡ None
 if_second a b x h k = rw (h, k) refl
 
-pub no_status : (w : Setup) (past : List Change) (s : ℕ) → servers_of w ≤ s → status w past s ≡ None
-no_status w past s h = if_first (nat_lt s (servers_of w)) (is_on (trace w past) (Server s)) (servers.status (opening_of s) (of_server s (trace w past))) (lt_false s (servers_of w) h)
+pub no_status : (w : Setup) (past : List Change) (s : ℕ) → w.servers ≤ s → status w past s ≡ None
+no_status w past s h = if_first (nat_lt s w.servers) (is_on w (trace w past) (Server s)) (servers.status (opening_of s) (of_server s (trace w past))) (lt_false s w.servers h)
 
-pub off_status : (w : Setup) (past : List Change) (s : ℕ) → s < servers_of w → is_up (opening_of s) (entries past s) ≡ false → status w past s ≡ None
-off_status w past s l h = if_second (nat_lt s (servers_of w)) (is_on (trace w past) (Server s)) (servers.status (opening_of s) (of_server s (trace w past))) (lt_true s (servers_of w) l) (sym (up_is w past s) ∙ h)
+pub off_status : (w : Setup) (past : List Change) (s : ℕ) → s < w.servers → is_up (opening_of s) (entries past s) ≡ false → status w past s ≡ None
+off_status w past s l h = if_second (nat_lt s w.servers) (is_on w (trace w past) (Server s)) (servers.status (opening_of s) (of_server s (trace w past))) (lt_true s w.servers l) (sym (up_is w past s) ∙ h)
 
-pub on_status : (w : Setup) (past : List Change) (s : ℕ) → s < servers_of w → is_up (opening_of s) (entries past s) ≡ true → status w past s ≡ Some (servers.status (opening_of s) (of_server s (trace w past)))
-on_status w past s l h = if_both (nat_lt s (servers_of w)) (is_on (trace w past) (Server s)) (servers.status (opening_of s) (of_server s (trace w past))) (lt_true s (servers_of w) l) (sym (up_is w past s) ∙ h)
+pub on_status : (w : Setup) (past : List Change) (s : ℕ) → s < w.servers → is_up (opening_of s) (entries past s) ≡ true → status w past s ≡ Some (servers.status (opening_of s) (of_server s (trace w past)))
+on_status w past s l h = if_both (nat_lt s w.servers) (is_on w (trace w past) (Server s)) (servers.status (opening_of s) (of_server s (trace w past))) (lt_true s w.servers l) (sym (up_is w past s) ∙ h)
 
 if_on : {X : Type 0} (b : Bool) (x : Option X) → b ≡ true → (if b then x else None) ≡ x
 if_on b x h = rw h refl
@@ -41,8 +41,8 @@ if_on b x h = rw h refl
 if_off : {X : Type 0} (b : Bool) (x : Option X) → b ≡ false → (if b then x else None) ≡ None
 if_off b x h = rw h refl
 
-pub off_saved : (w : Setup) (past : List Change) (key : Key) → client_nodes.is_up (client_opening w) (asking.entries past) ≡ false → saved w past key ≡ None
-off_saved w past key h = if_off (is_on (trace w past) Client) (clients.kept (client_opening w) (of_client (trace w past)) key) (sym (asks.up_is w past) ∙ h)
+pub off_saved : (w : Setup) (past : List Change) (key : Key) → client_nodes.is_up (client_opening w) (asking.entries w past) ≡ false → saved w past key ≡ None
+off_saved w past key h = if_off (is_on w (trace w past) Client) (clients.kept (client_opening w) (of_client w (trace w past)) key) (sym (asks.up_is w past) ∙ h)
 
-pub on_saved : (w : Setup) (past : List Change) (key : Key) → client_nodes.is_up (client_opening w) (asking.entries past) ≡ true → saved w past key ≡ clients.kept (client_opening w) (of_client (trace w past)) key
-on_saved w past key h = if_on (is_on (trace w past) Client) (clients.kept (client_opening w) (of_client (trace w past)) key) (sym (asks.up_is w past) ∙ h)
+pub on_saved : (w : Setup) (past : List Change) (key : Key) → client_nodes.is_up (client_opening w) (asking.entries w past) ≡ true → saved w past key ≡ clients.kept (client_opening w) (of_client w (trace w past)) key
+on_saved w past key h = if_on (is_on w (trace w past) Client) (clients.kept (client_opening w) (of_client w (trace w past)) key) (sym (asks.up_is w past) ∙ h)

@@ -109,6 +109,7 @@ pub server_stepped : (w : Setup) (past : List Change) (s : ℕ) (e : FrameEntry)
 server_stepped w past s e node sent old new stands h is node_is = record {
   some = stands.some;
   few = stands.few;
+  alone = stands.alone;
   number = count s node sent old new h ∙ stands.number;
   sent_is = h.sent_is ∙ ap (λ fs. fs ++ sent) stands.sent_is ∙ ap (λ fs. frames w past ++ fs) is ∙ sym (frames_more w past (step_of s e));
   servers_are =
@@ -120,7 +121,7 @@ server_stepped w past s e node sent old new stands h is node_is = record {
         others = λ r ne. entries_there s r e (steps past) ne;
         each = stands.servers_are;
       });
-  client_is = subst (λ c. clients.Stands (client_opening w) (client_entries (steps past)) c) (sym h.client_is) stands.client_is;
+  client_is = subst (λ c. clients.Stands (client_opening w) (client_entries w (steps past)) c) (sym h.client_is) stands.client_is;
   files = ap (λ fs. length fs.items) h.files_are ∙ stands.files;
   files_are = λ r j disk l at. stands.files_are r j disk l (ap (λ fs. slice_get fs.items (16 * r + j)) (sym h.files_are) ∙ at);
 }
@@ -131,12 +132,13 @@ pub server_kept : (w : Setup) (past : List Change) (s : ℕ) (node : ServerNode)
 server_kept w past s node old new stands h node_is = record {
   some = stands.some;
   few = stands.few;
+  alone = stands.alone;
   number = count s node [] old new h ∙ stands.number;
   sent_is = h.sent_is ∙ append-nil (sent_in old.sent) ∙ stands.sent_is;
   servers_are =
       all_set s node old.servers.items new.servers.items (entries past) (entries past)
       (record { there = h.there; set_is = set_at s node [] old new h; node_is = node_is; others = λ r ne. refl; each = stands.servers_are });
-  client_is = subst (λ c. clients.Stands (client_opening w) (client_entries (steps past)) c) (sym h.client_is) stands.client_is;
+  client_is = subst (λ c. clients.Stands (client_opening w) (client_entries w (steps past)) c) (sym h.client_is) stands.client_is;
   files = ap (λ fs. length fs.items) h.files_are ∙ stands.files;
   files_are = λ r j disk l at. stands.files_are r j disk l (ap (λ fs. slice_get fs.items (16 * r + j)) (sym h.files_are) ∙ at);
 }

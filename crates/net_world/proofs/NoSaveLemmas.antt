@@ -29,11 +29,11 @@ up_off b h = rw h refl
 down_off : (b : Bool) → b ≡ false → unless b NodeOff ≡ Some NodeOff
 down_off b h = rw h refl
 
-pub client_there : (w : Setup) (past : List Change) → is_up (client_opening w) (entries past) ≡ true → off w (trace w past) Client ≡ None
-client_there w past h = up_off (is_on (trace w past) Client) (sym (up_is w past) ∙ h)
+pub client_there : (w : Setup) (past : List Change) → is_up (client_opening w) (entries w past) ≡ true → off w (trace w past) Client ≡ None
+client_there w past h = up_off (is_on w (trace w past) Client) (sym (up_is w past) ∙ h)
 
-pub client_gone : (w : Setup) (past : List Change) → is_up (client_opening w) (entries past) ≡ false → off w (trace w past) Client ≡ Some NodeOff
-client_gone w past h = down_off (is_on (trace w past) Client) (sym (up_is w past) ∙ h)
+pub client_gone : (w : Setup) (past : List Change) → is_up (client_opening w) (entries w past) ≡ false → off w (trace w past) Client ≡ Some NodeOff
+client_gone w past h = down_off (is_on w (trace w past) Client) (sym (up_is w past) ∙ h)
 
 -- What makes no save is refused as the world refuses it, and else as no save.
 pub no_save_ends : (w : Setup) (past : List Change) (landed : Bool) (e : Happening) (now : World) (why : Option Fault) → StandsFor w past now → barred w (trace w past) (frames_sent w (steps past)) (CutIn landed e) ≡ why
@@ -57,10 +57,10 @@ on_up b h = rw h refl
 on_down : (b : Bool) → b ≡ false → unless (not b) NodeOn ≡ None
 on_down b h = rw h refl
 
-pub client_restart_on : (w : Setup) (past : List Change) (landed : Bool) (now : World) → StandsFor w past now → is_up (client_opening w) (entries past) ≡ true → Ends w past (CutIn landed (Restart Client)) now (Err NodeOn)
+pub client_restart_on : (w : Setup) (past : List Change) (landed : Bool) (now : World) → StandsFor w past now → is_up (client_opening w) (entries w past) ≡ true → Ends w past (CutIn landed (Restart Client)) now (Err NodeOn)
 client_restart_on w past landed now stands h =
-    refuses w past (CutIn landed (Restart Client)) NodeOn now refl (stops w past (CutIn landed (Restart Client)) NodeOn (on_up (is_on (trace w past) Client) (sym (up_is w past) ∙ h))) stands
+    refuses w past (CutIn landed (Restart Client)) NodeOn now refl (stops w past (CutIn landed (Restart Client)) NodeOn (on_up (is_on w (trace w past) Client) (sym (up_is w past) ∙ h))) stands
 
-pub client_restart_off : (w : Setup) (past : List Change) (landed : Bool) (now : World) → StandsFor w past now → is_up (client_opening w) (entries past) ≡ false → Ends w past (CutIn landed (Restart Client)) now (Err NoSave)
+pub client_restart_off : (w : Setup) (past : List Change) (landed : Bool) (now : World) → StandsFor w past now → is_up (client_opening w) (entries w past) ≡ false → Ends w past (CutIn landed (Restart Client)) now (Err NoSave)
 client_restart_off w past landed now stands h =
-    refuses w past (CutIn landed (Restart Client)) NoSave now refl (goes w past (CutIn landed (Restart Client)) (on_down (is_on (trace w past) Client) (sym (up_is w past) ∙ h))) stands
+    refuses w past (CutIn landed (Restart Client)) NoSave now refl (goes w past (CutIn landed (Restart Client)) (on_down (is_on w (trace w past) Client) (sym (up_is w past) ∙ h))) stands

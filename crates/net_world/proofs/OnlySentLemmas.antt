@@ -8,7 +8,7 @@ use Rattle.std.proofs.lemmas.List.Concat.{flat_map-cons}
 use Rattle.std.proofs.lemmas.List.Elements.{Contains-append_cases, Contains-append_left}
 use Rattle.messages.specs.declared.packet.PacketParts.{PacketParts}
 use Rattle.messages.specs.declared.node.Node.{Node}
-use Rattle.messages.specs.declared.node.Node.TheVariants.{Server, Client}
+use Rattle.messages.specs.declared.node.Node.TheVariants.{Server, Client, Mirror}
 use Rattle.messages.specs.declared.piece.PieceParts.{PieceParts}
 use Rattle.messages.specs.declared.piece.Tag.{Tag}
 use Rattle.messages.specs.declared.places.Filled.{Filled}
@@ -23,12 +23,13 @@ use Rattle.messages.specs.Hearing.{Rules, Heard, Coming, Comes, Happens, Meaning
 use Rattle.disk_model.specs.declared.left.Left.{Left}
 use Rattle.server_core.specs.History as server
 use Rattle.client_core.specs.History as client
+use Rattle.mirror_core.specs.History as mirror
 use Rattle.net_world.specs.Setup.{Setup}
-use Rattle.net_world.specs.Trace.{Step, AtServer, AtClient, IsTrace, WasSentTo, taken_by, sent}
-use Rattle.net_world.specs.Frames.{FrameStep, OfServer, OfClient, of_server, of_client, at_server, at_client, frames_sent, to_of, MayHappen, IsFrameTrace, step_heard, trace_heard}
+use Rattle.net_world.specs.Trace.{Step, AtServer, AtClient, AtMirror, IsTrace, WasSentTo, taken_by, first_entry, sent}
+use Rattle.net_world.specs.Frames.{FrameStep, OfServer, OfClient, OfMirror, of_server, of_client, at_server, at_client, frames_sent, to_of, MayHappen, is_allowed, IsFrameTrace, step_heard, trace_heard}
 use Rattle.net_world.specs.InRange.{EntryFits, StepFits, FrameStepFits, Fits, FitsFrames, SentAreInRange}
 use Rattle.net_world.specs.FrameLaws.{FramesAreOfPackets, TagsNameOneBody, OnlySentIsHeard}
-use Rattle.net_world.proofs.ListLemmas.{none_in, only_in, first_or_rest, first_in, later_in}
+use Rattle.net_world.proofs.ListLemmas.{none_in, only_in, first_in, later_in, of_map}
 use Rattle.net_world.proofs.HearingLemmas.{packets_by, sent_with}
 
 -- ---- what was sent stays sent
@@ -52,13 +53,6 @@ rows_more xs ys in_it (row ∷ rows) w = (cut_more xs ys in_it row.tag row.fille
 abbrev pub IsFrameOf : List PacketParts → Frame → Type 0
 IsFrameOf ps (Whole p) = Contains ps p
 IsFrameOf ps (Piece q) = (p : PacketParts) × Contains ps p × IsPieceOf p q
-
-pub of_map : {X Y : Type 0} (f : X → Y) (xs : List X) (y : Y) → Contains (map f xs) y → (x : X) × Contains xs x × (f x ≡ y)
-of_map f [] y h = absurd (none_in y h)
-of_map f (x ∷ xs) y h = elim (first_or_rest (f x) (map f xs) y h) [
-  | inl e ↦ (x, first_in x xs, e)
-  | inr i ↦ let s = of_map f xs y i in (s.0, later_in x xs s.0 s.1, s.2)
-]
 
 of_cut : (p : PacketParts) (b : Bool) → is_cut p.body ≡ b → (f : Frame) → Contains (if b then map Piece (pieces_of p) else Whole p ∷ []) f → (ps : List PacketParts) → Contains ps p → IsFrameOf ps f
 of_cut p true e f h ps i =
@@ -136,8 +130,12 @@ server_says w s t left Waits h i = h
 server_says w s t left Spoils h i = h
 server_says w s t left Strays h i = h
 
+either_way : (b : Bool) → (if b then true else true) ≡ true
+either_way true = refl
+either_way false = refl
+
 client_says : (w : Setup) (t : List Step) (left : Left) (m : Meaning) → IsTrace w t → SaysSent (sent w t) Client m → IsTrace w (with_entry (option_map AtClient (heard_by (at_client w) left m)) t)
-client_says w t left (Says p) h i = (h, (i, tt), refl)
+client_says w t left (Says p) h i = (h, (i, tt), either_way w.mirror)
 client_says w t left Waits h i = h
 client_says w t left Spoils h i = h
 client_says w t left Strays h i = h
@@ -156,14 +154,20 @@ server_step law frames w s past t are one h was (Happens e) i = record {
 }
 
 client_step : OnlySentComesTogether → FramesAreOfPackets → (w : Setup) (past : List FrameStep) → IsTrace w (trace_heard w past) → ArePackets (sent w (trace_heard w past)) → OneBodyOfEachTag (sent w (trace_heard w past))
-    → (h : Heard client.Entry) → WasSent (sent w (trace_heard w past)) h.rows → (c : Coming client.Entry Left) → MayHappen (frames_sent w past) (OfClient c) → Kept (at_client w) w (trace_heard w past) h c AtClient
-client_step law frames w past t are one h was (Comes f left) i =
+    → (h : Heard client.Entry) → WasSent (sent w (trace_heard w past)) h.rows → (c : Coming client.Entry Left) → MayHappen (frames_sent w past) (OfClient c) → is_allowed w past (OfClient c) ≡ true → Kept (at_client w) w (trace_heard w past) h c AtClient
+client_step law frames w past t are one h was (Comes f left) i allowed =
     let k = keeps law (at_client w) (sent w (trace_heard w past)) are one h was Client f (frame_is frames w past f i.0) i.1 left in
     record { rows = k.rows; trace = client_says w (trace_heard w past) left (meaning (at_client w) h f) t k.says }
-client_step law frames w past t are one h was (Happens e) i = record {
+client_step law frames w past t are one h was (Happens e) i allowed = record {
   rows = either (sent w (trace_heard w past)) ((at_client w).ends e) [] h.rows tt was;
-  trace = (t, takes_none (sent w (trace_heard w past)) Client (taken_by (AtClient e)) i.0, i.1);
+  trace = (t, takes_none (sent w (trace_heard w past)) Client (taken_by (AtClient e)) i, allowed);
 }
+
+mirror_takes : FramesAreOfPackets → (w : Setup) (past : List FrameStep) (e : mirror.Entry) → MayHappen (frames_sent w past) (OfMirror e) → AllByRecursion (WasSentTo (sent w (trace_heard w past)) Mirror) (taken_by (AtMirror e))
+mirror_takes frames w past (mirror.Met (Whole p) left) i = ((frame_is frames w past (Whole p) i.0, i.1), tt)
+mirror_takes frames w past (mirror.Met (Piece q) left) i = tt
+mirror_takes frames w past mirror.Cut i = tt
+mirror_takes frames w past mirror.Restart i = tt
 
 -- ---- ranges
 
@@ -195,7 +199,8 @@ server_adds s h (Happens e) t k a = (k, a)
 steps_fit : (w : Setup) (t : List FrameStep) → AllByRecursion FrameStepFits t → AllByRecursion StepFits (trace_heard w t)
 steps_fit w [] h = tt
 steps_fit w (OfServer s c ∷ past) h = server_adds s (heard (at_server s) (of_server s past)) c (trace_heard w past) h.0 (steps_fit w past h.1)
-steps_fit w (OfClient c ∷ past) h = client_added (entry_of (at_client w) (heard (at_client w) (of_client past)) c) (trace_heard w past) (steps_fit w past h.1)
+steps_fit w (OfMirror e ∷ past) h = (tt, steps_fit w past h.1)
+steps_fit w (OfClient c ∷ past) h = client_added (entry_of (at_client w) (heard (at_client w) (of_client w past)) c) (trace_heard w past) (steps_fit w past h.1)
 
 pub heard_fits : (w : Setup) (t : List FrameStep) → FitsFrames w t → Fits w (trace_heard w t)
 heard_fits w t f = record { few = f.few; steps = steps_fit w t f.steps }
@@ -206,7 +211,7 @@ heard_fits w t f = record { few = f.few; steps = steps_fit w t f.steps }
 pub record Stands (w : Setup) (t : List FrameStep) : Type 0 where
   pub trace : IsTrace w (trace_heard w t)
   pub servers : (s : ℕ) → WasSent (sent w (trace_heard w t)) (heard (at_server s) (of_server s t)).rows
-  pub client_rows : WasSent (sent w (trace_heard w t)) (heard (at_client w) (of_client t)).rows
+  pub client_rows : WasSent (sent w (trace_heard w t)) (heard (at_client w) (of_client w t)).rows
 
 more_sent : (w : Setup) (x : Option Step) (t : List Step) → IsIn (sent w t) (sent w (with_entry x t))
 more_sent w x t p i = subst (λ ps. Contains ps p) (sym (sent_with w x t)) (Contains-append_left (sent w t) (packets_by w t x) p i)
@@ -217,8 +222,13 @@ server_rows : (ps : List PacketParts) (s r : ℕ) (b : Bool) → (b ≡ true →
 server_rows ps s r true is c past v w = subst (λ x. WasSent ps (rows_of (at_server x) (heard (at_server x) (of_server x past)) c)) (is refl) v
 server_rows ps s r false is c past v w = w
 
+-- Nothing has come together where nothing came.
+first_rows : (w : Setup) (b : Bool) → WasSent (sent w []) (heard (at_client w) (Happens (first_entry b) ∷ [])).rows
+first_rows w true = tt
+first_rows w false = tt
+
 pub stands : OnlySentComesTogether → FramesAreOfPackets → TagsNameOneBody → SentAreInRange → (w : Setup) (t : List FrameStep) → IsFrameTrace w t → FitsFrames w t → Stands w t
-stands law frames tags ranges w [] h fits = record { trace = tt; servers = λ s. tt; client_rows = tt }
+stands law frames tags ranges w [] h fits = record { trace = tt; servers = λ s. tt; client_rows = first_rows w w.mirror }
 stands law frames tags ranges w (OfServer r c ∷ past) h fits =
     let t = trace_heard w past in
     let x = step_heard w past (OfServer r c) in
@@ -230,7 +240,7 @@ stands law frames tags ranges w (OfServer r c ∷ past) h fits =
       trace = k.trace;
       servers = λ i. rows_more (sent w t) (sent w (with_entry x t)) (more_sent w x t) (heard (at_server i) (of_server i (OfServer r c ∷ past))).rows
           (server_rows (sent w t) i r (r == i) (eqb-true r i) c past k.rows (s.servers i));
-      client_rows = rows_more (sent w t) (sent w (with_entry x t)) (more_sent w x t) (heard (at_client w) (of_client past)).rows s.client_rows;
+      client_rows = rows_more (sent w t) (sent w (with_entry x t)) (more_sent w x t) (heard (at_client w) (of_client w past)).rows s.client_rows;
     }
 stands law frames tags ranges w (OfClient c ∷ past) h fits =
     let t = trace_heard w past in
@@ -238,11 +248,21 @@ stands law frames tags ranges w (OfClient c ∷ past) h fits =
     let f : FitsFrames w past = record { few = fits.few; steps = fits.steps.1 } in
     let s = stands law frames tags ranges w past h.0 f in
     let are = ranges w t s.trace (heard_fits w past f) in
-    let k = client_step law frames w past s.trace are (tags w t s.trace are) (heard (at_client w) (of_client past)) s.client_rows c h.1 in
+    let k = client_step law frames w past s.trace are (tags w t s.trace are) (heard (at_client w) (of_client w past)) s.client_rows c h.1 h.2 in
     record {
       trace = k.trace;
       servers = λ i. rows_more (sent w t) (sent w (with_entry x t)) (more_sent w x t) (heard (at_server i) (of_server i past)).rows (s.servers i);
-      client_rows = rows_more (sent w t) (sent w (with_entry x t)) (more_sent w x t) (heard (at_client w) (of_client (OfClient c ∷ past))).rows k.rows;
+      client_rows = rows_more (sent w t) (sent w (with_entry x t)) (more_sent w x t) (heard (at_client w) (of_client w (OfClient c ∷ past))).rows k.rows;
+    }
+stands law frames tags ranges w (OfMirror e ∷ past) h fits =
+    let t = trace_heard w past in
+    let x = step_heard w past (OfMirror e) in
+    let f : FitsFrames w past = record { few = fits.few; steps = fits.steps.1 } in
+    let s = stands law frames tags ranges w past h.0 f in
+    record {
+      trace = (s.trace, mirror_takes frames w past e h.1, h.2);
+      servers = λ i. rows_more (sent w t) (sent w (with_entry x t)) (more_sent w x t) (heard (at_server i) (of_server i past)).rows (s.servers i);
+      client_rows = rows_more (sent w t) (sent w (with_entry x t)) (more_sent w x t) (heard (at_client w) (of_client w past)).rows s.client_rows;
     }
 
 pub only_sent_is_heard : OnlySentComesTogether → FramesAreOfPackets → TagsNameOneBody → SentAreInRange → OnlySentIsHeard

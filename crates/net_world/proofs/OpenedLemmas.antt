@@ -9,7 +9,7 @@ use Rattle.server_core.specs.Hearing.{Restart}
 use Rattle.client_core.specs.Hearing as client
 use Rattle.net_world.specs.declared.server_node.ServerNode.{ServerNode}
 use Rattle.net_world.specs.declared.world.World.{World}
-use Rattle.net_world.specs.Setup.{Setup, servers_of}
+use Rattle.net_world.specs.Setup.{Setup, without_mirror}
 use Rattle.net_world.specs.Trace.{opening_of, client_opening}
 use Rattle.net_world.specs.Frames.{frames_sent}
 use Rattle.net_world.specs.World.{frames}
@@ -70,12 +70,13 @@ none_sent : (w : Setup) → frames w [] ≡ []
 unfolding frames_sent
 none_sent w = refl
 
-pub opened : (w : Setup) (now : World) → 1 ≤ servers_of w → servers_of w ≤ 8 → AreOpened w now.servers.items → clients.Stands (client_opening w) (client.Restart false ∷ []) now.client → AreBlank (16 * servers_of w) now.files.items → sent_in now.sent ≡ [] → StandsFor w [] now
-opened w now some few nodes client_is files sent = record {
+pub opened : (n : ℕ) (now : World) → 1 ≤ n → n ≤ 8 → AreOpened n now.servers.items → clients.Stands (client_opening (without_mirror n)) (client.Restart false ∷ []) now.client → AreBlank (16 * n) now.files.items → sent_in now.sent ≡ [] → StandsFor (without_mirror n) [] now
+opened n now some few nodes client_is files sent = record {
   some = some;
   few = few;
+  alone = refl;
   number = nodes.number;
-  sent_is = sent ∙ sym (none_sent w);
+  sent_is = sent ∙ sym (none_sent (without_mirror n));
   servers_are = nodes.each;
   client_is = client_is;
   files = files.number;

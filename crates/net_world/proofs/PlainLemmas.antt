@@ -18,7 +18,7 @@ use Rattle.net_world.specs.declared.told.Answer.{Answer}
 use Rattle.net_world.specs.declared.told.Answer.TheVariants.{Plain}
 use Rattle.net_world.specs.declared.told.Told.{Told}
 use Rattle.net_world.specs.declared.world.World.{World}
-use Rattle.net_world.specs.Setup.{Setup, servers_of}
+use Rattle.net_world.specs.Setup.{Setup}
 use Rattle.net_world.specs.Happenings.{Happening, Cut, Restart}
 use Rattle.net_world.specs.Trace.{opening_of}
 use Rattle.net_world.specs.Frames.{FrameStep, frames_sent, frames_of_step}
@@ -91,14 +91,14 @@ lt_true a b h = grind (arith, nat_tests)
 lt_false : (a b : ℕ) → b ≤ a → nat_lt a b ≡ false
 lt_false a b h = grind (arith, nat_tests)
 
-pub none_on : (w : Setup) (past : List Change) (s : ℕ) → servers_of w ≤ s → on w (trace w past) (nodes.Server s) ≡ Some NoServer
-none_on w past s h = first_fails (nat_lt s (servers_of w)) (not (is_on (trace w past) (nodes.Server s))) NoServer NodeOn (lt_false s (servers_of w) h)
+pub none_on : (w : Setup) (past : List Change) (s : ℕ) → w.servers ≤ s → on w (trace w past) (nodes.Server s) ≡ Some NoServer
+none_on w past s h = first_fails (nat_lt s w.servers) (not (is_on w (trace w past) (nodes.Server s))) NoServer NodeOn (lt_false s w.servers h)
 
-pub may_restart : (w : Setup) (past : List Change) (s : ℕ) → s < servers_of w → is_up (opening_of s) (entries past s) ≡ false → on w (trace w past) (nodes.Server s) ≡ None
-may_restart w past s l h = on_test (nat_lt s (servers_of w)) (is_on (trace w past) (nodes.Server s)) NoServer NodeOn (lt_true s (servers_of w) l) (sym (up_is w past s) ∙ h)
+pub may_restart : (w : Setup) (past : List Change) (s : ℕ) → s < w.servers → is_up (opening_of s) (entries past s) ≡ false → on w (trace w past) (nodes.Server s) ≡ None
+may_restart w past s l h = on_test (nat_lt s w.servers) (is_on w (trace w past) (nodes.Server s)) NoServer NodeOn (lt_true s w.servers l) (sym (up_is w past s) ∙ h)
 
-pub runs_on : (w : Setup) (past : List Change) (s : ℕ) → s < servers_of w → is_up (opening_of s) (entries past s) ≡ true → on w (trace w past) (nodes.Server s) ≡ Some NodeOn
-runs_on w past s l h = on_fails (nat_lt s (servers_of w)) (is_on (trace w past) (nodes.Server s)) NoServer NodeOn (lt_true s (servers_of w) l) (sym (up_is w past s) ∙ h)
+pub runs_on : (w : Setup) (past : List Change) (s : ℕ) → s < w.servers → is_up (opening_of s) (entries past s) ≡ true → on w (trace w past) (nodes.Server s) ≡ Some NodeOn
+runs_on w past s l h = on_fails (nat_lt s w.servers) (is_on w (trace w past) (nodes.Server s)) NoServer NodeOn (lt_true s w.servers l) (sym (up_is w past s) ∙ h)
 
 pub restart_plain : (w : Setup) (past : List Change) (s : ℕ) → on w (trace w past) (nodes.Server s) ≡ None → servers.has_boot (opening_of s) (entries past s) ≡ true
     → IsPlain w past (Restart (nodes.Server s)) (step_of s (hearing.Restart lefts.Saved))
@@ -114,7 +114,7 @@ restart_spent w past s h b =
     goes w past (Restart (nodes.Server s)) h ∙ ap (λ x. stepped (if x then Ok (step_of s (hearing.Restart lefts.Saved)) else Err NumbersSpent)) (sym (boot_is w past s) ∙ b)
 
 -- How a restart of the node ends in a world.
-pub restart_ends : (w : Setup) (past : List Change) (s : ℕ) (node : ServerNode) (fault : Fault) (old new : World) → StandsFor w past old → HasMoved s node [] old new → s < servers_of w
+pub restart_ends : (w : Setup) (past : List Change) (s : ℕ) (node : ServerNode) (fault : Fault) (old new : World) → StandsFor w past old → HasMoved s node [] old new → s < w.servers
     → servers.Restarts (opening_of s) (entries past s) node (Err fault) → Ends w past (Restart (nodes.Server s)) new (Err fault)
 restart_ends w past s node NodeOn old new stands moved l h =
     refuses w past (Restart (nodes.Server s)) NodeOn new refl (stops w past (Restart (nodes.Server s)) NodeOn (runs_on w past s l h.0)) (server_kept w past s node old new stands moved h.1)

@@ -4,6 +4,7 @@ use Rattle.std.specs.Prelude.{if◌then◌else◌}
 use Rattle.std.specs.List.{AllByRecursion}
 use Rattle.std.proofs.lemmas.List.Elements.{Contains-append_cases, Contains-append_left}
 use Rattle.messages.specs.declared.packet.PacketParts.{PacketParts}
+use Rattle.messages.specs.declared.frame.Frame.TheVariants.{Whole, Piece}
 use Rattle.messages.specs.Laws.{IsPacket}
 use Rattle.messages.specs.PieceLaws.{ArePackets}
 use Rattle.disk_model.specs.declared.left.Left.{Left}
@@ -18,8 +19,11 @@ use Rattle.client_core.specs.History as entry
 use Rattle.client_core.specs.Note.{IsNoted, blank}
 use Rattle.client_core.specs.Ranges.{packet_in, came}
 use Rattle.client_core.specs.Laws as clients
-use Rattle.net_world.specs.Setup.{Setup, servers_of}
-use Rattle.net_world.specs.Trace.{Step, AtServer, AtClient, IsTrace, WasSentTo, taken_by, node_of, sent, packets_of, of_server, of_client, opening_of, client_opening}
+use Rattle.mirror_core.specs.History as mirror
+use Rattle.mirror_core.specs.Note as mirror_note
+use Rattle.mirror_core.specs.Laws as mirrors
+use Rattle.net_world.specs.Setup.{Setup}
+use Rattle.net_world.specs.Trace.{Step, AtServer, AtClient, AtMirror, IsTrace, WasSentTo, taken_by, node_of, sent, packets_of, of_server, of_client, of_mirror, opening_of, client_opening, mirror_opening, first_entry}
 use Rattle.net_world.specs.InRange.{ReportFits, EntryFits, StepFits, SentAreInRange}
 use Rattle.net_world.proofs.ListLemmas.{none_in, each_of}
 
@@ -58,6 +62,7 @@ came_to w s (AtServer r e ∷ past) h f are =
     let k = came_to w s past h.0 f.1 a in
     if_its (r == s) (e ∷ of_server s past) (of_server s past) (more_in (sent w past) r e (of_server s past) a h.1 f.0.1 k) k
 came_to w s (AtClient e ∷ past) h f are = came_to w s past h.0 f.1 (before w (AtClient e) past are)
+came_to w s (AtMirror e ∷ past) h f are = came_to w s past h.0 f.1 (before w (AtMirror e) past are)
 
 call_in : (ps : List PacketParts) (c : Call) (left : Left) (older : List PacketParts) → ArePackets ps → AllSent ps (AtClient (entry.Met c left)) → AllByRecursion IsPacket older → AllByRecursion IsPacket (packet_in (entry.Met c left) ++ older)
 unfolding AllSent
@@ -75,13 +80,37 @@ more_heard ps (entry.Restart mirror) past are w h = h
 more_heard ps (entry.Renew g left) past are w h = h
 more_heard ps entry.Lose past are w h = h
 
-came_back : (w : Setup) (t : List Step) → IsTrace w t → ArePackets (sent w t) → AllByRecursion IsPacket (came (of_client t))
+first_brings_none : (b : Bool) → AllByRecursion IsPacket (came (first_entry b ∷ []))
+first_brings_none true = tt
+first_brings_none false = tt
+
+came_back : (w : Setup) (t : List Step) → IsTrace w t → ArePackets (sent w t) → AllByRecursion IsPacket (came (of_client w t))
 unfolding AllSent
-came_back w [] h are = tt
+came_back w [] h are = first_brings_none w.mirror
 came_back w (AtServer r e ∷ past) h are = came_back w past h.0 (before w (AtServer r e) past are)
 came_back w (AtClient e ∷ past) h are =
     let a = before w (AtClient e) past are in
-    more_heard (sent w past) e (of_client past) a h.1 (came_back w past h.0 a)
+    more_heard (sent w past) e (of_client w past) a h.1 (came_back w past h.0 a)
+came_back w (AtMirror e ∷ past) h are = came_back w past h.0 (before w (AtMirror e) past are)
+
+more_copied : (ps : List PacketParts) (e : mirror.Entry) (past : List mirror.Entry) → ArePackets ps → AllSent ps (AtMirror e) → mirrors.CameInRange past → mirrors.CameInRange (e ∷ past)
+unfolding AllSent
+more_copied ps (mirror.Met (Whole p) left) past are w h = (are p w.0.0, h)
+more_copied ps (mirror.Met (Piece q) left) past are w h = h
+more_copied ps mirror.Cut past are w h = h
+more_copied ps mirror.Restart past are w h = h
+
+came_over : (w : Setup) (t : List Step) → IsTrace w t → ArePackets (sent w t) → mirrors.CameInRange (of_mirror t)
+unfolding AllSent
+came_over w [] h are = tt
+came_over w (AtServer r e ∷ past) h are = came_over w past h.0 (before w (AtServer r e) past are)
+came_over w (AtClient e ∷ past) h are = came_over w past h.0 (before w (AtClient e) past are)
+came_over w (AtMirror e ∷ past) h are =
+    let a = before w (AtMirror e) past are in
+    more_copied (sent w past) e (of_mirror past) a h.1 (came_over w past h.0 a)
+
+mirror_blank : mirror_note.IsNoted mirror_note.blank
+mirror_blank = record { generation = omega arith; count = omega arith; states = tt; keys = refl }
 
 blank_noted : IsNoted blank
 blank_noted = record { generation = omega arith; runs = omega arith; attempts = omega arith; count = omega arith; states = tt; keys = refl }
@@ -89,12 +118,14 @@ blank_noted = record { generation = omega arith; runs = omega arith; attempts = 
 each : (ps : List PacketParts) → AllByRecursion IsPacket ps → ArePackets ps
 each ps h p i = each_of IsPacket ps p h i
 
-step_in : servers.PacketsAreInRange → clients.PacketsAreInRange → (w : Setup) (step : Step) (past : List Step) → servers_of w ≤ 8 → IsTrace w (step ∷ past) → AllByRecursion StepFits (step ∷ past) → ArePackets (sent w past) → ArePackets (packets_of w past step)
+step_in : servers.PacketsAreInRange → clients.PacketsAreInRange → mirrors.PacketsAreInRange → (w : Setup) (step : Step) (past : List Step) → w.servers ≤ 8 → IsTrace w (step ∷ past) → AllByRecursion StepFits (step ∷ past) → ArePackets (sent w past) → ArePackets (packets_of w past step)
 unfolding AllSent
-step_in by_server by_client w (AtServer s e) past l h f are =
+step_in by_server by_client by_mirror w (AtServer s e) past l h f are =
     each _ (by_server (opening_of s) (of_server s past) e (record { me = f.0.0; last = omega arith }) (more_in (sent w past) s e (of_server s past) are h.1 f.0.1 (came_to w s past h.0 f.1 are)))
-step_in by_server by_client w (AtClient e) past l h f are =
-    each _ (by_client (client_opening w) (of_client past) e (record { servers = l; note = blank_noted }) (more_heard (sent w past) e (of_client past) are h.1 (came_back w past h.0 are)))
+step_in by_server by_client by_mirror w (AtClient e) past l h f are =
+    each _ (by_client (client_opening w) (of_client w past) e (record { servers = l; note = blank_noted }) (more_heard (sent w past) e (of_client w past) are h.1 (came_back w past h.0 are)))
+step_in by_server by_client by_mirror w (AtMirror e) past l h f are =
+    each _ (by_mirror mirror_opening (of_mirror past) e mirror_blank (more_copied (sent w past) e (of_mirror past) are h.1 (came_over w past h.0 are)))
 
 none_sent : (w : Setup) → ArePackets (sent w [])
 unfolding sent
@@ -104,8 +135,8 @@ one_step : (w : Setup) (step : Step) (past : List Step) → ArePackets (sent w p
 unfolding sent
 one_step w step past a b = both (sent w past) (packets_of w past step) a b
 
-pub sent_are_in_range : servers.PacketsAreInRange → clients.PacketsAreInRange → SentAreInRange
-sent_are_in_range by_server by_client w [] h f = none_sent w
-sent_are_in_range by_server by_client w (step ∷ past) h f =
-    let are = sent_are_in_range by_server by_client w past h.0 (record { few = f.few; steps = f.steps.1 }) in
-    one_step w step past are (step_in by_server by_client w step past f.few h f.steps are)
+pub sent_are_in_range : servers.PacketsAreInRange → clients.PacketsAreInRange → mirrors.PacketsAreInRange → SentAreInRange
+sent_are_in_range by_server by_client by_mirror w [] h f = none_sent w
+sent_are_in_range by_server by_client by_mirror w (step ∷ past) h f =
+    let are = sent_are_in_range by_server by_client by_mirror w past h.0 (record { few = f.few; steps = f.steps.1 }) in
+    one_step w step past are (step_in by_server by_client by_mirror w step past f.few h f.steps are)

@@ -6,7 +6,7 @@ use Rattle.job_file.specs.declared.job.Job.{Job}
 use Rattle.verify_state.specs.State.{State}
 use Rattle.messages.specs.declared.packet.PacketParts.{PacketParts}
 use Rattle.messages.specs.declared.body.Body.TheVariants as bodies
-use Rattle.messages.specs.declared.node.Node.TheVariants.{Server, Client}
+use Rattle.messages.specs.declared.node.Node.TheVariants.{Server, Client, Mirror}
 use Rattle.server_core.specs.History.{Opening, Entry}
 use Rattle.server_core.specs.Run.{Work, is_halted}
 use Rattle.server_core.specs.Words.{last_run, work}
@@ -16,8 +16,10 @@ use Rattle.server_core.specs.Laws as served
 use Rattle.server_core.specs.Sent.{PacketsGoToClient}
 use Rattle.client_core.specs.Laws as asked
 use Rattle.client_core.specs.Words.{has_mirror}
+use Rattle.mirror_core.specs.Laws as mirrors
 use Rattle.net_world.specs.Setup.{Setup}
-use Rattle.net_world.specs.Trace.{Step, AtServer, AtClient, opening_of, client_opening, of_server, of_client, packets_of, sent}
+use Rattle.net_world.specs.Trace.{Step, AtServer, AtClient, AtMirror, opening_of, client_opening, mirror_opening, of_server, of_client, of_mirror, packets_of, sent}
+use Rattle.net_world.proofs.MirrorLemmas.{sent_by_mirror}
 use Rattle.net_world.proofs.TraceLemmas.{own_step, sent_cases, sent_none}
 use Rattle.net_world.proofs.BegunLemmas.{begun, work_begun, begun_stays}
 
@@ -31,12 +33,16 @@ pub record Sayings : Type 0 where
   pub stay : served.TakingsStay
   pub to_client : PacketsGoToClient
   pub to_peers : asked.PacketsGoToPeers
+  pub over : mirrors.PacketsGoToTheClient
 
 server_apart : (r s : ℕ) → Server r ≡ Server s → r ≡ s
 server_apart r s h = cc
 
 not_client : (s : ℕ) → Client ≡ Server s → ⊥
 not_client s h = cc
+
+not_mirror : (s : ℕ) → Mirror ≡ Server s → ⊥
+not_mirror s h = cc
 
 -- A packet of a server was sent by an entry of its list.
 pub record SentBy (s : ℕ) (list : List Entry) (p : PacketParts) : Type 0 where
@@ -56,6 +62,7 @@ more_if s false list e p h = h
 later : (s : ℕ) (step : Step) (past : List Step) (p : PacketParts) → SentBy s (of_server s past) p → SentBy s (of_server s (step ∷ past)) p
 later s (AtServer r e) past p h = more_if s (r == s) (of_server s past) e p h
 later s (AtClient e) past p h = h
+later s (AtMirror e) past p h = h
 
 sent_now : Sayings → (w : Setup) (s : ℕ) (step : Step) (past : List Step) (p : PacketParts) → p.from ≡ Server s → Contains (packets_of w past step) p → SentBy s (of_server s (step ∷ past)) p
 sent_now laws w s (AtServer r e) past p from h =
@@ -64,11 +71,12 @@ sent_now laws w s (AtServer r e) past p from h =
     rw (own_step r s e past same)
     (record { newer = []; entry = e; older = of_server s past; split = refl; sends = subst (λ m. Contains (servers.packets (opening_of m) (of_server m past) e) p) same h })
 sent_now laws w s (AtClient e) past p from h =
-    absurd (not_client s (sym (from_client (laws.to_peers (client_opening w) (of_client past) e p h)) ∙ from))
+    absurd (not_client s (sym (from_client (laws.to_peers (client_opening w) (of_client w past) e p h)) ∙ from))
   where
-    from_client : asked.GoesToServer w p ⊎ asked.GoesToMirror (has_mirror (of_client past)) p → p.from ≡ Client
+    from_client : asked.GoesToServer w.servers p ⊎ asked.GoesToMirror (has_mirror (of_client w past)) p → p.from ≡ Client
     from_client (inl k) = ap (λ (q : PacketParts). q.from) k.2
     from_client (inr k) = ap (λ (q : PacketParts). q.from) k.1
+sent_now laws w s (AtMirror e) past p from h = absurd (not_mirror s (sym (sent_by_mirror laws.over mirror_opening (of_mirror past) e p h).0 ∙ from))
 
 pub sent_by : Sayings → (w : Setup) (s : ℕ) (t : List Step) (p : PacketParts) → p.from ≡ Server s → Contains (sent w t) p → SentBy s (of_server s t) p
 sent_by laws w s [] p from h = absurd (sent_none w p h)

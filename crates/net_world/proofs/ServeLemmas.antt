@@ -37,7 +37,7 @@ use Rattle.server_core.specs.FrameAnswers as answers
 use Rattle.net_world.specs.declared.served.Served.{Served}
 use Rattle.net_world.specs.declared.server_node.ServerNode.{ServerNode}
 use Rattle.net_world.specs.declared.world.World.{World}
-use Rattle.net_world.specs.Setup.{Setup, servers_of}
+use Rattle.net_world.specs.Setup.{Setup}
 use Rattle.net_world.specs.Trace.{of_server, opening_of, client_opening}
 use Rattle.net_world.specs.Frames.{frames_sent, frames_of_step, client_entries}
 use Rattle.net_world.specs.Changes.{Change, steps, trace}
@@ -59,7 +59,7 @@ pub heard_is : (w : Setup) (past : List Change) (s : ℕ) → packets_heard (ope
 heard_is w past s =
     ap (λ (h : Heard server.Entry). h.entries) (servers_stand w s (steps past)).hears ∙ sym ((nodes_hear_their_own w (steps past)).servers s)
 
-pub up_is : (w : Setup) (past : List Change) (s : ℕ) → is_up (opening_of s) (entries past s) ≡ is_on (trace w past) (nodes.Server s)
+pub up_is : (w : Setup) (past : List Change) (s : ℕ) → is_up (opening_of s) (entries past s) ≡ is_on w (trace w past) (nodes.Server s)
 up_is w past s = ap words.is_on (heard_is w past s)
 
 -- The frames of an entry are those of its step.
@@ -84,14 +84,14 @@ first_fails a b f g h = rw h refl
 second_fails : (a b : Bool) (f g : Fault) → a ≡ true → b ≡ false → option_or (unless a f) (unless b g) ≡ Some g
 second_fails a b f g h k = rw (h, k) refl
 
-pub none_there : (w : Setup) (past : List Change) (s : ℕ) → servers_of w ≤ s → off w (trace w past) (nodes.Server s) ≡ Some NoServer
-none_there w past s h = first_fails (nat_lt s (servers_of w)) (is_on (trace w past) (nodes.Server s)) NoServer NodeOff (lt_false s (servers_of w) h)
+pub none_there : (w : Setup) (past : List Change) (s : ℕ) → w.servers ≤ s → off w (trace w past) (nodes.Server s) ≡ Some NoServer
+none_there w past s h = first_fails (nat_lt s w.servers) (is_on w (trace w past) (nodes.Server s)) NoServer NodeOff (lt_false s w.servers h)
 
-pub is_off : (w : Setup) (past : List Change) (s : ℕ) → s < servers_of w → is_up (opening_of s) (entries past s) ≡ false → off w (trace w past) (nodes.Server s) ≡ Some NodeOff
-is_off w past s l h = second_fails (nat_lt s (servers_of w)) (is_on (trace w past) (nodes.Server s)) NoServer NodeOff (lt_true s (servers_of w) l) (sym (up_is w past s) ∙ h)
+pub is_off : (w : Setup) (past : List Change) (s : ℕ) → s < w.servers → is_up (opening_of s) (entries past s) ≡ false → off w (trace w past) (nodes.Server s) ≡ Some NodeOff
+is_off w past s l h = second_fails (nat_lt s w.servers) (is_on w (trace w past) (nodes.Server s)) NoServer NodeOff (lt_true s w.servers l) (sym (up_is w past s) ∙ h)
 
-pub is_there : (w : Setup) (past : List Change) (s : ℕ) → s < servers_of w → is_up (opening_of s) (entries past s) ≡ true → off w (trace w past) (nodes.Server s) ≡ None
-is_there w past s l h = tests_pass (nat_lt s (servers_of w)) (is_on (trace w past) (nodes.Server s)) NoServer NodeOff (lt_true s (servers_of w) l) (sym (up_is w past s) ∙ h)
+pub is_there : (w : Setup) (past : List Change) (s : ℕ) → s < w.servers → is_up (opening_of s) (entries past s) ≡ true → off w (trace w past) (nodes.Server s) ≡ None
+is_there w past s l h = tests_pass (nat_lt s w.servers) (is_on w (trace w past) (nodes.Server s)) NoServer NodeOff (lt_true s w.servers l) (sym (up_is w past s) ∙ h)
 
 -- ---- frames are counted
 
@@ -146,7 +146,7 @@ serve_ends w past s e outs served old new stands h is =
     let o = opening_of s in
     let es = entries past s in
     let a = h.stepped o es (stands.servers_are s h.was h.was_is) in
-    let l : s < servers_of w = omega (arith, h.moved.there, stands.number) in
+    let l : s < w.servers = omega (arith, h.moved.there, stands.number) in
     let same = frames_are w past s (answers.answered o es e) in
     let sent : outs.frames ≡ map frame_spelling (frames_of_step w (steps past) (step_by past s e)) = a.frames_are ∙ ap (map frame_spelling) same in
     record {
@@ -159,7 +159,7 @@ serve_ends w past s e outs served old new stands h is =
       stands = server_stepped w past s (answers.answered o es e) h.node outs.frames old new stands h.moved sent a.stands;
     }
 
-refused : (w : Setup) (past : List Change) (s : ℕ) (e : Input) (fault : Fault) (old new : World) → StandsFor w past old → (h : HasServed s e (Err fault) [] old new) → s < servers_of w
+refused : (w : Setup) (past : List Change) (s : ℕ) (e : Input) (fault : Fault) (old new : World) → StandsFor w past old → (h : HasServed s e (Err fault) [] old new) → s < w.servers
     → nodes_of.IsOff (opening_of s) (entries past s) fault h.node ⊎ nodes_of.Refuses (opening_of s) (entries past s) e fault h.node
     → IsBarred w past s fault new ⊎ Refuses w past s e fault new
 refused w past s e fault old new stands h l (inl off) =
@@ -174,7 +174,7 @@ refused w past s e fault old new stands h l (inr r) =
       unchanged = λ d. server_kept w past s h.node old new stands h.moved (r.unchanged d);
     })
 
-by_sort : (w : Setup) (past : List Change) (s : ℕ) (e : Input) (fault : Fault) (old new : World) → StandsFor w past old → (h : HasServed s e (Err fault) [] old new) → s < servers_of w
+by_sort : (w : Setup) (past : List Change) (s : ℕ) (e : Input) (fault : Fault) (old new : World) → StandsFor w past old → (h : HasServed s e (Err fault) [] old new) → s < w.servers
     → (sort : FaultSort) → nodes_of.Faults (opening_of s) (entries past s) e sort fault h.node → Faults w past s e sort fault new
 by_sort w past s e fault old new stands h l sorts.Memory f = (f.0, server_kept w past s h.node old new stands h.moved f.1)
 by_sort w past s e fault old new stands h l sorts.Save f = f
@@ -183,7 +183,7 @@ by_sort w past s e fault old new stands h l sorts.Refusal f = refused w past s e
 pub serve_fails : (w : Setup) (past : List Change) (s : ℕ) (e : Input) (fault : Fault) (old new : World) → StandsFor w past old → HasServed s e (Err fault) [] old new
     → ServerEnds w past s e new (Err fault)
 serve_fails w past s e fault old new stands h =
-    let l : s < servers_of w = omega (arith, h.moved.there, stands.number) in
+    let l : s < w.servers = omega (arith, h.moved.there, stands.number) in
     by_sort w past s e fault old new stands h l (sort_of fault) (h.stepped (opening_of s) (entries past s) (stands.servers_are s h.was h.was_is))
 
 -- ---- nothing comes of it
@@ -197,7 +197,7 @@ le_of a b h = grind (arith, nat_tests)
 -- There is no such server.
 pub none_serves : (w : Setup) (past : List Change) (s : ℕ) (e : Input) (now : World) → StandsFor w past now → nat_lt s (length now.servers.items) ≡ false → ServerEnds w past s e now (Err NoServer)
 none_serves w past s e now stands h =
-    let l : servers_of w ≤ s = omega (arith, stands.number, le_of s (length now.servers.items) h) in
+    let l : w.servers ≤ s = omega (arith, stands.number, le_of s (length now.servers.items) h) in
     inl (record { why = none_there w past s l; unchanged = stands })
 
 -- All but the frames' places in memory is as it was.
@@ -205,10 +205,11 @@ pub settled : (w : Setup) (past : List Change) (old new : World) → StandsFor w
 settled w past old new stands sent servers client files = record {
   some = stands.some;
   few = stands.few;
+  alone = stands.alone;
   number = ap (λ (v : Vec ServerNode Global). length v.items) servers ∙ stands.number;
   sent_is = sent ∙ stands.sent_is;
   servers_are = λ s node at. stands.servers_are s node (ap (λ (v : Vec ServerNode Global). slice_get v.items s) (sym servers) ∙ at);
-  client_is = subst (λ x. clients.Stands (client_opening w) (client_entries (steps past)) x) (sym client) stands.client_is;
+  client_is = subst (λ x. clients.Stands (client_opening w) (client_entries w (steps past)) x) (sym client) stands.client_is;
   files = ap (λ (v : Vec MemDisk Global). length v.items) files ∙ stands.files;
   files_are = λ s j disk l at. stands.files_are s j disk l (ap (λ (v : Vec MemDisk Global). slice_get v.items (16 * s + j)) (sym files) ∙ at);
 }
@@ -223,23 +224,23 @@ pub node_at : {X : Type 0} (xs : List X) (s place : ℕ) (x : X) → place ≡ s
 node_at xs s place x is l h = slice_get_read xs (length xs) s x refl l (h ∙ ap (λ i. get_or xs i x) is)
 
 -- A server that is on is there.
-pub on_below : (w : Setup) (past : List Change) (s : ℕ) → off w (trace w past) (nodes.Server s) ≡ None → s < servers_of w
-on_below w past s h = by_test (nat_lt s (servers_of w)) refl
+pub on_below : (w : Setup) (past : List Change) (s : ℕ) → off w (trace w past) (nodes.Server s) ≡ None → s < w.servers
+on_below w past s h = by_test (nat_lt s w.servers) refl
   where
-    by_test : (b : Bool) → nat_lt s (servers_of w) ≡ b → s < servers_of w
-    by_test true e = lt_of s (servers_of w) e
-    by_test false e = absurd (some_none (sym (first_fails (nat_lt s (servers_of w)) (is_on (trace w past) (nodes.Server s)) NoServer NodeOff e) ∙ h))
+    by_test : (b : Bool) → nat_lt s w.servers ≡ b → s < w.servers
+    by_test true e = lt_of s w.servers e
+    by_test false e = absurd (some_none (sym (first_fails (nat_lt s w.servers) (is_on w (trace w past) (nodes.Server s)) NoServer NodeOff e) ∙ h))
       where
         some_none : Some NoServer ≡ None → ⊥
         some_none e = cc
 
 -- A server that is on is up by its list.
 pub up_of : (w : Setup) (past : List Change) (s : ℕ) → off w (trace w past) (nodes.Server s) ≡ None → is_up (opening_of s) (entries past s) ≡ true
-up_of w past s h = up_is w past s ∙ by_test (is_on (trace w past) (nodes.Server s)) refl
+up_of w past s h = up_is w past s ∙ by_test (is_on w (trace w past) (nodes.Server s)) refl
   where
-    by_test : (b : Bool) → is_on (trace w past) (nodes.Server s) ≡ b → is_on (trace w past) (nodes.Server s) ≡ true
+    by_test : (b : Bool) → is_on w (trace w past) (nodes.Server s) ≡ b → is_on w (trace w past) (nodes.Server s) ≡ true
     by_test true e = e
-    by_test false e = absurd (some_none (sym (second_fails (nat_lt s (servers_of w)) (is_on (trace w past) (nodes.Server s)) NoServer NodeOff (lt_true s (servers_of w) (on_below w past s h)) e) ∙ h))
+    by_test false e = absurd (some_none (sym (second_fails (nat_lt s w.servers) (is_on w (trace w past) (nodes.Server s)) NoServer NodeOff (lt_true s w.servers (on_below w past s h)) e) ∙ h))
       where
         some_none : Some NodeOff ≡ None → ⊥
         some_none e = cc

@@ -1,13 +1,17 @@
 -- Traces: what was sent stays sent, what came was sent, and what was taken stays taken.
-use Rattle.std.proofs.Common.{◌≡◌, refl, subst, ◌⊎◌, inl, inr, ℕ, arith, Bool, true, false, ◌==◌, List, [], ◌∷◌, Option, Some, None}
-use Rattle.std.specs.Prelude.{if◌then◌else◌, not, ◌++◌, Contains}
+use Rattle.std.proofs.Common.{◌≡◌, refl, ◌∙◌, ap, subst, ◌⊎◌, inl, inr, ℕ, arith, Bool, true, false, ◌==◌, List, [], ◌∷◌, Option, Some, None}
+use Rattle.std.specs.Prelude.{if◌then◌else◌, nat_lt, not, ◌&&◌, ◌++◌, Contains}
 use Rattle.std.specs.List.{AllByRecursion}
 use Rattle.std.proofs.lemmas.Bool.Decides.{nat_tests}
 use Rattle.std.proofs.lemmas.List.Elements.{Contains-append_cases, Contains-append_left}
 use Rattle.fc_base.specs.declared.numbers.Key.{Key}
+use Rattle.fc_base.specs.Counted.{has}
 use Rattle.verify_state.specs.State.{State}
 use Rattle.messages.specs.declared.packet.PacketParts.{PacketParts}
+use Rattle.messages.specs.declared.body.Body.{Body}
+use Rattle.messages.specs.declared.node.Node.{Node}
 use Rattle.messages.specs.declared.node.Node.TheVariants.{Server}
+use Rattle.messages.specs.Ranges.{is_generation}
 use Rattle.server_core.specs.declared.event.Event.{Event}
 use Rattle.server_core.specs.declared.event.Event.TheVariants as events
 use Rattle.server_core.specs.History as server
@@ -17,11 +21,12 @@ use Rattle.server_core.specs.Words.{work}
 use Rattle.server_core.specs.Taken.{takes, and_those, takings}
 use Rattle.server_core.specs.Heard.{heard_with, heard}
 use Rattle.client_core.specs.History as client
-use Rattle.client_core.specs.Laws.{loses_nothing}
+use Rattle.client_core.specs.Laws.{loses_nothing, generations, is_mirrored, KeepsNumbersApart}
 use Rattle.client_core.specs.Ranges.{packet_in, came}
-use Rattle.client_core.specs.Words.{has_mirror}
+use Rattle.client_core.specs.Words.{noted}
+use Rattle.mirror_core.specs.Laws as mirror_laws
 use Rattle.net_world.specs.Setup.{Setup}
-use Rattle.net_world.specs.Trace.{Step, AtServer, AtClient, opening_of, of_server, of_client, packets_of, sent, taken_by, node_of, WasSentTo, is_alone, IsTrace}
+use Rattle.net_world.specs.Trace.{Step, AtServer, AtClient, AtMirror, opening_of, client_opening, first_entry, of_server, of_client, of_mirror, packets_of, sent, taken_by, node_of, WasSentTo, is_alone, is_with_mirror, IsTrace}
 use Rattle.net_world.specs.Holders.{taken_of}
 use Rattle.net_world.proofs.ListLemmas.{none_in, later_in, each_of}
 
@@ -32,14 +37,19 @@ same_number x = grind (arith, nat_tests)
 pub own_step : (r s : ℕ) (e : server.Entry) (past : List Step) → r ≡ s → of_server s (AtServer r e ∷ past) ≡ e ∷ of_server s past
 own_step r s e past h = let t : (r == s) ≡ true = subst (λ x. (r == x) ≡ true) h (same_number r) in rw t refl
 
--- ---- a client without a mirror
+-- ---- a client without a mirror, and one with it
 
-pub loses_no_note : (e : client.Entry) → is_alone e ≡ true → loses_nothing (e ∷ []) ≡ true
-loses_no_note (client.Met c left) h = refl
-loses_no_note client.Cut h = refl
-loses_no_note (client.Restart mirror) h = refl
-loses_no_note (client.Renew g left) h = cc
-loses_no_note client.Lose h = cc
+when_alone : (b x y : Bool) → b ≡ false → (if b then x else y) ≡ true → y ≡ true
+when_alone true x y h k = absurd cc
+when_alone false x y h k = k
+
+pub when_with : (b x y : Bool) → b ≡ true → (if b then x else y) ≡ true → x ≡ true
+when_with true x y h k = k
+when_with false x y h k = absurd cc
+
+both : (a b : Bool) → a ≡ true → b ≡ true → (a && b) ≡ true
+both true b h k = k
+both false b h k = absurd cc
 
 loses_no_more : (e : client.Entry) (past : List client.Entry) → is_alone e ≡ true → loses_nothing past ≡ true → loses_nothing (e ∷ past) ≡ true
 loses_no_more (client.Met c left) past h k = k
@@ -48,28 +58,45 @@ loses_no_more (client.Restart mirror) past h k = k
 loses_no_more (client.Renew g left) past h k = k
 loses_no_more client.Lose past h k = cc
 
--- Its note isn't lost.
-pub loses_none : (w : Setup) (t : List Step) → IsTrace w t → loses_nothing (of_client t) ≡ true
-loses_none w [] trace = refl
-loses_none w (AtServer s e ∷ past) trace = loses_none w past trace.0
-loses_none w (AtClient e ∷ past) trace = loses_no_more e (of_client past) trace.2 (loses_none w past trace.0)
+-- Without one the note isn't lost.
+loses_none : (w : Setup) (t : List Step) → w.mirror ≡ false → IsTrace w t → loses_nothing (of_client w t) ≡ true
+loses_none w [] alone trace = rw alone refl
+loses_none w (AtServer s e ∷ past) alone trace = loses_none w past alone trace.0
+loses_none w (AtClient e ∷ past) alone trace =
+    loses_no_more e (of_client w past) (when_alone w.mirror (is_with_mirror (client_opening w) (of_client w past) e) (is_alone e) alone trace.2) (loses_none w past alone trace.0)
+loses_none w (AtMirror e ∷ past) alone trace = loses_none w past alone trace.0
 
-not_true : (b : Bool) → not b ≡ true → b ≡ false
-not_true true h = cc
-not_true false h = refl
+mirrored_more : (o : client.Opening) (e : client.Entry) (past : List client.Entry) → is_with_mirror o past e ≡ true → is_mirrored o past ≡ true → is_mirrored o (e ∷ past) ≡ true
+mirrored_more o (client.Met c left) past h k = k
+mirrored_more o client.Cut past h k = k
+mirrored_more o (client.Restart mirror) past h k = both (mirror && nat_lt 0 (noted o past).generation) (is_mirrored o past) h k
+mirrored_more o (client.Renew g left) past h k = both (is_generation g && not (has (generations past) g)) (is_mirrored o past) h k
+mirrored_more o client.Lose past h k = k
 
-gets_no_mirror : (e : client.Entry) (past : List client.Entry) → is_alone e ≡ true → has_mirror past ≡ false → has_mirror (e ∷ past) ≡ false
-gets_no_mirror (client.Met c left) past h k = k
-gets_no_mirror client.Cut past h k = refl
-gets_no_mirror (client.Restart mirror) past h k = not_true mirror h
-gets_no_mirror (client.Renew g left) past h k = cc
-gets_no_mirror client.Lose past h k = refl
+-- With one the client is one with a mirror.
+mirrored : (w : Setup) (t : List Step) → w.mirror ≡ true → IsTrace w t → is_mirrored (client_opening w) (of_client w t) ≡ true
+mirrored w [] has trace = rw has refl
+mirrored w (AtServer s e ∷ past) has trace = mirrored w past has trace.0
+mirrored w (AtClient e ∷ past) has trace =
+    mirrored_more (client_opening w) e (of_client w past) (when_with w.mirror (is_with_mirror (client_opening w) (of_client w past) e) (is_alone e) has trace.2) (mirrored w past has trace.0)
+mirrored w (AtMirror e ∷ past) has trace = mirrored w past has trace.0
 
--- It gets none.
-pub no_mirror : (w : Setup) (t : List Step) → IsTrace w t → has_mirror (of_client t) ≡ false
-no_mirror w [] trace = refl
-no_mirror w (AtServer s e ∷ past) trace = no_mirror w past trace.0
-no_mirror w (AtClient e ∷ past) trace = gets_no_mirror e (of_client past) trace.2 (no_mirror w past trace.0)
+-- Its numbers stay apart either way.
+pub keeps_apart : (w : Setup) (t : List Step) → IsTrace w t → KeepsNumbersApart (client_opening w) (of_client w t)
+keeps_apart w t trace = by w.mirror refl
+  where
+    by : (b : Bool) → w.mirror ≡ b → KeepsNumbersApart (client_opening w) (of_client w t)
+    by true e = inr (mirrored w t e trace)
+    by false e = inl (loses_none w t e trace)
+
+-- ---- a packet is its parts
+
+make_packet : Node → Node → Body → PacketParts
+make_packet from to body = record { from = from; to = to; body = body }
+
+pub same_packet : (p q : PacketParts) → p.from ≡ q.from → p.to ≡ q.to → p.body ≡ q.body → p ≡ q
+unfolding make_packet
+same_packet p q a b c = ap (λ x. make_packet x p.to p.body) a ∙ ap (λ x. make_packet q.from x p.body) b ∙ ap (λ x. make_packet q.from q.to x) c
 
 -- ---- what was taken stays taken
 
@@ -90,6 +117,7 @@ stays_if key false e past state h = h
 pub taken_stays : (key : Key) (step : Step) (past : List Step) (state : State) → Contains (taken_of key past) state → Contains (taken_of key (step ∷ past)) state
 taken_stays key (AtServer r e) past state h = stays_if key (r == key.server) e past state h
 taken_stays key (AtClient e) past state h = h
+taken_stays key (AtMirror e) past state h = h
 
 pub taken_stays_so : (key : Key) (later past : List Step) (state : State) → Contains (taken_of key past) state → Contains (taken_of key (later ++ past)) state
 taken_stays_so key [] past state h = h
@@ -121,14 +149,30 @@ sent_none w p h = none_in p h
 pub taken_was_sent : (w : Setup) (step : Step) (past : List Step) (p : PacketParts) → AllByRecursion (WasSentTo (sent w past) (node_of step)) (taken_by step) → Contains (taken_by step) p → Contains (sent w past) p
 taken_was_sent w step past p h c = (each_of (WasSentTo (sent w past) (node_of step)) (taken_by step) p h c).0
 
+none_came : (b : Bool) (p : PacketParts) → Contains (came (first_entry b ∷ [])) p → ⊥
+none_came true p h = none_in p h
+none_came false p h = none_in p h
+
 -- All that came to the client.
-pub came_was_sent : (w : Setup) (t : List Step) (p : PacketParts) → IsTrace w t → Contains (came (of_client t)) p → Contains (sent w t) p
-came_was_sent w [] p h c = absurd (none_in p c)
+pub came_was_sent : (w : Setup) (t : List Step) (p : PacketParts) → IsTrace w t → Contains (came (of_client w t)) p → Contains (sent w t) p
+came_was_sent w [] p h c = absurd (none_came w.mirror p c)
 came_was_sent w (AtServer r e ∷ past) p h c = sent_stays w (AtServer r e) past p (came_was_sent w past p h.0 c)
 came_was_sent w (AtClient e ∷ past) p h c =
-    sent_stays w (AtClient e) past p (elim (Contains-append_cases (packet_in e) (came (of_client past)) p c) [
+    sent_stays w (AtClient e) past p (elim (Contains-append_cases (packet_in e) (came (of_client w past)) p c) [
       | inl now ↦ taken_was_sent w (AtClient e) past p h.1 now
       | inr before ↦ came_was_sent w past p h.0 before
+    ])
+came_was_sent w (AtMirror e ∷ past) p h c = sent_stays w (AtMirror e) past p (came_was_sent w past p h.0 c)
+
+-- All that came to the mirror.
+pub copied_was_sent : (w : Setup) (t : List Step) (p : PacketParts) → IsTrace w t → Contains (mirror_laws.came (of_mirror t)) p → Contains (sent w t) p
+copied_was_sent w [] p h c = absurd (none_in p c)
+copied_was_sent w (AtServer r e ∷ past) p h c = sent_stays w (AtServer r e) past p (copied_was_sent w past p h.0 c)
+copied_was_sent w (AtClient e ∷ past) p h c = sent_stays w (AtClient e) past p (copied_was_sent w past p h.0 c)
+copied_was_sent w (AtMirror e ∷ past) p h c =
+    sent_stays w (AtMirror e) past p (elim (Contains-append_cases (mirror_laws.packet_in e) (mirror_laws.came (of_mirror past)) p c) [
+      | inl now ↦ taken_was_sent w (AtMirror e) past p h.1 now
+      | inr before ↦ copied_was_sent w past p h.0 before
     ])
 
 -- An entry of a server brings a packet, or it came before.
@@ -155,3 +199,4 @@ heard_was_sent w s [] p trace h = absurd (none_in p h)
 heard_was_sent w s (AtServer r e ∷ past) p trace h =
     sent_stays w (AtServer r e) past p (heard_if w r s (r == s) e past p trace.1 (heard_was_sent w s past p trace.0) h)
 heard_was_sent w s (AtClient e ∷ past) p trace h = sent_stays w (AtClient e) past p (heard_was_sent w s past p trace.0 h)
+heard_was_sent w s (AtMirror e ∷ past) p trace h = sent_stays w (AtMirror e) past p (heard_was_sent w s past p trace.0 h)

@@ -1,10 +1,10 @@
--- The verdict theorem, from the four passes and the laws of one server.
-use Rattle.std.proofs.Common.{◌≡◌, refl, sym, ◌∙◌, ap, subst, inl, inr, ℕ, Bool, true, false, List, [], ◌∷◌, ◌++◌, Option, Some, None, append_assoc}
+-- The verdict theorem, from the passes and the laws of one server.
+use Rattle.std.proofs.Common.{◌≡◌, refl, ◌∙◌, ap, subst, inl, inr, ℕ, Bool, true, false, List, [], ◌∷◌, ◌++◌, Option, Some, None, append_assoc}
 use Rattle.std.specs.Prelude.{if◌then◌else◌, Contains}
 use Rattle.fc_base.specs.declared.numbers.Key.{Key}
 use Rattle.verify_state.specs.State.{State}
+use Rattle.state_table.specs.Laws.{FoundHasItsKey}
 use Rattle.messages.specs.declared.packet.PacketParts.{PacketParts}
-use Rattle.messages.specs.declared.body.Body.{Body}
 use Rattle.messages.specs.declared.body.Body.TheVariants as bodies
 use Rattle.disk_model.specs.declared.left.Left.TheVariants.{Saved}
 use Rattle.disk_model.specs.Left.{is_lost}
@@ -15,39 +15,26 @@ use Rattle.server_core.specs.Taken.{takes, and_those, takings}
 use Rattle.server_core.specs.Check.{With, progress}
 use Rattle.server_core.specs.Accepted.{IsTaking}
 use Rattle.server_core.specs.Laws.{TakenAtMostOnce, CountsTheDone, WithWasHeard, QuietUntilChecked}
-use Rattle.client_core.specs.Words.{kept}
+use Rattle.mirror_core.specs.Words as mirrors
 use Rattle.client_core.specs.Packets.{to_server}
 use Rattle.net_world.specs.Setup.{Setup}
-use Rattle.net_world.specs.Trace.{Step, IsTrace, opening_of, client_opening, of_server, of_client, sent}
-use Rattle.net_world.specs.Holders.{taken_of, taken_in_life, carried, Holds, ByTaking, ByCheck, ByClient, ByPacket}
-use Rattle.net_world.specs.Passes.{SentStatesWereTaken, KeptStatesWereSent, SavedStatesWereKept, NoCopyIsSent, CheckedStatesWereSent}
+use Rattle.net_world.specs.Trace.{Step, IsTrace, opening_of, mirror_opening, of_server, of_mirror, sent}
+use Rattle.net_world.specs.Holders.{taken_of, taken_in_life, carried, Holds, ByTaking, ByCheck, ByClient, ByMirror, ByPacket}
+use Rattle.net_world.specs.Passes.{SentStatesWereTaken, CarriedStatesWereSent, KeptStatesWereSent, CopiedStatesWereSent, CheckedStatesWereSent}
 use Rattle.net_world.specs.Exact.{IsQuiet}
 use Rattle.net_world.specs.Claims.{OfEachList, OfEachTrace}
 use Rattle.net_world.specs.Headline.{OneTaking, HeldIsTheTaken, CountsTheCompleted, QuietUntilTheCheck}
-use Rattle.net_world.proofs.ListLemmas.{none_in, first_or_rest, first_in, later_in, single}
-use Rattle.net_world.proofs.TraceLemmas.{front_is_trace, taken_stays_so}
+use Rattle.net_world.proofs.ListLemmas.{none_in, first_or_rest, first_in, later_in, single, found_in}
+use Rattle.net_world.proofs.PassLemmas.{was_taken, kept_was_taken}
 
--- The four passes, and that there is no fifth.
+-- The passes of a verify state.
 pub record Passes : Type 0 where
   pub sent_taken : OfEachList SentStatesWereTaken
-  pub kept_sent : OfEachTrace KeptStatesWereSent
-  pub saved_kept : OfEachList SavedStatesWereKept
-  pub no_copy : OfEachTrace NoCopyIsSent
+  pub has : FoundHasItsKey
+  pub in_packets : OfEachTrace CarriedStatesWereSent
+  pub at_client : OfEachTrace KeptStatesWereSent
+  pub at_mirror : OfEachTrace CopiedStatesWereSent
   pub checked_sent : OfEachTrace CheckedStatesWereSent
-
--- What is kept was taken.
-pub kept_was_taken : Passes → (w : Setup) (t : List Step) (key : Key) (state : State) → IsTrace w t → kept (client_opening w) (of_client t) key ≡ Some state → Contains (taken_of key t) state
-kept_was_taken passes w t key state trace h =
-    let k = passes.kept_sent w t trace key state h in
-    subst (λ i. Contains (taken_of i t) state) k.key_is (passes.sent_taken w t _ k.jobs state k.sent_in refl)
-
--- What was sent in a Saved was taken.
-saved_was_taken : Passes → (w : Setup) (t : List Step) (p : PacketParts) (attempt : ℕ) (state : State) → IsTrace w t → Contains (sent w t) p → p.body ≡ bodies.Saved attempt state → Contains (taken_of state.key t) state
-saved_was_taken passes w t p attempt state trace h is =
-    let k = passes.saved_kept w t p attempt state h is in
-    let front = front_is_trace w k.later k.earlier (subst (IsTrace w) k.split trace) in
-    subst (λ (l : List Step). Contains (taken_of state.key l) state) (sym k.split)
-    (taken_stays_so state.key k.later k.earlier state (kept_was_taken passes w k.earlier state.key state front k.kept_there))
 
 -- What was taken in this life was taken.
 taken_or : (lost : Bool) (x : Option State) (states all : List State) (state : State) → (Contains states state → Contains all state) → Contains (if lost then [] else and_those x states) state → Contains (and_those x all) state
@@ -62,21 +49,21 @@ taken_in_life_was_taken o run j (Met e left ∷ past) state h =
 taken_in_life_was_taken o run j (Cut ∷ past) state h = absurd (none_in state h)
 taken_in_life_was_taken o run j (Restart left ∷ past) state h = absurd (none_in state h)
 
--- A packet that carries a state carries one that was taken.
-carried_was_taken : Passes → (w : Setup) (t : List Step) (p : PacketParts) (state : State) (b : Body) → p.body ≡ b → IsTrace w t → Contains (sent w t) p → carried b ≡ Some state → Contains (taken_of state.key t) state
-carried_was_taken passes w t p state (bodies.State jobs x) is trace h e = let same : x ≡ state = cc in passes.sent_taken w t p jobs state h (is ∙ ap (bodies.State jobs) same)
-carried_was_taken passes w t p state (bodies.Saved attempt x) is trace h e = let same : x ≡ state = cc in saved_was_taken passes w t p attempt state trace h (is ∙ ap (bodies.Saved attempt) same)
-carried_was_taken passes w t p state (bodies.Copy x) is trace h e = absurd (passes.no_copy w t trace p x h is)
-carried_was_taken passes w t p state _ is trace h e = absurd cc
+-- What a packet carries was taken.
+carried_was_taken : Passes → (w : Setup) (t : List Step) (p : PacketParts) (key : Key) (state : State) → state.key ≡ key → IsTrace w t → Contains (sent w t) p → carried p.body ≡ Some state → Contains (taken_of key t) state
+carried_was_taken passes w t p key state is trace h c = was_taken passes.sent_taken w t key state is (passes.in_packets w t trace p state h c)
 
 -- Whoever holds a state holds one that was taken.
 pub held_was_taken : Passes → (w : Setup) (t : List Step) (key : Key) (state : State) → IsTrace w t → Holds w t key state → Contains (taken_of key t) state
 held_was_taken passes w t key state trace (ByTaking h) = taken_in_life_was_taken (opening_of key.server) key.run key.job (of_server key.server t) state h
 held_was_taken passes w t key state trace (ByCheck m j h is) =
     let k = passes.checked_sent w t trace m j state h in
-    subst (λ i. Contains (taken_of i t) state) is (saved_was_taken passes w t (to_server (bodies.Saved k.0 state) m) k.0 state trace k.1 refl)
-held_was_taken passes w t key state trace (ByClient h) = kept_was_taken passes w t key state trace h
-held_was_taken passes w t key state trace (ByPacket p h carries is) = subst (λ i. Contains (taken_of i t) state) is (carried_was_taken passes w t p state p.body refl trace h carries)
+    carried_was_taken passes w t (to_server (bodies.Saved k.0 state) m) key state is trace k.1 refl
+held_was_taken passes w t key state trace (ByClient h) = kept_was_taken passes.sent_taken passes.has passes.at_client w t key state trace h
+held_was_taken passes w t key state trace (ByMirror h) =
+    let states = (mirrors.noted mirror_opening (of_mirror t)).kept in
+    was_taken passes.sent_taken w t key state (passes.has key states state h) (passes.at_mirror w t trace state (found_in key states state h))
+held_was_taken passes w t key state trace (ByPacket p h carries is) = carried_was_taken passes w t p key state is trace h carries
 
 pub one_taking : TakenAtMostOnce → OfEachList OneTaking
 one_taking once w t key = once (opening_of key.server) key.run key.job (of_server key.server t)

@@ -1,13 +1,15 @@
 -- Nothing that happens in a world is refused as another state of a kept key.
-use Rattle.std.proofs.Common.{◌≡◌, refl, ap, subst, ℕ, Bool, true, false, List, Option, Some, None, Ok, Err}
-use Rattle.std.specs.Prelude.{if◌then◌else◌, slice_get, Contains}
+use Rattle.std.proofs.Common.{◌≡◌, refl, ap, subst, ℕ, Bool, true, false, ◌&&◌, List, [], ◌∷◌, ◌++◌, Option, Some, None, Ok, Err}
+use Rattle.std.specs.Prelude.{if◌then◌else◌, not, slice_get, Contains}
 use Rattle.std.proofs.lemmas.Option.{slice_get_within, get_or_from_slice_get}
 use Rattle.fc_base.specs.declared.fault.Fault.{Fault}
-use Rattle.fc_base.specs.declared.fault.Fault.TheVariants.{Conflict, NumbersSpent, NoSave}
+use Rattle.fc_base.specs.declared.fault.Fault.TheVariants.{Conflict, BadNote, NumbersSpent, NoSave, Down, Misdirected}
+use Rattle.fc_base.specs.Faults.{when}
 use Rattle.engine.specs.Running.{Origin}
 use Rattle.engine.specs.Answers.{ticket_of}
 use Rattle.messages.specs.declared.packet.PacketParts.{PacketParts}
 use Rattle.messages.specs.declared.frame.Frame.{Frame}
+use Rattle.messages.specs.declared.frame.Frame.TheVariants.{Whole, Piece}
 use Rattle.messages.specs.declared.node.Node.{Node}
 use Rattle.messages.specs.declared.node.Node.TheVariants.{Server, Client, Mirror}
 use Rattle.messages.specs.PieceLaws.{OnlySentComesTogether}
@@ -22,20 +24,22 @@ use Rattle.server_core.specs.Answers as answers
 use Rattle.client_core.specs.declared.call.Call.{Call}
 use Rattle.client_core.specs.declared.call.Call.TheVariants as calls
 use Rattle.client_core.specs.Words as clients
+use Rattle.client_core.specs.Note.{is_blank}
+use Rattle.mirror_core.specs.Words as mirrors
 use Rattle.net_world.specs.Setup.{Setup}
-use Rattle.net_world.specs.Happenings.{Happening, Begin, Trigger, StopRun, Verify, Tick, Deliver, Issue, Land, Done, Fail, Rot, Cut, Restart, CutIn}
+use Rattle.net_world.specs.Happenings.{Happening, Begin, Trigger, StopRun, Verify, Tick, Deliver, Issue, Land, Done, Fail, Rot, Cut, Restart, LoseNote, Renew, CutIn}
 use Rattle.net_world.specs.Happenings as happenings
-use Rattle.net_world.specs.Trace.{Step, IsTrace, of_server, of_client, opening_of, client_opening, sent}
+use Rattle.net_world.specs.Trace.{Step, IsTrace, of_server, of_client, of_mirror, opening_of, client_opening, mirror_opening, sent}
 use Rattle.net_world.specs.Frames as frames
 use Rattle.net_world.specs.Frames.{FrameStep, OfServer, OfClient, at_client, frames_sent, to_of, IsFrameTrace, trace_heard}
 use Rattle.net_world.specs.InRange.{FitsFrames, SentAreInRange}
 use Rattle.net_world.specs.FrameLaws.{FramesAreOfPackets, TagsNameOneBody}
-use Rattle.net_world.specs.Passes.{NoPacketConflicts}
+use Rattle.net_world.specs.Passes.{NoPacketConflicts, NoCopyConflicts}
 use Rattle.net_world.specs.Changes.{Change, steps, trace}
 use Rattle.net_world.specs.Writes.{open_at}
 use Rattle.net_world.specs.Checks.{checked}
 use Rattle.net_world.specs.Barred.{barred}
-use Rattle.net_world.specs.Outcomes.{Outcome, Does, Refuses, Drops, met_by_server, met_by_client, comes_to_server, comes_to_client, said_to_server, said_to_client, comes_to, delivered, ended, reported, has_boot, cut, restarted, cut_in, server_frame_cut, client_frame_cut, frame_cut, delivery_cut_in, restart_cut_in, brings, outcome}
+use Rattle.net_world.specs.Outcomes.{Outcome, Does, Refuses, Drops, met_by_server, met_by_client, comes_to_server, comes_to_client, said_to_server, said_to_client, comes_to, delivered, ended, reported, has_boot, cut, noted_in, restarted, cut_in, server_frame_cut, client_frame_cut, frame_cut, delivery_cut_in, restart_cut_in, brings, outcome}
 use Rattle.net_world.specs.World.{told_by, world}
 use Rattle.net_world.specs.WorldLaws.{EachWorldIsAFrameTrace}
 use Rattle.net_world.specs.Claims.{OfEachTrace, OfEachWorld}
@@ -52,6 +56,7 @@ pub record Peace : Type 0 where
   pub tags : TagsNameOneBody
   pub ranges : SentAreInRange
   pub never : OfEachTrace NoPacketConflicts
+  pub copies : OfEachTrace NoCopyConflicts
   pub reports : Reports
 
 -- ---- a frame that comes
@@ -62,7 +67,7 @@ said_was_sent laws w t steps_are fits f i to p is =
     let s = stands laws.law laws.frames laws.tags laws.ranges w t steps_are fits in
     let ps = sent w (trace_heard w t) in
     let are = laws.ranges w (trace_heard w t) s.trace (heard_fits w t fits) in
-    let k = keeps laws.law (at_client w) ps are (laws.tags w (trace_heard w t) s.trace are) (heard (at_client w) (frames.of_client t)) s.client_rows Client f (frame_is laws.frames w t f i) to lefts.NoSave in
+    let k = keeps laws.law (at_client w) ps are (laws.tags w (trace_heard w t) s.trace are) (heard (at_client w) (frames.of_client w t)) s.client_rows Client f (frame_is laws.frames w t f i) to lefts.NoSave in
     let says : SaysSent ps Client (Says p) = subst (SaysSent ps Client) is k.says in
     says.0
 
@@ -73,12 +78,22 @@ fine_to_server t s f Waits h = cc
 fine_to_server t s f Spoils h = cc
 fine_to_server t s f Strays h = cc
 
-fine_to_client : (w : Setup) (t : List Step) (f : Frame) (m : Meaning) → ((p : PacketParts) → m ≡ Says p → Fine (clients.refusal (client_opening w) (of_client t) (calls.Deliver p))) → FineCome (comes_to_client w t f m)
+fine_to_client : (w : Setup) (t : List Step) (f : Frame) (m : Meaning) → ((p : PacketParts) → m ≡ Says p → Fine (clients.refusal (client_opening w) (of_client w t) (calls.Deliver p))) → FineCome (comes_to_client w t f m)
 unfolding FineCome
-fine_to_client w t f (Says p) g h = fine_step _ (fine_unless (clients.refusal (client_opening w) (of_client t) (calls.Deliver p)) _ (g p refl)) h
+fine_to_client w t f (Says p) g h = fine_step _ (fine_unless (clients.refusal (client_opening w) (of_client w t) (calls.Deliver p)) _ (g p refl)) h
 fine_to_client w t f Waits g h = cc
 fine_to_client w t f Spoils g h = cc
 fine_to_client w t f Strays g h = cc
+
+-- A whole frame at the mirror is a packet that was sent, and a piece is never for it.
+fine_at_mirror : Peace → (w : Setup) (t : List FrameStep) → IsTrace w (trace_heard w t) → (f : Frame) → Contains (frames_sent w t) f → Fine (mirrors.refusal mirror_opening (of_mirror (trace_heard w t)) f)
+unfolding Fine
+fine_at_mirror laws w t trace (Whole p) i = laws.copies w (trace_heard w t) trace p (frame_is laws.frames w t (Whole p) i)
+fine_at_mirror laws w t trace (Piece q) i = piece (mirrors.is_on (of_mirror (trace_heard w t)))
+  where
+    piece : (on : Bool) → slice_get (when (not on) Down ++ Misdirected ∷ []) 0 ≡ Some Conflict → ⊥
+    piece true h = cc
+    piece false h = cc
 
 fine_to : Peace → (w : Setup) (past : List Change) → IsFrameTrace w (steps past) → FitsFrames w (steps past) → IsTrace w (trace w past) → (node : Node) (f : Frame) → Contains (frames_sent w (steps past)) f → to_of f ≡ node → FineCome (comes_to w past node f)
 unfolding Fine FineCome
@@ -86,7 +101,7 @@ fine_to laws w past steps_are fits t (Server s) f i to = fine_to_server (trace w
 fine_to laws w past steps_are fits t Client f i to =
     fine_to_client w (trace w past) f (said_to_client w (steps past) f)
     (λ p is. laws.never w (trace w past) t p (said_was_sent laws w (steps past) steps_are fits f i to p is))
-fine_to laws w past steps_are fits t Mirror f i to = λ h. cc
+fine_to laws w past steps_are fits t Mirror f i to = fine_step _ (fine_unless (mirrors.refusal mirror_opening (of_mirror (trace w past)) f) _ (fine_at_mirror laws w (steps past) t f i))
 
 sent_at : (fs : List Frame) (i : ℕ) (f : Frame) → slice_get fs i ≡ Some f → Contains fs f
 sent_at fs i f h = (i, slice_get_within fs i f h, get_or_from_slice_get fs i f f h)
@@ -102,7 +117,7 @@ fine_met_server : (t : List Step) (s : ℕ) (e : Event) → FineStep (met_by_ser
 fine_met_server t s e = fine_unless (answers.refusal (opening_of s) (of_server s t) e) _ (fine_server s (of_server s t) e)
 
 fine_met_client : (w : Setup) (t : List Step) (c : Call) → NoPacket c → FineStep (met_by_client w t c)
-fine_met_client w t c k = fine_unless (clients.refusal (client_opening w) (of_client t) c) _ (fine_call w (of_client t) c k)
+fine_met_client w t c k = fine_unless (clients.refusal (client_opening w) (of_client w t) c) _ (fine_call w (of_client w t) c k)
 
 fine_ended : (t : List Step) (s k : ℕ) (end : WriteEnd) (x : Option Origin) → FineStep (ended t s k end x)
 unfolding FineStep
@@ -119,11 +134,19 @@ unfolding Fine FineStep
 fine_if_step true step fault f h = cc
 fine_if_step false step fault f h = f (let e : fault ≡ Conflict = cc in ap Some e)
 
-fine_restarted : (t : List Step) (node : Node) → FineStep (restarted t node)
+fine_unless_step : (b : Bool) (step : FrameStep) (fault : Fault) → Fine (Some fault) → FineStep (if b then Err fault else Ok step)
 unfolding Fine FineStep
-fine_restarted t (Server s) h = fine_if_step (has_boot t s) _ NumbersSpent (λ h. cc) h
-fine_restarted t Client h = cc
-fine_restarted t Mirror h = cc
+fine_unless_step true step fault f h = f (let e : fault ≡ Conflict = cc in ap Some e)
+fine_unless_step false step fault f h = cc
+
+fine_restarted : (w : Setup) (t : List Step) (node : Node) → FineStep (restarted w t node)
+unfolding Fine FineStep
+fine_restarted w t (Server s) h = fine_if_step (has_boot t s) _ NumbersSpent (λ h. cc) h
+fine_restarted w t Client h = fine_unless_step (w.mirror && is_blank (noted_in w t)) _ BadNote (λ h. cc) h
+fine_restarted w t Mirror h = cc
+
+fine_renewal : (w : Setup) (t : List Step) (step : FrameStep) (fault : Fault) → Fine (Some fault) → FineStep (if is_blank (noted_in w t) then Ok step else Err fault)
+fine_renewal w t step fault f = fine_if_step (is_blank (noted_in w t)) step fault f
 
 fine_cut : (node : Node) → FineStep (cut node)
 unfolding FineStep
@@ -149,11 +172,11 @@ fine_frame_cut w past landed (Server s) f = by (said_to_server (steps past) s f)
 fine_frame_cut w past landed Client f = by (said_to_client w (steps past) f)
   where
     by : (m : Meaning) → client_frame_cut w (trace w past) landed f m ≡ Err Conflict → ⊥
-    by (Says p) h = fine_save (clients.due (client_opening w) (of_client (trace w past)) (calls.Deliver p)) _ h
+    by (Says p) h = fine_save (clients.due (client_opening w) (of_client w (trace w past)) (calls.Deliver p)) _ h
     by Waits h = cc
     by Spoils h = cc
     by Strays h = cc
-fine_frame_cut w past landed Mirror f = λ h. cc
+fine_frame_cut w past landed Mirror f = fine_save (mirrors.due mirror_opening (of_mirror (trace w past)) f) _
 
 fine_delivery_cut : (w : Setup) (past : List Change) (landed : Bool) (x : Option Frame) → FineStep (delivery_cut_in w past landed x)
 unfolding FineStep
@@ -161,11 +184,13 @@ fine_delivery_cut w past landed None h = cc
 fine_delivery_cut w past landed (Some f) h = fine_frame_cut w past landed (to_of f) f h
 
 fine_cut_in : (w : Setup) (past : List Change) (landed : Bool) (e : Happening) → FineStep (cut_in w past landed e)
-unfolding FineStep
-fine_cut_in w past landed (Begin text) h = fine_save (clients.due (client_opening w) (of_client (trace w past)) (calls.Begin text)) _ h
-fine_cut_in w past landed (Verify run text) h = fine_save (clients.due (client_opening w) (of_client (trace w past)) (calls.Verify run text)) _ h
+unfolding Fine FineStep
+fine_cut_in w past landed (Begin text) h = fine_save (clients.due (client_opening w) (of_client w (trace w past)) (calls.Begin text)) _ h
+fine_cut_in w past landed (Verify run text) h = fine_save (clients.due (client_opening w) (of_client w (trace w past)) (calls.Verify run text)) _ h
 fine_cut_in w past landed (Deliver i) h = fine_delivery_cut w past landed (slice_get (frames_sent w (steps past)) i) h
 fine_cut_in w past landed (Restart node) h = fine_restart_cut (trace w past) landed node h
+fine_cut_in w past landed (Renew g) h = fine_renewal w (trace w past) _ NoSave (λ h. cc) h
+fine_cut_in w past landed LoseNote h = cc
 fine_cut_in w past landed (Trigger run act) h = cc
 fine_cut_in w past landed (StopRun run) h = cc
 fine_cut_in w past landed Tick h = cc
@@ -179,7 +204,7 @@ fine_cut_in w past landed (Cut node) h = cc
 fine_cut_in w past landed (CutIn again e) h = cc
 
 fine_bring : Peace → (w : Setup) (past : List Change) → IsFrameTrace w (steps past) → FitsFrames w (steps past) → IsTrace w (trace w past) → (e : Happening) → FineCome (brings w past e)
-unfolding FineCome NoPacket
+unfolding Fine FineCome NoPacket
 fine_bring laws w past steps_are fits t (Begin text) h = fine_step _ (fine_met_client w (trace w past) (calls.Begin text) tt) h
 fine_bring laws w past steps_are fits t (Trigger run act) h = fine_step _ (fine_met_client w (trace w past) (calls.Trigger run act) tt) h
 fine_bring laws w past steps_are fits t (StopRun run) h = fine_step _ (fine_met_client w (trace w past) (calls.Stop run) tt) h
@@ -193,7 +218,9 @@ fine_bring laws w past steps_are fits t (Fail s j k) h = fine_step _ (fine_ended
 fine_bring laws w past steps_are fits t (Rot s j sector bytes) h = cc
 fine_bring laws w past steps_are fits t (happenings.Check s j) h = fine_step _ (fine_reported (trace w past) s (checked w past s j)) h
 fine_bring laws w past steps_are fits t (Cut node) h = fine_step _ (fine_cut node) h
-fine_bring laws w past steps_are fits t (Restart node) h = fine_step _ (fine_restarted (trace w past) node) h
+fine_bring laws w past steps_are fits t (Restart node) h = fine_step _ (fine_restarted w (trace w past) node) h
+fine_bring laws w past steps_are fits t LoseNote h = cc
+fine_bring laws w past steps_are fits t (Renew g) h = fine_step _ (fine_renewal w (trace w past) _ BadNote (λ h. cc)) h
 fine_bring laws w past steps_are fits t (CutIn landed e) h = fine_step _ (fine_cut_in w past landed e) h
 
 told_is : (w : Setup) (past : List Change) (e : Happening) (r : Outcome) → told_by w past e r ≡ Err Conflict → r ≡ Refuses Conflict

@@ -7,12 +7,13 @@ use Rattle.std.proofs.lemmas.Bool.{and_parts}
 use Rattle.std.proofs.lemmas.Bool.Decides.{nat_tests}
 use Rattle.std.proofs.lemmas.Option.{slice_get_within, get_or_from_slice_get}
 use Rattle.fc_base.specs.declared.fault.Fault.{Fault}
-use Rattle.fc_base.specs.declared.fault.Fault.TheVariants.{NoServer, NodeOff, NodeOn, NumbersSpent, NoSave, NoWrite}
+use Rattle.fc_base.specs.declared.fault.Fault.TheVariants.{NoServer, NodeOff, NodeOn, BadNote, NumbersSpent, NoSave, NoWrite}
 use Rattle.fc_base.specs.declared.limits.TheConstants.{MAX_BLOCKS, MAX_WRITES}
 use Rattle.fc_base.specs.JobParts.{has_block_size, has_region, has_queue, has_pattern, is_within_limits}
 use Rattle.fc_base.specs.declared.record.JobParts.{JobParts}
 use Rattle.job_file.specs.declared.job.Job.{Job}
 use Rattle.disk_model.specs.File.{block_bytes}
+use Rattle.disk_model.specs.declared.left.Left.{Left}
 use Rattle.disk_model.specs.declared.left.Left.TheVariants as lefts
 use Rattle.recheck.specs.Expected.{expected_by}
 use Rattle.recheck.specs.Fits.{ReportsFit}
@@ -35,18 +36,21 @@ use Rattle.client_core.specs.declared.call.Call.{Call}
 use Rattle.client_core.specs.declared.call.Call.TheVariants as calls
 use Rattle.client_core.specs.History as client
 use Rattle.client_core.specs.Words as clients
-use Rattle.net_world.specs.Setup.{Setup, servers_of}
-use Rattle.net_world.specs.Happenings.{Happening, Begin, Trigger, StopRun, Verify, Tick, Deliver, Issue, Land, Done, Fail, Rot, Cut, Restart, CutIn}
+use Rattle.client_core.specs.Note.{is_blank}
+use Rattle.mirror_core.specs.History as mirror
+use Rattle.mirror_core.specs.Words as mirrors
+use Rattle.net_world.specs.Setup.{Setup}
+use Rattle.net_world.specs.Happenings.{Happening, Begin, Trigger, StopRun, Verify, Tick, Deliver, Issue, Land, Done, Fail, Rot, Cut, Restart, LoseNote, Renew, CutIn}
 use Rattle.net_world.specs.Happenings as happenings
-use Rattle.net_world.specs.Trace.{Step, of_server, of_client, opening_of, client_opening}
-use Rattle.net_world.specs.Frames.{FrameStep, OfServer, OfClient, frames_sent, to_of}
+use Rattle.net_world.specs.Trace.{Step, of_server, of_client, of_mirror, opening_of, client_opening, mirror_opening}
+use Rattle.net_world.specs.Frames.{FrameStep, OfServer, OfClient, OfMirror, frames_sent, to_of}
 use Rattle.net_world.specs.InRange.{ReportFits, FrameStepFits, FitsFrames}
 use Rattle.net_world.specs.Changes.{Change, Met, Landed, Rotted, steps, trace}
 use Rattle.net_world.specs.Writes.{open_at}
 use Rattle.net_world.specs.Contents.{content}
 use Rattle.net_world.specs.Checks.{key_of, report_by, report_for, check_end, checked_in}
 use Rattle.net_world.specs.Barred.{unless, is_on, off, on, unsent, unopen, barred}
-use Rattle.net_world.specs.Outcomes.{Outcome, Does, Refuses, Drops, stepped, unless_fault, where_saved, lost_by, met_by_server, met_by_client, comes_to_server, comes_to_client, said_to_server, said_to_client, comes_to, delivered, ended, reported, has_boot, cut, restarted, client_cut_in, server_frame_cut, client_frame_cut, frame_cut, delivery_cut_in, restart_cut_in, cut_in, brings, unless_barred, outcome}
+use Rattle.net_world.specs.Outcomes.{Outcome, Does, Refuses, Drops, stepped, unless_fault, where_saved, lost_by, met_by_server, met_by_client, comes_to_server, comes_to_client, comes_to_mirror, said_to_server, said_to_client, comes_to, delivered, ended, reported, has_boot, cut, noted_in, restarted, client_cut_in, server_frame_cut, client_frame_cut, frame_cut, delivery_cut_in, restart_cut_in, cut_in, brings, unless_barred, outcome}
 use Rattle.net_world.specs.World.{and_outcome, world}
 use Rattle.net_world.proofs.ListLemmas.{each_of}
 
@@ -83,21 +87,21 @@ fit_if false step fault h = tt
 
 -- ---- a server that is there has a number below 8
 
-below : (w : Setup) (s : ℕ) (b : Bool) → nat_lt s (servers_of w) ≡ b → (x : Option Fault) → option_or (if b then None else Some NoServer) x ≡ None → servers_of w ≤ 8 → s < 8
+below : (w : Setup) (s : ℕ) (b : Bool) → nat_lt s w.servers ≡ b → (x : Option Fault) → option_or (if b then None else Some NoServer) x ≡ None → w.servers ≤ 8 → s < 8
 below w s true e x h l = grind (arith, nat_tests)
 below w s false e x h l = absurd cc
 
-server_there : (w : Setup) (t : List Step) (s : ℕ) → servers_of w ≤ 8 → off w t (Server s) ≡ None → s < 8
-server_there w t s l h = below w s (nat_lt s (servers_of w)) refl (unless (is_on t (Server s)) NodeOff) h l
+server_there : (w : Setup) (t : List Step) (s : ℕ) → w.servers ≤ 8 → off w t (Server s) ≡ None → s < 8
+server_there w t s l h = below w s (nat_lt s w.servers) refl (unless (is_on w t (Server s)) NodeOff) h l
 
-server_off : (w : Setup) (t : List Step) (s : ℕ) → servers_of w ≤ 8 → on w t (Server s) ≡ None → s < 8
-server_off w t s l h = below w s (nat_lt s (servers_of w)) refl (unless (not (is_on t (Server s))) NodeOn) h l
+server_off : (w : Setup) (t : List Step) (s : ℕ) → w.servers ≤ 8 → on w t (Server s) ≡ None → s < 8
+server_off w t s l h = below w s (nat_lt s w.servers) refl (unless (not (is_on w t (Server s))) NodeOn) h l
 
 first_none : (x y : Option Fault) → option_or x y ≡ None → x ≡ None
 first_none None y h = refl
 first_none (Some fault) y h = absurd cc
 
-write_there : (w : Setup) (t : List Step) (s j k : ℕ) → servers_of w ≤ 8 → unopen w t s j k ≡ None → s < 8
+write_there : (w : Setup) (t : List Step) (s j k : ℕ) → w.servers ≤ 8 → unopen w t s j k ≡ None → s < 8
 write_there w t s j k l h = server_there w t s l (first_none (off w t (Server s)) (unless (is_some (open_at t s j k)) NoWrite) h)
 
 -- ---- reports
@@ -145,7 +149,7 @@ fit_server t s e l r = fit_unless (answers.refusal (opening_of s) (of_server s t
 
 fit_client : (w : Setup) (t : List Step) (c : Call) → FitBe (met_by_client w t c)
 unfolding FitBe
-fit_client w t c = fit_unless (clients.refusal (client_opening w) (of_client t) c) _ tt
+fit_client w t c = fit_unless (clients.refusal (client_opening w) (of_client w t) c) _ tt
 
 fit_ended : (t : List Step) (s k : ℕ) (end : WriteEnd) (x : Option Origin) → s < 8 → FitBe (ended t s k end x)
 unfolding FitBe
@@ -157,19 +161,27 @@ unfolding FitBe SomeEnd
 fit_reported t s None l r = tt
 fit_reported t s (Some e) l r = fit_server t s e l r
 
-fit_cut : (w : Setup) (t : List Step) (node : Node) → servers_of w ≤ 8 → off w t node ≡ None → FitBe (cut node)
+fit_cut : (w : Setup) (t : List Step) (node : Node) → w.servers ≤ 8 → off w t node ≡ None → FitBe (cut node)
 unfolding FitBe
 fit_cut w t (Server s) l h = (server_there w t s l h, tt)
 fit_cut w t Client l h = tt
 fit_cut w t Mirror l h = tt
 
-fit_restarted : (w : Setup) (t : List Step) (node : Node) → servers_of w ≤ 8 → on w t node ≡ None → FitBe (restarted t node)
+fit_unless_so : (b : Bool) (step : FrameStep) (fault : Fault) → FrameStepFits step → FitBe (if b then Err fault else Ok step)
+unfolding FitBe
+fit_unless_so true step fault h = tt
+fit_unless_so false step fault h = h
+
+fit_restarted : (w : Setup) (t : List Step) (node : Node) → w.servers ≤ 8 → on w t node ≡ None → FitBe (restarted w t node)
 unfolding FitBe
 fit_restarted w t (Server s) l h = fit_if (has_boot t s) (OfServer s (Happens (server.Restart lefts.Saved))) NumbersSpent (server_off w t s l h, tt)
-fit_restarted w t Client l h = tt
+fit_restarted w t Client l h = fit_unless_so (w.mirror && is_blank (noted_in w t)) (OfClient (Happens (client.Restart w.mirror))) BadNote tt
 fit_restarted w t Mirror l h = tt
 
-fit_restart_cut : (w : Setup) (t : List Step) (landed : Bool) (node : Node) → servers_of w ≤ 8 → on w t node ≡ None → FitBe (restart_cut_in t landed node)
+fit_renewal : (w : Setup) (t : List Step) (g : ℕ) (left : Left) (fault : Fault) → FitBe (if is_blank (noted_in w t) then Ok (OfClient (Happens (client.Renew g left))) else Err fault)
+fit_renewal w t g left fault = fit_if (is_blank (noted_in w t)) (OfClient (Happens (client.Renew g left))) fault tt
+
+fit_restart_cut : (w : Setup) (t : List Step) (landed : Bool) (node : Node) → w.servers ≤ 8 → on w t node ≡ None → FitBe (restart_cut_in t landed node)
 unfolding FitBe
 fit_restart_cut w t landed (Server s) l h = fit_if (has_boot t s) (OfServer s (Happens (server.Restart (lost_by landed)))) NoSave (server_off w t s l h, tt)
 fit_restart_cut w t landed Client l h = tt
@@ -184,18 +196,22 @@ fit_comes_to_server t s f Strays l = tt
 
 fit_comes_to_client : (w : Setup) (t : List Step) (f : Frame) (m : Meaning) → FitCome (comes_to_client w t f m)
 unfolding FitCome FitBe
-fit_comes_to_client w t f (Says p) = fit_step _ (fit_unless (clients.refusal (client_opening w) (of_client t) (calls.Deliver p)) _ tt)
+fit_comes_to_client w t f (Says p) = fit_step _ (fit_unless (clients.refusal (client_opening w) (of_client w t) (calls.Deliver p)) _ tt)
 fit_comes_to_client w t f Waits = tt
 fit_comes_to_client w t f Spoils = tt
 fit_comes_to_client w t f Strays = tt
 
-fit_comes_to : (w : Setup) (past : List Change) (node : Node) (f : Frame) → servers_of w ≤ 8 → off w (trace w past) node ≡ None → FitCome (comes_to w past node f)
+fit_comes_to_mirror : (t : List Step) (f : Frame) → FitBe (comes_to_mirror t f)
+unfolding FitBe
+fit_comes_to_mirror t f = fit_unless (mirrors.refusal mirror_opening (of_mirror t) f) _ tt
+
+fit_comes_to : (w : Setup) (past : List Change) (node : Node) (f : Frame) → w.servers ≤ 8 → off w (trace w past) node ≡ None → FitCome (comes_to w past node f)
 unfolding FitCome
 fit_comes_to w past (Server s) f l h = fit_comes_to_server (trace w past) s f (said_to_server (steps past) s f) (server_there w (trace w past) s l h)
 fit_comes_to w past Client f l h = fit_comes_to_client w (trace w past) f (said_to_client w (steps past) f)
-fit_comes_to w past Mirror f l h = tt
+fit_comes_to w past Mirror f l h = fit_step _ (fit_comes_to_mirror (trace w past) f)
 
-fit_delivered : (w : Setup) (past : List Change) (x : Option Frame) → servers_of w ≤ 8 → unsent w (trace w past) x ≡ None → FitCome (delivered w past x)
+fit_delivered : (w : Setup) (past : List Change) (x : Option Frame) → w.servers ≤ 8 → unsent w (trace w past) x ≡ None → FitCome (delivered w past x)
 unfolding FitCome
 fit_delivered w past None l h = tt
 fit_delivered w past (Some f) l h = fit_comes_to w past (to_of f) f l h
@@ -209,36 +225,38 @@ fit_server_frame_cut t s landed f Strays l = tt
 
 fit_client_frame_cut : (w : Setup) (t : List Step) (landed : Bool) (f : Frame) (m : Meaning) → FitBe (client_frame_cut w t landed f m)
 unfolding FitBe
-fit_client_frame_cut w t landed f (Says p) = fit_save (clients.due (client_opening w) (of_client t) (calls.Deliver p)) (OfClient (Comes f (lost_by landed))) tt
+fit_client_frame_cut w t landed f (Says p) = fit_save (clients.due (client_opening w) (of_client w t) (calls.Deliver p)) (OfClient (Comes f (lost_by landed))) tt
 fit_client_frame_cut w t landed f Waits = tt
 fit_client_frame_cut w t landed f Spoils = tt
 fit_client_frame_cut w t landed f Strays = tt
 
-fit_frame_cut : (w : Setup) (past : List Change) (landed : Bool) (node : Node) (f : Frame) → servers_of w ≤ 8 → off w (trace w past) node ≡ None → FitBe (frame_cut w past landed node f)
+fit_frame_cut : (w : Setup) (past : List Change) (landed : Bool) (node : Node) (f : Frame) → w.servers ≤ 8 → off w (trace w past) node ≡ None → FitBe (frame_cut w past landed node f)
 unfolding FitBe
 fit_frame_cut w past landed (Server s) f l h = fit_server_frame_cut (trace w past) s landed f (said_to_server (steps past) s f) (server_there w (trace w past) s l h)
 fit_frame_cut w past landed Client f l h = fit_client_frame_cut w (trace w past) landed f (said_to_client w (steps past) f)
-fit_frame_cut w past landed Mirror f l h = tt
+fit_frame_cut w past landed Mirror f l h = fit_save (mirrors.due mirror_opening (of_mirror (trace w past)) f) (OfMirror (mirror.Met f (lost_by landed))) tt
 
-fit_delivery_cut : (w : Setup) (past : List Change) (landed : Bool) (x : Option Frame) → servers_of w ≤ 8 → unsent w (trace w past) x ≡ None → FitBe (delivery_cut_in w past landed x)
+fit_delivery_cut : (w : Setup) (past : List Change) (landed : Bool) (x : Option Frame) → w.servers ≤ 8 → unsent w (trace w past) x ≡ None → FitBe (delivery_cut_in w past landed x)
 unfolding FitBe
 fit_delivery_cut w past landed None l h = tt
 fit_delivery_cut w past landed (Some f) l h = fit_frame_cut w past landed (to_of f) f l h
 
 fit_client_cut : (w : Setup) (t : List Step) (landed : Bool) (c : Call) → FitBe (client_cut_in w t landed c)
-fit_client_cut w t landed c = fit_save (clients.due (client_opening w) (of_client t) c) (OfClient (Happens (client.Met c (lost_by landed)))) tt
+fit_client_cut w t landed c = fit_save (clients.due (client_opening w) (of_client w t) c) (OfClient (Happens (client.Met c (lost_by landed)))) tt
 
 -- The laws on which this rests.
 pub record Reports : Type 0 where
   pub fit : ReportsFit
   pub sets : ChecksHaveSets
 
-fit_cut_in : (w : Setup) (past : List Change) (landed : Bool) (e : Happening) → servers_of w ≤ 8 → barred w (trace w past) (frames_sent w (steps past)) (CutIn landed e) ≡ None → FitBe (cut_in w past landed e)
+fit_cut_in : (w : Setup) (past : List Change) (landed : Bool) (e : Happening) → w.servers ≤ 8 → barred w (trace w past) (frames_sent w (steps past)) (CutIn landed e) ≡ None → FitBe (cut_in w past landed e)
 unfolding FitBe
 fit_cut_in w past landed (Begin text) l h = fit_client_cut w (trace w past) landed (calls.Begin text)
 fit_cut_in w past landed (Verify run text) l h = fit_client_cut w (trace w past) landed (calls.Verify run text)
 fit_cut_in w past landed (Deliver i) l h = fit_delivery_cut w past landed (slice_get (frames_sent w (steps past)) i) l h
 fit_cut_in w past landed (Restart node) l h = fit_restart_cut w (trace w past) landed node l h
+fit_cut_in w past landed (Renew g) l h = fit_renewal w (trace w past) g (lost_by landed) NoSave
+fit_cut_in w past landed LoseNote l h = tt
 fit_cut_in w past landed (Trigger run act) l h = tt
 fit_cut_in w past landed (StopRun run) l h = tt
 fit_cut_in w past landed Tick l h = tt
@@ -251,7 +269,7 @@ fit_cut_in w past landed (happenings.Check s j) l h = tt
 fit_cut_in w past landed (Cut node) l h = tt
 fit_cut_in w past landed (CutIn again e) l h = tt
 
-fit_bring : Reports → (w : Setup) (past : List Change) (e : Happening) → servers_of w ≤ 8 → barred w (trace w past) (frames_sent w (steps past)) e ≡ None → FitCome (brings w past e)
+fit_bring : Reports → (w : Setup) (past : List Change) (e : Happening) → w.servers ≤ 8 → barred w (trace w past) (frames_sent w (steps past)) e ≡ None → FitCome (brings w past e)
 unfolding FitBe FitCome
 fit_bring laws w past (Begin text) l h = fit_step _ (fit_client w (trace w past) (calls.Begin text))
 fit_bring laws w past (Trigger run act) l h = fit_step _ (fit_client w (trace w past) (calls.Trigger run act))
@@ -270,6 +288,8 @@ fit_bring laws w past (happenings.Check s j) l h =
     (fit_end laws.fit laws.sets s list j (content w past s j) (check (opening_of s) list) refl))
 fit_bring laws w past (Cut node) l h = fit_step _ (fit_cut w (trace w past) node l h)
 fit_bring laws w past (Restart node) l h = fit_step _ (fit_restarted w (trace w past) node l h)
+fit_bring laws w past LoseNote l h = tt
+fit_bring laws w past (Renew g) l h = fit_step _ (fit_renewal w (trace w past) g lefts.Saved BadNote)
 fit_bring laws w past (CutIn landed e) l h = fit_step _ (fit_cut_in w past landed e l h)
 
 fit_pass : (x : Option Fault) (r : Outcome) → (x ≡ None → FitCome r) → FitCome (unless_barred x r)
@@ -285,12 +305,12 @@ fit_one past (Does (Rotted s j sector bytes)) h f = h
 fit_one past (Refuses fault) h f = h
 fit_one past (Drops step) h f = (f, h)
 
-steps_fit : Reports → (w : Setup) (events : List Happening) → servers_of w ≤ 8 → AllByRecursion FrameStepFits (steps (world w events))
+steps_fit : Reports → (w : Setup) (events : List Happening) → w.servers ≤ 8 → AllByRecursion FrameStepFits (steps (world w events))
 steps_fit laws w [] l = tt
 steps_fit laws w (e ∷ events) l =
     let past = world w events in
     fit_one past (outcome w past e) (steps_fit laws w events l)
     (fit_pass (barred w (trace w past) (frames_sent w (steps past)) e) (brings w past e) (λ h. fit_bring laws w past e l h))
 
-pub world_fits : Reports → (w : Setup) (events : List Happening) → servers_of w ≤ 8 → FitsFrames w (steps (world w events))
+pub world_fits : Reports → (w : Setup) (events : List Happening) → w.servers ≤ 8 → FitsFrames w (steps (world w events))
 world_fits laws w events l = record { few = l; steps = steps_fit laws w events l }

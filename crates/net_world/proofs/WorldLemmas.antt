@@ -1,9 +1,11 @@
--- The steps of the nodes of a world are a trace of frames.
+-- The steps of the nodes of a world are a trace of frames: what a node takes was sent to it, and the client
+-- is started as the world is made.
 use Rattle.std.proofs.Common.{◌≡◌, refl, ℕ, Bool, true, false, List, [], ◌∷◌, Option, Some, None, Result, Ok, Err}
-use Rattle.std.specs.Prelude.{if◌then◌else◌, Contains, slice_get}
+use Rattle.std.specs.Prelude.{if◌then◌else◌, ◌&&◌, Contains, slice_get}
+use Rattle.std.specs.Option.{option_or}
 use Rattle.std.proofs.lemmas.Option.{slice_get_within, get_or_from_slice_get}
 use Rattle.fc_base.specs.declared.fault.Fault.{Fault}
-use Rattle.fc_base.specs.declared.fault.Fault.TheVariants.{NumbersSpent, NoSave}
+use Rattle.fc_base.specs.declared.fault.Fault.TheVariants.{BadNote, NumbersSpent, NoSave}
 use Rattle.disk_model.specs.declared.left.Left.{Left}
 use Rattle.disk_model.specs.declared.left.Left.TheVariants as lefts
 use Rattle.engine.specs.Running.{Origin}
@@ -27,207 +29,241 @@ use Rattle.client_core.specs.declared.call.Call.TheVariants as calls
 use Rattle.client_core.specs.History as client
 use Rattle.client_core.specs.Ranges.{packet_in}
 use Rattle.client_core.specs.Words as clients
+use Rattle.client_core.specs.Note.{is_blank}
+use Rattle.mirror_core.specs.History as mirror
+use Rattle.mirror_core.specs.Words as mirrors
 use Rattle.net_world.specs.Setup.{Setup}
-use Rattle.net_world.specs.Happenings.{Happening, Begin, Trigger, StopRun, Verify, Tick, Deliver, Issue, Land, Done, Fail, Rot, Cut, Restart, CutIn}
+use Rattle.net_world.specs.Happenings.{Happening, Begin, Trigger, StopRun, Verify, Tick, Deliver, Issue, Land, Done, Fail, Rot, Cut, Restart, LoseNote, Renew, CutIn}
 use Rattle.net_world.specs.Happenings as happenings
-use Rattle.net_world.specs.Trace.{Step, of_server, of_client, opening_of, client_opening}
-use Rattle.net_world.specs.Frames.{FrameStep, OfServer, OfClient, frames_sent, to_of, MayHappen, IsFrameTrace}
+use Rattle.net_world.specs.Trace.{Step, of_server, of_client, of_mirror, opening_of, client_opening, mirror_opening}
+use Rattle.net_world.specs.Frames.{FrameStep, OfServer, OfClient, OfMirror, frames_sent, to_of, MayHappen, is_allowed, IsFrameTrace, trace_heard}
 use Rattle.net_world.specs.Changes.{Change, Met, Landed, Rotted, steps, trace}
 use Rattle.net_world.specs.Writes.{open_at}
 use Rattle.net_world.specs.Contents.{content}
 use Rattle.net_world.specs.Checks.{report_for, check_end, checked_in}
-use Rattle.net_world.specs.Barred.{barred}
-use Rattle.net_world.specs.Outcomes.{Outcome, Does, Refuses, Drops, stepped, unless_fault, where_saved, left_for, lost_by, met_by_server, met_by_client, comes_to_server, comes_to_client, said_to_server, said_to_client, comes_to, delivered, ended, reported, has_boot, cut, restarted, client_cut_in, server_frame_cut, client_frame_cut, frame_cut, delivery_cut_in, restart_cut_in, cut_in, brings, unless_barred, outcome}
+use Rattle.net_world.specs.Barred.{off, on, unsent, unlosable, unfit, barred}
+use Rattle.net_world.specs.Outcomes.{Outcome, Does, Refuses, Drops, stepped, unless_fault, where_saved, left_for, lost_by, met_by_server, met_by_client, comes_to_server, comes_to_client, comes_to_mirror, said_to_server, said_to_client, comes_to, delivered, ended, reported, has_boot, cut, noted_in, restarted, client_cut_in, server_frame_cut, client_frame_cut, frame_cut, delivery_cut_in, restart_cut_in, cut_in, brings, unless_barred, outcome}
 use Rattle.net_world.specs.World.{and_outcome, world}
 use Rattle.net_world.specs.WorldLaws.{EachWorldIsAFrameTrace}
+use Rattle.net_world.proofs.StartedLemmas.{has_mirror_of, restart_fits, renewal_fits, loss_fits}
 
-MayBe : List Frame → Result FrameStep Fault → Type 0
-MayBe frames (Ok step) = MayHappen frames step
-MayBe frames (Err fault) = Unit {0}
+-- A step may come behind these: what it takes was sent, and it is one of the setup.
+Goes : Setup → List FrameStep → FrameStep → Type 0
+Goes w ps step = MayHappen (frames_sent w ps) step × (is_allowed w ps step ≡ true)
 
--- What comes of something is no step, or one that may happen.
-MayCome : List Frame → Outcome → Type 0
-MayCome frames (Does (Met step)) = MayHappen frames step
-MayCome frames (Does (Landed s j k mask)) = Unit {0}
-MayCome frames (Does (Rotted s j sector bytes)) = Unit {0}
-MayCome frames (Refuses fault) = Unit {0}
-MayCome frames (Drops step) = MayHappen frames step
+MayBe : Setup → List FrameStep → Result FrameStep Fault → Type 0
+MayBe w ps (Ok step) = Goes w ps step
+MayBe w ps (Err fault) = Unit {0}
 
-may_unless : (frames : List Frame) (x : Option Fault) (r : Result FrameStep Fault) → MayBe frames r → MayBe frames (unless_fault x r)
+-- What comes of something is no step, or one that may come.
+MayCome : Setup → List FrameStep → Outcome → Type 0
+MayCome w ps (Does (Met step)) = Goes w ps step
+MayCome w ps (Does (Landed s j k mask)) = Unit {0}
+MayCome w ps (Does (Rotted s j sector bytes)) = Unit {0}
+MayCome w ps (Refuses fault) = Unit {0}
+MayCome w ps (Drops step) = Goes w ps step
+
+may_unless : (w : Setup) (ps : List FrameStep) (x : Option Fault) (r : Result FrameStep Fault) → MayBe w ps r → MayBe w ps (unless_fault x r)
 unfolding MayBe
-may_unless frames None r m = m
-may_unless frames (Some fault) r m = tt
+may_unless w ps None r m = m
+may_unless w ps (Some fault) r m = tt
 
-may_save : {X : Type 0} (frames : List Frame) (x : Option X) (step : FrameStep) → MayHappen frames step → MayBe frames (where_saved x step)
+may_save : {X : Type 0} (w : Setup) (ps : List FrameStep) (x : Option X) (step : FrameStep) → Goes w ps step → MayBe w ps (where_saved x step)
 unfolding MayBe
-may_save frames None step m = tt
-may_save frames (Some x) step m = m
+may_save w ps None step m = tt
+may_save w ps (Some x) step m = m
 
-may_if : (frames : List Frame) (b : Bool) (step : FrameStep) (fault : Fault) → MayHappen frames step → MayBe frames (if b then Ok step else Err fault)
+may_if : (w : Setup) (ps : List FrameStep) (b : Bool) (step : FrameStep) (fault : Fault) → (b ≡ true → Goes w ps step) → MayBe w ps (if b then Ok step else Err fault)
 unfolding MayBe
-may_if frames true step fault m = m
-may_if frames false step fault m = tt
+may_if w ps true step fault m = m refl
+may_if w ps false step fault m = tt
 
-may_step : (frames : List Frame) (r : Result FrameStep Fault) → MayBe frames r → MayCome frames (stepped r)
+may_unless_so : (w : Setup) (ps : List FrameStep) (b : Bool) (step : FrameStep) (fault : Fault) → (b ≡ false → Goes w ps step) → MayBe w ps (if b then Err fault else Ok step)
+unfolding MayBe
+may_unless_so w ps true step fault m = tt
+may_unless_so w ps false step fault m = m refl
+
+may_step : (w : Setup) (ps : List FrameStep) (r : Result FrameStep Fault) → MayBe w ps r → MayCome w ps (stepped r)
 unfolding MayBe MayCome
-may_step frames (Ok step) m = m
-may_step frames (Err fault) m = tt
+may_step w ps (Ok step) m = m
+may_step w ps (Err fault) m = tt
 
 -- ---- what takes no frame
 
-may_server : (frames : List Frame) (t : List Step) (s : ℕ) (e : Event) → heard_with e [] ≡ [] → MayBe frames (met_by_server t s e)
-unfolding MayBe
-may_server frames t s e m = may_unless frames (answers.refusal (opening_of s) (of_server s t) e) _ m
+may_server : (w : Setup) (ps : List FrameStep) (t : List Step) (s : ℕ) (e : Event) → heard_with e [] ≡ [] → MayBe w ps (met_by_server t s e)
+unfolding MayBe Goes
+may_server w ps t s e m = may_unless w ps (answers.refusal (opening_of s) (of_server s t) e) _ (m, refl)
 
-may_client : (frames : List Frame) (w : Setup) (t : List Step) (c : Call) → ((left : Left) → packet_in (client.Met c left) ≡ []) → MayBe frames (met_by_client w t c)
-unfolding MayBe
-may_client frames w t c m = may_unless frames (clients.refusal (client_opening w) (of_client t) c) _ (m (left_for (clients.due (client_opening w) (of_client t) c)), refl)
+either_way : (b : Bool) → (if b then true else true) ≡ true
+either_way true = refl
+either_way false = refl
 
-may_end : (frames : List Frame) (t : List Step) (s k : ℕ) (end : WriteEnd) (x : Option Origin) → MayBe frames (ended t s k end x)
-unfolding MayBe
-may_end frames t s k end None = tt
-may_end frames t s k end (Some origin) = may_server frames t s (events.WriteDone (ticket_of origin k) end) refl
+may_client : (w : Setup) (ps : List FrameStep) (t : List Step) (c : Call) → ((left : Left) → packet_in (client.Met c left) ≡ []) → MayBe w ps (met_by_client w t c)
+unfolding MayBe Goes
+may_client w ps t c m = may_unless w ps (clients.refusal (client_opening w) (of_client w t) c) _ (m (left_for (clients.due (client_opening w) (of_client w t) c)), either_way w.mirror)
 
-may_report : (frames : List Frame) (t : List Step) (s : ℕ) (c : Check) (j : ℕ) (x : Option ReportParts) → MayBe frames (reported t s (check_end c j x))
+may_end : (w : Setup) (ps : List FrameStep) (t : List Step) (s k : ℕ) (end : WriteEnd) (x : Option Origin) → MayBe w ps (ended t s k end x)
 unfolding MayBe
-may_report frames t s c j None = tt
-may_report frames t s c j (Some r) = may_server frames t s (events.CheckDone c.boot c.attempt j r) refl
+may_end w ps t s k end None = tt
+may_end w ps t s k end (Some origin) = may_server w ps t s (events.WriteDone (ticket_of origin k) end) refl
 
-may_check : (frames : List Frame) (t : List Step) (s : ℕ) (x : Option Check) (j : ℕ) (held : ℕ → List ℕ) → MayBe frames (reported t s (checked_in x j held))
+may_report : (w : Setup) (ps : List FrameStep) (t : List Step) (s : ℕ) (c : Check) (j : ℕ) (x : Option ReportParts) → MayBe w ps (reported t s (check_end c j x))
 unfolding MayBe
-may_check frames t s None j held = tt
-may_check frames t s (Some c) j held = may_report frames t s c j (report_for c j (slice_get c.jobs j) held)
+may_report w ps t s c j None = tt
+may_report w ps t s c j (Some r) = may_server w ps t s (events.CheckDone c.boot c.attempt j r) refl
 
-may_cut : (frames : List Frame) (node : Node) → MayBe frames (cut node)
+may_check : (w : Setup) (ps : List FrameStep) (t : List Step) (s : ℕ) (x : Option Check) (j : ℕ) (held : ℕ → List ℕ) → MayBe w ps (reported t s (checked_in x j held))
 unfolding MayBe
-may_cut frames (Server s) = refl
-may_cut frames Client = (refl, refl)
-may_cut frames Mirror = tt
+may_check w ps t s None j held = tt
+may_check w ps t s (Some c) j held = may_report w ps t s c j (report_for c j (slice_get c.jobs j) held)
 
-may_restart : (frames : List Frame) (t : List Step) (node : Node) → MayBe frames (restarted t node)
-unfolding MayBe
-may_restart frames t (Server s) = may_if frames (has_boot t s) (OfServer s (Happens (server.Restart lefts.Saved))) NumbersSpent refl
-may_restart frames t Client = (refl, refl)
-may_restart frames t Mirror = tt
+may_cut : (w : Setup) (ps : List FrameStep) (t : List Step) (node : Node) → off w t node ≡ None → MayBe w ps (cut node)
+unfolding MayBe Goes
+may_cut w ps t (Server s) h = (refl, refl)
+may_cut w ps t Client h = (refl, either_way w.mirror)
+may_cut w ps t Mirror h = (tt, has_mirror_of w.mirror _ h)
 
-may_client_cut : (frames : List Frame) (w : Setup) (t : List Step) (landed : Bool) (c : Call) → ((left : Left) → packet_in (client.Met c left) ≡ []) → MayBe frames (client_cut_in w t landed c)
-may_client_cut frames w t landed c m = may_save frames (clients.due (client_opening w) (of_client t) c) (OfClient (Happens (client.Met c (lost_by landed)))) (m (lost_by landed), refl)
+may_restart : (w : Setup) (ps : List FrameStep) (node : Node) → IsFrameTrace w ps → on w (trace_heard w ps) node ≡ None → MayBe w ps (restarted w (trace_heard w ps) node)
+unfolding MayBe Goes
+may_restart w ps (Server s) so h = may_if w ps (has_boot (trace_heard w ps) s) (OfServer s (Happens (server.Restart lefts.Saved))) NumbersSpent (λ e. (refl, refl))
+may_restart w ps Client so h =
+    may_unless_so w ps (w.mirror && is_blank (noted_in w (trace_heard w ps))) (OfClient (Happens (client.Restart w.mirror))) BadNote (λ e. (refl, restart_fits w ps so e))
+may_restart w ps Mirror so h = (tt, has_mirror_of w.mirror _ h)
 
-may_restart_cut : (frames : List Frame) (t : List Step) (landed : Bool) (node : Node) → MayBe frames (restart_cut_in t landed node)
-unfolding MayBe
-may_restart_cut frames t landed (Server s) = may_if frames (has_boot t s) (OfServer s (Happens (server.Restart (lost_by landed)))) NoSave refl
-may_restart_cut frames t landed Client = tt
-may_restart_cut frames t landed Mirror = tt
+may_renew : (w : Setup) (ps : List FrameStep) (g : ℕ) (left : Left) (fault : Fault) → option_or (unlosable w (trace_heard w ps)) (unfit w (trace_heard w ps) g) ≡ None
+    → MayBe w ps (if is_blank (noted_in w (trace_heard w ps)) then Ok (OfClient (Happens (client.Renew g left))) else Err fault)
+unfolding Goes
+may_renew w ps g left fault h = may_if w ps (is_blank (noted_in w (trace_heard w ps))) (OfClient (Happens (client.Renew g left))) fault (λ e. (refl, renewal_fits w ps g left h))
+
+may_client_cut : (w : Setup) (ps : List FrameStep) (t : List Step) (landed : Bool) (c : Call) → ((left : Left) → packet_in (client.Met c left) ≡ []) → MayBe w ps (client_cut_in w t landed c)
+unfolding Goes
+may_client_cut w ps t landed c m = may_save w ps (clients.due (client_opening w) (of_client w t) c) (OfClient (Happens (client.Met c (lost_by landed)))) (m (lost_by landed), either_way w.mirror)
+
+may_restart_cut : (w : Setup) (ps : List FrameStep) (t : List Step) (landed : Bool) (node : Node) → MayBe w ps (restart_cut_in t landed node)
+unfolding MayBe Goes
+may_restart_cut w ps t landed (Server s) = may_if w ps (has_boot t s) (OfServer s (Happens (server.Restart (lost_by landed)))) NoSave (λ e. (refl, refl))
+may_restart_cut w ps t landed Client = tt
+may_restart_cut w ps t landed Mirror = tt
 
 -- ---- what takes a frame
 
-may_come_to_server : (frames : List Frame) (t : List Step) (s : ℕ) (f : Frame) (m : Meaning) → Contains frames f → to_of f ≡ Server s → MayCome frames (comes_to_server t s f m)
-unfolding MayCome MayBe
-may_come_to_server frames t s f (Says p) i to = may_step frames _ (may_unless frames (answers.refusal (opening_of s) (of_server s t) (events.Deliver p)) _ (i, to))
-may_come_to_server frames t s f Waits i to = (i, to)
-may_come_to_server frames t s f Spoils i to = (i, to)
-may_come_to_server frames t s f Strays i to = tt
+may_come_to_server : (w : Setup) (ps : List FrameStep) (t : List Step) (s : ℕ) (f : Frame) (m : Meaning) → Contains (frames_sent w ps) f → to_of f ≡ Server s → MayCome w ps (comes_to_server t s f m)
+unfolding MayCome MayBe Goes
+may_come_to_server w ps t s f (Says p) i to = may_step w ps _ (may_unless w ps (answers.refusal (opening_of s) (of_server s t) (events.Deliver p)) _ ((i, to), refl))
+may_come_to_server w ps t s f Waits i to = ((i, to), refl)
+may_come_to_server w ps t s f Spoils i to = ((i, to), refl)
+may_come_to_server w ps t s f Strays i to = tt
 
-may_come_to_client : (frames : List Frame) (w : Setup) (t : List Step) (f : Frame) (m : Meaning) → Contains frames f → to_of f ≡ Client → MayCome frames (comes_to_client w t f m)
-unfolding MayCome MayBe
-may_come_to_client frames w t f (Says p) i to = may_step frames _ (may_unless frames (clients.refusal (client_opening w) (of_client t) (calls.Deliver p)) _ (i, to))
-may_come_to_client frames w t f Waits i to = (i, to)
-may_come_to_client frames w t f Spoils i to = (i, to)
-may_come_to_client frames w t f Strays i to = tt
+may_come_to_client : (w : Setup) (ps : List FrameStep) (t : List Step) (f : Frame) (m : Meaning) → Contains (frames_sent w ps) f → to_of f ≡ Client → MayCome w ps (comes_to_client w t f m)
+unfolding MayCome MayBe Goes
+may_come_to_client w ps t f (Says p) i to = may_step w ps _ (may_unless w ps (clients.refusal (client_opening w) (of_client w t) (calls.Deliver p)) _ ((i, to), refl))
+may_come_to_client w ps t f Waits i to = ((i, to), refl)
+may_come_to_client w ps t f Spoils i to = ((i, to), refl)
+may_come_to_client w ps t f Strays i to = tt
 
-may_come_to : (frames : List Frame) (w : Setup) (past : List Change) (node : Node) (f : Frame) → Contains frames f → to_of f ≡ node → MayCome frames (comes_to w past node f)
+may_come_to_mirror : (w : Setup) (ps : List FrameStep) (t : List Step) (f : Frame) → w.mirror ≡ true → Contains (frames_sent w ps) f → to_of f ≡ Mirror → MayBe w ps (comes_to_mirror t f)
+unfolding MayBe Goes
+may_come_to_mirror w ps t f has i to = may_unless w ps (mirrors.refusal mirror_opening (of_mirror t) f) _ ((i, to), has)
+
+may_come_to : (w : Setup) (past : List Change) (node : Node) (f : Frame) → off w (trace w past) node ≡ None → Contains (frames_sent w (steps past)) f → to_of f ≡ node → MayCome w (steps past) (comes_to w past node f)
 unfolding MayCome
-may_come_to frames w past (Server s) f i to = may_come_to_server frames (trace w past) s f (said_to_server (steps past) s f) i to
-may_come_to frames w past Client f i to = may_come_to_client frames w (trace w past) f (said_to_client w (steps past) f) i to
-may_come_to frames w past Mirror f i to = tt
+may_come_to w past (Server s) f h i to = may_come_to_server w (steps past) (trace w past) s f (said_to_server (steps past) s f) i to
+may_come_to w past Client f h i to = may_come_to_client w (steps past) (trace w past) f (said_to_client w (steps past) f) i to
+may_come_to w past Mirror f h i to = may_step w (steps past) _ (may_come_to_mirror w (steps past) (trace w past) f (has_mirror_of w.mirror _ h) i to)
 
 sent_at : (frames : List Frame) (i : ℕ) (f : Frame) → slice_get frames i ≡ Some f → Contains frames f
 sent_at frames i f h = (i, slice_get_within frames i f h, get_or_from_slice_get frames i f f h)
 
-may_deliver : (frames : List Frame) (w : Setup) (past : List Change) (x : Option Frame) → ((f : Frame) → x ≡ Some f → Contains frames f) → MayCome frames (delivered w past x)
+may_deliver : (w : Setup) (past : List Change) (x : Option Frame) → unsent w (trace w past) x ≡ None → ((f : Frame) → x ≡ Some f → Contains (frames_sent w (steps past)) f) → MayCome w (steps past) (delivered w past x)
 unfolding MayCome
-may_deliver frames w past None h = tt
-may_deliver frames w past (Some f) h = may_come_to frames w past (to_of f) f (h f refl) refl
+may_deliver w past None b h = tt
+may_deliver w past (Some f) b h = may_come_to w past (to_of f) f b (h f refl) refl
 
-may_server_frame_cut : (frames : List Frame) (t : List Step) (s : ℕ) (landed : Bool) (f : Frame) (m : Meaning) → Contains frames f → to_of f ≡ Server s → MayBe frames (server_frame_cut t s landed f m)
-unfolding MayBe
-may_server_frame_cut frames t s landed f (Says p) i to = may_save frames (servers.due (opening_of s) (of_server s t) (events.Deliver p)) (OfServer s (Comes f (lost_by landed))) (i, to)
-may_server_frame_cut frames t s landed f Waits i to = tt
-may_server_frame_cut frames t s landed f Spoils i to = tt
-may_server_frame_cut frames t s landed f Strays i to = tt
+may_server_frame_cut : (w : Setup) (ps : List FrameStep) (t : List Step) (s : ℕ) (landed : Bool) (f : Frame) (m : Meaning) → Contains (frames_sent w ps) f → to_of f ≡ Server s → MayBe w ps (server_frame_cut t s landed f m)
+unfolding MayBe Goes
+may_server_frame_cut w ps t s landed f (Says p) i to = may_save w ps (servers.due (opening_of s) (of_server s t) (events.Deliver p)) (OfServer s (Comes f (lost_by landed))) ((i, to), refl)
+may_server_frame_cut w ps t s landed f Waits i to = tt
+may_server_frame_cut w ps t s landed f Spoils i to = tt
+may_server_frame_cut w ps t s landed f Strays i to = tt
 
-may_client_frame_cut : (frames : List Frame) (w : Setup) (t : List Step) (landed : Bool) (f : Frame) (m : Meaning) → Contains frames f → to_of f ≡ Client → MayBe frames (client_frame_cut w t landed f m)
-unfolding MayBe
-may_client_frame_cut frames w t landed f (Says p) i to = may_save frames (clients.due (client_opening w) (of_client t) (calls.Deliver p)) (OfClient (Comes f (lost_by landed))) (i, to)
-may_client_frame_cut frames w t landed f Waits i to = tt
-may_client_frame_cut frames w t landed f Spoils i to = tt
-may_client_frame_cut frames w t landed f Strays i to = tt
+may_client_frame_cut : (w : Setup) (ps : List FrameStep) (t : List Step) (landed : Bool) (f : Frame) (m : Meaning) → Contains (frames_sent w ps) f → to_of f ≡ Client → MayBe w ps (client_frame_cut w t landed f m)
+unfolding MayBe Goes
+may_client_frame_cut w ps t landed f (Says p) i to = may_save w ps (clients.due (client_opening w) (of_client w t) (calls.Deliver p)) (OfClient (Comes f (lost_by landed))) ((i, to), refl)
+may_client_frame_cut w ps t landed f Waits i to = tt
+may_client_frame_cut w ps t landed f Spoils i to = tt
+may_client_frame_cut w ps t landed f Strays i to = tt
 
-may_frame_cut : (frames : List Frame) (w : Setup) (past : List Change) (landed : Bool) (node : Node) (f : Frame) → Contains frames f → to_of f ≡ node → MayBe frames (frame_cut w past landed node f)
-unfolding MayBe
-may_frame_cut frames w past landed (Server s) f i to = may_server_frame_cut frames (trace w past) s landed f (said_to_server (steps past) s f) i to
-may_frame_cut frames w past landed Client f i to = may_client_frame_cut frames w (trace w past) landed f (said_to_client w (steps past) f) i to
-may_frame_cut frames w past landed Mirror f i to = tt
+may_frame_cut : (w : Setup) (past : List Change) (landed : Bool) (node : Node) (f : Frame) → off w (trace w past) node ≡ None → Contains (frames_sent w (steps past)) f → to_of f ≡ node → MayBe w (steps past) (frame_cut w past landed node f)
+unfolding MayBe Goes
+may_frame_cut w past landed (Server s) f h i to = may_server_frame_cut w (steps past) (trace w past) s landed f (said_to_server (steps past) s f) i to
+may_frame_cut w past landed Client f h i to = may_client_frame_cut w (steps past) (trace w past) landed f (said_to_client w (steps past) f) i to
+may_frame_cut w past landed Mirror f h i to =
+    may_save w (steps past) (mirrors.due mirror_opening (of_mirror (trace w past)) f) (OfMirror (mirror.Met f (lost_by landed))) ((i, to), has_mirror_of w.mirror _ h)
 
-may_delivery_cut : (frames : List Frame) (w : Setup) (past : List Change) (landed : Bool) (x : Option Frame) → ((f : Frame) → x ≡ Some f → Contains frames f) → MayBe frames (delivery_cut_in w past landed x)
+may_delivery_cut : (w : Setup) (past : List Change) (landed : Bool) (x : Option Frame) → unsent w (trace w past) x ≡ None → ((f : Frame) → x ≡ Some f → Contains (frames_sent w (steps past)) f) → MayBe w (steps past) (delivery_cut_in w past landed x)
 unfolding MayBe
-may_delivery_cut frames w past landed None h = tt
-may_delivery_cut frames w past landed (Some f) h = may_frame_cut frames w past landed (to_of f) f (h f refl) refl
+may_delivery_cut w past landed None b h = tt
+may_delivery_cut w past landed (Some f) b h = may_frame_cut w past landed (to_of f) f b (h f refl) refl
 
-may_cut_in : (w : Setup) (past : List Change) (landed : Bool) (e : Happening) → MayBe (frames_sent w (steps past)) (cut_in w past landed e)
+may_cut_in : (w : Setup) (past : List Change) (landed : Bool) (e : Happening) → barred w (trace w past) (frames_sent w (steps past)) (CutIn landed e) ≡ None → MayBe w (steps past) (cut_in w past landed e)
 unfolding MayBe
-may_cut_in w past landed (Begin text) = may_client_cut (frames_sent w (steps past)) w (trace w past) landed (calls.Begin text) (λ left. refl)
-may_cut_in w past landed (Verify run text) = may_client_cut (frames_sent w (steps past)) w (trace w past) landed (calls.Verify run text) (λ left. refl)
-may_cut_in w past landed (Deliver i) = may_delivery_cut (frames_sent w (steps past)) w past landed (slice_get (frames_sent w (steps past)) i) (sent_at (frames_sent w (steps past)) i)
-may_cut_in w past landed (Restart node) = may_restart_cut (frames_sent w (steps past)) (trace w past) landed node
-may_cut_in w past landed (Trigger run act) = tt
-may_cut_in w past landed (StopRun run) = tt
-may_cut_in w past landed Tick = tt
-may_cut_in w past landed (Issue s j) = tt
-may_cut_in w past landed (Land s j k mask) = tt
-may_cut_in w past landed (Done s j k) = tt
-may_cut_in w past landed (Fail s j k) = tt
-may_cut_in w past landed (Rot s j sector bytes) = tt
-may_cut_in w past landed (happenings.Check s j) = tt
-may_cut_in w past landed (Cut node) = tt
-may_cut_in w past landed (CutIn again e) = tt
+may_cut_in w past landed (Begin text) h = may_client_cut w (steps past) (trace w past) landed (calls.Begin text) (λ left. refl)
+may_cut_in w past landed (Verify run text) h = may_client_cut w (steps past) (trace w past) landed (calls.Verify run text) (λ left. refl)
+may_cut_in w past landed (Deliver i) h = may_delivery_cut w past landed (slice_get (frames_sent w (steps past)) i) h (sent_at (frames_sent w (steps past)) i)
+may_cut_in w past landed (Restart node) h = may_restart_cut w (steps past) (trace w past) landed node
+may_cut_in w past landed (Renew g) h = may_renew w (steps past) g (lost_by landed) NoSave h
+may_cut_in w past landed LoseNote h = tt
+may_cut_in w past landed (Trigger run act) h = tt
+may_cut_in w past landed (StopRun run) h = tt
+may_cut_in w past landed Tick h = tt
+may_cut_in w past landed (Issue s j) h = tt
+may_cut_in w past landed (Land s j k mask) h = tt
+may_cut_in w past landed (Done s j k) h = tt
+may_cut_in w past landed (Fail s j k) h = tt
+may_cut_in w past landed (Rot s j sector bytes) h = tt
+may_cut_in w past landed (happenings.Check s j) h = tt
+may_cut_in w past landed (Cut node) h = tt
+may_cut_in w past landed (CutIn again e) h = tt
 
 -- ---- what happens
 
-may_bring : (w : Setup) (past : List Change) (e : Happening) → MayCome (frames_sent w (steps past)) (brings w past e)
-unfolding MayBe MayCome
-may_bring w past (Begin text) = may_step _ _ (may_client _ w (trace w past) (calls.Begin text) (λ left. refl))
-may_bring w past (Trigger run act) = may_step _ _ (may_client _ w (trace w past) (calls.Trigger run act) (λ left. refl))
-may_bring w past (StopRun run) = may_step _ _ (may_client _ w (trace w past) (calls.Stop run) (λ left. refl))
-may_bring w past (Verify run text) = may_step _ _ (may_client _ w (trace w past) (calls.Verify run text) (λ left. refl))
-may_bring w past Tick = may_step _ _ (may_client _ w (trace w past) calls.Tick (λ left. refl))
-may_bring w past (Deliver i) = may_deliver _ w past (slice_get (frames_sent w (steps past)) i) (sent_at (frames_sent w (steps past)) i)
-may_bring w past (Issue s j) = may_step _ _ (may_server _ (trace w past) s (events.Issue j) refl)
-may_bring w past (Land s j k mask) = tt
-may_bring w past (Done s j k) = may_step _ _ (may_end _ (trace w past) s k ends.Done (open_at (trace w past) s j k))
-may_bring w past (Fail s j k) = may_step _ _ (may_end _ (trace w past) s k ends.Failed (open_at (trace w past) s j k))
-may_bring w past (Rot s j sector bytes) = tt
-may_bring w past (happenings.Check s j) = may_step _ _ (may_check _ (trace w past) s (check (opening_of s) (of_server s (trace w past))) j (content w past s j))
-may_bring w past (Cut node) = may_step _ _ (may_cut _ node)
-may_bring w past (Restart node) = may_step _ _ (may_restart _ (trace w past) node)
-may_bring w past (CutIn landed e) = may_step _ _ (may_cut_in w past landed e)
+may_bring : (w : Setup) (past : List Change) (e : Happening) → IsFrameTrace w (steps past) → barred w (trace w past) (frames_sent w (steps past)) e ≡ None → MayCome w (steps past) (brings w past e)
+unfolding MayBe MayCome Goes
+may_bring w past (Begin text) so h = may_step w (steps past) _ (may_client w (steps past) (trace w past) (calls.Begin text) (λ left. refl))
+may_bring w past (Trigger run act) so h = may_step w (steps past) _ (may_client w (steps past) (trace w past) (calls.Trigger run act) (λ left. refl))
+may_bring w past (StopRun run) so h = may_step w (steps past) _ (may_client w (steps past) (trace w past) (calls.Stop run) (λ left. refl))
+may_bring w past (Verify run text) so h = may_step w (steps past) _ (may_client w (steps past) (trace w past) (calls.Verify run text) (λ left. refl))
+may_bring w past Tick so h = may_step w (steps past) _ (may_client w (steps past) (trace w past) calls.Tick (λ left. refl))
+may_bring w past (Deliver i) so h = may_deliver w past (slice_get (frames_sent w (steps past)) i) h (sent_at (frames_sent w (steps past)) i)
+may_bring w past (Issue s j) so h = may_step w (steps past) _ (may_server w (steps past) (trace w past) s (events.Issue j) refl)
+may_bring w past (Land s j k mask) so h = tt
+may_bring w past (Done s j k) so h = may_step w (steps past) _ (may_end w (steps past) (trace w past) s k ends.Done (open_at (trace w past) s j k))
+may_bring w past (Fail s j k) so h = may_step w (steps past) _ (may_end w (steps past) (trace w past) s k ends.Failed (open_at (trace w past) s j k))
+may_bring w past (Rot s j sector bytes) so h = tt
+may_bring w past (happenings.Check s j) so h = may_step w (steps past) _ (may_check w (steps past) (trace w past) s (check (opening_of s) (of_server s (trace w past))) j (content w past s j))
+may_bring w past (Cut node) so h = may_step w (steps past) _ (may_cut w (steps past) (trace w past) node h)
+may_bring w past (Restart node) so h = may_step w (steps past) _ (may_restart w (steps past) node so h)
+may_bring w past LoseNote so h = (refl, loss_fits w (trace w past) h)
+may_bring w past (Renew g) so h = may_step w (steps past) _ (may_renew w (steps past) g lefts.Saved BadNote h)
+may_bring w past (CutIn landed e) so h = may_step w (steps past) _ (may_cut_in w past landed e h)
 
-may_pass : (frames : List Frame) (x : Option Fault) (r : Outcome) → MayCome frames r → MayCome frames (unless_barred x r)
+may_pass : (w : Setup) (ps : List FrameStep) (x : Option Fault) (r : Outcome) → (x ≡ None → MayCome w ps r) → MayCome w ps (unless_barred x r)
 unfolding MayCome
-may_pass frames None r m = m
-may_pass frames (Some fault) r m = tt
+may_pass w ps None r m = m refl
+may_pass w ps (Some fault) r m = tt
 
-and_one : (w : Setup) (past : List Change) (r : Outcome) → IsFrameTrace w (steps past) → MayCome (frames_sent w (steps past)) r → IsFrameTrace w (steps (and_outcome r past))
-unfolding MayCome
-and_one w past (Does (Met step)) h m = (h, m)
+and_one : (w : Setup) (past : List Change) (r : Outcome) → IsFrameTrace w (steps past) → MayCome w (steps past) r → IsFrameTrace w (steps (and_outcome r past))
+unfolding MayCome Goes
+and_one w past (Does (Met step)) h m = (h, m.0, m.1)
 and_one w past (Does (Landed s j k mask)) h m = h
 and_one w past (Does (Rotted s j sector bytes)) h m = h
 and_one w past (Refuses fault) h m = h
-and_one w past (Drops step) h m = (h, m)
+and_one w past (Drops step) h m = (h, m.0, m.1)
 
 pub each_world_is_a_frame_trace : EachWorldIsAFrameTrace
 each_world_is_a_frame_trace w [] = tt
 each_world_is_a_frame_trace w (e ∷ events) =
     let past = world w events in
-    and_one w past (outcome w past e) (each_world_is_a_frame_trace w events)
-    (may_pass (frames_sent w (steps past)) (barred w (trace w past) (frames_sent w (steps past)) e) (brings w past e) (may_bring w past e))
+    let so = each_world_is_a_frame_trace w events in
+    and_one w past (outcome w past e) so
+    (may_pass w (steps past) (barred w (trace_heard w (steps past)) (frames_sent w (steps past)) e) (brings w past e) (λ h. may_bring w past e so h))

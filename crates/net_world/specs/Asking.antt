@@ -24,8 +24,8 @@ use Rattle.net_world.specs.ClientNodes.{answer_to}
 use Rattle.net_world.specs.Stands.{StandsFor}
 
 -- The client's list of frames.
-abbrev pub entries : List Change → List FrameEntry
-entries past = client_entries (steps past)
+abbrev pub entries : Setup → List Change → List FrameEntry
+entries w past = client_entries w (steps past)
 
 -- An entry of its list, as a step of the world.
 abbrev pub step_of : FrameEntry → FrameStep
@@ -33,7 +33,7 @@ step_of e = OfClient (coming e)
 
 -- The step of a call that is answered.
 abbrev pub step_by : Setup → List Change → Input → FrameStep
-step_by w past e = step_of (answered (client_opening w) (entries past) e)
+step_by w past e = step_of (answered (client_opening w) (entries w past) e)
 
 -- What is told of what the client has answered, behind so many frames.
 abbrev pub told_of : ℕ → Asked → Told
@@ -43,10 +43,10 @@ told_of first asked =
 -- The client is on, doesn't refuse what comes, and its step is added.
 pub record IsAnswered (w : Setup) (past : List Change) (e : Input) (new : World) (told : Told) : Type 0 where
   pub on : off w (trace w past) Client ≡ None
-  pub free : refusal (client_opening w) (entries past) e ≡ None
+  pub free : refusal (client_opening w) (entries w past) e ≡ None
   pub told_is :
       told ≡ record {
-        answer = answer_to (client_opening w) (entries past) e;
+        answer = answer_to (client_opening w) (entries w past) e;
         first = length (frames_sent w (steps past));
         sent = length (frames_of_step w (steps past) (step_by w past e));
         act = acts.None;
@@ -61,9 +61,9 @@ pub record IsBarred (w : Setup) (past : List Change) (fault : Fault) (new : Worl
 -- The client refuses what comes. That may stand in the list, or be left out, but where it drops a tag.
 pub record Refuses (w : Setup) (past : List Change) (e : Input) (fault : Fault) (new : World) : Type 0 where
   pub on : off w (trace w past) Client ≡ None
-  pub why : refusal (client_opening w) (entries past) e ≡ Some fault
+  pub why : refusal (client_opening w) (entries w past) e ≡ Some fault
   pub stands : StandsFor w (changes.Met (step_of (Met e NoSave)) ∷ past) new
-  pub unchanged : is_drop (sense (client_opening w) (entries past) e) ≡ false → StandsFor w past new
+  pub unchanged : is_drop (sense (client_opening w) (entries w past) e) ≡ false → StandsFor w past new
 
 -- How a call ends that isn't answered.
 abbrev pub Faults : Setup → List Change → Input → FaultSort → Fault → World → Type 0

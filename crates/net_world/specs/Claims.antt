@@ -2,7 +2,7 @@
 use Rattle.std.specs.Prelude.{◌≡◌, ◌≤◌, List, ◌++◌, map, reverse}
 use Rattle.net_world.specs.declared.config.Config.{Config}
 use Rattle.net_world.specs.declared.event.Event.{Event}
-use Rattle.net_world.specs.Setup.{Setup, servers_of}
+use Rattle.net_world.specs.Setup.{Setup, setup_of}
 use Rattle.net_world.specs.Trace.{Step, IsTrace}
 use Rattle.net_world.specs.Frames.{FrameStep, IsFrameTrace, trace_heard}
 use Rattle.net_world.specs.InRange.{FitsFrames}
@@ -25,7 +25,7 @@ OfEachFrameTrace Claim = (w : Setup) (t : List FrameStep) → IsFrameTrace w t �
 
 -- The claim holds of each world of at most 8 servers.
 abbrev pub OfEachWorld : (Setup → List Change → Type 0) → Type 0
-OfEachWorld Claim = (w : Setup) (events : List Happening) → servers_of w ≤ 8 → Claim w (world w events)
+OfEachWorld Claim = (w : Setup) (events : List Happening) → w.servers ≤ 8 → Claim w (world w events)
 
 -- The claim holds of the trace that is heard in a trace of frames.
 abbrev pub OfTheHeard : (Setup → List Step → Type 0) → Setup → List FrameStep → Type 0
@@ -45,10 +45,10 @@ happened events = map happening (reverse events)
 
 -- The world in which they came.
 abbrev pub played : Config → List Event → List Change
-played config events = world config.servers (happened events)
+played config events = world (setup_of config) (happened events)
 
 -- The claim holds of the world at each moment of the list: behind each event, and before the first.
 abbrev pub AtEachMoment : (Setup → List Change → Type 0) → Config → List Event → Type 0
 AtEachMoment Claim config events =
     (newer older : List Happening) → happened events ≡ newer ++ older →
-    Claim config.servers (world config.servers older)
+    Claim (setup_of config) (world (setup_of config) older)

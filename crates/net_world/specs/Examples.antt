@@ -19,6 +19,7 @@ use Rattle.messages.specs.FrameBytes.{frame_spelling}
 use Rattle.net_world.specs.declared.told.Answer.{Answer}
 use Rattle.net_world.specs.declared.told.Answer.TheVariants as answers
 use Rattle.net_world.specs.declared.told.Told.{Told}
+use Rattle.net_world.specs.Setup.{Setup, without_mirror}
 use Rattle.net_world.specs.Happenings.{Happening, Begin, Trigger, Verify, Tick, Deliver, Issue, Land, Done, Rot, Check, Cut, Restart, CutIn}
 use Rattle.net_world.specs.Frames.{frames_sent}
 use Rattle.net_world.specs.Changes.{steps}
@@ -47,13 +48,17 @@ shown (Piece q) = record {
   bytes = length (frame_spelling (Piece q));
 }
 
+-- A world with one server.
+abbrev pub one : Setup
+one = without_mirror 1
+
 -- The frames that were sent in a world with one server, once these things have happened.
 abbrev pub frames_of : List Happening → List Shown
-frames_of events = map shown (frames_sent 1 (steps (world 1 events)))
+frames_of events = map shown (frames_sent one (steps (world one events)))
 
 -- What is told of one more.
 abbrev pub next : List Happening → Happening → Result Told Fault
-next events e = told 1 (world 1 events) e
+next events e = told one (world one events) e
 
 -- It is told this, with so many frames from the first on.
 abbrev pub says : Answer → ℕ → ℕ → Act → Result Told Fault
@@ -130,7 +135,7 @@ pub record ChecksByItsState : Type 0 where
   pub begins : next [] (Begin writing) ≡ says (answers.Run 1) 0 1 acts.None
   pub writes : next started (Issue 0 0) ≡ says first_write 4 0 acts.None
   pub cuts : next kept (Deliver 6) ≡ says answers.Plain 7 0 acts.Cut
-  pub counts : option_map (λ state. state.counted) (saved 1 (world 1 kept) key) ≡ Some (0 ∷ [])
+  pub counts : option_map (λ state. state.counted) (saved one (world one kept) key) ≡ Some (0 ∷ [])
   pub verifies : next restarted (Verify 1 reading) ≡ says (answers.Attempt 1) 7 1 acts.None
   pub sound : next checking (Check 0 0) ≡ says (report 1 []) 10 1 acts.None
   pub rotten :
@@ -142,8 +147,8 @@ pub record ChecksByItsState : Type 0 where
 
 -- The disks of that world were honest, and its writes whole.
 pub record IsHonestlyMade : Type 0 where
-  pub honest : AreHonest 1 (world 1 checking)
-  pub whole : AreWhole 1 (world 1 checking)
+  pub honest : AreHonest one (world one checking)
+  pub whole : AreWhole one (world one checking)
 
 -- Behind a cut and a restart the Start of the run is old, and nothing is written any more.
 pub record StartsOnceAfterACut : Type 0 where
@@ -166,10 +171,10 @@ pub record KeepsBehindACut : Type 0 where
       ≡ first_frames ++ trigger_frames
   pub kept_before :
       option_map (λ state. state.counted)
-      (saved 1 (world 1 (Deliver 5 ∷ Restart Client ∷ CutIn false (Deliver 5) ∷ taken)) key)
+      (saved one (world one (Deliver 5 ∷ Restart Client ∷ CutIn false (Deliver 5) ∷ taken)) key)
       ≡ Some (0 ∷ [])
   pub kept_behind :
-      option_map (λ state. state.counted) (saved 1 (world 1 (Restart Client ∷ CutIn true (Deliver 5) ∷ taken)) key)
+      option_map (λ state. state.counted) (saved one (world one (Restart Client ∷ CutIn true (Deliver 5) ∷ taken)) key)
       ≡ Some (0 ∷ [])
 
 -- A full pass checks both blocks, and finds the write that never landed.

@@ -18,13 +18,15 @@ use Rattle.net_world.specs.Setup.{Setup}
 use Rattle.net_world.specs.Trace as packets
 use Rattle.net_world.specs.Trace.{Step, IsTrace, sent, opening_of}
 use Rattle.net_world.specs.Holders.{carried}
-use Rattle.net_world.specs.Frames.{FrameStep, OfServer, of_server, of_client, at_server, at_client, frames_of_step, frames_sent, IsFrameTrace, trace_heard, frame_entry, server_entries}
+use Rattle.net_world.specs.Frames.{FrameStep, OfServer, of_server, of_client, of_mirror, at_server, at_client, frames_of_step, frames_sent, IsFrameTrace, trace_heard, frame_entry, server_entries}
 use Rattle.net_world.specs.InRange.{FitsFrames}
 
--- The list of each node in the trace that is heard is what the node hears of its own steps.
+-- The list of each node in the trace that is heard is what the node hears of its own steps: the mirror
+-- hears all of them.
 pub record EachHearsItsOwn (w : Setup) (t : List FrameStep) : Type 0 where
   pub servers : (s : ℕ) → packets.of_server s (trace_heard w t) ≡ (heard (at_server s) (of_server s t)).entries
-  pub client : packets.of_client (trace_heard w t) ≡ (heard (at_client w) (of_client t)).entries
+  pub client : packets.of_client w (trace_heard w t) ≡ (heard (at_client w) (of_client w t)).entries
+  pub mirror : packets.of_mirror (trace_heard w t) ≡ of_mirror t
 
 abbrev pub NodesHearTheirOwn : Type 0
 NodesHearTheirOwn = (w : Setup) (t : List FrameStep) → EachHearsItsOwn w t

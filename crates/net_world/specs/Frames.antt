@@ -1,11 +1,11 @@
--- The steps of a client and its servers with frames in one list, the newest first, and the trace of
--- packets that it says.
-use Rattle.std.specs.Prelude.{◌≡◌, ℕ, ◌==◌, if◌then◌else◌, List, [], ◌∷◌, ◌++◌, map, Option, Some, None, Contains, false, IsTrue}
+-- The steps of a client, its servers and its mirror with frames in one list, the newest first, and the
+-- trace of packets that it says.
+use Rattle.std.specs.Prelude.{◌≡◌, ℕ, ◌==◌, if◌then◌else◌, List, [], ◌∷◌, ◌++◌, map, Option, Some, None, Contains, Bool, true, IsTrue}
 use Rattle.std.specs.List.{flat_map}
 use Rattle.std.specs.Option.{option_map}
 use Rattle.messages.specs.declared.packet.PacketParts.{PacketParts}
 use Rattle.messages.specs.declared.node.Node.{Node}
-use Rattle.messages.specs.declared.node.Node.TheVariants.{Server, Client}
+use Rattle.messages.specs.declared.node.Node.TheVariants.{Server, Client, Mirror}
 use Rattle.messages.specs.declared.frame.Frame.{Frame}
 use Rattle.messages.specs.declared.frame.Frame.TheVariants.{Whole, Piece}
 use Rattle.messages.specs.Pieces.{frames_of}
@@ -22,26 +22,38 @@ use Rattle.client_core.specs.declared.input.Input.TheVariants as client_inputs
 use Rattle.client_core.specs.History as client
 use Rattle.client_core.specs.Packets as clients
 use Rattle.client_core.specs.Hearing as client_hearing
+use Rattle.mirror_core.specs.History as mirror
+use Rattle.mirror_core.specs.Packets as mirrors
 use Rattle.net_world.specs.Setup.{Setup}
-use Rattle.net_world.specs.Trace.{Step, AtServer, AtClient, opening_of, client_opening, taken_by, is_alone}
+use Rattle.net_world.specs.Trace.{Step, AtServer, AtClient, AtMirror, opening_of, client_opening, mirror_opening, first_entry, taken_by, is_of_setup}
 
 -- A step: a frame comes to the server with this number, or anything else happens to it; or to the
--- client.
+-- client; or something comes to the mirror, which hears whole frames alone.
 pub data FrameStep : Type 0 where
   OfServer : ℕ → Coming server.Entry Left → FrameStep
   OfClient : Coming client.Entry Left → FrameStep
+  OfMirror : mirror.Entry → FrameStep
 
 -- What has happened to server s: its first restart, and its steps since.
 abbrev pub of_server : ℕ → List FrameStep → List (Coming server.Entry Left)
 of_server s [] = Happens (server.Restart Saved) ∷ []
 of_server s (OfServer r c ∷ past) = if r == s then c ∷ of_server s past else of_server s past
 of_server s (OfClient c ∷ past) = of_server s past
+of_server s (OfMirror e ∷ past) = of_server s past
 
 -- What has happened to the client.
-abbrev pub of_client : List FrameStep → List (Coming client.Entry Left)
-of_client [] = Happens (client.Restart false) ∷ []
-of_client (OfServer s c ∷ past) = of_client past
-of_client (OfClient c ∷ past) = c ∷ of_client past
+abbrev pub of_client : Setup → List FrameStep → List (Coming client.Entry Left)
+of_client w [] = Happens (first_entry w.mirror) ∷ []
+of_client w (OfServer s c ∷ past) = of_client w past
+of_client w (OfClient c ∷ past) = c ∷ of_client w past
+of_client w (OfMirror e ∷ past) = of_client w past
+
+-- What has happened to the mirror.
+abbrev pub of_mirror : List FrameStep → List mirror.Entry
+of_mirror [] = mirror.Restart ∷ []
+of_mirror (OfServer s c ∷ past) = of_mirror past
+of_mirror (OfClient c ∷ past) = of_mirror past
+of_mirror (OfMirror e ∷ past) = e ∷ of_mirror past
 
 -- How each node hears.
 abbrev pub at_server : ℕ → Rules server.Entry Left
@@ -61,12 +73,13 @@ abbrev pub frames_with :
     → Coming E Left → List Frame
 frames_with r sends past c = frames_by sends (heard r past).entries (entry_of r (heard r past) c)
 
--- The frames that a step sends, in a trace of a client with its servers.
+-- The frames that a step sends.
 abbrev pub frames_of_step : Setup → List FrameStep → FrameStep → List Frame
 frames_of_step w past (OfServer s c) =
     frames_with (at_server s) (servers.packets (opening_of s)) (of_server s past) c
 frames_of_step w past (OfClient c) =
-    frames_with (at_client w) (clients.packets (client_opening w)) (of_client past) c
+    frames_with (at_client w) (clients.packets (client_opening w)) (of_client w past) c
+frames_of_step w past (OfMirror e) = flat_map frames_of (mirrors.packets mirror_opening (of_mirror past) e)
 
 -- Every frame that was ever sent, the oldest first.
 unfoldable pub frames_sent : Setup → List FrameStep → List Frame
@@ -78,30 +91,41 @@ abbrev pub to_of : Frame → Node
 to_of (Whole p) = p.to
 to_of (Piece q) = q.to
 
--- A frame that a step takes was sent to its node, and what happens besides takes no packet, and to the
--- client nothing with a mirror.
-abbrev pub MayHappen : List Frame → FrameStep → Type 0
-MayHappen frames (OfServer s (Comes f left)) = Contains frames f × (to_of f ≡ Server s)
-MayHappen frames (OfServer s (Happens e)) = taken_by (AtServer s e) ≡ []
-MayHappen frames (OfClient (Comes f left)) = Contains frames f × (to_of f ≡ Client)
-MayHappen frames (OfClient (Happens e)) = (taken_by (AtClient e) ≡ []) × IsTrue (is_alone e)
-
--- A trace of frames: each frame that a node takes was sent to it earlier.
-abbrev pub IsFrameTrace : Setup → List FrameStep → Type 0
-IsFrameTrace w [] = Unit {0}
-IsFrameTrace w (step ∷ past) = IsFrameTrace w past × MayHappen (frames_sent w past) step
-
 -- The step of packets that a step says, if it says one.
 abbrev pub step_heard : Setup → List FrameStep → FrameStep → Option Step
 step_heard w past (OfServer s c) =
     option_map (AtServer s) (entry_of (at_server s) (heard (at_server s) (of_server s past)) c)
 step_heard w past (OfClient c) =
-    option_map AtClient (entry_of (at_client w) (heard (at_client w) (of_client past)) c)
+    option_map AtClient (entry_of (at_client w) (heard (at_client w) (of_client w past)) c)
+step_heard w past (OfMirror e) = Some (AtMirror e)
 
 -- The trace of packets that steps of frames say.
 abbrev pub trace_heard : Setup → List FrameStep → List Step
 trace_heard w [] = []
 trace_heard w (step ∷ past) = with_entry (step_heard w past step) (trace_heard w past)
+
+-- A frame that a step takes was sent to its node, and what happens besides takes no packet.
+abbrev pub MayHappen : List Frame → FrameStep → Type 0
+MayHappen frames (OfServer s (Comes f left)) = Contains frames f × (to_of f ≡ Server s)
+MayHappen frames (OfServer s (Happens e)) = taken_by (AtServer s e) ≡ []
+MayHappen frames (OfClient (Comes f left)) = Contains frames f × (to_of f ≡ Client)
+MayHappen frames (OfClient (Happens e)) = taken_by (AtClient e) ≡ []
+MayHappen frames (OfMirror (mirror.Met f left)) = Contains frames f × (to_of f ≡ Mirror)
+MayHappen frames (OfMirror mirror.Cut) = Unit {0}
+MayHappen frames (OfMirror mirror.Restart) = Unit {0}
+
+-- What happens to the client besides frames, or to the mirror, is a step of the setup.
+abbrev pub is_allowed : Setup → List FrameStep → FrameStep → Bool
+is_allowed w past (OfServer s c) = true
+is_allowed w past (OfClient (Comes f left)) = true
+is_allowed w past (OfClient (Happens e)) = is_of_setup w (trace_heard w past) (AtClient e)
+is_allowed w past (OfMirror e) = w.mirror
+
+-- A trace of frames: each frame that a node takes was sent to it earlier, and each step is one of the setup.
+abbrev pub IsFrameTrace : Setup → List FrameStep → Type 0
+IsFrameTrace w [] = Unit {0}
+IsFrameTrace w (step ∷ past) =
+    IsFrameTrace w past × MayHappen (frames_sent w past) step × IsTrue (is_allowed w past step)
 
 -- What happens to a server, as an entry of its list of frames. A packet that comes besides the frames,
 -- as none does in a trace, is one that comes whole.
@@ -137,5 +161,5 @@ client_frame_entry (Happens (client.Renew g left)) = client_hearing.Renew g left
 client_frame_entry (Happens client.Lose) = client_hearing.Lose
 
 -- The client's list of frames.
-abbrev pub client_entries : List FrameStep → List client_hearing.FrameEntry
-client_entries t = map client_frame_entry (of_client t)
+abbrev pub client_entries : Setup → List FrameStep → List client_hearing.FrameEntry
+client_entries w t = map client_frame_entry (of_client w t)

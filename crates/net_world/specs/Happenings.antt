@@ -1,5 +1,5 @@
--- What can happen in a world of a client and its servers. Any number may be given: those of no server,
--- frame or write are refused.
+-- What can happen in a world of a client, its servers and its mirror. Any number may be given: those of no
+-- server, frame or write are refused.
 use Rattle.std.specs.Prelude.{ℕ, Bool, List}
 use Rattle.messages.specs.declared.node.Node.{Node}
 use Rattle.messages.specs.declared.refusal.Act.{Act}
@@ -19,4 +19,6 @@ pub data Happening : Type 0 where
   Check : ℕ → ℕ → Happening  -- server, job: its file is checked
   Cut : Node → Happening  -- a node loses its power
   Restart : Node → Happening  -- a node is started again
+  LoseNote : Happening  -- the note of the client, which is off, is lost
+  Renew : ℕ → Happening  -- the client is started on no note, with this generation
   CutIn : Bool → Happening → Happening  -- a node loses its power within the save of this, which has landed or not

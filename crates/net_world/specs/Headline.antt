@@ -26,6 +26,7 @@ use Rattle.net_world.specs.declared.told.Told.{Told}
 use Rattle.net_world.specs.Setup.{Setup}
 use Rattle.net_world.specs.Trace.{Step, AtServer, opening_of, of_server, of_client, client_opening, sent}
 use Rattle.net_world.specs.Holders.{Holds, taken_of, key_at}
+use Rattle.net_world.specs.Passes.{WasKept}
 use Rattle.net_world.specs.Started.{started}
 use Rattle.net_world.specs.Frames.{FrameStep, trace_heard}
 use Rattle.net_world.specs.FrameLaws.{PiecesHold}
@@ -97,25 +98,26 @@ StatePacketsAreEqual w t =
 abbrev pub KeptWhereServed : Setup → List Step → Type 0
 KeptWhereServed w t =
     (key : Key) (state : State) →
-    trigger_at key.run key.server (life (client_opening w) (of_client t)) ≡ Served →
-    Contains (taken_of key t) state → kept (client_opening w) (of_client t) key ≡ Some state
+    trigger_at key.run key.server (life (client_opening w) (of_client w t)) ≡ Served →
+    Contains (taken_of key t) state → kept (client_opening w) (of_client w t) key ≡ Some state
 
--- Where a server asked for the cut, each state that it took in its run was kept by then.
+-- Where a server asked for the cut, each state that it took in its run was kept by then: a note can be
+-- lost since.
 abbrev pub KeptWhereCut : Setup → List Step → Type 0
 KeptWhereCut w t =
     (later earlier : List Step) (s : ℕ) (e : Event) (left : Left) (now : Work) (j : ℕ) (state : State) →
     t ≡ later ++ AtServer s (Met e left) ∷ earlier → work (opening_of s) (of_server s earlier) ≡ Some now
     → act (opening_of s) (of_server s earlier) e ≡ acts.Cut
     → Contains (taken_of (key_at now.run s j) earlier) state
-    → kept (client_opening w) (of_client earlier) (key_at now.run s j) ≡ Some state
+    → WasKept w earlier (key_at now.run s j) state
 
 -- No run is given twice, whatever was cut and lost.
 abbrev pub RunsAreGivenOnce : Setup → List Step → Type 0
-RunsAreGivenOnce w t = IsTrue (is_distinct (runs_in (done (client_opening w) (of_client t))))
+RunsAreGivenOnce w t = IsTrue (is_distinct (runs_in (done (client_opening w) (of_client w t))))
 
 -- No attempt is given twice.
 abbrev pub AttemptsAreGivenOnce : Setup → List Step → Type 0
-AttemptsAreGivenOnce w t = IsTrue (is_distinct (attempts_in (done (client_opening w) (of_client t))))
+AttemptsAreGivenOnce w t = IsTrue (is_distinct (attempts_in (done (client_opening w) (of_client w t))))
 
 -- A server accepts a Start of a run once.
 abbrev pub StartsAreAcceptedOnce : Setup → List Step → Type 0

@@ -12,8 +12,9 @@ use Rattle.server_core.specs.Words.{work}
 use Rattle.server_core.specs.Taken.{takes, and_those, takings}
 use Rattle.server_core.specs.Check.{With, progress}
 use Rattle.client_core.specs.Words.{kept}
+use Rattle.mirror_core.specs.Words as mirrors
 use Rattle.net_world.specs.Setup.{Setup}
-use Rattle.net_world.specs.Trace.{Step, opening_of, client_opening, of_server, of_client, sent}
+use Rattle.net_world.specs.Trace.{Step, opening_of, client_opening, mirror_opening, of_server, of_client, of_mirror, sent}
 
 -- The key of job j of a run at this server.
 abbrev pub key_at : ℕ → ℕ → ℕ → Key
@@ -40,9 +41,10 @@ carried (bodies.Copy state) = Some state
 carried _ = None
 
 -- Who holds a state of a key: its server, which took it in this life; a server whose open check is made
--- with it; the client, which keeps it; a packet that was sent with it.
+-- with it; the client and the mirror, which keep it; a packet that was sent with it.
 pub data Holds (w : Setup) (t : List Step) (key : Key) (state : State) : Type 0 where
   ByTaking : Contains (taken_in_life (opening_of key.server) key.run key.job (of_server key.server t)) state → Holds w t key state
   ByCheck : (s j : ℕ) → progress (opening_of s) (of_server s t) j ≡ Some (With state) → state.key ≡ key → Holds w t key state
-  ByClient : kept (client_opening w) (of_client t) key ≡ Some state → Holds w t key state
+  ByClient : kept (client_opening w) (of_client w t) key ≡ Some state → Holds w t key state
+  ByMirror : mirrors.kept mirror_opening (of_mirror t) key ≡ Some state → Holds w t key state
   ByPacket : (p : PacketParts) → Contains (sent w t) p → carried p.body ≡ Some state → state.key ≡ key → Holds w t key state

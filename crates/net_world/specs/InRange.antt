@@ -7,9 +7,9 @@ use Rattle.messages.specs.Hearing.{Comes, Happens}
 use Rattle.server_core.specs.declared.event.Event.{Event}
 use Rattle.server_core.specs.declared.event.Event.TheVariants.{Deliver, Issue, WriteDone, CheckDone}
 use Rattle.server_core.specs.History.{Entry, Met, Cut, Restart}
-use Rattle.net_world.specs.Setup.{Setup, servers_of}
-use Rattle.net_world.specs.Trace.{Step, AtServer, AtClient, IsTrace, sent}
-use Rattle.net_world.specs.Frames.{FrameStep, OfServer, OfClient}
+use Rattle.net_world.specs.Setup.{Setup}
+use Rattle.net_world.specs.Trace.{Step, AtServer, AtClient, AtMirror, IsTrace, sent}
+use Rattle.net_world.specs.Frames.{FrameStep, OfServer, OfClient, OfMirror}
 
 -- The report of a check is within its ranges.
 abbrev pub ReportFits : Event → Type 0
@@ -24,24 +24,27 @@ EntryFits (Met e left) = ReportFits e
 EntryFits Cut = Unit {0}
 EntryFits (Restart left) = Unit {0}
 
--- A step is at the client, or at a server with a number below 8, and its report is within its ranges.
+-- A step is at the client, at the mirror, or at a server with a number below 8, and its report is within
+-- its ranges.
 abbrev pub StepFits : Step → Type 0
 StepFits (AtServer s e) = (s < 8) × EntryFits e
 StepFits (AtClient e) = Unit {0}
+StepFits (AtMirror e) = Unit {0}
 
 -- The same of a step of frames.
 abbrev pub FrameStepFits : FrameStep → Type 0
 FrameStepFits (OfServer s (Comes f left)) = s < 8
 FrameStepFits (OfServer s (Happens e)) = (s < 8) × EntryFits e
 FrameStepFits (OfClient c) = Unit {0}
+FrameStepFits (OfMirror e) = Unit {0}
 
 -- There are at most 8 servers, and each step is within its ranges.
 pub record Fits (w : Setup) (t : List Step) : Type 0 where
-  pub few : servers_of w ≤ 8
+  pub few : w.servers ≤ 8
   pub steps : AllByRecursion StepFits t
 
 pub record FitsFrames (w : Setup) (t : List FrameStep) : Type 0 where
-  pub few : servers_of w ≤ 8
+  pub few : w.servers ≤ 8
   pub steps : AllByRecursion FrameStepFits t
 
 -- All that is sent in a trace is within the ranges of packets.

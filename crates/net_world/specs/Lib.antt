@@ -8,6 +8,7 @@ pub mod Writes
 pub mod Contents
 pub mod Checks
 pub mod Barred
+pub mod MirrorExamples
 pub mod Outcomes
 pub mod World
 pub mod Exact

@@ -1,7 +1,7 @@
 -- What comes of what happens in a world.
-use Rattle.std.specs.Prelude.{ℕ, ◌+◌, ◌^◌, Bool, false, nat_lt, List, Option, Some, None, slice_get, Result, Ok, Err, if◌then◌else◌}
+use Rattle.std.specs.Prelude.{ℕ, ◌+◌, ◌^◌, Bool, nat_lt, ◌&&◌, List, Option, Some, None, slice_get, Result, Ok, Err, if◌then◌else◌}
 use Rattle.fc_base.specs.declared.fault.Fault.{Fault}
-use Rattle.fc_base.specs.declared.fault.Fault.TheVariants.{NumbersSpent, Misdirected, NoSave, NoFrame, NoWrite, NotInFlight, NoMirror}
+use Rattle.fc_base.specs.declared.fault.Fault.TheVariants.{BadNote, NumbersSpent, NoSave, NoFrame, NoWrite, NotInFlight, Misdirected}
 use Rattle.messages.specs.declared.node.Node.{Node}
 use Rattle.messages.specs.declared.node.Node.TheVariants.{Server, Client, Mirror}
 use Rattle.messages.specs.declared.frame.Frame.{Frame}
@@ -21,11 +21,15 @@ use Rattle.client_core.specs.declared.call.Call.{Call}
 use Rattle.client_core.specs.declared.call.Call.TheVariants as calls
 use Rattle.client_core.specs.History as client
 use Rattle.client_core.specs.Words as clients
+use Rattle.client_core.specs.Note.{is_blank}
+use Rattle.client_core.specs.declared.noted.Noted.{Noted}
+use Rattle.mirror_core.specs.History as mirror
+use Rattle.mirror_core.specs.Words as mirrors
 use Rattle.net_world.specs.Setup.{Setup}
-use Rattle.net_world.specs.Happenings.{Happening, Begin, Trigger, StopRun, Verify, Tick, Deliver, Issue, Land, Done, Fail, Rot, Check, Cut, Restart, CutIn}
-use Rattle.net_world.specs.Trace.{Step, of_server, of_client, opening_of, client_opening}
+use Rattle.net_world.specs.Happenings.{Happening, Begin, Trigger, StopRun, Verify, Tick, Deliver, Issue, Land, Done, Fail, Rot, Check, Cut, Restart, LoseNote, Renew, CutIn}
+use Rattle.net_world.specs.Trace.{Step, of_server, of_client, of_mirror, opening_of, client_opening, mirror_opening}
 use Rattle.net_world.specs.Frames as frames
-use Rattle.net_world.specs.Frames.{FrameStep, OfServer, OfClient, at_server, at_client, frames_sent, to_of}
+use Rattle.net_world.specs.Frames.{FrameStep, OfServer, OfClient, OfMirror, at_server, at_client, frames_sent, to_of}
 use Rattle.net_world.specs.Changes.{Change, Met, Landed, Rotted, steps, trace}
 use Rattle.net_world.specs.Writes.{open_at}
 use Rattle.net_world.specs.Checks.{checked}
@@ -74,7 +78,7 @@ met_by_server t s e =
 abbrev pub met_by_client : Setup → List Step → Call → Result FrameStep Fault
 met_by_client w t c =
     let o = client_opening w in
-    let past = of_client t in
+    let past = of_client w t in
     unless_fault (clients.refusal o past c)
     (Ok (OfClient (Happens (client.Met c (left_for (clients.due o past c))))))
 
@@ -94,7 +98,7 @@ comes_to_server t s f Strays = Refuses Misdirected
 abbrev pub comes_to_client : Setup → List Step → Frame → Meaning → Outcome
 comes_to_client w t f (Says p) =
     let o = client_opening w in
-    let past = of_client t in
+    let past = of_client w t in
     stepped (unless_fault (clients.refusal o past (calls.Deliver p))
     (Ok (OfClient (Comes f (left_for (clients.due o past (calls.Deliver p)))))))
 comes_to_client w t f Waits = Does (Met (OfClient (Comes f lefts.NoSave)))
@@ -106,13 +110,20 @@ abbrev pub said_to_server : List FrameStep → ℕ → Frame → Meaning
 said_to_server past s f = meaning (at_server s) (heard (at_server s) (frames.of_server s past)) f
 
 abbrev pub said_to_client : Setup → List FrameStep → Frame → Meaning
-said_to_client w past f = meaning (at_client w) (heard (at_client w) (frames.of_client past)) f
+said_to_client w past f = meaning (at_client w) (heard (at_client w) (frames.of_client w past)) f
 
--- A frame comes to its node. None comes to a mirror, which isn't there.
+-- A frame comes to the mirror, which refuses each piece.
+abbrev pub comes_to_mirror : List Step → Frame → Result FrameStep Fault
+comes_to_mirror t f =
+    let past = of_mirror t in
+    unless_fault (mirrors.refusal mirror_opening past f)
+    (Ok (OfMirror (mirror.Met f (left_for (mirrors.due mirror_opening past f)))))
+
+-- A frame comes to its node.
 abbrev pub comes_to : Setup → List Change → Node → Frame → Outcome
 comes_to w past (Server s) f = comes_to_server (trace w past) s f (said_to_server (steps past) s f)
 comes_to w past Client f = comes_to_client w (trace w past) f (said_to_client w (steps past) f)
-comes_to w past Mirror f = Refuses NoMirror
+comes_to w past Mirror f = stepped (comes_to_mirror (trace w past) f)
 
 abbrev pub delivered : Setup → List Change → Option Frame → Outcome
 delivered w past None = Refuses NoFrame
@@ -132,23 +143,35 @@ reported t s (Some e) = met_by_server t s e
 abbrev pub cut : Node → Result FrameStep Fault
 cut (Server s) = Ok (OfServer s (Happens server.Cut))
 cut Client = Ok (OfClient (Happens client.Cut))
-cut Mirror = Err NoMirror
+cut Mirror = Ok (OfMirror mirror.Cut)
 
 -- A boot of eight bytes is left above those that were used.
 abbrev pub has_boot : List Step → ℕ → Bool
 has_boot t s = nat_lt (servers.boot (opening_of s) (of_server s t) + 1) (2 ^ 64)
 
--- A node is started again; a server saves its boot before.
-abbrev pub restarted : List Step → Node → Result FrameStep Fault
-restarted t (Server s) =
+-- What the client's note says.
+abbrev pub noted_in : Setup → List Step → Noted
+noted_in w t = clients.noted (client_opening w) (of_client w t)
+
+-- A node is started again; a server saves its boot before, and a client with a mirror is started only on a
+-- note.
+abbrev pub restarted : Setup → List Step → Node → Result FrameStep Fault
+restarted w t (Server s) =
     if has_boot t s then Ok (OfServer s (Happens (server.Restart lefts.Saved))) else Err NumbersSpent
-restarted t Client = Ok (OfClient (Happens (client.Restart false)))
-restarted t Mirror = Err NoMirror
+restarted w t Client =
+    if w.mirror && is_blank (noted_in w t) then Err BadNote
+    else Ok (OfClient (Happens (client.Restart w.mirror)))
+restarted w t Mirror = Ok (OfMirror mirror.Restart)
+
+-- The client is started on no note, and saves the generation that it is given.
+abbrev pub renewed : Setup → List Step → ℕ → Result FrameStep Fault
+renewed w t g =
+    if is_blank (noted_in w t) then Ok (OfClient (Happens (client.Renew g lefts.Saved))) else Err BadNote
 
 -- The client loses its power within the save that a call is due to make.
 abbrev pub client_cut_in : Setup → List Step → Bool → Call → Result FrameStep Fault
 client_cut_in w t landed c =
-    where_saved (clients.due (client_opening w) (of_client t) c)
+    where_saved (clients.due (client_opening w) (of_client w t) c)
     (OfClient (Happens (client.Met c (lost_by landed))))
 
 -- A server, or the client, loses its power within the save that a frame's packet is due to make.
@@ -160,9 +183,14 @@ server_frame_cut t s landed f _ = Err NoSave
 
 abbrev pub client_frame_cut : Setup → List Step → Bool → Frame → Meaning → Result FrameStep Fault
 client_frame_cut w t landed f (Says p) =
-    where_saved (clients.due (client_opening w) (of_client t) (calls.Deliver p))
+    where_saved (clients.due (client_opening w) (of_client w t) (calls.Deliver p))
     (OfClient (Comes f (lost_by landed)))
 client_frame_cut w t landed f _ = Err NoSave
+
+-- The mirror does.
+abbrev pub mirror_frame_cut : List Step → Bool → Frame → Result FrameStep Fault
+mirror_frame_cut t landed f =
+    where_saved (mirrors.due mirror_opening (of_mirror t) f) (OfMirror (mirror.Met f (lost_by landed)))
 
 -- The node of a frame does.
 abbrev pub frame_cut : Setup → List Change → Bool → Node → Frame → Result FrameStep Fault
@@ -170,26 +198,32 @@ frame_cut w past landed (Server s) f =
     server_frame_cut (trace w past) s landed f (said_to_server (steps past) s f)
 frame_cut w past landed Client f =
     client_frame_cut w (trace w past) landed f (said_to_client w (steps past) f)
-frame_cut w past landed Mirror f = Err NoMirror
+frame_cut w past landed Mirror f = mirror_frame_cut (trace w past) landed f
 
 abbrev pub delivery_cut_in : Setup → List Change → Bool → Option Frame → Result FrameStep Fault
 delivery_cut_in w past landed None = Err NoFrame
 delivery_cut_in w past landed (Some f) = frame_cut w past landed (to_of f) f
 
--- A server loses its power within the save of its boot. The client's restart makes no save.
+-- A server loses its power within the save of its boot. The restart of another node makes no save.
 abbrev pub restart_cut_in : List Step → Bool → Node → Result FrameStep Fault
 restart_cut_in t landed (Server s) =
     if has_boot t s then Ok (OfServer s (Happens (server.Restart (lost_by landed)))) else Err NoSave
 restart_cut_in t landed Client = Err NoSave
-restart_cut_in t landed Mirror = Err NoMirror
+restart_cut_in t landed Mirror = Err NoSave
 
--- A node loses its power within the save of what happens. Only these four make one.
+-- The client loses its power within the save of its generation, where it has no note.
+abbrev pub renewal_cut_in : Setup → List Step → Bool → ℕ → Result FrameStep Fault
+renewal_cut_in w t landed g =
+    if is_blank (noted_in w t) then Ok (OfClient (Happens (client.Renew g (lost_by landed)))) else Err NoSave
+
+-- A node loses its power within the save of what happens. Only these five make one.
 abbrev pub cut_in : Setup → List Change → Bool → Happening → Result FrameStep Fault
 cut_in w past landed (Begin text) = client_cut_in w (trace w past) landed (calls.Begin text)
 cut_in w past landed (Verify run text) = client_cut_in w (trace w past) landed (calls.Verify run text)
 cut_in w past landed (Deliver i) =
     delivery_cut_in w past landed (slice_get (frames_sent w (steps past)) i)
 cut_in w past landed (Restart node) = restart_cut_in (trace w past) landed node
+cut_in w past landed (Renew g) = renewal_cut_in w (trace w past) landed g
 cut_in w past landed _ = Err NoSave
 
 -- What comes of what the world doesn't refuse.
@@ -207,7 +241,9 @@ brings w past (Fail s j k) = stepped (ended (trace w past) s k ends.Failed (open
 brings w past (Rot s j sector bytes) = Does (Rotted s j sector bytes)
 brings w past (Check s j) = stepped (reported (trace w past) s (checked w past s j))
 brings w past (Cut node) = stepped (cut node)
-brings w past (Restart node) = stepped (restarted (trace w past) node)
+brings w past (Restart node) = stepped (restarted w (trace w past) node)
+brings w past LoseNote = Does (Met (OfClient (Happens client.Lose)))
+brings w past (Renew g) = stepped (renewed w (trace w past) g)
 brings w past (CutIn landed e) = stepped (cut_in w past landed e)
 
 -- What happens, unless the world refuses it.

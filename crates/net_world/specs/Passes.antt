@@ -1,19 +1,21 @@
--- How a verify state goes round, in four passes: from its server to the client, into the client's
--- table, back in a Saved, and into a check. No other packet carries one.
+-- How a verify state goes round: from its server to the client; into the client's note, to the mirror and
+-- back, however often a note is lost; to a server again in a Saved; and into a check.
 use Rattle.std.specs.Prelude.{◌≡◌, ℕ, List, ◌++◌, Some, Contains}
 use Rattle.fc_base.specs.declared.fault.Fault.TheVariants.{Conflict}
 use Rattle.fc_base.specs.declared.numbers.Key.{Key}
 use Rattle.verify_state.specs.State.{State}
 use Rattle.messages.specs.declared.packet.PacketParts.{PacketParts}
 use Rattle.messages.specs.declared.body.Body.TheVariants as bodies
+use Rattle.messages.specs.declared.frame.Frame.TheVariants.{Whole}
 use Rattle.server_core.specs.Check.{With, progress}
 use Rattle.client_core.specs.declared.call.Call.TheVariants.{Deliver}
-use Rattle.client_core.specs.Words.{kept, refusal}
+use Rattle.client_core.specs.Words.{kept, noted, refusal}
 use Rattle.client_core.specs.Laws.{from_server}
 use Rattle.client_core.specs.Packets.{to_server}
+use Rattle.mirror_core.specs.Words as mirrors
 use Rattle.net_world.specs.Setup.{Setup}
-use Rattle.net_world.specs.Trace.{Step, opening_of, client_opening, of_server, of_client, sent}
-use Rattle.net_world.specs.Holders.{taken_of}
+use Rattle.net_world.specs.Trace.{Step, opening_of, client_opening, mirror_opening, of_server, of_client, of_mirror, sent}
+use Rattle.net_world.specs.Holders.{taken_of, carried}
 
 -- Each state that was sent in a State was taken by the server that its key names.
 abbrev pub SentStatesWereTaken : Setup → List Step → Type 0
@@ -21,35 +23,37 @@ SentStatesWereTaken w t =
     (p : PacketParts) (jobs : ℕ) (state : State) →
     Contains (sent w t) p → p.body ≡ bodies.State jobs state → Contains (taken_of state.key t) state
 
--- A state of this key was sent to the client, by the server that the key names.
-pub record WasSentAs (w : Setup) (t : List Step) (key : Key) (state : State) : Type 0 where
-  pub key_is : state.key ≡ key
-  pub jobs : ℕ
-  pub sent_in : Contains (sent w t) (from_server (bodies.State jobs state) key.server)
+-- The state was sent to the client in a State, by the server that its key names.
+abbrev pub WasSent : Setup → List Step → State → Type 0
+WasSent w t state = (jobs : ℕ) × Contains (sent w t) (from_server (bodies.State jobs state) state.key.server)
 
--- Each state that the client keeps was sent to it.
+-- Each state that a packet carries was sent so: a State itself, a Saved, and a Copy.
+abbrev pub CarriedStatesWereSent : Setup → List Step → Type 0
+CarriedStatesWereSent w t =
+    (p : PacketParts) (state : State) → Contains (sent w t) p → carried p.body ≡ Some state → WasSent w t state
+
+-- Each state that the client's note has was sent so, in whichever life it was noted.
 abbrev pub KeptStatesWereSent : Setup → List Step → Type 0
 KeptStatesWereSent w t =
-    (key : Key) (state : State) →
-    kept (client_opening w) (of_client t) key ≡ Some state → WasSentAs w t key state
+    (state : State) → Contains (noted (client_opening w) (of_client w t)).kept state → WasSent w t state
+
+-- Each state that the mirror's note has was sent so.
+abbrev pub CopiedStatesWereSent : Setup → List Step → Type 0
+CopiedStatesWereSent w t =
+    (state : State) → Contains (mirrors.noted mirror_opening (of_mirror t)).kept state → WasSent w t state
 
 -- There was a moment at which the client kept the state.
 pub record WasKept (w : Setup) (t : List Step) (key : Key) (state : State) : Type 0 where
   pub later : List Step
   pub earlier : List Step
   pub split : t ≡ later ++ earlier
-  pub kept_there : kept (client_opening w) (of_client earlier) key ≡ Some state
+  pub kept_there : kept (client_opening w) (of_client w earlier) key ≡ Some state
 
 -- Each state that was sent in a Saved was by then the kept one of its key.
 abbrev pub SavedStatesWereKept : Setup → List Step → Type 0
 SavedStatesWereKept w t =
     (p : PacketParts) (attempt : ℕ) (state : State) →
     Contains (sent w t) p → p.body ≡ bodies.Saved attempt state → WasKept w t state.key state
-
--- No state is sent in a Copy: there is no mirror.
-abbrev pub NoCopyIsSent : Setup → List Step → Type 0
-NoCopyIsSent w t =
-    (p : PacketParts) (state : State) → Contains (sent w t) p → p.body ≡ bodies.Copy state → ⊥
 
 -- Each state that a job is checked with was sent to its server.
 abbrev pub CheckedStatesWereSent : Setup → List Step → Type 0
@@ -61,4 +65,10 @@ CheckedStatesWereSent w t =
 abbrev pub NoPacketConflicts : Setup → List Step → Type 0
 NoPacketConflicts w t =
     (p : PacketParts) → Contains (sent w t) p →
-    refusal (client_opening w) (of_client t) (Deliver p) ≡ Some Conflict → ⊥
+    refusal (client_opening w) (of_client w t) (Deliver p) ≡ Some Conflict → ⊥
+
+-- Nor is one by the mirror.
+abbrev pub NoCopyConflicts : Setup → List Step → Type 0
+NoCopyConflicts w t =
+    (p : PacketParts) → Contains (sent w t) p →
+    mirrors.refusal mirror_opening (of_mirror t) (Whole p) ≡ Some Conflict → ⊥

@@ -1,10 +1,16 @@
--- What a world is made with: so many servers.
-use Rattle.std.specs.Prelude.{ℕ}
+-- What a world is made with.
+use Rattle.std.specs.Prelude.{ℕ, Bool, false}
+use Rattle.net_world.specs.declared.config.Config.{Config}
 
--- What a world is made with: so many servers.
-abbrev pub Setup : Type 0
-Setup = ℕ
+-- So many servers, and a mirror or none.
+pub record Setup : Type 0 where
+  pub servers : ℕ
+  pub mirror : Bool
 
--- How many servers it has.
-abbrev pub servers_of : Setup → ℕ
-servers_of w = w
+-- So many servers, and no mirror.
+abbrev pub without_mirror : ℕ → Setup
+without_mirror n = record { servers = n; mirror = false }
+
+-- What a configuration says.
+abbrev pub setup_of : Config → Setup
+setup_of config = without_mirror config.servers

@@ -20,7 +20,7 @@ use Rattle.client_core.specs.Words as clients
 use Rattle.net_world.specs.declared.told.Answer.{Answer}
 use Rattle.net_world.specs.declared.told.Answer.TheVariants as answers
 use Rattle.net_world.specs.declared.told.Told.{Told}
-use Rattle.net_world.specs.Setup.{Setup, servers_of}
+use Rattle.net_world.specs.Setup.{Setup}
 use Rattle.net_world.specs.Happenings.{Happening, Begin, Verify, Issue, Check}
 use Rattle.net_world.specs.Trace.{Step, AtServer, of_server, of_client, opening_of, client_opening}
 use Rattle.net_world.specs.Frames.{frames_sent, frames_of_step, step_heard}
@@ -46,18 +46,18 @@ frames w past = map frame_spelling (frames_sent w (steps past))
 
 -- What the client's note says.
 abbrev pub noted : Setup → List Change → Noted
-noted w past = clients.noted (client_opening w) (of_client (trace w past))
+noted w past = clients.noted (client_opening w) (of_client w (trace w past))
 
 -- The state that the client keeps of a key, while it is on.
 abbrev pub saved : Setup → List Change → Key → Option State
 saved w past key =
-    if is_on (trace w past) Client then clients.kept (client_opening w) (of_client (trace w past)) key
+    if is_on w (trace w past) Client then clients.kept (client_opening w) (of_client w (trace w past)) key
     else None
 
 -- What a server shows of itself, while it is there and on.
 abbrev pub status : Setup → List Change → ℕ → Option Status
 status w past s =
-    if nat_lt s (servers_of w) && is_on (trace w past) (Server s)
+    if nat_lt s w.servers && is_on w (trace w past) (Server s)
     then Some (servers.status (opening_of s) (of_server s (trace w past)))
     else None
 

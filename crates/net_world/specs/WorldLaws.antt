@@ -3,7 +3,7 @@ use Rattle.std.specs.Prelude.{◌≡◌, ◌≤◌, List, [], Some, Contains}
 use Rattle.messages.specs.declared.frame.Frame.{Frame}
 use Rattle.messages.specs.FrameBytes.{frame_at, frame_faults, frame_spelling, IsShort}
 use Rattle.messages.specs.FrameLaws.{IsFrame}
-use Rattle.net_world.specs.Setup.{Setup, servers_of}
+use Rattle.net_world.specs.Setup.{Setup}
 use Rattle.net_world.specs.Happenings.{Happening}
 use Rattle.net_world.specs.Trace.{IsTrace}
 use Rattle.net_world.specs.Frames.{IsFrameTrace, frames_sent}
@@ -16,13 +16,13 @@ EachWorldIsAFrameTrace = (w : Setup) (events : List Happening) → IsFrameTrace 
 
 -- So what they hear is a trace, where the world has at most 8 servers.
 abbrev pub EachWorldIsATrace : Type 0
-EachWorldIsATrace = (w : Setup) (events : List Happening) → servers_of w ≤ 8 → IsTrace w (trace w (world w events))
+EachWorldIsATrace = (w : Setup) (events : List Happening) → w.servers ≤ 8 → IsTrace w (trace w (world w events))
 
 -- Each frame that was sent in a world is in its ranges, and short enough to be read.
 abbrev pub SentAreFrames : Type 0
 SentAreFrames =
     (w : Setup) (events : List Happening) (f : Frame) →
-    servers_of w ≤ 8 → Contains (frames_sent w (steps (world w events))) f → IsFrame f × IsShort f
+    w.servers ≤ 8 → Contains (frames_sent w (steps (world w events))) f → IsFrame f × IsShort f
 
 -- A frame's bytes have no fault, and say that frame.
 abbrev pub IsReadBack : Frame → Type 0
@@ -32,4 +32,4 @@ IsReadBack f = (frame_faults (frame_spelling f) ≡ []) × (frame_at (frame_spel
 abbrev pub SentFramesAreRead : Type 0
 SentFramesAreRead =
     (w : Setup) (events : List Happening) (f : Frame) →
-    servers_of w ≤ 8 → Contains (frames_sent w (steps (world w events))) f → IsReadBack f
+    w.servers ≤ 8 → Contains (frames_sent w (steps (world w events))) f → IsReadBack f

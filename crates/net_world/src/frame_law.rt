@@ -16,6 +16,7 @@ pub fn sent_are_in_range()
 {
     client_core::packets_are_in_range();
     server_core::packets_are_in_range();
+    mirror_core::packets_are_in_range();
 }
 
 /// In each trace a tag names one body: only job files are long enough to be cut, and a run and an

@@ -2,27 +2,27 @@
 //! functions have nothing to run.
 
 ghost use Rattle.net_world.specs.Claims.{OfEachList, OfEachTrace};
-ghost use Rattle.net_world.specs.Passes.{NoPacketConflicts};
+ghost use Rattle.net_world.specs.Passes.{NoPacketConflicts, NoCopyConflicts};
 ghost use Rattle.net_world.specs.Headline.{StatePacketsAreEqual, OneTextOfEachRun, OneTextOfEachAttempt, RunsAreGivenOnce, AttemptsAreGivenOnce, StartsAreAcceptedOnce, KeptWhereServed, KeptWhereCut};
 
-use crate::passes::{kept_states_were_sent, no_copy_is_sent, sent_states_were_taken};
+use crate::passes::{held_states_were_sent, sent_states_were_taken};
 use crate::verdict::one_state_of_each_job;
-use client_core::{
-    acks_are_for_kept_states, first_kept_stays, numbers_are_fresh, one_text, packets_go_to_peers,
-    triggers_end_well,
-};
+use client_core::{acks_are_for_kept_states, one_text, packets_go_to_peers, triggers_end_well};
+use mirror_core::packets_go_to_the_client;
 use server_core::{
     cuts_when_kept, numbers_grow, packets_go_to_client, starts, the_taken, the_untaken,
 };
 
-/// No state that was sent differs from the kept one of its key, or from another that was sent.
+/// No state that was sent differs from the kept one of its key, at the client or at the mirror, or from
+/// another that was sent.
 pub fn nothing_differs()
     ensures kept { OfEachTrace NoPacketConflicts }
+    ensures copied { OfEachTrace NoCopyConflicts }
     ensures packets { OfEachList StatePacketsAreEqual }
 {
+    state_table::found_states();
     sent_states_were_taken();
-    kept_states_were_sent();
-    no_copy_is_sent();
+    held_states_were_sent();
     one_state_of_each_job();
     the_taken();
     the_untaken();
@@ -30,6 +30,7 @@ pub fn nothing_differs()
     starts();
     packets_go_to_client();
     packets_go_to_peers();
+    packets_go_to_the_client();
 }
 
 /// All Jobs packets of a run carry one text, and all Verify packets of an attempt one run and text.
@@ -40,27 +41,29 @@ pub fn one_text_of_each()
     one_text();
     packets_go_to_client();
     packets_go_to_peers();
+    packets_go_to_the_client();
 }
 
-/// Runs and attempts are given once, and each server accepts a Start of a run once, over cuts and
-/// restarts.
+/// Runs and attempts are given once, and each server accepts a Start of a run once, over cuts, restarts
+/// and lost notes.
 pub fn numbers_are_given_once()
     ensures runs { OfEachTrace RunsAreGivenOnce }
     ensures attempts { OfEachTrace AttemptsAreGivenOnce }
     ensures starts { OfEachList StartsAreAcceptedOnce }
 {
-    numbers_are_fresh();
+    client_core::numbers_are_given_once();
     numbers_grow();
 }
 
-/// Where a trigger has ended well at a server, or the server asks for the cut, each state that it took
-/// in the run is kept.
+/// Where a trigger has ended well at a server, each state that it took in the run is kept; where the
+/// server asked for the cut, each was kept by then.
 pub fn ends_are_kept()
     ensures served { OfEachTrace KeptWhereServed }
     ensures cut { OfEachTrace KeptWhereCut }
 {
+    state_table::found_states();
     sent_states_were_taken();
-    kept_states_were_sent();
+    held_states_were_sent();
     one_state_of_each_job();
     the_taken();
     the_untaken();
@@ -68,8 +71,8 @@ pub fn ends_are_kept()
     starts();
     packets_go_to_client();
     packets_go_to_peers();
+    packets_go_to_the_client();
     triggers_end_well();
-    first_kept_stays();
     acks_are_for_kept_states();
     cuts_when_kept();
 }

@@ -3,10 +3,7 @@
 ghost use Rattle.net_world.specs.Claims.{OfEachWorld};
 ghost use Rattle.net_world.specs.Headline.{FewFaults, NoFaults};
 
-use crate::passes::{
-    checked_states_were_sent, kept_states_were_sent, no_copy_is_sent, saved_states_were_kept,
-    sent_states_were_taken,
-};
+use crate::passes::{checked_states_were_sent, held_states_were_sent, sent_states_were_taken};
 use crate::world_law::each_world_is_a_trace;
 use disk_model::block_law;
 use engine::{overlap_law, taken_law};
@@ -23,9 +20,8 @@ pub fn honest_disks()
 {
     each_world_is_a_trace();
     sent_states_were_taken();
-    kept_states_were_sent();
-    saved_states_were_kept();
-    no_copy_is_sent();
+    state_table::found_states();
+    held_states_were_sent();
     checked_states_were_sent();
     counts_the_done();
     with_was_heard();

@@ -32,8 +32,7 @@ pub use frame_law::{
 pub use fresh::{ends_are_kept, nothing_differs, numbers_are_given_once, one_text_of_each};
 pub use honest::honest_disks;
 pub use passes::{
-    checked_states_were_sent, kept_states_were_sent, no_copy_is_sent, saved_states_were_kept,
-    sent_states_were_taken,
+    checked_states_were_sent, held_states_were_sent, saved_states_were_kept, sent_states_were_taken,
 };
 pub use playing::play;
 pub use sent::Sent;

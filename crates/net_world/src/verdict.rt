@@ -3,10 +3,7 @@
 ghost use Rattle.net_world.specs.Claims.{OfEachList, OfEachTrace};
 ghost use Rattle.net_world.specs.Headline.{OneTaking, HeldIsTheTaken, CountsTheCompleted, QuietUntilTheCheck};
 
-use crate::passes::{
-    checked_states_were_sent, kept_states_were_sent, no_copy_is_sent, saved_states_were_kept,
-    sent_states_were_taken,
-};
+use crate::passes::{checked_states_were_sent, held_states_were_sent, sent_states_were_taken};
 use server_core::{counts_the_done, one_taking, quiet, with_was_heard};
 
 /// Of a job of a run one state is taken at most; all who hold a state of it hold that one; it counts
@@ -20,9 +17,8 @@ pub fn one_state_of_each_job()
 {
     one_taking();
     sent_states_were_taken();
-    kept_states_were_sent();
-    saved_states_were_kept();
-    no_copy_is_sent();
+    state_table::found_states();
+    held_states_were_sent();
     checked_states_were_sent();
     counts_the_done();
     with_was_heard();

@@ -2,7 +2,7 @@
 
 ghost use Rattle.std.specs.Prelude.{◌≡◌, ◌≤◌, ◌+◌, ◌*◌, ◌&&◌, [], List, length, nat_lt, IfOk, OnOk, OnErr, ◌∷◌};
 ghost use Rattle.std.specs.Option.{option_copied};
-ghost use Rattle.net_world.specs.Setup.{Setup};
+ghost use Rattle.net_world.specs.Setup.{Setup, setup_of};
 ghost use Rattle.net_world.specs.Opened.{AreOpened, AreBlank, blank};
 ghost use Rattle.disk_model.specs.MemDisk.{file_of};
 
@@ -69,7 +69,7 @@ impl World {
     pub fn new(alloc: Global, config: Config) -> Result<World, AllocError>
         requires some { 1 ≤ config.servers }
         requires few { config.servers ≤ 8 }
-        ensures { IfOk result (StandsFor config.servers []) }
+        ensures { IfOk result (StandsFor (setup_of config) []) }
     {
         let servers = open_servers(alloc, config.servers)?;
         let files = open_files(alloc, 16 * config.servers)?;

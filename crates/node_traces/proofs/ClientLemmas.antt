@@ -47,7 +47,8 @@ use Rattle.node_history.specs.Replay.{Ends, Passes, Stops}
 use Rattle.node_history.specs.Rules.{Ask, Meets, Cuts, Restarts, Nothing}
 use Rattle.node_history.specs.ServerRules.{left_by}
 use Rattle.node_history.specs.ClientRules.{rules, asked, added, delivered, is_up, lost, passed, refusal}
-use Rattle.net_world.specs.Frames.{OfClient, MayHappen, to_of}
+use Rattle.net_world.specs.Setup.{without_mirror}
+use Rattle.net_world.specs.Frames.{FrameStep, OfClient, MayHappen, is_allowed, to_of}
 use Rattle.node_traces.specs.Marks.{frame_of}
 use Rattle.node_traces.proofs.RefusalLemmas.{CameOf, IsFor, MayNot, MayPass, drop_for, dropped, left_out_stays, no_pass, no_power}
 
@@ -286,16 +287,33 @@ asked_of frames came.Restart h = tt
 happens : (frames : List Frame) (ask : Ask Input) (e : FrameEntry) → IsOf frames ask → IsAsked ask e → MayHappen frames (OfClient (coming e))
 unfolding IsOf IsAsked
 happens frames ask (Met (inputs.Deliver f) left) h k = (subst (IsOf frames) k.0 h, k.1)
-happens frames ask (Met (inputs.Begin text) left) h k = (refl, refl)
-happens frames ask (Met (inputs.Trigger run act) left) h k = (refl, refl)
-happens frames ask (Met (inputs.Stop run) left) h k = (refl, refl)
-happens frames ask (Met (inputs.Verify run text) left) h k = (refl, refl)
-happens frames ask (Met inputs.Tick left) h k = (refl, refl)
-happens frames ask Cut h k = (refl, refl)
-happens frames ask (Restart mirror) h k = (refl, ap not k)
+happens frames ask (Met (inputs.Begin text) left) h k = refl
+happens frames ask (Met (inputs.Trigger run act) left) h k = refl
+happens frames ask (Met (inputs.Stop run) left) h k = refl
+happens frames ask (Met (inputs.Verify run text) left) h k = refl
+happens frames ask (Met inputs.Tick left) h k = refl
+happens frames ask Cut h k = refl
+happens frames ask (Restart mirror) h k = refl
 happens frames ask (Renew g left) h k = absurd k
 happens frames ask Lose h k = absurd k
 
 -- It may happen behind these frames.
 pub client_happens : (frames : List Frame) (c : Came) (e : FrameEntry) → CameOf frames (frame_of c) → IsAsked (asked c) e → MayHappen frames (OfClient (coming e))
 client_happens frames c e h k = happens frames (asked c) e (asked_of frames c h) k
+
+allowed : (n : ℕ) (t : List FrameStep) (ask : Ask Input) (e : FrameEntry) → IsAsked ask e → is_allowed (without_mirror n) t (OfClient (coming e)) ≡ true
+unfolding IsAsked
+allowed n t ask (Met (inputs.Deliver f) left) k = refl
+allowed n t ask (Met (inputs.Begin text) left) k = refl
+allowed n t ask (Met (inputs.Trigger run act) left) k = refl
+allowed n t ask (Met (inputs.Stop run) left) k = refl
+allowed n t ask (Met (inputs.Verify run text) left) k = refl
+allowed n t ask (Met inputs.Tick left) k = refl
+allowed n t ask Cut k = refl
+allowed n t ask (Restart mirror) k = ap not k
+allowed n t ask (Renew g left) k = absurd k
+allowed n t ask Lose k = absurd k
+
+-- It is one without a mirror.
+pub client_allowed : (n : ℕ) (t : List FrameStep) (c : Came) (e : FrameEntry) → IsAsked (asked c) e → is_allowed (without_mirror n) t (OfClient (coming e)) ≡ true
+client_allowed n t c e k = allowed n t (asked c) e k

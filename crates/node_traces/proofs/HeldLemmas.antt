@@ -10,7 +10,8 @@ use Rattle.server_core.specs.Check.{With, progress}
 use Rattle.verify_state.specs.State.{State}
 use Rattle.client_core.specs.History as client
 use Rattle.client_core.specs.Words.{kept}
-use Rattle.net_world.specs.Trace.{Step, AtServer, AtClient, IsTrace, of_server, opening_of, client_opening}
+use Rattle.net_world.specs.Setup.{without_mirror}
+use Rattle.net_world.specs.Trace.{Step, AtServer, AtClient, AtMirror, IsTrace, of_server, opening_of, client_opening}
 use Rattle.net_world.specs.Frames.{at_server, at_client, trace_heard}
 use Rattle.net_world.specs.FrameLaws.{NodesHearTheirOwn, OnlySentIsHeard}
 use Rattle.net_world.specs.Holders.{ByClient}
@@ -22,7 +23,7 @@ use Rattle.node_traces.specs.Laws.{AssembledAreHeard, AssembledNodesHoldOneState
 -- Of a trace there is the part in which a server's list was this one, which isn't empty.
 record IsOlder (n s : ℕ) (past : List server.Entry) : Type 0 where
   part : List Step
-  legal : IsTrace n part
+  legal : IsTrace (without_mirror n) part
   list : of_server s part ≡ past
 
 tail : {X : Type 0} (x y : X) (xs ys : List X) → x ∷ xs ≡ y ∷ ys → xs ≡ ys
@@ -30,7 +31,7 @@ tail x y xs ys h = cc
 
 older_at :
     (b : Bool) (n s r : ℕ) (e : server.Entry) (t : List Step) (later past : List server.Entry) →
-    IsTrace n (AtServer r e ∷ t) → (r == s) ≡ b →
+    IsTrace (without_mirror n) (AtServer r e ∷ t) → (r == s) ≡ b →
     (if b then e ∷ of_server s t else of_server s t) ≡ later ++ past →
     ((front : List server.Entry) → of_server s t ≡ front ++ past → IsOlder n s past) → IsOlder n s past
 older_at true n s r e t [] past legal at is rest = record {
@@ -47,7 +48,7 @@ ends [] past h = sym h
 ends (x ∷ later) past h = cc
 
 older :
-    (n s : ℕ) (t : List Step) (later past : List server.Entry) → IsTrace n t →
+    (n s : ℕ) (t : List Step) (later past : List server.Entry) → IsTrace (without_mirror n) t →
     of_server s t ≡ later ++ past → (past ≡ [] → ⊥) → IsOlder n s past
 older n s [] [] past legal is some = record { part = []; legal = legal; list = is }
 older n s [] (x ∷ later) past legal is some =
@@ -56,6 +57,7 @@ older n s (AtServer r e ∷ t) later past legal is some =
     older_at (r == s) n s r e t later past legal refl is
     (λ front h. older n s t front past legal.0 h some)
 older n s (AtClient e ∷ t) later past legal is some = older n s t later past legal.0 is some
+older n s (AtMirror e ∷ t) later past legal is some = older n s t later past legal.0 is some
 
 -- No job is checked in an empty list.
 unchecked :
@@ -69,9 +71,9 @@ unchecked s j state past h e =
 
 pub assembled_are_heard : OnlySentIsHeard → NodesHearTheirOwn → AssembledAreHeard
 assembled_are_heard only own n frames servers list trace is = record {
-  legal = only n trace is.legal is.fits;
-  servers_are = λ s. (own n trace).servers s ∙ ap (λ (past : List (Coming server.Entry Left)). (heard (at_server s) past).entries) (is.servers_are s);
-  client_is = (own n trace).client ∙ ap (λ (past : List (Coming client.Entry Left)). (heard (at_client n) past).entries) is.client_is;
+  legal = only (without_mirror n) trace is.legal is.fits;
+  servers_are = λ s. (own (without_mirror n) trace).servers s ∙ ap (λ (past : List (Coming server.Entry Left)). (heard (at_server s) past).entries) (is.servers_are s);
+  client_is = (own (without_mirror n) trace).client ∙ ap (λ (past : List (Coming client.Entry Left)). (heard (at_client (without_mirror n)) past).entries) is.client_is;
 }
 
 -- The verdict theorem of all traces.
@@ -84,16 +86,16 @@ pub record Laws : Type 0 where
 pub hold_one_state : Laws → AssembledAreHeard → AssembledNodesHoldOneState
 hold_one_state laws are n frames servers list trace is =
     let heard = are n frames servers list trace is in
-    let t = trace_heard n trace in
+    let t = trace_heard (without_mirror n) trace in
     record {
-      once = λ key. subst (λ (past : List server.Entry). length (takings (opening_of key.server) key.run key.job past) ≤ 1) (heard.servers_are key.server) (laws.once n t key);
-      keeps = λ key state h. ByClient (subst (λ (past : List client.Entry). kept (client_opening n) past key ≡ Some state) (sym heard.client_is) h);
-      held = λ key state h. subst (λ (past : List server.Entry). takings (opening_of key.server) key.run key.job past ≡ state ∷ []) (heard.servers_are key.server) (laws.held n t heard.legal key state h);
-      counted = λ key state h. subst (λ (past : List server.Entry). IsTaking (opening_of key.server) key.run key.job past state) (heard.servers_are key.server) (laws.counted n t heard.legal key state h);
+      once = λ key. subst (λ (past : List server.Entry). length (takings (opening_of key.server) key.run key.job past) ≤ 1) (heard.servers_are key.server) (laws.once (without_mirror n) t key);
+      keeps = λ key state h. ByClient (subst (λ (past : List client.Entry). kept (client_opening (without_mirror n)) past key ≡ Some state) (sym heard.client_is) h);
+      held = λ key state h. subst (λ (past : List server.Entry). takings (opening_of key.server) key.run key.job past ≡ state ∷ []) (heard.servers_are key.server) (laws.held (without_mirror n) t heard.legal key state h);
+      counted = λ key state h. subst (λ (past : List server.Entry). IsTaking (opening_of key.server) key.run key.job past state) (heard.servers_are key.server) (laws.counted (without_mirror n) t heard.legal key state h);
       quiet = λ s j state later past split h.
           let split_heard = heard.servers_are s ∙ split in
           let part = older n s t later past heard.legal split_heard (unchecked s j state past h) in
           let checked = subst (λ (list : List server.Entry). progress (opening_of s) list j ≡ Some (With state)) (sym part.list) h in
           subst (λ (list : List server.Entry). IsBased s j list state) part.list
-          (laws.quiet n part.part part.legal s j state checked);
+          (laws.quiet (without_mirror n) part.part part.legal s j state checked);
     }

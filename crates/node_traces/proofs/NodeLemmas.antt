@@ -29,8 +29,9 @@ use Rattle.node_history.specs.Replay.{Ends, Makes}
 use Rattle.node_history.specs.Rules.{Rules, Nothing}
 use Rattle.node_history.specs.ServerRules.{rules as server_rules}
 use Rattle.node_history.specs.ClientRules.{rules as client_rules}
+use Rattle.net_world.specs.Setup.{without_mirror}
 use Rattle.net_world.specs.Trace.{opening_of, client_opening}
-use Rattle.net_world.specs.Frames.{FrameStep, OfServer, OfClient, of_server, of_client, at_server, at_client, frames_by, frames_of_step, MayHappen}
+use Rattle.net_world.specs.Frames.{FrameStep, OfServer, OfClient, of_server, of_client, at_server, at_client, frames_by, frames_of_step, MayHappen, is_allowed}
 use Rattle.net_world.specs.InRange.{FrameStepFits}
 use Rattle.node_traces.specs.Marks.{frame_of}
 use Rattle.node_traces.specs.Names.{node_of}
@@ -69,7 +70,7 @@ no_rules = record {
 
 abbrev pub rules_of : (n : ℕ) (node : Node) → Rules (InputOf node) (EntryOf node)
 rules_of n (Server s) = server_rules (opening_of s)
-rules_of n Client = client_rules (client_opening n)
+rules_of n Client = client_rules (client_opening (without_mirror n))
 rules_of n Mirror = no_rules
 
 abbrev pub coming_to : (node : Node) → EntryOf node → ComingTo node
@@ -78,10 +79,10 @@ coming_to Client e = client_coming e
 coming_to Mirror e = e
 
 -- What has happened to a node in a trace.
-abbrev pub happened_to : (node : Node) → List FrameStep → List (ComingTo node)
-happened_to (Server s) t = of_server s t
-happened_to Client t = of_client t
-happened_to Mirror t = []
+abbrev pub happened_to : ℕ → (node : Node) → List FrameStep → List (ComingTo node)
+happened_to n (Server s) t = of_server s t
+happened_to n Client t = of_client (without_mirror n) t
+happened_to n Mirror t = []
 
 abbrev pub step_at : (node : Node) → ComingTo node → FrameStep
 step_at (Server s) c = OfServer s c
@@ -96,26 +97,26 @@ IsBelow n Mirror = ⊥
 
 -- ---- the steps of a node
 
-pub own_step : (node : Node) (c : ComingTo node) (t : List FrameStep) → happened_to node (step_at node c ∷ t) ≡ c ∷ happened_to node t
-own_step (Server s) c t = let same : (s == s) ≡ true = grind (arith, nat_tests) in rw same refl
-own_step Client c t = refl
-own_step Mirror c t = absurd c
+pub own_step : (n : ℕ) (node : Node) (c : ComingTo node) (t : List FrameStep) → happened_to n node (step_at node c ∷ t) ≡ c ∷ happened_to n node t
+own_step n (Server s) c t = let same : (s == s) ≡ true = grind (arith, nat_tests) in rw same refl
+own_step n Client c t = refl
+own_step n Mirror c t = absurd c
 
-pub other_step : (node other : Node) (c : ComingTo node) (t : List FrameStep) → is_same_node node other ≡ false → happened_to other (step_at node c ∷ t) ≡ happened_to other t
-other_step (Server s) (Server r) c t h = rw h refl
-other_step (Server s) Client c t h = refl
-other_step Client (Server r) c t h = refl
-other_step Client Client c t h = cc
-other_step (Server s) Mirror c t h = refl
-other_step Client Mirror c t h = refl
-other_step Mirror other c t h = absurd c
+pub other_step : (n : ℕ) (node other : Node) (c : ComingTo node) (t : List FrameStep) → is_same_node node other ≡ false → happened_to n other (step_at node c ∷ t) ≡ happened_to n other t
+other_step n (Server s) (Server r) c t h = rw h refl
+other_step n (Server s) Client c t h = refl
+other_step n Client (Server r) c t h = refl
+other_step n Client Client c t h = cc
+other_step n (Server s) Mirror c t h = refl
+other_step n Client Mirror c t h = refl
+other_step n Mirror other c t h = absurd c
 
 pub node_at : (node : Node) (c : ComingTo node) → node_of (step_at node c) ≡ node
 node_at (Server s) c = refl
 node_at Client c = refl
 node_at Mirror c = absurd c
 
-pub opens : (n : ℕ) (node : Node) → happened_to node [] ≡ map (coming_to node) (rules_of n node).opened
+pub opens : (n : ℕ) (node : Node) → happened_to n node [] ≡ map (coming_to node) (rules_of n node).opened
 opens n (Server s) = refl
 opens n Client = refl
 opens n Mirror = refl
@@ -124,18 +125,18 @@ server_frames : (s : ℕ) (list : List server.Entry) (x : Option server.Entry) �
 server_frames s list None = refl
 server_frames s list (Some e) = refl
 
-client_frames : (n : ℕ) (list : List client.Entry) (x : Option client.Entry) → frames_by (client_packets (client_opening n)) list x ≡ client_answers.frames_by (client_opening n) list x
+client_frames : (n : ℕ) (list : List client.Entry) (x : Option client.Entry) → frames_by (client_packets (client_opening (without_mirror n))) list x ≡ client_answers.frames_by (client_opening (without_mirror n)) list x
 client_frames n list None = refl
 client_frames n list (Some e) = refl
 
 -- A step sends the frames of its entry.
-pub frames_at : (n : ℕ) (node : Node) (t : List FrameStep) (past : List (EntryOf node)) (e : EntryOf node) → happened_to node t ≡ map (coming_to node) past → frames_of_step n t (step_at node (coming_to node e)) ≡ (rules_of n node).frames past e
+pub frames_at : (n : ℕ) (node : Node) (t : List FrameStep) (past : List (EntryOf node)) (e : EntryOf node) → happened_to n node t ≡ map (coming_to node) past → frames_of_step (without_mirror n) t (step_at node (coming_to node e)) ≡ (rules_of n node).frames past e
 frames_at n (Server s) t past e h =
     ap (λ (list : List (Coming server.Entry Left)). frames_by (server_packets (opening_of s)) (heard (at_server s) list).entries (entry_of (at_server s) (heard (at_server s) list) (server_coming e))) h
     ∙ server_frames s (heard (at_server s) (map server_coming past)).entries (entry_of (at_server s) (heard (at_server s) (map server_coming past)) (server_coming e))
 frames_at n Client t past e h =
-    ap (λ (list : List (Coming client.Entry Left)). frames_by (client_packets (client_opening n)) (heard (at_client n) list).entries (entry_of (at_client n) (heard (at_client n) list) (client_coming e))) h
-    ∙ client_frames n (heard (at_client n) (map client_coming past)).entries (entry_of (at_client n) (heard (at_client n) (map client_coming past)) (client_coming e))
+    ap (λ (list : List (Coming client.Entry Left)). frames_by (client_packets (client_opening (without_mirror n))) (heard (at_client (without_mirror n)) list).entries (entry_of (at_client (without_mirror n)) (heard (at_client (without_mirror n)) list) (client_coming e))) h
+    ∙ client_frames n (heard (at_client (without_mirror n)) (map client_coming past)).entries (entry_of (at_client (without_mirror n)) (heard (at_client (without_mirror n)) (map client_coming past)) (client_coming e))
 frames_at n Mirror t past e h = absurd e
 
 -- ---- the events of a node
@@ -146,6 +147,7 @@ pub record Goes (n : ℕ) (node : Node) (frames : List Frame) (past after : List
   pub after_is : after ≡ entry ∷ past
   pub sent_are : sent ≡ map frame_spelling ((rules_of n node).frames past entry)
   pub may : MayHappen frames (step_at node (coming_to node entry))
+  pub allowed : (t : List FrameStep) → is_allowed (without_mirror n) t (step_at node (coming_to node entry)) ≡ true
   pub fits : FrameStepFits (step_at node (coming_to node entry))
 
 pub goes : (n : ℕ) (node : Node) (frames : List Frame) (past after : List (EntryOf node)) (l : Logged) → IsBelow 8 node → CameOf frames (frame_of l.came) → is_left_out l.answer ≡ false
@@ -157,15 +159,17 @@ goes n (Server s) frames past after l few came stands ends =
       after_is = a.after_is;
       sent_are = a.sent_are;
       may = of_servers.server_happens frames (opening_of s) l.came a.entry came a.is_asked;
+      allowed = λ t. refl;
       fits = of_servers.server_fits frames (opening_of s) l.came a.entry few came a.is_asked;
     }
 goes n Client frames past after l few came stands ends =
-    let a = of_clients.adds (client_opening n) past _ l.answer l.sent after stands ends in
+    let a = of_clients.adds (client_opening (without_mirror n)) past _ l.answer l.sent after stands ends in
     record {
       entry = a.entry;
       after_is = a.after_is;
       sent_are = a.sent_are;
       may = of_clients.client_happens frames l.came a.entry came a.is_asked;
+      allowed = λ t. of_clients.client_allowed n t l.came a.entry a.is_asked;
       fits = tt;
     }
 goes n Mirror frames past after l few came stands ends = absurd few
@@ -177,7 +181,7 @@ nothing (e ∷ past) = absurd e
 
 pub stays : (n : ℕ) (node : Node) (past after : List (EntryOf node)) (l : Logged) → is_left_out l.answer ≡ true → Ends (rules_of n node) past ((rules_of n node).asked l.came) l.answer l.sent after → after ≡ past
 stays n (Server s) past after l out ends = of_servers.stays (opening_of s) past _ l.answer l.sent after out ends
-stays n Client past after l out ends = of_clients.stays (client_opening n) past _ l.answer l.sent after out ends
+stays n Client past after l out ends = of_clients.stays (client_opening (without_mirror n)) past _ l.answer l.sent after out ends
 stays n Mirror past after l out ends = nothing after ∙ sym (nothing past)
 
 -- ---- one node's history and list in place of another

@@ -15,8 +15,9 @@ use Rattle.messages.specs.Pieces.{frames_of}
 use Rattle.disk_model.specs.declared.left.Left.{Left}
 use Rattle.hub.specs.Laws.{FramesAreReadable, IsReadable}
 use Rattle.client_core.specs.History as client
+use Rattle.net_world.specs.Setup.{without_mirror}
 use Rattle.net_world.specs.Trace.{Step, AtServer, AtClient, sent}
-use Rattle.net_world.specs.Frames.{FrameStep, OfServer, OfClient, of_server, of_client, at_server, at_client, frames_sent, step_heard, trace_heard, IsFrameTrace}
+use Rattle.net_world.specs.Frames.{FrameStep, OfServer, OfClient, OfMirror, of_server, of_client, at_server, at_client, frames_sent, step_heard, trace_heard, IsFrameTrace}
 use Rattle.net_world.specs.FrameLaws.{FramesAreOfPackets, OnlySentIsHeard}
 use Rattle.net_world.specs.InRange.{FrameStepFits, StepFits, FitsFrames, SentAreInRange}
 use Rattle.node_traces.proofs.RefusalLemmas.{CameOf}
@@ -47,20 +48,21 @@ unfolding StepIf
 client_fits None = tt
 client_fits (Some e) = tt
 
-step_fits : (n : ℕ) (past : List FrameStep) (step : FrameStep) → FrameStepFits step → StepIf (step_heard n past step)
+step_fits : (n : ℕ) (past : List FrameStep) (step : FrameStep) → FrameStepFits step → StepIf (step_heard (without_mirror n) past step)
 unfolding StepIf
 step_fits n past (OfServer s (Comes f left)) h = piece_fits s left (meaning (at_server s) (heard (at_server s) (of_server s past)) f) h
 step_fits n past (OfServer s (Happens e)) h = h
-step_fits n past (OfClient c) h = client_fits (entry_of (at_client n) (heard (at_client n) (of_client past)) c)
+step_fits n past (OfMirror e) h = tt
+step_fits n past (OfClient c) h = client_fits (entry_of (at_client (without_mirror n)) (heard (at_client (without_mirror n)) (of_client (without_mirror n) past)) c)
 
 more_fits : (x : Option Step) (t : List Step) → StepIf x → AllByRecursion StepFits t → AllByRecursion StepFits (with_entry x t)
 unfolding StepIf
 more_fits None t h f = f
 more_fits (Some step) t h f = (h, f)
 
-all_fit : (n : ℕ) (t : List FrameStep) → AllByRecursion FrameStepFits t → AllByRecursion StepFits (trace_heard n t)
+all_fit : (n : ℕ) (t : List FrameStep) → AllByRecursion FrameStepFits t → AllByRecursion StepFits (trace_heard (without_mirror n) t)
 all_fit n [] h = tt
-all_fit n (step ∷ past) h = more_fits (step_heard n past step) (trace_heard n past) (step_fits n past step h.0) (all_fit n past h.1)
+all_fit n (step ∷ past) h = more_fits (step_heard (without_mirror n) past step) (trace_heard (without_mirror n) past) (step_fits n past step h.0) (all_fit n past h.1)
 
 -- ---- the frames of packets
 
@@ -71,10 +73,10 @@ all_readable law (p ∷ ps) are =
     (law p (are p (Contains-append_left (p ∷ []) ps p (zero, omega arith, refl))))
     (all_readable law ps (λ q i. are q (Contains-append_right (p ∷ []) ps q i)))
 
-pub sent_readable : Laws → (n : ℕ) (t : List FrameStep) → IsFrameTrace n t → FitsFrames n t → All IsReadable (frames_sent n t)
+pub sent_readable : Laws → (n : ℕ) (t : List FrameStep) → IsFrameTrace (without_mirror n) t → FitsFrames (without_mirror n) t → All IsReadable (frames_sent (without_mirror n) t)
 sent_readable laws n t legal fits =
-    let are = laws.in_range n (trace_heard n t) (laws.only_sent n t legal fits) (record { few = fits.few; steps = all_fit n t fits.steps }) in
-    subst (All IsReadable) (sym (laws.of_packets n t)) (all_readable laws.readable (sent n (trace_heard n t)) are)
+    let are = laws.in_range (without_mirror n) (trace_heard (without_mirror n) t) (laws.only_sent (without_mirror n) t legal fits) (record { few = fits.few; steps = all_fit n t fits.steps }) in
+    subst (All IsReadable) (sym (laws.of_packets (without_mirror n) t)) (all_readable laws.readable (sent (without_mirror n) (trace_heard (without_mirror n) t)) are)
 
 -- ---- a frame by its bytes
 
@@ -101,14 +103,14 @@ read_at read frames i bytes (Some g) all at is f says =
     same other h = cc
 
 -- What is taken of the first frames of a network was sent, where these were sent.
-pub taken_was_sent : Laws → (n : ℕ) (t : List FrameStep) (frames : List (List ℕ)) (count : ℕ) → IsFrameTrace n t → FitsFrames n t → map frame_spelling (frames_sent n t) ≡ take count frames
-    → (taken : Option ℕ) → ForSome taken (λ i. i < count) → CameOf (frames_sent n t) (option_and_then (λ i. slice_get frames i) taken)
+pub taken_was_sent : Laws → (n : ℕ) (t : List FrameStep) (frames : List (List ℕ)) (count : ℕ) → IsFrameTrace (without_mirror n) t → FitsFrames (without_mirror n) t → map frame_spelling (frames_sent (without_mirror n) t) ≡ take count frames
+    → (taken : Option ℕ) → ForSome taken (λ i. i < count) → CameOf (frames_sent (without_mirror n) t) (option_and_then (λ i. slice_get frames i) taken)
 taken_was_sent laws n t frames count legal fits are None below = tt
 taken_was_sent laws n t frames count legal fits are (Some i) below = by_found (slice_get frames i) refl
   where
-    by_found : (x : Option (List ℕ)) → slice_get frames i ≡ x → CameOf (frames_sent n t) x
+    by_found : (x : Option (List ℕ)) → slice_get frames i ≡ x → CameOf (frames_sent (without_mirror n) t) x
     by_found None is = tt
     by_found (Some bytes) is = λ f says.
-        read_at laws.read (frames_sent n t) i bytes (slice_get (frames_sent n t) i) (sent_readable laws n t legal fits) refl
-        (sym (slice_get-map frame_spelling (frames_sent n t) i) ∙ (ap (λ (fs : List (List ℕ)). slice_get fs i) are ∙ among_first frames count i bytes (below i refl) is))
+        read_at laws.read (frames_sent (without_mirror n) t) i bytes (slice_get (frames_sent (without_mirror n) t) i) (sent_readable laws n t legal fits) refl
+        (sym (slice_get-map frame_spelling (frames_sent (without_mirror n) t) i) ∙ (ap (λ (fs : List (List ℕ)). slice_get fs i) are ∙ among_first frames count i bytes (below i refl) is))
         f says

@@ -9,6 +9,7 @@ use Rattle.hub.specs.Waiting.{is_same_node}
 use Rattle.node_history.specs.declared.logged.Logged.{Logged}
 use Rattle.node_history.specs.AtHub.{is_left_out}
 use Rattle.node_history.specs.Replay.{Ends, Makes}
+use Rattle.net_world.specs.Setup.{without_mirror}
 use Rattle.net_world.specs.Frames.{FrameStep, frames_of_step, frames_sent, IsFrameTrace}
 use Rattle.net_world.specs.InRange.{FrameStepFits}
 use Rattle.node_traces.specs.declared.place.Place.{Place}
@@ -89,36 +90,36 @@ opened_still n node (l ∷ ls) list made is = by_test (λ h. opened_still n node
 
 -- A trace of these lists, with these frames, at the nodes of this order.
 pub record IsTold (n : ℕ) (frames : List (List ℕ)) (lists : (node : Node) → List (EntryOf node)) (order : List Place) (t : List FrameStep) : Type 0 where
-  pub legal : IsFrameTrace n t
+  pub legal : IsFrameTrace (without_mirror n) t
   pub fits : AllByRecursion FrameStepFits t
-  pub lists_are : (node : Node) → happened_to node t ≡ map (coming_to node) (lists node)
-  pub frames_are : map frame_spelling (frames_sent n t) ≡ frames
+  pub lists_are : (node : Node) → happened_to n node t ≡ map (coming_to node) (lists node)
+  pub frames_are : map frame_spelling (frames_sent (without_mirror n) t) ≡ frames
   pub nodes_are : map (λ (p : Place). p.node) order ≡ map node_of t
 
 abbrev pub Told : ℕ → List (List ℕ) → ((node : Node) → List (EntryOf node)) → List Place → Type 0
 Told n frames lists order = (t : List FrameStep) × IsTold n frames lists order t
 
-sent_more : (n : ℕ) (step : FrameStep) (past : List FrameStep) → frames_sent n (step ∷ past) ≡ frames_sent n past ++ frames_of_step n past step
+sent_more : (n : ℕ) (step : FrameStep) (past : List FrameStep) → frames_sent (without_mirror n) (step ∷ past) ≡ frames_sent (without_mirror n) past ++ frames_of_step (without_mirror n) past step
 unfolding frames_sent
 sent_more n step past = refl
 
-pub none_sent : (n : ℕ) → map frame_spelling (frames_sent n []) ≡ []
+pub none_sent : (n : ℕ) → map frame_spelling (frames_sent (without_mirror n) []) ≡ []
 unfolding frames_sent
 none_sent n = refl
 
 -- One event more.
 pub more : (n : ℕ) (p : Place) (order : List Place) (frames sent : List (List ℕ)) (lists : (node : Node) → List (EntryOf node)) (before : List (EntryOf p.node)) (t : List FrameStep) → IsTold n frames (with_list p.node before lists) order t
-    → Goes n p.node (frames_sent n t) before (lists p.node) sent → Told n (frames ++ sent) lists (p ∷ order)
+    → Goes n p.node (frames_sent (without_mirror n) t) before (lists p.node) sent → Told n (frames ++ sent) lists (p ∷ order)
 more n p order frames sent lists before t told g = (
   step ∷ t,
   record {
-    legal = (told.legal, g.may);
+    legal = (told.legal, g.may, g.allowed t);
     fits = (g.fits, told.fits);
     lists_are = λ node. list_at node (is_same_node p.node node) refl;
     frames_are =
         ap (map frame_spelling) (sent_more n step t)
-        ∙ (map-append frame_spelling (frames_sent n t) (frames_of_step n t step)
-        ∙ (ap (λ fs. fs ++ map frame_spelling (frames_of_step n t step)) told.frames_are
+        ∙ (map-append frame_spelling (frames_sent (without_mirror n) t) (frames_of_step (without_mirror n) t step)
+        ∙ (ap (λ fs. fs ++ map frame_spelling (frames_of_step (without_mirror n) t step)) told.frames_are
         ∙ ap (λ fs. frames ++ fs) (ap (map frame_spelling) (frames_at n p.node t before g.entry own) ∙ sym g.sent_are)));
     nodes_are = ap (λ ns. p.node ∷ ns) told.nodes_are ∙ ap (λ m. m ∷ map node_of t) (sym (node_at p.node (coming_to p.node g.entry)));
   },
@@ -127,14 +128,14 @@ more n p order frames sent lists before t told g = (
     step : FrameStep
     step = step_at p.node (coming_to p.node g.entry)
 
-    own : happened_to p.node t ≡ map (coming_to p.node) before
+    own : happened_to n p.node t ≡ map (coming_to p.node) before
     own = told.lists_are p.node ∙ ap (map (coming_to p.node)) (own_list p.node before lists)
 
-    here : happened_to p.node (step ∷ t) ≡ map (coming_to p.node) (lists p.node)
+    here : happened_to n p.node (step ∷ t) ≡ map (coming_to p.node) (lists p.node)
     here =
-        own_step p.node (coming_to p.node g.entry) t
+        own_step n p.node (coming_to p.node g.entry) t
         ∙ (ap (λ list. coming_to p.node g.entry ∷ list) own ∙ ap (map (coming_to p.node)) (sym g.after_is))
 
-    list_at : (node : Node) (b : Bool) → is_same_node p.node node ≡ b → happened_to node (step ∷ t) ≡ map (coming_to node) (lists node)
-    list_at node true e = subst (λ (m : Node). happened_to m (step ∷ t) ≡ map (coming_to m) (lists m)) (same_node p.node node e) here
-    list_at node false e = other_step p.node node (coming_to p.node g.entry) t e ∙ (told.lists_are node ∙ ap (map (coming_to node)) (other_list p.node node before lists e))
+    list_at : (node : Node) (b : Bool) → is_same_node p.node node ≡ b → happened_to n node (step ∷ t) ≡ map (coming_to node) (lists node)
+    list_at node true e = subst (λ (m : Node). happened_to n m (step ∷ t) ≡ map (coming_to m) (lists m)) (same_node p.node node e) here
+    list_at node false e = other_step n p.node node (coming_to p.node g.entry) t e ∙ (told.lists_are node ∙ ap (map (coming_to node)) (other_list p.node node before lists e))

@@ -9,6 +9,7 @@ use Rattle.hub.specs.declared.line.Line.{Line}
 use Rattle.hub.specs.Waiting.{is_same_node}
 use Rattle.node_history.specs.declared.logged.Logged.{Logged}
 use Rattle.node_history.specs.Replay.{Makes}
+use Rattle.net_world.specs.Setup.{without_mirror}
 use Rattle.net_world.specs.Frames.{frames_sent}
 use Rattle.net_world.specs.InRange.{FitsFrames}
 use Rattle.node_traces.specs.declared.place.Place.{Place}
@@ -65,9 +66,9 @@ quietly : Laws → (n : ℕ) → n ≤ 8 → (frames : List (List ℕ)) (p : Pla
 quietly laws n few frames p order journal ran lists below sent marked within top none marks before =
     let here : marks_of top.older ≡ marks_in frames p.node journal = sym (marks ∙ ap (λ ms. ms ++ marks_of top.older) none.no_mark) ∙ marked p.node in
     let t = before journal top.older top.past sent top.made top.rest_is (left here) (later_within frames p order journal top.older top.at_is here within) in
-    let came : CameOf (frames_sent n t.0) (frame_of top.event.came) = subst (λ (x : Option (List ℕ)). CameOf (frames_sent n t.0) x) (sym none.no_frame) tt in
+    let came : CameOf (frames_sent (without_mirror n) t.0) (frame_of top.event.came) = subst (λ (x : Option (List ℕ)). CameOf (frames_sent (without_mirror n) t.0) x) (sym none.no_frame) tt in
     let told = more n p order (take (count_sent journal) frames) top.event.sent lists top.past t.0 t.1
-    (goes n p.node (frames_sent n t.0) top.past (lists p.node) top.event (few_below n p.node few below) came top.stands top.ends) in
+    (goes n p.node (frames_sent (without_mirror n) t.0) top.past (lists p.node) top.event (few_below n p.node few below) came top.stands top.ends) in
     subst (λ fs. Told n fs lists (p ∷ order)) (ap (λ fs. take (count_sent journal) frames ++ fs) none.no_sent ∙ append-nil (take (count_sent journal) frames)) told
   where
     left : marks_of top.older ≡ marks_in frames p.node journal → AreMarked frames journal (with_history p.node top.older ran)
@@ -106,12 +107,12 @@ with_line : Laws → (n : ℕ) → n ≤ 8 → (frames : List (List ℕ)) (p : P
     Before n frames p order ran lists → Told n (take (count_sent (l ∷ lines)) frames) lists (p ∷ order)
 with_line laws n few frames p order l lines ran lists below sent marked within top noted before =
     let t = before lines top.older top.past sent.0 top.made top.rest_is left within in
-    let fits : FitsFrames n t.0 = record { few = few; steps = t.1.fits } in
-    let came : CameOf (frames_sent n t.0) (frame_of top.event.came) =
-    subst (λ (x : Option (List ℕ)). CameOf (frames_sent n t.0) x) (sym (ap (λ (m : Mark). m.taken) noted.mark_is))
+    let fits : FitsFrames (without_mirror n) t.0 = record { few = few; steps = t.1.fits } in
+    let came : CameOf (frames_sent (without_mirror n) t.0) (frame_of top.event.came) =
+    subst (λ (x : Option (List ℕ)). CameOf (frames_sent (without_mirror n) t.0) x) (sym (ap (λ (m : Mark). m.taken) noted.mark_is))
     (taken_was_sent laws n t.0 frames (count_sent lines) t.1.legal fits t.1.frames_are l.taken sent.1) in
     let told = more n p order (take (count_sent lines) frames) top.event.sent lists top.past t.0 t.1
-    (goes n p.node (frames_sent n t.0) top.past (lists p.node) top.event (few_below n p.node few below) came top.stands top.ends) in
+    (goes n p.node (frames_sent (without_mirror n) t.0) top.past (lists p.node) top.event (few_below n p.node few below) came top.stands top.ends) in
     subst (λ fs. Told n fs lists (p ∷ order)) (ap (λ (m : Mark). take (count_sent lines) frames ++ m.sent) noted.mark_is ∙ sym (take-add (count_sent lines) l.sent frames)) told
   where
     others : (node : Node) → is_same_node p.node node ≡ false → marks_in frames node (l ∷ lines) ≡ marks_in frames node lines

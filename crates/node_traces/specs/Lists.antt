@@ -9,6 +9,7 @@ use Rattle.node_history.specs.declared.logged.Logged.{Logged}
 use Rattle.node_history.specs.Replay.{Makes}
 use Rattle.node_history.specs.ServerRules.{rules as server_rules}
 use Rattle.node_history.specs.ClientRules.{rules as client_rules}
+use Rattle.net_world.specs.Setup.{without_mirror}
 use Rattle.net_world.specs.Trace.{opening_of, client_opening}
 
 -- No server ran from this number on, and no mirror.
@@ -21,4 +22,4 @@ pub record Lists (n : ℕ) (ran : Node → List Logged) : Type 0 where
   pub servers : ℕ → List ServerEntry
   pub client : List ClientEntry
   pub servers_made : (s : ℕ) → Makes (server_rules (opening_of s)) (ran (Server s)) (servers s)
-  pub client_made : Makes (client_rules (client_opening n)) (ran Client) client
+  pub client_made : Makes (client_rules (client_opening (without_mirror n))) (ran Client) client

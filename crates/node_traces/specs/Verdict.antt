@@ -10,6 +10,7 @@ use Rattle.server_core.specs.Check.{With, progress}
 use Rattle.client_core.specs.History as client_history
 use Rattle.client_core.specs.Hearing.{FrameEntry as ClientEntry, packets_heard as client_heard}
 use Rattle.client_core.specs.Words.{kept}
+use Rattle.net_world.specs.Setup.{without_mirror}
 use Rattle.net_world.specs.Trace.{opening_of, client_opening, of_server, of_client, IsTrace}
 use Rattle.net_world.specs.Frames.{FrameStep, trace_heard}
 use Rattle.net_world.specs.Holders.{Holds}
@@ -21,13 +22,13 @@ server_hears servers s = server_heard (opening_of s) (servers s)
 
 -- The packets that the client of n servers hears.
 abbrev pub client_hears : ℕ → List ClientEntry → List client_history.Entry
-client_hears n list = client_heard (client_opening n) list
+client_hears n list = client_heard (client_opening (without_mirror n)) list
 
 -- What is heard in the trace is a trace of packets, and of each node it has what the node hears.
 pub record IsHeard (n : ℕ) (servers : ℕ → List ServerEntry) (client : List ClientEntry) (trace : List FrameStep) : Type 0 where
-  pub legal : IsTrace n (trace_heard n trace)
-  pub servers_are : (s : ℕ) → of_server s (trace_heard n trace) ≡ server_hears servers s
-  pub client_is : of_client (trace_heard n trace) ≡ client_hears n client
+  pub legal : IsTrace (without_mirror n) (trace_heard (without_mirror n) trace)
+  pub servers_are : (s : ℕ) → of_server s (trace_heard (without_mirror n) trace) ≡ server_hears servers s
+  pub client_is : of_client (without_mirror n) (trace_heard (without_mirror n) trace) ≡ client_hears n client
 
 -- The states of a key that its server took.
 abbrev pub taken_by : (ℕ → List ServerEntry) → Key → List State
@@ -38,9 +39,9 @@ taken_by servers key = takings (opening_of key.server) key.run key.job (server_h
 -- server's list a job is checked with it, no write was issued there since: up to the end of that check.
 pub record HoldOneState (n : ℕ) (servers : ℕ → List ServerEntry) (client : List ClientEntry) (trace : List FrameStep) : Type 0 where
   pub once : (key : Key) → length (taken_by servers key) ≤ 1
-  pub keeps : (key : Key) (state : State) → kept (client_opening n) (client_hears n client) key ≡ Some state → Holds n (trace_heard n trace) key state
-  pub held : (key : Key) (state : State) → Holds n (trace_heard n trace) key state → taken_by servers key ≡ state ∷ []
-  pub counted : (key : Key) (state : State) → Holds n (trace_heard n trace) key state → IsTaking (opening_of key.server) key.run key.job (server_hears servers key.server) state
+  pub keeps : (key : Key) (state : State) → kept (client_opening (without_mirror n)) (client_hears n client) key ≡ Some state → Holds (without_mirror n) (trace_heard (without_mirror n) trace) key state
+  pub held : (key : Key) (state : State) → Holds (without_mirror n) (trace_heard (without_mirror n) trace) key state → taken_by servers key ≡ state ∷ []
+  pub counted : (key : Key) (state : State) → Holds (without_mirror n) (trace_heard (without_mirror n) trace) key state → IsTaking (opening_of key.server) key.run key.job (server_hears servers key.server) state
   pub quiet :
       (s j : ℕ) (state : State) (later past : List server_history.Entry) →
       server_hears servers s ≡ later ++ past → progress (opening_of s) past j ≡ Some (With state) →

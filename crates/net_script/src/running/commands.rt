@@ -4,6 +4,7 @@ ghost use Rattle.std.specs.Prelude.{◌≡◌, ◌+◌, ◌≤◌, [], ◌∷◌
 ghost use Rattle.std.specs.Option.{option_map};
 ghost use Rattle.std.specs.Io.KnownBytes.{Appends};
 ghost use Rattle.fc_base.specs.Fault.{sort_of};
+ghost use Rattle.net_world.specs.Setup.{Setup, without_mirror};
 ghost use Rattle.net_world.specs.Changes.{steps};
 ghost use Rattle.net_world.specs.Frames.{frames_sent, to_of};
 ghost use Rattle.net_world.specs.Happenings.{Happening};
@@ -49,7 +50,7 @@ pub(crate) fn run_opened<W: Write>(
     writer: &mut W,
 ) -> io::Result<u8>
     requires { orders.old.number + length orders.old.rest.now ≤ u64.MAX }
-    ensures { (n : ℕ) → StandsFor n [] world.old → (line : ℕ) →
+    ensures { (n : ℕ) → StandsFor (without_mirror n) [] world.old → (line : ℕ) →
         IfOk result (RunOrders lines_of_orders reads_well status_of_orders (Opens line n ∷ orders_left orders.old)
         (W.contents writer.old) (W.contents writer.new)) }
 {
@@ -65,8 +66,8 @@ fn run_commands<W: Write>(
     writer: &mut W,
 ) -> io::Result<u8>
     requires { orders.old.number + length orders.old.rest.now ≤ u64.MAX }
-    ensures { (n : ℕ) (before : List Happening) → StandsFor n (changes n before) world.old →
-        IfOk result (RunOrders (lines_in n before) are_commands (status_in n before) (orders_left orders.old) (W.contents writer.old) (W.contents writer.new)) }
+    ensures { (setup : Setup) (before : List Happening) → StandsFor setup (changes setup before) world.old →
+        IfOk result (RunOrders (lines_in setup before) are_commands (status_in setup before) (orders_left orders.old) (W.contents writer.old) (W.contents writer.new)) }
 {
     let mut faults = false;
     while let Some(order) = orders.next() {
@@ -93,8 +94,8 @@ fn run_command<W: Write>(
     text: &[u8],
     writer: &mut W,
 ) -> io::Result<Ran>
-    ensures { (n : ℕ) (before : List Happening) → StandsFor n (changes n before) world.old →
-        IfOk result (HasCome n before (happens command.now text.now) world.new (W.contents writer.old) (W.contents writer.new)) }
+    ensures { (setup : Setup) (before : List Happening) → StandsFor setup (changes setup before) world.old →
+        IfOk result (HasCome setup before (happens command.now text.now) world.new (W.contents writer.old) (W.contents writer.new)) }
 {
     sent_are_frames();
     let addressee = addressee_of(world, command, text);
@@ -123,8 +124,8 @@ fn refuse<W: Write>(writer: &mut W, fault: Fault) -> io::Result<Ran>
 
 /// Makes happen what a command asks for.
 fn apply(alloc: Global, world: &mut World, command: &Command, text: &[u8]) -> Result<Told, Fault>
-    ensures { (n : ℕ) (before : List Happening) → StandsFor n (changes n before) world.old →
-        Ends n (changes n before) (happens command.now text.now) world.new result }
+    ensures { (setup : Setup) (before : List Happening) → StandsFor setup (changes setup before) world.old →
+        Ends setup (changes setup before) (happens command.now text.now) world.new result }
 {
     match event_of(alloc, command, text) {
         Ok(event) => world.apply(&event),
@@ -134,8 +135,8 @@ fn apply(alloc: Global, world: &mut World, command: &Command, text: &[u8]) -> Re
 
 /// The node to which the frame comes that is delivered.
 fn addressee_of(world: &World, command: &Command, text: &[u8]) -> Option<Node>
-    ensures { (n : ℕ) (before : List Happening) → StandsFor n (changes n before) world.now →
-        result ≡ addressee n (changes n before) (happens command.now text.now) }
+    ensures { (setup : Setup) (before : List Happening) → StandsFor setup (changes setup before) world.now →
+        result ≡ addressee setup (changes setup before) (happens command.now text.now) }
 {
     match command {
         Command::Saves(Saving::Deliver(frame)) => receiver(world, *frame),
@@ -145,8 +146,8 @@ fn addressee_of(world: &World, command: &Command, text: &[u8]) -> Option<Node>
 
 /// The node that a frame is for.
 fn receiver(world: &World, frame: u64) -> Option<Node>
-    ensures { (n : ℕ) (before : List Happening) → StandsFor n (changes n before) world.now →
-        result ≡ option_map to_of (slice_get (frames_sent n (steps (changes n before))) frame) }
+    ensures { (setup : Setup) (before : List Happening) → StandsFor setup (changes setup before) world.now →
+        result ≡ option_map to_of (slice_get (frames_sent setup (steps (changes setup before))) frame) }
 {
     sent_are_frames();
     let bytes = world.frames().get(frame as usize)?;

@@ -1,4 +1,4 @@
-use Rattle.std.proofs.Common.{◌≡◌, ◌+◌, ◌∷◌, ◌++◌, inl, inr, take, drop, refl, sym, ◌∙◌, ap}
+use Rattle.std.proofs.Common.{◌+◌, ◌∷◌, ◌++◌, inl, inr, take, refl, sym, ◌∙◌, ap}
 use Rattle.std.proofs.lemmas.List.{take_rest}
 use Rattle.net_script.specs.Words.{lines_of}
 use Rattle.net_script.specs.Orders.{ended}

@@ -1,4 +1,4 @@
-use Rattle.std.proofs.Common.{◌+◌, length, take, ap, subst, ◌∙◌, sym, arith}
+use Rattle.std.proofs.Common.{ap, subst, arith}
 use Rattle.std.specs.List.{flat_map}
 use Rattle.std.specs.Io.KnownBytes.{Appends}
 use Rattle.std.proofs.KnownBytes.{Appends-trans}

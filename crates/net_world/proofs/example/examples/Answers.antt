@@ -1,4 +1,5 @@
 use Rattle.net_world.proofs.ExampleLemmas as lemmas
+use Rattle.net_world.proofs.MirrorExampleLemmas as mirrors
 use Rattle.net_world.proofs.example.examples.Goals as goal
 
 pub returns-clause-starts : goal.returns-clause-starts
@@ -21,3 +22,12 @@ returns-clause-keeps c = lemmas.keeps_behind_a_cut
 
 pub returns-clause-pieces : goal.returns-clause-pieces
 returns-clause-pieces c = lemmas.comes_together
+
+pub returns-clause-fetches : goal.returns-clause-fetches
+returns-clause-fetches c = mirrors.fetches_what_was_lost
+
+pub returns-clause-mirror : goal.returns-clause-mirror
+returns-clause-mirror c = mirrors.refuses_of_a_mirror
+
+pub returns-clause-renewal : goal.returns-clause-renewal
+returns-clause-renewal c = mirrors.stops_within_a_renewal

@@ -1,10 +1,10 @@
-use Rattle.std.proofs.Common.{refl, sym, subst, Err}
+use Rattle.std.proofs.Common.{sym, subst, Err}
 use Rattle.fc_base.specs.declared.fault.Fault.TheVariants.{NoMirror}
 use Rattle.messages.specs.declared.node.Node.{Node}
 use Rattle.messages.specs.declared.node.Node.TheVariants.{Mirror}
 use Rattle.net_world.specs.Happenings.{Cut}
 use Rattle.net_world.specs.Ends.{Ends}
-use Rattle.net_world.proofs.EndsLemmas.{no_mirror}
+use Rattle.net_world.proofs.EndsLemmas.{bars_alone, no_mirror}
 use Rattle.net_world.proofs.world.World.cut.Goals as goal
 
 pub returns-in-Server : goal.returns-in-Server
@@ -17,4 +17,4 @@ returns-in-Client c w past stands =
 
 pub returns-in-Mirror : goal.returns-in-Mirror
 returns-in-Mirror c w past stands =
-    subst (λ (node : Node). Ends w past (Cut node) c.args.self.now (Err NoMirror)) (sym c.in-Mirror.is) (no_mirror w past (Cut Mirror) c.args.self.now refl stands)
+    subst (λ (node : Node). Ends w past (Cut node) c.args.self.now (Err NoMirror)) (sym c.in-Mirror.is) (no_mirror w past (Cut Mirror) c.args.self.now (bars_alone w.mirror _ stands.alone) stands)

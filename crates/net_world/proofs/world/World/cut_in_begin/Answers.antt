@@ -16,7 +16,7 @@ returns-in-Ok-cut_in_begin c w past stands =
     cut_ends w past c.args.landed (CutIn c.args.landed (Begin c.args.text.now)) (inputs.Begin c.args.text.now) c.in-Ok.first c.plain.result c.args.self.now _ stands
     (record { sent_is = c.settle.ensures.same ∙ sym (append-nil (sent_in c.args.self.now.sent)); servers_are = refl; files_are = refl })
     (cuts_begin w past c.args.landed c.args.text.now)
-    (c.in-Ok-cut_in_begin.ensures (client_opening w) (entries past) stands.client_is)
+    (c.in-Ok-cut_in_begin.ensures (client_opening w) (entries w past) stands.client_is)
     (c.in-Ok.ensures.first ∙ ap (λ (fs : List (List ℕ)). length fs) c.settle.ensures.same)
     c.plain.ensures
 
@@ -25,4 +25,4 @@ returns-in-Err c w past stands =
     uncut_ends w past c.args.landed (CutIn c.args.landed (Begin c.args.text.now)) (inputs.Begin c.args.text.now) c.in-Err.fault c.args.self.now _ stands
     (record { sent_is = c.settle.ensures.same ∙ sym (append-nil (sent_in c.args.self.now.sent)); servers_are = refl; files_are = refl })
     (cuts_begin w past c.args.landed c.args.text.now)
-    (c.in-Err.ensures (client_opening w) (entries past) stands.client_is)
+    (c.in-Err.ensures (client_opening w) (entries w past) stands.client_is)

@@ -16,7 +16,7 @@ returns-in-Ok-cut_in_delivery c w past number stands is goes =
     cut_ends w past c.args.landed (CutIn c.args.landed (Deliver number)) (inputs.Deliver c.args.frame) c.in-Ok.first c.plain.result c.args.self.now _ stands
     (record { sent_is = c.settle.ensures.same ∙ sym (append-nil (sent_in c.args.self.now.sent)); servers_are = refl; files_are = refl })
     (cuts_delivery w past c.args.landed number c.args.frame (record { is_sent = is; goes_to = goes }))
-    (c.in-Ok-cut_in_delivery.ensures (client_opening w) (entries past) stands.client_is)
+    (c.in-Ok-cut_in_delivery.ensures (client_opening w) (entries w past) stands.client_is)
     (c.in-Ok.ensures.first ∙ ap (λ (fs : List (List ℕ)). length fs) c.settle.ensures.same)
     c.plain.ensures
 
@@ -25,4 +25,4 @@ returns-in-Err c w past number stands is goes =
     uncut_ends w past c.args.landed (CutIn c.args.landed (Deliver number)) (inputs.Deliver c.args.frame) c.in-Err.fault c.args.self.now _ stands
     (record { sent_is = c.settle.ensures.same ∙ sym (append-nil (sent_in c.args.self.now.sent)); servers_are = refl; files_are = refl })
     (cuts_delivery w past c.args.landed number c.args.frame (record { is_sent = is; goes_to = goes }))
-    (c.in-Err.ensures (client_opening w) (entries past) stands.client_is)
+    (c.in-Err.ensures (client_opening w) (entries w past) stands.client_is)

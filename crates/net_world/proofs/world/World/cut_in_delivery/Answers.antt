@@ -19,4 +19,4 @@ returns-in-Client c w events stands =
 
 pub returns-in-Mirror : goal.returns-in-Mirror
 returns-in-Mirror c w events stands =
-    no_mirror w (world w events) (CutIn c.args.landed (Deliver c.args.number)) c.args.self.now (bars_mirror w (world w events) c.args.number c.in-Ok.frame (c.in-Ok.ensures w events stands) (sym c.to_of.ensures ∙ c.in-Mirror.is)) stands
+    no_mirror w (world w events) (CutIn c.args.landed (Deliver c.args.number)) c.args.self.now (bars_mirror w (world w events) c.args.number c.in-Ok.frame (c.in-Ok.ensures w events stands) (sym c.to_of.ensures ∙ c.in-Mirror.is) stands.alone) stands

@@ -1,7 +1,6 @@
 use Rattle.std.proofs.Common.{refl, sym, ◌∙◌, ap, ◌<◌, arith, length, append-nil, List, ℕ}
 use Rattle.messages.specs.declared.node.Node.TheVariants as nodes
 use Rattle.server_core.specs.Hearing as hearing
-use Rattle.net_world.specs.Setup.{servers_of}
 use Rattle.net_world.specs.Trace.{opening_of}
 use Rattle.net_world.specs.Happenings.{Restart, CutIn}
 use Rattle.net_world.specs.Outcomes.{lost_by}
@@ -31,7 +30,7 @@ pub returns-in-Ok-cut_in_restart : goal.returns-in-Ok-cut_in_restart
 returns-in-Ok-cut_in_restart c w past stands =
     let s = c.args.server in
     let l = lt_of s (length c.args.self.now.servers.items) (sym c.has_server.ensures ∙ c.if-not-has_server.false) in
-    let below : s < servers_of w = omega (arith, stands.number, l) in
+    let below : s < w.servers = omega (arith, stands.number, l) in
     let at = node_at c.args.self.now.servers.items s c.server-2.inside.0 c.index_mut.result.now c.server-2.view_is l c.index_mut.ensures.value in
     let h = c.in-Ok-cut_in_restart.ensures (opening_of s) (entries past s) refl (stands.servers_are s c.index_mut.result.now at) in
     plain_ends w past s (CutIn c.args.landed (Restart (nodes.Server s))) (hearing.Restart (lost_by c.args.landed)) c.cut_in_restart.new.self c.in-Ok.first c.plain.result c.args.self.now _ stands

@@ -15,11 +15,11 @@ returns-in_default c w past stands = (refl, settled w past c.args.self.now _ sta
 
 pub returns-in-Ok-restart : goal.returns-in-Ok-restart
 returns-in-Ok-restart c w past stands =
-    let h = c.in-Ok-restart.ensures (client_opening w) (entries past) (sym (ap (λ (xs : List ServerNode). length xs) c.as_slice-servers.ensures.value ∙ stands.number)) stands.client_is in
+    let h = c.in-Ok-restart.ensures (client_opening w) (entries w past) (sym (ap (λ (xs : List ServerNode). length xs) c.as_slice-servers.ensures.value ∙ stands.number)) stands.client_is in
     plain_ends w past (Restart Client) (hearing.Restart false) c.in-Ok.first c.plain.result c.args.self.now _ stands
     (record { sent_is = c.settle.ensures.same ∙ sym (append-nil (sent_in c.args.self.now.sent)); servers_are = refl; files_are = refl })
     h.1
-    (restart_plain w past h.0)
+    (restart_plain w past stands.alone h.0)
     (c.in-Ok.ensures.first ∙ ap (λ (fs : List (List ℕ)). length fs) c.settle.ensures.same)
     c.plain.ensures
 
@@ -27,7 +27,7 @@ pub returns-in-Err : goal.returns-in-Err
 returns-in-Err c w past stands =
     restart_ends w past c.in-Err.fault c.args.self.now _ stands
     (record { sent_is = c.settle.ensures.same ∙ sym (append-nil (sent_in c.args.self.now.sent)); servers_are = refl; files_are = refl })
-    (c.in-Err.ensures (client_opening w) (entries past) (sym (ap (λ (xs : List ServerNode). length xs) c.as_slice-servers.ensures.value ∙ stands.number)) stands.client_is)
+    (c.in-Err.ensures (client_opening w) (entries w past) (sym (ap (λ (xs : List ServerNode). length xs) c.as_slice-servers.ensures.value ∙ stands.number)) stands.client_is)
 
 pub returns-then-servers-lt1 : goal.returns-then-servers-lt1
 returns-then-servers-lt1 c w past stands = absurd (omega (arith, stands.some, ap (λ (xs : List ServerNode). length xs) c.as_slice-servers.ensures.value ∙ stands.number, c.if-servers-lt1.true))

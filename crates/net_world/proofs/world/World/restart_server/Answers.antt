@@ -1,5 +1,4 @@
 use Rattle.std.proofs.Common.{refl, sym, ◌∙◌, ap, ◌<◌, arith, length, append-nil, List, ℕ}
-use Rattle.net_world.specs.Setup.{servers_of}
 use Rattle.net_world.specs.Trace.{opening_of}
 use Rattle.net_world.specs.Happenings.{Restart}
 use Rattle.net_world.specs.Sending.{sent_in}
@@ -25,7 +24,7 @@ pub returns-in-Ok-restart : goal.returns-in-Ok-restart
 returns-in-Ok-restart c w past stands =
     let s = c.args.server in
     let l = lt_of s (length c.args.self.now.servers.items) (sym c.has_server.ensures ∙ c.if-not-has_server.false) in
-    let below : s < servers_of w = omega (arith, stands.number, l) in
+    let below : s < w.servers = omega (arith, stands.number, l) in
     let at = node_at c.args.self.now.servers.items s c.server-2.inside.0 c.index_mut.result.now c.server-2.view_is l c.index_mut.ensures.value in
     let h = c.in-Ok-restart.ensures (opening_of s) (entries past s) refl (stands.servers_are s c.index_mut.result.now at) in
     plain_ends w past s (Restart (nodes.Server s)) (hearing.Restart Saved) c.restart.new.self c.in-Ok.first c.plain.result c.args.self.now _ stands

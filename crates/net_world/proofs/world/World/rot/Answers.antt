@@ -1,6 +1,5 @@
 use Rattle.std.proofs.Common.{refl, sym, ◌∙◌, ap, ◌<◌, ◌+◌, ◌*◌, arith, length, List, ℕ}
 use Rattle.disk_model.specs.File.{with_sector, put}
-use Rattle.net_world.specs.Setup.{servers_of}
 use Rattle.net_world.specs.Happenings.{Rot}
 use Rattle.net_world.specs.Changes.{Rotted}
 use Rattle.net_world.specs.Contents.{content}
@@ -20,7 +19,7 @@ pub returns-then-not-has_file : goal.returns-then-not-has_file
 returns-then-not-has_file c w past stands =
     let s = c.args.server in
     let l = lt_of s (length c.args.self.now.servers.items) (sym c.has_server.ensures ∙ c.if-not-has_server.false) in
-    let below : s < servers_of w = omega (arith, stands.number, l) in
+    let below : s < w.servers = omega (arith, stands.number, l) in
     let e = Rot s c.args.job c.args.sector c.args.bytes.now in
     let far = no_slot w s c.args.job (length c.args.self.now.files.items) (sym c.has_file.ensures ∙ c.if-not-has_file.true) stands.files below in
     refuses w past e _ c.args.self.now refl (stops w past e _ (rot_past w s c.args.job below far)) stands
@@ -33,7 +32,7 @@ returns-in-Ok-rot c w past stands =
     let s = c.args.server in
     let j = c.args.job in
     let l = lt_of s (length c.args.self.now.servers.items) (sym c.has_server.ensures ∙ c.if-not-has_server.false) in
-    let below : s < servers_of w = omega (arith, stands.number, l) in
+    let below : s < w.servers = omega (arith, stands.number, l) in
     let slot = has_slot s j (length c.args.self.now.files.items) (sym c.has_file.ensures ∙ c.if-not-has_file.false) in
     let at = node_at c.args.self.now.files.items (16 * s + j) c.place_of.result c.index_mut.result.now c.place_of.ensures slot.1 c.index_mut.ensures.value in
     let held = stands.files_are s j c.index_mut.result.now slot.0 at in
