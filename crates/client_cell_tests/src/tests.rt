@@ -7,44 +7,232 @@ use hub::Hub;
 use messages::{Act, Text};
 use node_history::{Answer, Came, Logged, Node, Told};
 use std::alloc::{AllocGlobal, Global};
+use std::test::Fail;
 
-const DONE: Result<Told, Fault> = Ok(Told {
-    answer: Answer::Plain,
-    first: 0,
-    sent: 0,
-    act: Act::None,
-});
+/// What is asked of a client.
+#[derive(Clone, Copy)]
+enum Step {
+    /// A run of one job.
+    Begin,
+    /// That run 1 is stopped.
+    Stop,
+    /// What isn't answered yet is asked again.
+    Tick,
+    /// The frame at this place is delivered.
+    Deliver(u64),
+    /// It is cut off, or started again.
+    Apply(Task),
+}
 
-/// What is done, its answer, and whether the client is on then.
-const ROWS: [(Task, Result<Told, Fault>, bool); 6] = [
-    (Task::Restart, Err(Fault::NodeOn), true),
-    (Task::Cut, DONE, false),
-    (Task::Cut, Err(Fault::NodeOff), false),
-    (Task::Restart, DONE, true),
-    (Task::Restart, Err(Fault::NodeOn), true),
-    (Task::Cut, DONE, false),
+/// What is told of it.
+#[derive(Clone, Copy)]
+enum Said {
+    /// It is done.
+    Done,
+    /// A frame was sent to each server, of which this is the first.
+    Sent(u64),
+    /// The run has begun, whose frames are the first.
+    Begun,
+    Refused(Fault),
+}
+
+/// What is asked, its answer, and whether the client is on then.
+type Row = (Step, Said, bool);
+
+/// What becomes of a client over a blank note.
+struct Story {
+    /// The number of the save that fails, and whether that leaves the new bytes.
+    failing: u64,
+    landed: bool,
+    /// The number of the run that it begins.
+    run: u64,
+    /// How many events, lines of the journal and frames there are then.
+    events: usize,
+    lines: usize,
+    frames: usize,
+}
+
+const CUT: Step = Step::Apply(Task::Cut);
+
+const RESTART: Step = Step::Apply(Task::Restart);
+
+static POWER: [Row; 6] = [
+    (RESTART, Said::Refused(Fault::NodeOn), true),
+    (CUT, Said::Done, false),
+    (CUT, Said::Refused(Fault::NodeOff), false),
+    (RESTART, Said::Done, true),
+    (RESTART, Said::Refused(Fault::NodeOn), true),
+    (CUT, Said::Done, false),
 ];
 
-/// A client of two servers over notes with these bytes, for which memory may run out once.
-fn open(alloc: Global, bytes: &[u8]) -> Result<ClientCell<MemNotes>, Fault> {
-    let Ok(kept) = Vec::from_slice(alloc, bytes).or_else(|_| Vec::from_slice(alloc, bytes)) else {
-        return Err(Fault::NoMemory);
-    };
-    match ClientCell::new(alloc, 2, MemNotes::new(kept)) {
-        Err((notes, Fault::NoMemory)) => match ClientCell::new(alloc, 2, notes) {
-            Ok(cell) => Ok(cell),
-            Err((_, fault)) => Err(fault),
-        },
-        Err((_, fault)) => Err(fault),
-        Ok(cell) => Ok(cell),
+/// The save that fails never comes.
+const CUTS: Story = Story {
+    failing: u64::MAX,
+    landed: false,
+    run: 1,
+    events: 6,
+    lines: 0,
+    frames: 0,
+};
+
+/// The first save fails, and the client is down until it is started again. Then it begins a run, and asks
+/// again.
+static SAVES: [Row; 11] = [
+    (Step::Begin, Said::Refused(Fault::SaveFault), false),
+    (Step::Stop, Said::Refused(Fault::NodeOff), false),
+    (Step::Deliver(0), Said::Refused(Fault::NodeOff), false),
+    (RESTART, Said::Done, true),
+    (RESTART, Said::Refused(Fault::NodeOn), true),
+    (Step::Deliver(0), Said::Refused(Fault::NoFrame), true),
+    (Step::Begin, Said::Begun, true),
+    (Step::Deliver(1), Said::Refused(Fault::Misdirected), true),
+    (Step::Tick, Said::Sent(2), true),
+    (CUT, Said::Done, false),
+    (Step::Tick, Said::Refused(Fault::NodeOff), false),
+];
+
+const LANDED: Story = Story {
+    failing: 0,
+    landed: true,
+    run: 2,
+    events: 6,
+    lines: 2,
+    frames: 4,
+};
+
+const LOST: Story = Story {
+    landed: false,
+    run: 1,
+    ..LANDED
+};
+
+impl Said {
+    /// It in the cell's own words, where this is the run.
+    fn told(self, run: u64) -> Result<Told, Fault> {
+        let (answer, first, sent) = match self {
+            Said::Done => (Answer::Plain, 0, 0),
+            Said::Sent(first) => (Answer::Plain, first, 2),
+            Said::Begun => (Answer::Run(RunNo(run)), 0, 2),
+            Said::Refused(fault) => return Err(fault),
+        };
+        Ok(Told {
+            answer,
+            first,
+            sent,
+            act: Act::None,
+        })
     }
 }
 
-/// What is told of a task, for which memory may run out once.
-fn apply(cell: &mut ClientCell<MemNotes>, task: Task) -> Result<Told, Fault> {
-    match cell.apply(task) {
-        Err(Fault::NoMemory) => cell.apply(task),
-        told => told,
+/// A client of two servers, and its network.
+struct Site {
+    alloc: Global,
+    hub: Hub,
+    cell: ClientCell<FaultNotes>,
+}
+
+/// It is written by hand so that it is one function, which calls that of each field: where it is derived, the
+/// proof of each function that drops a site goes through all that a site holds.
+impl Drop for Site {
+    fn drop(self) {
+        let Site {
+            alloc: _,
+            hub,
+            cell,
+        } = self;
+        drop(hub);
+        drop(cell);
+    }
+}
+
+/// A client over notes with these bytes, whose save number `failing` fails, and leaves the new bytes where
+/// `landed`. Memory may run out once.
+fn open(alloc: Global, bytes: &[u8], failing: u64, landed: bool) -> Result<Site, Fault> {
+    let notes = match notes_of(alloc, bytes) {
+        Err(_) => notes_of(alloc, bytes)?,
+        Ok(notes) => notes,
+    };
+    let cell = match ClientCell::new(alloc, 2, FaultNotes::new(notes, failing, landed)) {
+        Err((notes, Fault::NoMemory)) => ClientCell::new(alloc, 2, notes),
+        opened => opened,
+    };
+    match cell {
+        Ok(cell) => Ok(Site {
+            alloc,
+            hub: Hub::new(alloc),
+            cell,
+        }),
+        Err((_, fault)) => Err(fault),
+    }
+}
+
+fn notes_of(alloc: Global, bytes: &[u8]) -> Result<MemNotes, Fault> {
+    match Vec::from_slice(alloc, bytes) {
+        Ok(bytes) => Ok(MemNotes::new(bytes)),
+        Err(_) => Err(Fault::NoMemory),
+    }
+}
+
+impl Site {
+    /// It goes through this, or fails by the first row that isn't so.
+    fn lives(&mut self, story: &Story, rows: &[Row]) -> Result<(), Fail> {
+        for (i, (step, said, is_on)) in rows.iter().enumerate() {
+            let is_told = self.answers(*step, said.told(story.run));
+            if !is_told || self.cell.client().is_some() != *is_on {
+                return Err(Fail::new(i));
+            }
+        }
+        if self.has_left(story) {
+            Ok(())
+        } else {
+            Err(Fail::new("what is left"))
+        }
+    }
+
+    /// Whether there are as many events, lines and frames.
+    fn has_left(&self, story: &Story) -> bool {
+        self.cell.servers() == 2
+            && self.cell.history().len() == story.events
+            && self.hub.journal().len() == story.lines
+            && self.hub.len() == story.frames
+    }
+
+    /// Whether it answers this step so, for which memory may run out once, and enters it, if it is a task.
+    fn answers(&mut self, step: Step, wanted: Result<Told, Fault>) -> bool {
+        let entries = self.cell.history().len();
+        let told = match self.step(step) {
+            Err(Fault::NoMemory) => self.step(step),
+            told => told,
+        };
+        told == wanted && is_entered(step, self.cell.history(), entries)
+    }
+
+    /// What is told of this step.
+    fn step(&mut self, step: Step) -> Result<Told, Fault> {
+        let command = match step {
+            Step::Apply(task) => return self.cell.apply(task),
+            Step::Deliver(position) => return self.cell.deliver(&mut self.hub, position),
+            Step::Begin => Command::Request(begin(self.alloc)?),
+            Step::Stop => Command::Request(Request::Stop(RunNo(1))),
+            Step::Tick => Command::Tick,
+        };
+        self.cell.post(&mut self.hub, command)
+    }
+}
+
+fn begin(alloc: Global) -> Result<Request, Fault> {
+    match Text::copied(alloc, b"[a]") {
+        Ok(text) => Ok(Request::Begin(text)),
+        Err(_) => Err(Fault::NoMemory),
+    }
+}
+
+/// If the step is a task, it is the one entry behind so many.
+fn is_entered(step: Step, history: &[Logged], entries: usize) -> bool {
+    match (step, history.split_last()) {
+        (Step::Apply(task), Some((entry, before))) => before.len() == entries && is_of(entry, task),
+        (Step::Apply(_), None) => false,
+        _ => true,
     }
 }
 
@@ -57,132 +245,25 @@ fn is_of(entry: &Logged, task: Task) -> bool {
     came && entry.by.is_none() && entry.sent.len() == 0
 }
 
-/// The first row that isn't answered so.
-fn first_unlike(cell: &mut ClientCell<MemNotes>) -> Option<usize> {
-    for (i, (task, told, on)) in ROWS.into_iter().enumerate() {
-        let same = apply(cell, task) == told && cell.client().is_some() == on;
-        let history = cell.history();
-        if !same || history.len() != i + 1 || !is_of(&history[i], task) {
-            return Some(i);
-        }
-    }
-    None
+/// A new client goes through this.
+fn tell(alloc: Global, story: &Story, rows: &[Row]) -> Result<(), Fail> {
+    let mut site = open(alloc, &[], story.failing, story.landed)?;
+    site.lives(story, rows)
 }
 
 #[test]
-fn cuts_and_restarts(rt: HostRuntime) {
-    match open(rt.alloc(), &[]) {
-        Ok(mut cell) => {
-            assert!(rt; cell.servers() == 2);
-            let unlike = first_unlike(&mut cell);
-            assert!(rt; unlike.is_none(), "{unlike:?}");
-        }
-        Err(fault) => assert!(rt; false, "{fault:?}"),
-    }
+fn cuts_and_restarts(rt: HostRuntime) -> Result<(), Fail> {
+    tell(rt.alloc(), &CUTS, &POWER)
+}
+
+#[test]
+fn saves_that_fail(rt: HostRuntime) -> Result<(), Fail> {
+    tell(rt.alloc(), &LANDED, &SAVES)?;
+    tell(rt.alloc(), &LOST, &SAVES)
 }
 
 #[test]
 fn what_is_no_note(rt: HostRuntime) {
-    let opened = open(rt.alloc(), b"FCC3");
+    let opened = open(rt.alloc(), b"FCC3", u64::MAX, false);
     assert!(rt; matches!(opened, Err(Fault::BadNote)));
-}
-
-/// The answer is this; or memory ran out.
-fn is(told: Result<Told, Fault>, wanted: Result<Told, Fault>) -> Result<bool, Fault> {
-    match told {
-        Err(Fault::NoMemory) => Err(Fault::NoMemory),
-        told => Ok(told == wanted),
-    }
-}
-
-fn sent(answer: Answer, first: u64) -> Result<Told, Fault> {
-    Ok(Told {
-        answer,
-        first,
-        sent: 2,
-        act: Act::None,
-    })
-}
-
-fn begin(cell: &mut ClientCell<FaultNotes>, hub: &mut Hub, alloc: Global) -> Result<Told, Fault> {
-    match Text::copied(alloc, b"[a]") {
-        Ok(text) => cell.post(hub, Command::Request(Request::Begin(text))),
-        Err(_) => Err(Fault::NoMemory),
-    }
-}
-
-/// A client whose first save fails, which leaves the new bytes or the old.
-fn open_failing(alloc: Global, landed: bool) -> Result<ClientCell<FaultNotes>, Fault> {
-    let notes = FaultNotes::new(MemNotes::new(Vec::new(alloc)), 0, landed);
-    match ClientCell::new(alloc, 2, notes) {
-        Ok(cell) => Ok(cell),
-        Err((_, fault)) => Err(fault),
-    }
-}
-
-/// Its save fails, and it is down until it is started again.
-fn goes_down(
-    cell: &mut ClientCell<FaultNotes>,
-    hub: &mut Hub,
-    alloc: Global,
-) -> Result<bool, Fault> {
-    let lost = is(begin(cell, hub, alloc), Err(Fault::SaveFault))?;
-    let stop = Command::Request(Request::Stop(RunNo(1)));
-    let off = is(cell.post(hub, stop), Err(Fault::NodeOff))?;
-    let unheard = is(cell.deliver(hub, 0), Err(Fault::NodeOff))?;
-    let again = is(cell.apply(Task::Restart), DONE)?;
-    let on = is(cell.apply(Task::Restart), Err(Fault::NodeOn))?;
-    Ok(lost && off && unheard && again && on)
-}
-
-/// It begins this run, and asks again.
-fn goes_on(
-    cell: &mut ClientCell<FaultNotes>,
-    hub: &mut Hub,
-    alloc: Global,
-    run: RunNo,
-) -> Result<bool, Fault> {
-    let none = is(cell.deliver(hub, 0), Err(Fault::NoFrame))?;
-    let begun = is(begin(cell, hub, alloc), sent(Answer::Run(run), 0))?;
-    let astray = is(cell.deliver(hub, 1), Err(Fault::Misdirected))?;
-    let asked = is(cell.post(hub, Command::Tick), sent(Answer::Plain, 2))?;
-    let cut = is(cell.apply(Task::Cut), DONE)?;
-    let late = is(cell.post(hub, Command::Tick), Err(Fault::NodeOff))?;
-    Ok(none && begun && astray && asked && cut && late)
-}
-
-/// Both, one after the other, and what is entered of them.
-fn lives(
-    cell: &mut ClientCell<FaultNotes>,
-    hub: &mut Hub,
-    alloc: Global,
-    run: RunNo,
-) -> Result<bool, Fault> {
-    let both = goes_down(cell, hub, alloc)? && goes_on(cell, hub, alloc, run)?;
-    let entered = cell.history().len() == 6 && hub.journal().len() == 2 && hub.len() == 4;
-    Ok(both && entered)
-}
-
-/// What comes of a client whose first save fails.
-fn life(alloc: Global, landed: bool) -> Result<bool, Fault> {
-    let mut hub = Hub::new(alloc);
-    let run = RunNo(if landed { 2 } else { 1 });
-    match open_failing(alloc, landed) {
-        Ok(mut cell) => lives(&mut cell, &mut hub, alloc, run),
-        Err(fault) => Err(fault),
-    }
-}
-
-/// The same, told anew where memory runs out once.
-fn life_again(alloc: Global, landed: bool) -> bool {
-    match life(alloc, landed) {
-        Err(Fault::NoMemory) => matches!(life(alloc, landed), Ok(true)),
-        gone => matches!(gone, Ok(true)),
-    }
-}
-
-#[test]
-fn saves_that_fail(rt: HostRuntime) {
-    assert!(rt; life_again(rt.alloc(), true));
-    assert!(rt; life_again(rt.alloc(), false));
 }
