@@ -8,11 +8,11 @@ use disk_model::MemNotes;
 use fc_base::{Attempt, JobNo, MAX_JOBS, RunNo, ServerNo};
 use messages::Reason;
 use server_core::{Progress, Stage};
-use std::sync::Wait;
+use std::sync::{Mutex, Wait};
 use std::thread;
 
 /// What the calling thread waits for, at every server.
-#[derive(Clone, Copy, Debug, PartialEq, Eq)]
+#[derive(Clone, Copy)]
 pub(crate) enum Awaited {
     /// The run has started there, and writes.
     Writing(RunNo),
@@ -47,12 +47,17 @@ pub(crate) fn wait_for<R: Wait>(
 /// Whether that has come at every server. One lock is taken at a time.
 fn has_come<R: Wait>(rt: &R, nodes: &Nodes, awaited: &Awaited) -> Result<bool, FleetFault> {
     let is_told = is_told(&nodes.client.lock(rt), awaited)?;
-    for server in &nodes.servers {
+    Ok(is_told && is_so_everywhere(rt, &nodes.servers, awaited))
+}
+
+/// Whether it is so at each server.
+fn is_so_everywhere<R: Wait>(rt: &R, servers: &[Mutex<Server>], awaited: &Awaited) -> bool {
+    for server in servers {
         if !is_so(&server.lock(rt), awaited) {
-            return Ok(false);
+            return false;
         }
     }
-    Ok(is_told)
+    true
 }
 
 /// Whether it is so at a server.

@@ -2,18 +2,17 @@
 
 ghost use Rattle.std.specs.Prelude.{◌≤◌};
 
-use crate::cut::done;
 use crate::fault::FleetFault;
 use crate::nodes::{Nodes, Server, add};
+use crate::post::post;
 use disk_model::MemDisk;
 use fc_base::{Attempt, CheckReport, Fault, JobNo, JobRecord, Key, MAX_JOBS};
-use node_history::Node;
 use parallel_checks::{Task, check_jobs};
 use server_cell::Report;
 use server_core::Progress;
 use std::alloc::Global;
 use std::mem;
-use std::sync::Wait;
+use std::sync::{Mutex, Wait};
 use std::thread::Threads;
 use verify_state::VerifyState;
 
@@ -41,16 +40,19 @@ pub(crate) fn check_all<R: Threads + Wait + Sync>(
     requires some { 1 ≤ workers }
     requires few { workers ≤ 16 }
 {
-    let mut dues = Vec::new(alloc);
-    for (place, server) in nodes.servers.iter().enumerate() {
-        add_all_due(&server.lock(rt), place, &mut dues)?;
-    }
+    let dues = dues_of(rt, alloc, &nodes.servers)?;
     let tasks = tasks_of(rt, alloc, nodes, &dues)?;
     let reports = check_jobs(rt, alloc, tasks, workers)?;
-    for (due, report) in dues.iter().zip(reports.iter()) {
-        tell(rt, nodes, attempt, due, *report)?;
+    tell_all(rt, nodes, attempt, &dues, &reports)
+}
+
+/// The checks that are due at all servers.
+fn dues_of<R: Wait>(rt: &R, alloc: Global, servers: &[Mutex<Server>]) -> Result<Vec<Due>, Fault> {
+    let mut dues = Vec::new(alloc);
+    for (place, server) in servers.iter().enumerate() {
+        add_all_due(&server.lock(rt), place, &mut dues)?;
     }
-    Ok(())
+    Ok(dues)
 }
 
 /// Adds the checks that are due at a server: of each job of its open check that isn't refused.
@@ -102,21 +104,30 @@ fn tasks_of<R: Wait>(
 ) -> Result<Vec<Task<MemDisk>>, FleetFault> {
     let mut tasks = Vec::new(alloc);
     for due in dues {
-        let state = if due.has_state {
-            Some(state_of(rt, nodes, due)?)
-        } else {
-            None
-        };
-        let task = Task {
-            rec: due.rec,
-            key: due.key,
-            state,
-            fatal: due.fatal,
-            disk: take_file(rt, alloc, nodes, due)?,
-        };
-        add(&mut tasks, task)?;
+        add(&mut tasks, task_of(rt, alloc, nodes, due)?)?;
     }
     Ok(tasks)
+}
+
+/// A check with its file.
+fn task_of<R: Wait>(
+    rt: &R,
+    alloc: Global,
+    nodes: &Nodes,
+    due: &Due,
+) -> Result<Task<MemDisk>, FleetFault> {
+    let state = if due.has_state {
+        Some(state_of(rt, nodes, due)?)
+    } else {
+        None
+    };
+    Ok(Task {
+        rec: due.rec,
+        key: due.key,
+        state,
+        fatal: due.fatal,
+        disk: take_file(rt, alloc, nodes, due)?,
+    })
 }
 
 /// The state by which a job is checked.
@@ -144,14 +155,29 @@ fn take_file<R: Wait>(
     nodes: &Nodes,
     due: &Due,
 ) -> Result<MemDisk, FleetFault> {
-    let Some(files) = nodes.files.get(due.place) else {
-        return Err(FleetFault::NoServer);
-    };
-    let Some(file) = files.get(due.key.job.0 as usize) else {
-        return Err(FleetFault::NoServer);
-    };
-    let mut file = file.lock(rt);
-    Ok(mem::replace(&mut *file, MemDisk::new(alloc)))
+    match file_of(nodes, due) {
+        Some(file) => Ok(mem::replace(&mut *file.lock(rt), MemDisk::new(alloc))),
+        None => Err(FleetFault::NoServer),
+    }
+}
+
+/// The file of a job.
+fn file_of<'n>(nodes: &'n Nodes, due: &Due) -> Option<&'n Mutex<MemDisk>> {
+    nodes.files.get(due.place)?.get(due.key.job.0 as usize)
+}
+
+/// Has each server take its reports, one for each check.
+fn tell_all<R: Wait>(
+    rt: &R,
+    nodes: &Nodes,
+    attempt: Attempt,
+    dues: &[Due],
+    reports: &[CheckReport],
+) -> Result<(), FleetFault> {
+    for (due, report) in dues.iter().zip(reports.iter()) {
+        tell(rt, nodes, attempt, due, *report)?;
+    }
+    Ok(())
 }
 
 /// Has the server take the report of a job's check, and send it.
@@ -171,8 +197,6 @@ fn tell<R: Wait>(
         job: due.key.job,
         report,
     };
-    let mut server = server.lock(rt);
-    let mut hub = nodes.hub.lock(rt);
-    done(server.post(&mut hub, report))?;
+    post(rt, &nodes.hub, server, report)?;
     Ok(())
 }

@@ -1,10 +1,13 @@
 //! The workers of all servers.
 
+ghost use Rattle.std.specs.Prelude.{◌≤◌, length};
+
 use crate::flags::Flags;
-use crate::nodes::Nodes;
+use crate::nodes::{Nodes, Server};
+use disk_model::MemDisk;
 use server_cell::Seat;
 use std::alloc::Global;
-use std::sync::Wait;
+use std::sync::{Mutex, Wait};
 use std::thread;
 use std::thread::Threads;
 use workers::{Gate, run_worker};
@@ -46,21 +49,34 @@ impl Hand {
         ) else {
             return;
         };
-        if files.is_empty() {
-            return;
+        if !files.is_empty() {
+            work_from(rt, alloc, cell, &mut self.seat, files, gate, flags);
         }
-        let Some(seat) = self.seat.take() else {
-            return;
-        };
-        let seat = match run_worker(rt, alloc, cell, seat, files, gate) {
-            Ok(seat) => seat,
+    }
+}
+
+/// Works from a seat, if it is there, which comes back.
+fn work_from<R: Wait, G: Gate>(
+    rt: &R,
+    alloc: Global,
+    cell: &Mutex<Server>,
+    seat: &mut Option<Seat>,
+    files: &[Mutex<MemDisk>],
+    gate: &G,
+    flags: &Flags,
+)
+    requires { 1 ≤ length files.now }
+{
+    *seat = match seat.take() {
+        Some(seat) => match run_worker(rt, alloc, cell, seat, files, gate) {
+            Ok(seat) => Some(seat),
             Err((seat, fault)) => {
                 flags.fail(rt, fault);
-                seat
+                Some(seat)
             }
-        };
-        self.seat = Some(seat);
-    }
+        },
+        None => None,
+    };
 }
 
 /// Has all workers work, each in a thread of its own, once they may start; none where the fleet stops
@@ -73,14 +89,8 @@ pub(crate) fn work_all<R: Threads + Wait + Sync, G: Gate + Sync>(
     gate: &G,
     flags: &Flags,
 ) -> Vec<Hand> {
-    for _ in rt.forever() {
-        if flags.has_started() {
-            break;
-        }
-        if flags.has_stopped() {
-            return hands;
-        }
-        thread::yield_now();
+    if !wait_for_start(rt, flags) {
+        return hands;
     }
     let threads = hands.len().max(1);
     thread::for_each_mut(
@@ -93,4 +103,18 @@ pub(crate) fn work_all<R: Threads + Wait + Sync, G: Gate + Sync>(
     );
     flags.work_ends();
     hands
+}
+
+/// Waits until the workers may start. It is false where the fleet stops before.
+fn wait_for_start<R: Wait>(rt: &R, flags: &Flags) -> bool {
+    for _ in rt.forever() {
+        if flags.has_started() {
+            return true;
+        }
+        if flags.has_stopped() {
+            return false;
+        }
+        thread::yield_now();
+    }
+    unreachable!()
 }

@@ -21,7 +21,7 @@ pub(crate) fn cut<R: Wait, N: Notes + Drop>(
     files: &[Mutex<MemDisk>],
 ) -> Result<(), Fault> {
     turn_off(rt, files);
-    let boot = start_again(rt, server, seat)?;
+    let boot = start_again(&mut server.lock(rt), seat)?;
     turn_on(rt, files, boot);
     Ok(())
 }
@@ -67,13 +67,8 @@ fn turn_on<R: Wait>(rt: &R, files: &[Mutex<MemDisk>], boot: u64) {
     }
 }
 
-/// The server loses its power and is started again, both under one lock. Its new boot.
-fn start_again<R: Wait, N: Notes + Drop>(
-    rt: &R,
-    server: &Mutex<ServerCell<N>>,
-    seat: &mut Seat,
-) -> Result<u64, Fault> {
-    let mut cell = server.lock(rt);
+/// The server loses its power and is started again. Its new boot.
+fn start_again<N: Notes + Drop>(cell: &mut ServerCell<N>, seat: &mut Seat) -> Result<u64, Fault> {
     done(cell.apply(seat, Task::Cut))?;
     done(cell.apply(seat, Task::Restart))?;
     match cell.server() {
@@ -83,7 +78,7 @@ fn start_again<R: Wait, N: Notes + Drop>(
 }
 
 /// That it was done, and no more.
-pub(crate) fn done(answer: Result<Told, Fault>) -> Result<(), Fault> {
+fn done(answer: Result<Told, Fault>) -> Result<(), Fault> {
     match answer {
         Ok(_) => Ok(()),
         Err(fault) => Err(fault),

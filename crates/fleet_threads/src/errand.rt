@@ -7,11 +7,12 @@ use crate::checks::check_all;
 use crate::fault::FleetFault;
 use crate::flags::Flags;
 use crate::nodes::Nodes;
+use crate::post::post;
 use crate::trigger::Trigger;
 use client_cell::{Command, Request};
 use fc_base::{Attempt, Fault, MAX_TEXT, RunNo};
 use messages::{Act, Text};
-use node_history::{Answer, Node};
+use node_history::Answer;
 use std::alloc::Global;
 use std::sync::Wait;
 use std::thread;
@@ -47,16 +48,43 @@ pub(crate) fn run<R: Threads + Wait + Sync, T: Trigger>(
         read,
     } = plan;
     let run = begin(rt, nodes, text_of(alloc, write)?)?;
+    write_until_cut(rt, nodes, flags, run, trigger)?;
+    let attempt = verify(rt, nodes, run, text_of(alloc, read)?)?;
+    check_files(rt, alloc, nodes, flags, attempt, workers)?;
+    Ok(run)
+}
+
+/// The workers of a run may start once all servers write; it is triggered with a cut, and each server is
+/// started again.
+fn write_until_cut<R: Wait, T: Trigger>(
+    rt: &R,
+    nodes: &Nodes,
+    flags: &Flags,
+    run: RunNo,
+    trigger: &mut T,
+) -> Result<(), FleetFault> {
     wait_for(rt, nodes, flags, &Awaited::Writing(run))?;
     flags.start();
     wait_for_trigger(rt, flags, trigger)?;
     cut_all(rt, nodes, run)?;
-    wait_for(rt, nodes, flags, &Awaited::Restarted(run))?;
-    let attempt = verify(rt, nodes, run, text_of(alloc, read)?)?;
+    wait_for(rt, nodes, flags, &Awaited::Restarted(run))
+}
+
+/// The files of all servers are checked once they have their states, and the client hears of each check.
+fn check_files<R: Threads + Wait + Sync>(
+    rt: &R,
+    alloc: Global,
+    nodes: &Nodes,
+    flags: &Flags,
+    attempt: Attempt,
+    workers: u32,
+) -> Result<(), FleetFault>
+    requires some { 1 ≤ workers }
+    requires few { workers ≤ 16 }
+{
     wait_for(rt, nodes, flags, &Awaited::Ready(attempt))?;
     check_all(rt, alloc, nodes, attempt, workers)?;
-    wait_for(rt, nodes, flags, &Awaited::Reported(attempt))?;
-    Ok(run)
+    wait_for(rt, nodes, flags, &Awaited::Reported(attempt))
 }
 
 /// The text of a job file.
@@ -110,10 +138,6 @@ fn verify<R: Wait>(rt: &R, nodes: &Nodes, run: RunNo, text: Text) -> Result<Atte
 
 /// Asks this of the client, under its lock and that of the hub.
 fn ask<R: Wait>(rt: &R, nodes: &Nodes, request: Request) -> Result<Answer, Fault> {
-    let mut client = nodes.client.lock(rt);
-    let mut hub = nodes.hub.lock(rt);
-    match client.post(&mut hub, Command::Request(request)) {
-        Ok(told) => Ok(told.answer),
-        Err(fault) => Err(fault),
-    }
+    let told = post(rt, &nodes.hub, &nodes.client, Command::Request(request))?;
+    Ok(told.answer)
 }

@@ -83,21 +83,10 @@ impl Opened {
         ensures posts { OnOk result (length self.new.posts.items ≡ length self.old.posts.items + 1) }
     {
         let (cell, seats) = open_server(alloc, number, workers)?;
+        let boot = boot_of(&cell);
+        add(&mut self.nodes.servers, Mutex::new(cell))?;
         deal(number as usize, seats, &mut self.posts, &mut self.hands)?;
-        self.nodes.add_server(alloc, cell)?;
-        Ok(())
-    }
-}
-
-impl Nodes {
-    /// Adds a server, with its files.
-    fn add_server(&mut self, alloc: Global, cell: Server) -> Result<(), FleetFault>
-        ensures servers { OnOk result (length self.new.servers.items ≡ length self.old.servers.items + 1) }
-        ensures files { OnOk result (length self.new.files.items ≡ length self.old.files.items + 1) }
-    {
-        let files = blank_files(alloc, boot_of(&cell)?)?;
-        add(&mut self.files, files)?;
-        add(&mut self.servers, Mutex::new(cell))?;
+        add_files(alloc, boot?, &mut self.nodes.files)?;
         Ok(())
     }
 }
@@ -131,6 +120,14 @@ fn boot_of(server: &Server) -> Result<u64, FleetFault> {
         Some(server) => Ok(server.status().boot),
         None => Err(FleetFault::NodeOff),
     }
+}
+
+/// Adds the files of a server, which are on in this boot.
+fn add_files(alloc: Global, boot: u64, files: &mut Vec<Vec<Mutex<MemDisk>>>) -> Result<(), Fault>
+    ensures { OnOk result (length files.new.items ≡ length files.old.items + 1) }
+{
+    let more = blank_files(alloc, boot)?;
+    add(files, more)
 }
 
 /// A file for each job that a run can have, on which nothing was written, and which is on in this boot.

@@ -1,4 +1,4 @@
-//! Frames are delivered.
+//! Frames are sent and delivered.
 
 ghost use Rattle.std.specs.Prelude.{◌≡◌, length};
 
@@ -8,7 +8,7 @@ use disk_model::{MemDisk, Notes};
 use fc_base::Fault;
 use hub::Hub;
 use messages::Act;
-use node_history::Node;
+use node_history::{Node, Told};
 use rand_xoshiro::Xoshiro256PlusPlus;
 use rand_xoshiro::rand_core::SeedableRng;
 use rand_xoshiro::rand_core::utils::NextWord;
@@ -40,9 +40,7 @@ pub fn run_post<R: Wait, N: Notes + Drop>(
     let mut words = Xoshiro256PlusPlus::seed_from_u64(seed);
     for _ in rt.forever() {
         let is_last = stop.load(Ordering::SeqCst);
-        let asked = deliver(rt, hub, client, words.next_word())?;
-        let some = serve_all(rt, hub, servers, posts, files, &mut words)?;
-        if asked.is_none() && !some {
+        if !go_round(rt, hub, client, servers, posts, files, &mut words)? {
             if is_last {
                 return Ok(());
             }
@@ -50,6 +48,25 @@ pub fn run_post<R: Wait, N: Notes + Drop>(
         }
     }
     unreachable!()
+}
+
+/// Delivers a frame to the client and to each server, if one waits there. Whether there was any.
+fn go_round<R: Wait, N: Notes + Drop>(
+    rt: &R,
+    hub: &Mutex<Hub>,
+    client: &Mutex<ClientCell<N>>,
+    servers: &[Mutex<ServerCell<N>>],
+    posts: &mut [Seat],
+    files: &[Vec<Mutex<MemDisk>>],
+    words: &mut Xoshiro256PlusPlus,
+) -> Result<bool, Fault>
+    requires posts { length posts.old ≡ length servers.now }
+    requires files { length files.now ≡ length servers.now }
+    ensures { length posts.new ≡ length posts.old }
+{
+    let asked = deliver(rt, hub, client, words.next_word())?;
+    let some = serve_all(rt, hub, servers, posts, files, words)?;
+    Ok(asked.is_some() || some)
 }
 
 /// Delivers a frame to each server for which one waits. Whether there was any.
@@ -67,16 +84,33 @@ fn serve_all<R: Wait, N: Notes + Drop>(
 {
     let mut some = false;
     for i in 0..servers.len() {
-        match deliver(rt, hub, &servers[i], words.next_word())? {
-            Some(Act::Cut) => {
-                some = true;
-                cut(rt, &servers[i], &mut posts[i], &files[i])?;
-            }
-            Some(Act::None) => some = true,
-            None => {}
-        }
+        some |= serve(
+            rt,
+            hub,
+            &servers[i],
+            &mut posts[i],
+            &files[i],
+            words.next_word(),
+        )?;
     }
     Ok(some)
+}
+
+/// Delivers a frame to a server, if one waits for it, and cuts it off where it asks for that. Whether there
+/// was one.
+fn serve<R: Wait, N: Notes + Drop>(
+    rt: &R,
+    hub: &Mutex<Hub>,
+    server: &Mutex<ServerCell<N>>,
+    post: &mut Seat,
+    files: &[Mutex<MemDisk>],
+    word: u64,
+) -> Result<bool, Fault> {
+    let asked = deliver(rt, hub, server, word)?;
+    if let Some(Act::Cut) = asked {
+        cut(rt, server, post, files)?;
+    }
+    Ok(asked.is_some())
 }
 
 /// Delivers a frame to a node: of those that it hasn't taken, the oldest first, the one at `word` mod
@@ -96,4 +130,16 @@ fn deliver<R: Wait, C: Node>(
         Ok(told) => Ok(Some(told.act)),
         Err(fault) => Err(fault),
     }
+}
+
+/// Asks this of a node, under its lock and that of the hub.
+pub(crate) fn post<R: Wait, C: Node>(
+    rt: &R,
+    hub: &Mutex<Hub>,
+    node: &Mutex<C>,
+    command: C::Command,
+) -> Result<Told, Fault> {
+    let mut node = node.lock(rt);
+    let mut hub = hub.lock(rt);
+    node.post(&mut hub, command)
 }
