@@ -5,16 +5,15 @@ mod gates;
 mod hands;
 mod stage;
 
-use assembly::AssembleFault;
-use engine::Issue;
 use fc_base::{Fault, JobNo, Seq, ServerNo};
 use gates::{Crossing, OpensBelow};
 use hands::Ended;
-use stage::{NONE, Site, Taken, Workers, server};
+use stage::{NONE, Site, Taken, Workers, stranger};
 use std::alloc::Global;
 use std::sync::Wait;
+use std::test::Fail;
 use std::thread::Threads;
-use workers::OpenGate;
+use workers::{Gate, OpenGate};
 
 /// Two writes of a sector each, to blocks 0 and 1, both of which may be in flight.
 const TWO_WRITES: &[u8] = b"[a]\nrw=write\nbs=512\nsize=1k\niodepth=2\n";
@@ -35,45 +34,53 @@ struct Row {
 
 const ALL: u64 = u64::MAX;
 
-const ROWS: [Row; 5] = [
+/// Two writes, which were found on their disk.
+const SOUND: Taken = Taken {
+    issued: 2,
+    completed: 2,
+    checked: 2,
+    faults: 0,
+};
+
+/// Two writes, of which the second isn't done.
+const FIRST: Taken = Taken {
+    completed: 1,
+    checked: 1,
+    ..SOUND
+};
+
+/// A write that isn't done.
+const NO_WRITE: Taken = Taken {
+    issued: 1,
+    completed: 0,
+    checked: 0,
+    faults: 0,
+};
+
+static ROWS: [Row; 5] = [
     // Two writes, their ends, and that the job has no more.
     Row {
         failing: NONE,
         opens_below: ALL,
-        ended: Ended::At(Issue::Finished),
+        ended: Ended::Finished,
         applied: 5,
-        taken: Taken {
-            issued: 2,
-            completed: 2,
-            checked: 2,
-            faults: 0,
-        },
+        taken: SOUND,
     },
     // Write 0 fails.
     Row {
         failing: 0,
         opens_below: ALL,
-        ended: Ended::At(Issue::Stopped),
+        ended: Ended::Stopped,
         applied: 3,
-        taken: Taken {
-            issued: 1,
-            completed: 0,
-            checked: 0,
-            faults: 0,
-        },
+        taken: NO_WRITE,
     },
     // Write 1 fails.
     Row {
         failing: 1,
         opens_below: ALL,
-        ended: Ended::At(Issue::Stopped),
+        ended: Ended::Stopped,
         applied: 5,
-        taken: Taken {
-            issued: 2,
-            completed: 1,
-            checked: 1,
-            faults: 0,
-        },
+        taken: FIRST,
     },
     // The gate never opens.
     Row {
@@ -81,12 +88,7 @@ const ROWS: [Row; 5] = [
         opens_below: 0,
         ended: Ended::Refused(90),
         applied: 2,
-        taken: Taken {
-            issued: 1,
-            completed: 0,
-            checked: 0,
-            faults: 0,
-        },
+        taken: NO_WRITE,
     },
     // It opens for write 0 alone.
     Row {
@@ -94,62 +96,72 @@ const ROWS: [Row; 5] = [
         opens_below: 1,
         ended: Ended::Refused(90),
         applied: 4,
-        taken: Taken {
-            issued: 2,
-            completed: 1,
-            checked: 1,
-            faults: 0,
-        },
+        taken: FIRST,
     },
 ];
 
-/// How one worker ends, how much its seat has applied, and what is taken behind it.
-fn alone<R: Wait>(rt: &R, alloc: Global, row: &Row) -> Result<(Ended, u64, Taken), Fault> {
+/// Whether one worker goes as its row has it.
+fn alone<R: Wait>(rt: &R, alloc: Global, row: &Row) -> Result<bool, Fault> {
     let mut site = Site::new(alloc, Workers::One, &[row.failing])?;
     alone_at(rt, &mut site, row)
 }
 
-fn alone_at<R: Wait>(rt: &R, site: &mut Site, row: &Row) -> Result<(Ended, u64, Taken), Fault> {
-    site.begin(rt, TWO_WRITES)?;
-    let (ended, applied) = site.work(rt, &OpensBelow(Seq(row.opens_below)))?;
-    site.trigger(rt)?;
-    Ok((ended, applied, site.taken(rt, JobNo(0))?))
+fn alone_at<R: Wait>(rt: &R, site: &mut Site, row: &Row) -> Result<bool, Fault> {
+    let gate = OpensBelow(Seq(row.opens_below));
+    let told = write_all(rt, site, TWO_WRITES, &gate)?;
+    let taken = site.taken(rt, JobNo(0))?;
+    Ok(told == (row.ended, row.applied) && taken == row.taken)
 }
 
-#[test]
-fn one_worker(rt: HostRuntime) {
-    for row in ROWS {
-        let wanted = Ok((row.ended, row.applied, row.taken));
-        let mut told = alone(&rt, rt.alloc(), &row);
-        if told == Err(Fault::NoMemory) {
-            told = alone(&rt, rt.alloc(), &row);
-        }
-        assert!(rt; told == wanted, "{told:?}");
-    }
-}
-
-/// How two workers of one job end where write 0 may be written only once write 1 is done; how many writes
-/// are done, and what is taken; and how many events there are.
-type Crossed = ((Ended, Ended), usize, Taken, usize);
-
-fn crossing<R: Threads + Wait + Sync>(rt: &R, alloc: Global) -> Result<Crossed, Fault> {
-    let mut site = Site::new(alloc, Workers::Two, &[NONE])?;
-    let (ends, done, taken) = crossing_at(rt, &mut site)?;
-    match site.events() {
-        Ok(events) => Ok((ends, done, taken, events)),
-        Err(AssembleFault::NoMemory) => Err(Fault::NoMemory),
-        Err(AssembleFault::Unlike { .. }) => Err(Fault::Unlike),
-    }
-}
-
-fn crossing_at<R: Threads + Wait + Sync>(
+/// One worker writes a run of these jobs, which is then triggered. How the worker ends, and how much its seat
+/// has applied.
+fn write_all<R: Wait, G: Gate>(
     rt: &R,
     site: &mut Site,
-) -> Result<((Ended, Ended), usize, Taken), Fault> {
+    jobs: &[u8],
+    gate: &G,
+) -> Result<(Ended, u64), Fault> {
+    site.begin(rt, jobs)?;
+    let told = site.work(rt, gate)?;
+    site.trigger(rt)?;
+    Ok(told)
+}
+
+/// The first time memory may run out.
+#[test]
+fn one_worker(rt: HostRuntime) -> Result<(), Fail> {
+    for (i, row) in ROWS.iter().enumerate() {
+        let mut told = alone(&rt, rt.alloc(), row);
+        if let Err(Fault::NoMemory) = told {
+            told = alone(&rt, rt.alloc(), row);
+        }
+        if !matches!(told, Ok(true)) {
+            return Err(Fail::new(i));
+        }
+    }
+    Ok(())
+}
+
+/// Whether two workers of one job, whose write 0 may be written only once write 1 is done, go on until there
+/// is nothing more to write.
+fn crossing<R: Threads + Wait + Sync>(rt: &R, alloc: Global) -> Result<bool, Fault> {
+    let mut site = Site::new(alloc, Workers::Two, &[NONE])?;
+    crossing_at(rt, &mut site)
+}
+
+fn crossing_at<R: Threads + Wait + Sync>(rt: &R, site: &mut Site) -> Result<bool, Fault> {
     site.begin(rt, TWO_WRITES)?;
     let ends = site.work_both(rt, &Crossing::new())?;
     site.trigger(rt)?;
-    Ok((ends, site.done_writes(rt), site.taken(rt, JobNo(0))?))
+    Ok(ends == (Ended::Finished, Ended::Finished) && is_crossed(rt, site)?)
+}
+
+/// Whether two writes are done, taken and sound. Seven events are not of workers; each worker has asked once
+/// more than for its writes at least, and each write was asked for and is done.
+fn is_crossed<R: Wait>(rt: &R, site: &Site) -> Result<bool, Fault> {
+    let taken = site.taken(rt, JobNo(0))?;
+    let events = site.events(rt)?;
+    Ok(site.done_writes(rt) == 2 && taken == SOUND && events >= 13)
 }
 
 /// The first time memory may run out, for a thread too; one thread alone waits for the gate until its turns
@@ -157,88 +169,52 @@ fn crossing_at<R: Threads + Wait + Sync>(
 #[test]
 fn two_workers_at_once(rt: HostRuntime) {
     let mut told = crossing(&rt, rt.alloc());
-    if !is_crossed(&told) {
+    if !matches!(told, Ok(true)) {
         told = crossing(&rt, rt.alloc());
     }
-    assert!(rt; is_crossed(&told), "{told:?}");
+    assert!(rt; matches!(told, Ok(true)));
 }
 
-/// Whether both have ended as there was nothing more to write, with two writes done, taken and sound. Seven
-/// events are not of workers; each worker has asked once more than for its writes at least, and each write was
-/// asked for and is done.
-fn is_crossed(told: &Result<Crossed, Fault>) -> bool {
-    let sound = Taken {
-        issued: 2,
-        completed: 2,
-        checked: 2,
-        faults: 0,
-    };
-    match told {
-        Ok((ends, done, taken, events)) => {
-            are_finished(ends) && *done == 2 && *taken == sound && *events >= 13
-        }
-        Err(_) => false,
-    }
-}
-
-fn are_finished(ends: &(Ended, Ended)) -> bool {
-    ends.0 == Ended::At(Issue::Finished) && ends.1 == Ended::At(Issue::Finished)
-}
-
-/// What is taken of two jobs that one worker has written.
-fn both_jobs<R: Wait>(rt: &R, alloc: Global) -> Result<[Taken; 2], Fault> {
+/// Whether one worker writes two jobs.
+fn both_jobs<R: Wait>(rt: &R, alloc: Global) -> Result<bool, Fault> {
     let mut site = Site::new(alloc, Workers::One, &[NONE, NONE])?;
     both_jobs_at(rt, &mut site)
 }
 
-fn both_jobs_at<R: Wait>(rt: &R, site: &mut Site) -> Result<[Taken; 2], Fault> {
-    site.begin(rt, TWO_JOBS)?;
-    let (ended, _) = site.work(rt, &OpenGate)?;
-    if ended != Ended::At(Issue::Finished) {
-        return Err(Fault::Unlike);
-    }
-    site.trigger(rt)?;
-    Ok([site.taken(rt, JobNo(0))?, site.taken(rt, JobNo(1))?])
+fn both_jobs_at<R: Wait>(rt: &R, site: &mut Site) -> Result<bool, Fault> {
+    let (ended, _) = write_all(rt, site, TWO_JOBS, &OpenGate)?;
+    let (first, second) = (site.taken(rt, JobNo(0))?, site.taken(rt, JobNo(1))?);
+    Ok(ended == Ended::Finished && first == SOUND && second == SOUND)
 }
 
 #[test]
 fn two_jobs(rt: HostRuntime) {
-    let each = Taken {
-        issued: 2,
-        completed: 2,
-        checked: 2,
-        faults: 0,
-    };
     let mut told = both_jobs(&rt, rt.alloc());
-    if told == Err(Fault::NoMemory) {
+    if let Err(Fault::NoMemory) = told {
         told = both_jobs(&rt, rt.alloc());
     }
-    assert!(rt; told == Ok([each; 2]), "{told:?}");
+    assert!(rt; matches!(told, Ok(true)));
 }
 
-/// How a worker ends at a server that is off, and with a seat of another server; and how much these seats
+/// Whether a worker ends at a server that is off, and with a seat of another server, and how much these seats
 /// have applied.
-fn refused<R: Wait>(rt: &R, alloc: Global) -> Result<[(Ended, u64); 2], Fault> {
+fn refused<R: Wait>(rt: &R, alloc: Global) -> Result<bool, Fault> {
     let mut site = Site::new(alloc, Workers::One, &[NONE])?;
     refused_at(rt, alloc, &mut site)
 }
 
-fn refused_at<R: Wait>(rt: &R, alloc: Global, site: &mut Site) -> Result<[(Ended, u64); 2], Fault> {
+fn refused_at<R: Wait>(rt: &R, alloc: Global, site: &mut Site) -> Result<bool, Fault> {
     site.cut(rt)?;
     let off = site.work(rt, &OpenGate)?;
-    let (_, mut seats) = server(alloc, ServerNo(1), Workers::One)?;
-    match seats.pop() {
-        Some(stranger) => Ok([off, site.work_from(rt, stranger, &OpenGate)?]),
-        None => Err(Fault::WrongSeat),
-    }
+    let wrong = site.work_from(rt, stranger(alloc, ServerNo(1))?, &OpenGate)?;
+    Ok(off == (Ended::Off, 2) && wrong == (Ended::Refused(93), 0))
 }
 
 #[test]
 fn off_and_wrong_seat(rt: HostRuntime) {
-    let wanted = Ok([(Ended::Off, 2), (Ended::Refused(93), 0)]);
     let mut told = refused(&rt, rt.alloc());
-    if told == Err(Fault::NoMemory) {
+    if let Err(Fault::NoMemory) = told {
         told = refused(&rt, rt.alloc());
     }
-    assert!(rt; told == wanted, "{told:?}");
+    assert!(rt; matches!(told, Ok(true)));
 }

@@ -1,7 +1,5 @@
 //! Workers in threads of their own, and how they end.
 
-ghost use Rattle.std.specs.Prelude.{◌≤◌, length};
-
 use super::stage::Server;
 use disk_model::Disk;
 use engine::Issue;
@@ -13,10 +11,12 @@ use std::sync::{Mutex, Wait};
 use workers::{Gate, run_worker};
 
 /// How a worker ends.
-#[derive(Clone, Copy, Debug, PartialEq, Eq)]
+#[derive(Clone, Copy, PartialEq, Eq)]
 pub enum Ended {
-    /// By this last answer to its seat.
-    At(Issue),
+    /// There was nothing more to write.
+    Finished,
+    /// A write has failed.
+    Stopped,
     /// Its server is off.
     Off,
     /// With the fault of this number.
@@ -25,31 +25,11 @@ pub enum Ended {
     Astray,
 }
 
-/// How a worker ends, with its seat. Want of memory is handed on.
-pub fn end_of<R: Wait, D: Disk, G: Gate>(
-    rt: &R,
-    alloc: Global,
-    cell: &Mutex<Server>,
-    seat: Seat,
-    files: &[Mutex<D>],
-    gate: &G,
-) -> (Seat, Result<Ended, Fault>)
-    requires { 1 ≤ length files.now }
-{
-    match run_worker(rt, alloc, cell, seat, files, gate) {
-        Ok(seat) => {
-            let ended = last_of(&seat);
-            (seat, Ok(ended))
-        }
-        Err((seat, Fault::NoMemory)) => (seat, Err(Fault::NoMemory)),
-        Err((seat, fault)) => (seat, Ok(Ended::Refused(fault.number()))),
-    }
-}
-
 fn last_of(seat: &Seat) -> Ended {
     match seat.last() {
         Some(Ok(said)) => match said.answer {
-            Answer::Issued(issue) => Ended::At(issue),
+            Answer::Issued(Issue::Finished) => Ended::Finished,
+            Answer::Issued(Issue::Stopped) => Ended::Stopped,
             _ => Ended::Astray,
         },
         Some(Err(Fault::NodeOff)) => Ended::Off,
@@ -57,11 +37,12 @@ fn last_of(seat: &Seat) -> Ended {
     }
 }
 
-/// A worker, before and after it works.
+/// A worker, before and after it works: how it has ended, and how much its seat has applied.
 #[derive(Drop)]
 pub struct Hand {
     seat: Option<Seat>,
     pub ended: Result<Ended, Fault>,
+    pub applied: u64,
 }
 
 impl Hand {
@@ -69,10 +50,11 @@ impl Hand {
         Hand {
             seat,
             ended: Ok(Ended::Astray),
+            applied: 0,
         }
     }
 
-    /// Works at the server with these files.
+    /// Works at the server with these files. Want of memory is handed on.
     pub fn work<R: Wait, D: Disk, G: Gate>(
         &mut self,
         rt: &R,
@@ -85,10 +67,22 @@ impl Hand {
             return;
         }
         if let Some(seat) = self.seat.take() {
-            let (seat, ended) = end_of(rt, alloc, cell, seat, files, gate);
-            self.seat = Some(seat);
-            self.ended = ended;
+            match run_worker(rt, alloc, cell, seat, files, gate) {
+                Ok(seat) => self.rest(seat, None),
+                Err((seat, fault)) => self.rest(seat, Some(fault)),
+            }
         }
+    }
+
+    /// The worker has ended so, with this seat.
+    fn rest(&mut self, seat: Seat, fault: Option<Fault>) {
+        self.ended = match fault {
+            None => Ok(last_of(&seat)),
+            Some(Fault::NoMemory) => Err(Fault::NoMemory),
+            Some(fault) => Ok(Ended::Refused(fault.number())),
+        };
+        self.applied = seat.applied();
+        self.seat = Some(seat);
     }
 
     pub fn give_back(&mut self) -> Option<Seat> {

@@ -2,8 +2,8 @@
 
 ghost use Rattle.std.specs.Prelude.{◌<◌};
 
-use super::hands::{Ended, Hand, end_of};
-use assembly::{AssembleFault, assemble};
+use super::hands::{Ended, Hand};
+use assembly::assemble;
 use client_cell::{ClientCell, Command, Request};
 use disk_model::{FaultDisk, MemDisk, MemNotes};
 use fc_base::{Fault, JobNo, Key, MAX_TEXT, RunNo, ServerNo};
@@ -15,8 +15,8 @@ use server_cell::{Seat, ServerCell, Task};
 use server_core::WriteEnd;
 use std::alloc::Global;
 use std::sync::{Mutex, Wait};
-use std::thread;
 use std::thread::Threads;
+use std::{slice, thread};
 use workers::Gate;
 
 pub type Server = ServerCell<MemNotes>;
@@ -28,7 +28,7 @@ pub const NONE: u64 = u64::MAX;
 
 /// What was taken of a job: how many writes were issued and have completed; and how many blocks of its
 /// file were checked by that state, and how many of them are faulty.
-#[derive(Clone, Copy, Debug, PartialEq, Eq)]
+#[derive(Clone, Copy, PartialEq, Eq)]
 pub struct Taken {
     pub issued: u64,
     pub completed: u64,
@@ -37,7 +37,7 @@ pub struct Taken {
 }
 
 /// How many workers a server has.
-#[derive(Clone, Copy, Debug, PartialEq, Eq)]
+#[derive(Clone, Copy)]
 pub enum Workers {
     One,
     Two,
@@ -53,18 +53,23 @@ pub struct Site {
     files: Vec<Mutex<FaultDisk>>,
 }
 
-/// One function lets go of all that a site holds: so the proof of each function that drops one goes through
-/// that once.
+/// It is written by hand so that it is one function, which calls that of each field: where it is derived, the
+/// proof of each function that drops a site goes through all that a site holds.
 impl Drop for Site {
     fn drop(self) {
         let Site {
             alloc: _,
-            hub: _,
-            client: _,
-            cell: _,
-            seats: _,
-            files: _,
+            hub,
+            client,
+            cell,
+            seats,
+            files,
         } = self;
+        drop(hub);
+        drop(client);
+        drop(cell);
+        drop(seats);
+        drop(files);
     }
 }
 
@@ -72,13 +77,13 @@ impl Site {
     /// All are in their first boot, and there is a file for each of these calls, which fails there.
     pub fn new(alloc: Global, workers: Workers, failing: &[u64]) -> Result<Site, Fault> {
         let files = files(alloc, failing)?;
+        let (cell, seats) = server(alloc, ServerNo(0), workers)?;
         let client = client(alloc)?;
-        let (server, seats) = server(alloc, ServerNo(0), workers)?;
         Ok(Site {
             alloc,
             hub: Hub::new(alloc),
             client,
-            cell: Mutex::new(server),
+            cell,
             seats,
             files,
         })
@@ -86,22 +91,32 @@ impl Site {
 
     /// Run 1 begins, of these jobs. Frames 0 to 3 are the jobs and their answer, the start and its answer.
     pub fn begin<R: Wait>(&mut self, rt: &R, jobs: &[u8]) -> Result<(), Fault> {
-        let text = text(self.alloc, jobs)?;
-        let mut server = self.cell.lock(rt);
-        let request = Command::Request(Request::Begin(text));
-        told(self.client.post(&mut self.hub, request))?;
-        told(server.deliver(&mut self.hub, 0))?;
-        told(self.client.deliver(&mut self.hub, 1))?;
-        told(server.deliver(&mut self.hub, 2))?;
-        told(self.client.deliver(&mut self.hub, 3))
+        self.ask(Request::Begin(text(self.alloc, jobs)?))?;
+        self.serve(rt, 0)?;
+        self.hear(1)?;
+        self.serve(rt, 2)?;
+        self.hear(3)
     }
 
     /// Frame 4 is the trigger.
     pub fn trigger<R: Wait>(&mut self, rt: &R) -> Result<(), Fault> {
-        let mut server = self.cell.lock(rt);
-        let request = Command::Request(Request::Trigger(RunNo(1), Act::None));
-        told(self.client.post(&mut self.hub, request))?;
-        told(server.deliver(&mut self.hub, 4))
+        self.ask(Request::Trigger(RunNo(1), Act::None))?;
+        self.serve(rt, 4)
+    }
+
+    /// This is asked of the client.
+    fn ask(&mut self, request: Request) -> Result<(), Fault> {
+        told(self.client.post(&mut self.hub, Command::Request(request)))
+    }
+
+    /// A frame comes to the client.
+    fn hear(&mut self, frame: u64) -> Result<(), Fault> {
+        told(self.client.deliver(&mut self.hub, frame))
+    }
+
+    /// A frame comes to the server.
+    fn serve<R: Wait>(&mut self, rt: &R, frame: u64) -> Result<(), Fault> {
+        told(self.cell.lock(rt).deliver(&mut self.hub, frame))
     }
 
     /// The server loses its power.
@@ -127,13 +142,9 @@ impl Site {
         seat: Seat,
         gate: &G,
     ) -> Result<(Ended, u64), Fault> {
-        if self.files.is_empty() {
-            return Err(Fault::NoWrite);
-        }
-        let (seat, ended) = end_of(rt, self.alloc, &self.cell, seat, &self.files, gate);
-        let applied = seat.applied();
-        self.take_back(seat)?;
-        Ok((ended?, applied))
+        let mut hand = Hand::new(Some(seat));
+        hand.work(rt, self.alloc, &self.cell, &self.files, gate);
+        self.end(&mut hand)
     }
 
     /// How two workers end, each in a thread of its own. The seats come back.
@@ -150,12 +161,21 @@ impl Site {
             2,
             &|_, hand| hand.work(rt, alloc, cell, files, gate),
         );
-        for hand in &mut hands {
-            if let Some(seat) = hand.give_back() {
-                self.take_back(seat)?;
-            }
+        self.end_both(&mut hands)
+    }
+
+    fn end_both(&mut self, hands: &mut [Hand; 2]) -> Result<(Ended, Ended), Fault> {
+        let (first, _) = self.end(&mut hands[0])?;
+        let (second, _) = self.end(&mut hands[1])?;
+        Ok((first, second))
+    }
+
+    /// How a worker has ended, and how much its seat has applied. The seat comes back.
+    fn end(&mut self, hand: &mut Hand) -> Result<(Ended, u64), Fault> {
+        if let Some(seat) = hand.give_back() {
+            self.take_back(seat)?;
         }
-        Ok((hands[0].ended?, hands[1].ended?))
+        Ok((hand.ended?, hand.applied))
     }
 
     fn take_back(&mut self, seat: Seat) -> Result<(), Fault> {
@@ -164,11 +184,10 @@ impl Site {
 
     /// What was taken of a job of run 1, with the check of its file.
     pub fn taken<R: Wait>(&self, rt: &R, job: JobNo) -> Result<Taken, Fault> {
-        let Some(file) = self.files.get(job.0 as usize) else {
-            return Err(Fault::NoWrite);
-        };
-        let mut disk = file.lock(rt);
-        taken_of(self.alloc, &self.cell.lock(rt), job, &mut disk)
+        match self.files.get(job.0 as usize) {
+            Some(file) => taken_of(self.alloc, &self.cell.lock(rt), job, &mut file.lock(rt)),
+            None => Err(Fault::NoWrite),
+        }
     }
 
     /// How many writes are done, as the server has heard.
@@ -182,28 +201,14 @@ impl Site {
     }
 
     /// How many events there are, in one list of all that has happened.
-    pub fn events(self) -> Result<usize, AssembleFault> {
-        let Site {
-            alloc,
-            hub,
-            client,
-            cell,
-            seats,
-            files: _,
-        } = self;
-        events_of(alloc, &hub, &client, &[cell.into_inner()], &seats)
+    pub fn events<R: Wait>(&self, rt: &R) -> Result<usize, Fault> {
+        let server = self.cell.lock(rt);
+        let servers = slice::from_ref(&*server);
+        match assemble(self.alloc, &self.hub, &self.client, servers, &self.seats) {
+            Ok(assembled) => Ok(assembled.order.len()),
+            Err(fault) => Err(fault.fault()),
+        }
     }
-}
-
-fn events_of(
-    alloc: Global,
-    hub: &Hub,
-    client: &Client,
-    servers: &[Server],
-    seats: &[Seat],
-) -> Result<usize, AssembleFault> {
-    let assembled = assemble(alloc, hub, client, servers, seats)?;
-    Ok(assembled.order.len())
 }
 
 /// A client of one server, over a blank note.
@@ -214,8 +219,23 @@ fn client(alloc: Global) -> Result<Client, Fault> {
     }
 }
 
-/// A server in its first boot.
-pub fn server(alloc: Global, me: ServerNo, workers: Workers) -> Result<(Server, Vec<Seat>), Fault>
+/// A seat of a server that is no more.
+pub fn stranger(alloc: Global, me: ServerNo) -> Result<Seat, Fault>
+    requires { me < 8 }
+{
+    let (_cell, mut seats) = server(alloc, me, Workers::One)?;
+    match seats.pop() {
+        Some(seat) => Ok(seat),
+        None => Err(Fault::WrongSeat),
+    }
+}
+
+/// A server in its first boot, under its lock, with its seats.
+fn server(
+    alloc: Global,
+    me: ServerNo,
+    workers: Workers,
+) -> Result<(Mutex<Server>, Vec<Seat>), Fault>
     requires { me < 8 }
 {
     let count = match workers {
@@ -223,7 +243,7 @@ pub fn server(alloc: Global, me: ServerNo, workers: Workers) -> Result<(Server, 
         Workers::Two => 2,
     };
     match ServerCell::new(alloc, me, MemNotes::new(Vec::new(alloc)), count) {
-        Ok(made) => Ok(made),
+        Ok((server, seats)) => Ok((Mutex::new(server), seats)),
         Err((_, fault)) => Err(fault),
     }
 }
