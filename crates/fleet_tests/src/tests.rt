@@ -6,14 +6,14 @@ mod replay;
 mod story;
 
 use fc_base::Fault;
-use fleet::{End, FleetFault, Left, OpenGate, run_and_leave};
-use gates::{Always, Behind, Shut, Write};
+use fleet::{FleetFault, Left, OpenGate, run_and_leave};
+use gates::{Always, Write};
 use replay::sends_the_same;
 use std::alloc::Global;
-use std::process::Abort;
 use std::sync::Wait;
+use std::test::Fail;
 use std::thread::Threads;
-use story::{READING, Row, STORED, Story, WRITING, checked, fault_of, told, unlike};
+use story::{READING, Row, STORED, Story, WRITING, Wanted, goes_so};
 
 /// Two jobs; the second is read in larger blocks than it was written.
 const WRITING_TWO: &[u8] = b"[a]\nrw=write\nbs=512\nsize=1k\n[b]\nrw=write\nbs=512\nsize=2k\n";
@@ -22,79 +22,21 @@ const READING_OTHER: &[u8] =
     b"[global]\nrw=read\nverify_state_load=1\n[a]\nbs=512\nsize=1k\n[b]\nbs=1k\nsize=2k\n";
 
 /// The first write waits for the second.
-const REVERSED: [(Write, Write); 1] = [((0, 0), (0, 1))];
+const REVERSED: &[(Write, Write)] = &[((0, 0), (0, 1))];
 
 /// The second write of each server waits for the first of the other.
-const CROSSWISE: [(Write, Write); 2] = [((0, 1), (1, 0)), ((1, 1), (0, 0))];
+const CROSSWISE: &[(Write, Write)] = &[((0, 1), (1, 0)), ((1, 1), (0, 0))];
 
-#[test]
-fn the_stored_run(rt: HostRuntime) {
-    let rows = [(0, 0, Some(2)), (1, 0, Some(2))];
-    let unlike = unlike(&rt, rt.alloc(), &STORED, &OpenGate, &rows);
-    assert!(rt; unlike == Ok(None), "{unlike:?}");
-}
-
-/// Two workers of one server: were there one, the first write would wait until its turns are spent.
-#[test]
-fn writes_in_the_reverse_order(rt: HostRuntime) {
-    let story = Story {
-        servers: 1,
-        ..STORED
-    };
-    let gate = Behind::new(&REVERSED);
-    let unlike = unlike(&rt, rt.alloc(), &story, &gate, &[(0, 0, Some(2))]);
-    assert!(rt; unlike == Ok(None), "{unlike:?}");
-}
-
-/// One worker at each of two servers: one after the other, the first would wait in vain.
-#[test]
-fn writes_that_wait_crosswise(rt: HostRuntime) {
-    let story = Story {
-        workers: 1,
-        ..STORED
-    };
-    let rows = [(0, 0, Some(2)), (1, 0, Some(2))];
-    let gate = Behind::new(&CROSSWISE);
-    let unlike = unlike(&rt, rt.alloc(), &story, &gate, &rows);
-    assert!(rt; unlike == Ok(None), "{unlike:?}");
-}
-
-/// Job 0 of each server fits its state, and job 1 is of another shape.
-#[test]
-fn a_job_of_another_shape(rt: HostRuntime) {
-    let story = Story {
-        texts: (WRITING_TWO, READING_OTHER),
-        ..STORED
-    };
-    let rows = [(0, 0, Some(2)), (0, 1, None), (1, 0, Some(2)), (1, 1, None)];
-    let unlike = unlike(&rt, rt.alloc(), &story, &OpenGate, &rows);
-    assert!(rt; unlike == Ok(None), "{unlike:?}");
-}
-
-/// Whatever was completed by then is checked, and found.
-#[test]
-fn a_trigger_at_the_start(rt: HostRuntime) {
-    let story = Story {
-        pulled: true,
-        ..STORED
-    };
-    let sound = match told(&rt, rt.alloc(), &story, &OpenGate) {
-        Ok(ends) => ends.len() == 2 && ends.iter().all(is_sound),
-        Err(_) => false,
-    };
-    assert!(rt; sound);
-}
-
-/// No more than two blocks were checked, and none was faulty.
-fn is_sound(end: &End) -> bool {
-    match &end.report {
-        Some(report) => checked(report).is_some_and(|blocks| blocks <= 2),
-        None => false,
-    }
-}
+/// Each write waits for itself.
+const SHUT: &[(Write, Write)] = &[
+    ((0, 0), (0, 0)),
+    ((0, 1), (0, 1)),
+    ((1, 0), (1, 0)),
+    ((1, 1), (1, 1)),
+];
 
 /// The end of each of the eight servers.
-const EIGHT: [Row; 8] = [
+const EIGHT: &[Row] = &[
     (0, 0, Some(2)),
     (1, 0, Some(2)),
     (2, 0, Some(2)),
@@ -105,43 +47,122 @@ const EIGHT: [Row; 8] = [
     (7, 0, Some(2)),
 ];
 
-#[test]
-fn the_largest_fleet(rt: HostRuntime) {
-    let story = Story {
+static STORIES: [Story; 7] = [
+    STORED,
+    // Two workers of one server: were there one, the first write would wait until its turns are spent.
+    Story {
+        name: "writes in the reverse order",
+        servers: 1,
+        waits: REVERSED,
+        wanted: Wanted::Ends(&[(0, 0, Some(2))]),
+        ..STORED
+    },
+    // One worker at each of two servers: one after the other, the first would wait in vain.
+    Story {
+        name: "writes that wait crosswise",
+        workers: 1,
+        waits: CROSSWISE,
+        ..STORED
+    },
+    // Job 0 of each server fits its state, and job 1 is of another shape.
+    Story {
+        name: "a job of another shape",
+        texts: (WRITING_TWO, READING_OTHER),
+        wanted: Wanted::Ends(&[(0, 0, Some(2)), (0, 1, None), (1, 0, Some(2)), (1, 1, None)]),
+        ..STORED
+    },
+    // Whatever was completed by then is checked, and found.
+    Story {
+        name: "a trigger at the start",
+        pulled: true,
+        wanted: Wanted::Sound(2),
+        ..STORED
+    },
+    Story {
+        name: "the largest fleet",
         servers: 8,
         workers: 16,
+        wanted: Wanted::Ends(EIGHT),
         ..STORED
-    };
-    let unlike = unlike(&rt, rt.alloc(), &story, &OpenGate, &EIGHT);
-    assert!(rt; unlike == Ok(None), "{unlike:?}");
+    },
+    Story {
+        name: "a gate that stays shut",
+        waits: SHUT,
+        wanted: Wanted::Refused(Fault::TurnsSpent),
+        ..STORED
+    },
+];
+
+#[test]
+fn stories(rt: HostRuntime) -> Result<(), Fail> {
+    for story in &STORIES {
+        if !goes_so(&rt, rt.alloc(), story) {
+            return Err(Fail::new(story.name));
+        }
+    }
+    Ok(())
 }
 
 /// A text that writes where one has to read, the other way round, and one that is too long.
+static TEXTS: [Story; 3] = [
+    Story {
+        name: "both texts read",
+        texts: (READING, READING),
+        wanted: Wanted::Refused(Fault::BadJobs),
+        ..STORED
+    },
+    Story {
+        name: "both texts write",
+        texts: (WRITING, WRITING),
+        wanted: Wanted::Refused(Fault::BadJobs),
+        ..STORED
+    },
+    Story {
+        name: "a text that is too long",
+        texts: (&[b'\n'; 16_385], READING),
+        wanted: Wanted::Refused(Fault::JobTooLong),
+        ..STORED
+    },
+];
+
 #[test]
-fn texts_that_are_refused(rt: HostRuntime) {
-    let rows: [((&[u8], &[u8]), Fault); 3] = [
-        ((READING, READING), Fault::BadJobs),
-        ((WRITING, WRITING), Fault::BadJobs),
-        ((&[b'\n'; 16_385], READING), Fault::JobTooLong),
-    ];
-    for (texts, wanted) in rows {
-        let fault = fault_of(&rt, rt.alloc(), &Story { texts, ..STORED }, &OpenGate);
-        assert!(rt; fault == Some(FleetFault::Refused(wanted)), "{fault:?}");
+fn texts_that_are_refused(rt: HostRuntime) -> Result<(), Fail> {
+    for story in &TEXTS {
+        if !goes_so(&rt, rt.alloc(), story) {
+            return Err(Fail::new(story.name));
+        }
+    }
+    Ok(())
+}
+
+/// What is said of what is left of the stored run.
+#[derive(Clone, Copy)]
+enum Claim {
+    /// At each of two servers Jobs, Start, Trigger, StateAck, Verify, Saved, and from each JobsOk, Started,
+    /// State, WantState, Report: 22 frames. All seats come back, three of each server. Each worker has asked
+    /// for the 16 jobs once more than for writes, each of the four writes was asked for and ended, and each
+    /// server was cut and restarted.
+    Counts,
+    /// A world in which all events of both servers and of the client happen one after the other sends the same
+    /// frames.
+    World,
+}
+
+/// Whether this holds of what is left.
+fn holds(alloc: Global, left: &Left, claim: Claim) -> Result<bool, Fault> {
+    match claim {
+        Claim::Counts => Ok(has_counts(left)),
+        Claim::World => sends_the_same(alloc, left),
     }
 }
 
-#[test]
-fn a_gate_that_stays_shut(rt: HostRuntime) {
-    let fault = fault_of(&rt, rt.alloc(), &STORED, &Shut);
-    let wanted = FleetFault::Refused(Fault::TurnsSpent);
-    assert!(rt; fault == Some(wanted), "{fault:?}");
-}
-
-/// What is left of the stored run.
-fn ran<R: Threads + Wait + Sync>(rt: &R, alloc: Global) -> Result<Left, FleetFault> {
-    let mut trigger = Always(false);
-    let (_ends, left) = run_and_leave(rt, alloc, 2, 2, WRITING, READING, &mut trigger, &OpenGate)?;
-    Ok(left)
+fn has_counts(left: &Left) -> bool {
+    let turns = turns(left);
+    left.hub.len() == 22
+        && left.servers.len() == 2
+        && left.seats.len() == 6
+        && turns == applied(left)
+        && turns >= 76
 }
 
 /// How many events of the servers' histories came from seats.
@@ -166,51 +187,45 @@ fn applied(left: &Left) -> u64 {
     applied
 }
 
-/// At each of two servers Jobs, Start, Trigger, StateAck, Verify, Saved, and from each JobsOk, Started,
-/// State, WantState, Report: 22 frames. All seats come back, three of each server. Each worker has asked for
-/// the 16 jobs once more than for writes, each of the four writes was asked for and ended, and each server
-/// was cut and restarted.
+/// Whether this holds of what the stored run leaves.
+fn leaves<R: Threads + Wait + Sync>(
+    rt: &R,
+    alloc: Global,
+    claim: Claim,
+) -> Result<bool, FleetFault> {
+    let mut trigger = Always(false);
+    let (ends, left) = run_and_leave(rt, alloc, 2, 2, WRITING, READING, &mut trigger, &OpenGate)?;
+    drop(ends);
+    let is_so = holds(alloc, &left, claim);
+    drop(left);
+    Ok(is_so?)
+}
+
+/// The same, told once more where memory runs out.
+fn is_left<R: Threads + Wait + Sync>(rt: &R, alloc: Global, claim: Claim) -> bool {
+    let is_so = match leaves(rt, alloc, claim) {
+        Err(FleetFault::Refused(Fault::NoMemory)) => leaves(rt, alloc, claim),
+        is_so => is_so,
+    };
+    matches!(is_so, Ok(true))
+}
+
 #[test]
 fn what_is_left(rt: HostRuntime) {
-    let ran = match ran(&rt, rt.alloc()) {
-        Err(FleetFault::Refused(Fault::NoMemory)) => ran(&rt, rt.alloc()),
-        ran => ran,
-    };
-    match ran {
-        Ok(left) => {
-            let counts = (left.hub.len(), left.servers.len(), left.seats.len());
-            assert!(rt; counts == (22, 2, 6), "{counts:?}");
-            let (turns, applied) = (turns(&left), applied(&left));
-            assert!(rt; turns == applied && turns >= 76, "{turns} {applied}");
-        }
-        Err(fault) => assert!(rt; false, "{fault:?}"),
-    }
+    assert!(rt; is_left(&rt, rt.alloc(), Claim::Counts));
 }
 
-/// Whether a world sends the frames of the stored run.
-fn is_a_world<R: Threads + Wait + Sync>(rt: &R, alloc: Global) -> Result<bool, FleetFault> {
-    let left = ran(rt, alloc)?;
-    Ok(sends_the_same(alloc, &left)?)
-}
-
-/// The events of both servers and of the client, one after the other in a world.
 #[test]
 fn one_list_of_events(rt: HostRuntime) {
-    let same = match is_a_world(&rt, rt.alloc()) {
-        Err(FleetFault::Refused(Fault::NoMemory)) => is_a_world(&rt, rt.alloc()),
-        same => same,
-    };
-    assert!(rt; same == Ok(true), "{same:?}");
+    assert!(rt; is_left(&rt, rt.alloc(), Claim::World));
 }
 
 #[test]
 fn checks_of_three_kinds(rt: HostRuntime) {
-    let ended = kinds::end_by_kind(&rt, rt.alloc());
-    assert!(rt; ended == Ok(true), "{ended:?}");
+    assert!(rt; matches!(kinds::end_by_kind(&rt, rt.alloc()), Ok(true)));
 }
 
 #[test]
 fn the_trigger_is_asked(rt: HostRuntime) {
-    let asked = kinds::is_asked(&rt, rt.alloc());
-    assert!(rt; asked == Ok(true), "{asked:?}");
+    assert!(rt; matches!(kinds::is_asked(&rt, rt.alloc()), Ok(true)));
 }

@@ -8,7 +8,7 @@ use std::sync::atomic::{AtomicBool, Ordering};
 pub type Write = (u32, u64);
 
 /// A gate that lets the first write of each pair through once the second was written, and all others at
-/// once: the writes 0 and 1 of the servers 0 and 1.
+/// once. The pairs are of the writes 0 and 1 of the servers 0 and 1.
 #[derive(Drop)]
 pub struct Behind {
     pairs: &'static [(Write, Write)],
@@ -69,18 +69,6 @@ impl Gate for Behind {
             flag.store(true, Ordering::SeqCst);
         }
     }
-}
-
-/// A gate that lets no write through.
-#[derive(Clone, Copy)]
-pub struct Shut;
-
-impl Gate for Shut {
-    fn may_write(&self, _ticket: &Ticket) -> bool {
-        false
-    }
-
-    fn written(&self, _ticket: &Ticket) {}
 }
 
 /// A trigger that is pulled from the start, or never.
