@@ -12,6 +12,28 @@ use std::alloc::Global;
 use std::time::{Clock, CpuClock};
 use verify_state::VerifyState;
 
+/// What is delivered to a client.
+#[derive(Clone, Copy)]
+pub enum Delivery {
+    /// States of a new key, which come to clients that keep so many.
+    New(u32),
+    /// The same states again.
+    Same(u32),
+    /// Requests for kept states, which are sent: with the making of the packets.
+    Requests,
+}
+
+/// A client of one server, over a note in memory, which one call lets go of.
+struct Kept {
+    client: Client<MemNotes>,
+}
+
+impl Drop for Kept {
+    fn drop(self) {
+        let _notes = self.off();
+    }
+}
+
 /// How often a round delivers a state, to a client of its own.
 const TIMES: u64 = 200;
 
@@ -30,8 +52,21 @@ const JOB: JobParts = JobParts {
     window: 256,
 };
 
+/// This is delivered to new clients.
+pub fn round<R: AllocGlobal + Clock + CpuClock>(
+    rt: &R,
+    watch: &mut Watch,
+    delivery: Delivery,
+) -> Result<u64, Trouble> {
+    match delivery {
+        Delivery::New(kept) => states(rt, watch, kept, false),
+        Delivery::Same(kept) => states(rt, watch, kept, true),
+        Delivery::Requests => requests(rt, watch),
+    }
+}
+
 /// A state of a new key comes to clients that keep so many, or comes again.
-pub fn states<R: AllocGlobal + Clock + CpuClock>(
+fn states<R: AllocGlobal + Clock + CpuClock>(
     rt: &R,
     watch: &mut Watch,
     kept: u32,
@@ -52,13 +87,10 @@ fn take_one<R: AllocGlobal + Clock + CpuClock>(
     index: u32,
     is_again: bool,
 ) -> Result<(), Trouble> {
-    let mut client = client_over(rt.alloc(), note)?;
-    take_all(
-        &mut client,
-        index,
-        index.saturating_add(u32::from(is_again)),
-    )?;
-    take(rt, watch, &mut client, index)
+    let mut kept = client_over(rt.alloc(), note)?;
+    let end = index.saturating_add(u32::from(is_again));
+    take_all(&mut kept.client, index, end)?;
+    take(rt, watch, &mut kept.client, index)
 }
 
 /// The client takes this state, which the watch measures.
@@ -83,14 +115,11 @@ fn take_all(client: &mut Client<MemNotes>, from: u32, to: u32) -> Result<(), Tro
     Ok(())
 }
 
-/// A client is asked for kept states, which it sends: with the making of the packets.
-pub fn requests<R: AllocGlobal + Clock + CpuClock>(
-    rt: &R,
-    watch: &mut Watch,
-) -> Result<u64, Trouble> {
+/// A client is asked for kept states, which it sends.
+fn requests<R: AllocGlobal + Clock + CpuClock>(rt: &R, watch: &mut Watch) -> Result<u64, Trouble> {
     let note = note_of(rt.alloc(), REQUESTS)?;
-    let mut client = client_over(rt.alloc(), &note)?;
-    ask_all(rt, watch, &mut client)
+    let mut kept = client_over(rt.alloc(), &note)?;
+    ask_all(rt, watch, &mut kept.client)
 }
 
 /// The same of this client.
@@ -118,17 +147,25 @@ fn ask(client: &mut Client<MemNotes>, index: u32) -> Result<(), Trouble> {
 
 /// The note of a client that keeps so many states.
 fn note_of(alloc: Global, kept: u32) -> Result<Vec<u8>, Trouble> {
-    let mut client = client_over(alloc, &[])?;
-    take_all(&mut client, 0, kept)?;
-    Ok(client.off().load()?)
+    let mut full = client_over(alloc, &[])?;
+    take_all(&mut full.client, 0, kept)?;
+    Ok(full.off().load()?)
 }
 
 /// A client of one server, over this note.
-fn client_over(alloc: Global, note: &[u8]) -> Result<Client<MemNotes>, Trouble> {
+fn client_over(alloc: Global, note: &[u8]) -> Result<Kept, Trouble> {
     let notes = MemNotes::new(Vec::from_slice(alloc, note)?);
     match Client::restart(alloc, 1, false, notes) {
-        Ok(client) => Ok(client),
+        Ok(client) => Ok(Kept { client }),
         Err((_, fault)) => Err(Trouble::Refused(fault)),
+    }
+}
+
+impl Kept {
+    /// Its notes.
+    fn off(self) -> MemNotes {
+        let Kept { client } = self;
+        client.off()
     }
 }
 

@@ -34,10 +34,21 @@ pub fn check<R: AllocGlobal + Clock + CpuClock>(
 ) -> Result<u64, Trouble> {
     let job = job_of(verify, bs)?;
     let mut disk = written(rt.alloc(), &job)?;
+    check_one(rt, rt.alloc(), watch, &job, &mut disk)
+}
+
+/// Checks this disk.
+fn check_one<R: Clock + CpuClock>(
+    rt: &R,
+    alloc: Global,
+    watch: &mut Watch,
+    job: &JobRecord,
+    disk: &mut MemDisk,
+) -> Result<u64, Trouble> {
     watch.start(rt);
-    let report = check_disk(rt.alloc(), &job, KEY, None, false, &mut disk)?;
+    let report = check_disk(alloc, job, KEY, None, false, disk)?;
     watch.stop(rt);
-    count_sound(&[report], &job)
+    count_sound(&[report], job)
 }
 
 /// Checks eight disks by so many threads. How many MiB they have.
@@ -123,10 +134,19 @@ fn write_all(alloc: Global, disk: &mut MemDisk, job: &JobRecord) -> Result<(), T
 
 /// Rots sectors of a disk, each in another part of it.
 pub fn rot<R: AllocGlobal + Print>(rt: &R) -> Result<(), Trouble> {
-    let mut disk = MemDisk::new(rt.alloc());
+    rot_new(rt.alloc())?;
+    println!(rt; "{SECTORS} sectors rotted")?;
+    Ok(())
+}
+
+fn rot_new(alloc: Global) -> Result<(), Trouble> {
+    let mut disk = MemDisk::new(alloc);
+    rot_all(&mut disk)
+}
+
+fn rot_all(disk: &mut MemDisk) -> Result<(), Trouble> {
     for number in 0..SECTORS {
         disk.rot(number * STEP, [1; 512])?;
     }
-    println!(rt; "{SECTORS} sectors rotted")?;
     Ok(())
 }

@@ -11,9 +11,17 @@ use std::time::{Clock, CpuClock};
 /// A million writes are issued, and done.
 pub fn round<R: AllocGlobal + Clock + CpuClock>(rt: &R, watch: &mut Watch) -> Result<u64, Trouble> {
     let mut engine = random_engine(rt.alloc())?;
+    write_all(rt, watch, &mut engine)
+}
+
+fn write_all<R: Clock + CpuClock>(
+    rt: &R,
+    watch: &mut Watch,
+    engine: &mut Engine,
+) -> Result<u64, Trouble> {
     watch.start(rt);
     for _ in 0..MAX_WRITES {
-        write_next(&mut engine)?;
+        write_next(engine)?;
     }
     watch.stop(rt);
     Ok(MAX_WRITES)
@@ -25,16 +33,27 @@ fn random_engine(alloc: Global) -> Result<Engine, Trouble> {
 
 /// Prints the slowest of a million calls of `issue`, and what all of them took.
 pub fn measure_issues<R: AllocGlobal + Print + Clock + CpuClock>(rt: &R) -> Result<(), Trouble> {
-    let mut engine = random_engine(rt.alloc())?;
+    let (slowest, total) = time_issues(rt, rt.alloc())?;
+    println!(rt; "issue, {MAX_WRITES} calls: slowest {slowest} ns, all {total} ns")?;
+    Ok(())
+}
+
+/// How many nanoseconds the slowest of a million calls of `issue` takes, and how many all of them.
+fn time_issues<R: Clock + CpuClock>(rt: &R, alloc: Global) -> Result<(u128, u128), Trouble> {
+    let mut engine = random_engine(alloc)?;
+    time_all(rt, &mut engine)
+}
+
+/// The same of this engine.
+fn time_all<R: Clock + CpuClock>(rt: &R, engine: &mut Engine) -> Result<(u128, u128), Trouble> {
     let mut slowest = 0;
     let mut total: u128 = 0;
     for _ in 0..MAX_WRITES {
-        let took = time_issue(rt, &mut engine)?;
+        let took = time_issue(rt, engine)?;
         slowest = took.max(slowest);
         total = total.saturating_add(took);
     }
-    println!(rt; "issue, {MAX_WRITES} calls: slowest {slowest} ns, all {total} ns")?;
-    Ok(())
+    Ok((slowest, total))
 }
 
 /// How many nanoseconds of processor time the next call of `issue` takes, the reading of the clock

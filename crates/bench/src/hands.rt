@@ -1,5 +1,7 @@
 //! Workers that write to files in memory.
 
+ghost use Rattle.std.specs.Prelude.{◌≤◌};
+
 use crate::nodes::{Begun, Server, begin_run};
 use crate::trouble::Trouble;
 use crate::watch::Watch;
@@ -42,10 +44,18 @@ struct Hand {
 }
 
 /// Servers that write, and their workers.
-#[derive(Drop)]
 struct Crew {
     sites: Vec<Site>,
     hands: Vec<Hand>,
+}
+
+/// One function lets go of all that a crew has.
+impl Drop for Crew {
+    fn drop(self) {
+        let Crew { sites, hands } = self;
+        drop(sites);
+        drop(hands);
+    }
 }
 
 /// So many workers at each of so many servers write all that these have.
@@ -59,29 +69,40 @@ pub fn round<R: AllocGlobal + Clock + CpuClock + Threads + Wait + Sync>(
         sites: Vec::new(rt.alloc()),
         hands: Vec::new(rt.alloc()),
     };
-    for _ in 0..servers {
-        crew.add(
-            rt.alloc(),
-            begin_run(rt.alloc(), workers.clamp(1, 16), TEXT)?,
-        )?;
-    }
+    crew.add_all(rt.alloc(), servers, workers.clamp(1, 16))?;
     crew.work(rt, rt.alloc(), watch)?;
     Ok(WRITES * u64::from(servers))
 }
 
 impl Crew {
-    fn add(&mut self, alloc: Global, begun: Begun) -> Result<(), Trouble> {
-        let Begun { server, seats } = begun;
-        self.add_hands(seats)?;
-        self.sites.push(new_site(alloc, server)?)?;
+    /// Adds so many servers, with so many workers each.
+    fn add_all(&mut self, alloc: Global, servers: u32, workers: u32) -> Result<(), Trouble>
+        requires some { 1 ≤ workers }
+        requires few { workers ≤ 16 }
+    {
+        for _ in 0..servers {
+            self.add(alloc, begin_run(alloc, workers, TEXT)?)?;
+        }
         Ok(())
     }
 
-    /// Adds the workers of the next server.
-    fn add_hands(&mut self, seats: Vec<Seat>) -> Result<(), Trouble> {
+    fn add(&mut self, alloc: Global, begun: Begun) -> Result<(), Trouble> {
+        let place = self.sites.len();
+        let (cell, seats) = begun.locked();
+        let files = Vec::new(alloc);
+        self.sites.push(Site { cell, files })?;
+        self.add_hands(place, seats)?;
+        match self.sites.last_mut() {
+            Some(site) => add_files(alloc, &mut site.files),
+            None => Ok(()),
+        }
+    }
+
+    /// Adds the workers of the server at this place.
+    fn add_hands(&mut self, place: usize, seats: Vec<Seat>) -> Result<(), Trouble> {
         for seat in seats {
             let hand = Hand {
-                place: self.sites.len(),
+                place,
                 seat: Some(seat),
                 refused: None,
             };
@@ -121,23 +142,14 @@ impl Crew {
     }
 }
 
-/// This server, with new files.
-fn new_site(alloc: Global, server: Server) -> Result<Site, Trouble> {
-    Ok(Site {
-        cell: Mutex::new(server),
-        files: files(alloc)?,
-    })
-}
-
-/// The files of a server, turned on, to which nothing was written yet.
-fn files(alloc: Global) -> Result<Vec<Mutex<MemDisk>>, Trouble> {
-    let mut files = Vec::new(alloc);
+/// Adds the files of a server, turned on, to which nothing was written yet.
+fn add_files(alloc: Global, files: &mut Vec<Mutex<MemDisk>>) -> Result<(), Trouble> {
     for _ in 0..FILES {
         let mut disk = MemDisk::new(alloc);
         disk.power_on(FIRST_BOOT);
         files.push(Mutex::new(disk))?;
     }
-    Ok(files)
+    Ok(())
 }
 
 impl Hand {

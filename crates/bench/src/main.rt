@@ -55,6 +55,6 @@ fn measure<R: AllocGlobal + Print + Clock + CpuClock + Threads + Wait + Sync>(
     match word {
         "issues" => engines::measure_issues(rt),
         "rot" => disks::rot(rt),
-        _ => rounds::measure_all(rt, rows::rows_of(word)),
+        _ => rounds::measure_all(rt, word),
     }
 }

@@ -24,17 +24,34 @@ use std::time::{Clock, CpuClock};
 pub type Server = ServerCell<MemNotes>;
 
 /// A server, and its seats.
-#[derive(Drop)]
 pub struct Begun {
     pub server: Server,
     pub seats: Vec<Seat>,
 }
 
 /// A client, over a note in memory, and its network.
-#[derive(Drop)]
 pub struct Network {
     pub hub: Hub,
     pub client: ClientCell<MemNotes>,
+}
+
+/// It is written by hand so that it is one function, which calls that of each field: where it is derived, the
+/// proof of each function that drops a node goes through all that a node holds.
+impl Drop for Begun {
+    fn drop(self) {
+        let Begun { server, seats } = self;
+        drop(server);
+        drop(seats);
+    }
+}
+
+/// The same of a network.
+impl Drop for Network {
+    fn drop(self) {
+        let Network { hub, client } = self;
+        drop(hub);
+        drop(client);
+    }
 }
 
 /// Server 0, which has so many seats, 1 to 17, where a client has begun a run of the jobs of this text.
@@ -98,6 +115,12 @@ impl Network {
 }
 
 impl Begun {
+    /// The server under its lock, and its seats.
+    pub fn locked(self) -> (Mutex<Server>, Vec<Seat>) {
+        let Begun { server, seats } = self;
+        (Mutex::new(server), seats)
+    }
+
     /// So many writes of job 0 are asked for, and done.
     pub fn write(&mut self, writes: u32) -> Result<(), Trouble> {
         let Some(seat) = self.seats.first_mut() else {
@@ -137,12 +160,13 @@ pub fn under_a_lock<R: AllocGlobal + Clock + CpuClock + Wait>(
     rt: &R,
     watch: &mut Watch,
 ) -> Result<u64, Trouble> {
-    let Begun { server, mut seats } = begin_run(rt.alloc(), 1, RANDOM_TEXT)?;
-    let cell = Mutex::new(server);
-    match seats.first_mut() {
+    let (cell, mut seats) = begin_run(rt.alloc(), 1, RANDOM_TEXT)?.locked();
+    let written = match seats.first_mut() {
         Some(seat) => write_all(rt, watch, &cell, seat),
         None => Err(Trouble::NoSeat),
-    }
+    };
+    drop(cell);
+    written
 }
 
 /// The same from this seat.

@@ -23,11 +23,24 @@ pub enum Part {
 }
 
 /// A packet, its frames, and its pieces.
-#[derive(Drop)]
 struct Load {
     packet: Packet,
     frames: Frames,
     pieces: Vec<Piece>,
+}
+
+/// One function lets go of all that a load has.
+impl Drop for Load {
+    fn drop(self) {
+        let Load {
+            packet,
+            frames,
+            pieces,
+        } = self;
+        drop(packet);
+        drop(frames);
+        drop(pieces);
+    }
 }
 
 /// Does this to the longest text.
@@ -37,24 +50,19 @@ pub fn round<R: AllocGlobal + Clock + CpuClock>(
     part: Part,
 ) -> Result<u64, Trouble> {
     let load = make_load(rt.alloc())?;
-    watch.start(rt);
-    for _ in 0..TIMES {
-        load.work(rt.alloc(), part)?;
-    }
-    watch.stop(rt);
-    Ok(TIMES)
+    load.work_often(rt, rt.alloc(), watch, part)
 }
 
 /// The packet with the longest text.
 fn make_load(alloc: Global) -> Result<Load, Trouble> {
-    let packet = packet(alloc)?;
-    let frames = frames_of(alloc, &packet)?;
-    let pieces = pieces_in(alloc, &frames)?;
-    Ok(Load {
-        packet,
-        frames,
-        pieces,
-    })
+    let mut load = Load {
+        packet: packet(alloc)?,
+        frames: Frames::new(alloc),
+        pieces: Vec::new(alloc),
+    };
+    load.frames = frames_of(alloc, &load.packet)?;
+    add_pieces(alloc, &load.frames, &mut load.pieces)?;
+    Ok(load)
 }
 
 fn packet(alloc: Global) -> Result<Packet, Trouble> {
@@ -68,6 +76,22 @@ fn packet(alloc: Global) -> Result<Packet, Trouble> {
 }
 
 impl Load {
+    /// Does this as often as a round does.
+    fn work_often<R: Clock + CpuClock>(
+        &self,
+        rt: &R,
+        alloc: Global,
+        watch: &mut Watch,
+        part: Part,
+    ) -> Result<u64, Trouble> {
+        watch.start(rt);
+        for _ in 0..TIMES {
+            self.work(alloc, part)?;
+        }
+        watch.stop(rt);
+        Ok(TIMES)
+    }
+
     /// Does this once, which makes frames, pieces or a packet.
     fn work(&self, alloc: Global, part: Part) -> Result<(), Trouble> {
         let made = match part {
@@ -86,10 +110,16 @@ impl Load {
 /// The pieces that these frames are.
 fn pieces_in(alloc: Global, frames: &Frames) -> Result<Vec<Piece>, Trouble> {
     let mut pieces = Vec::new(alloc);
+    add_pieces(alloc, frames, &mut pieces)?;
+    Ok(pieces)
+}
+
+/// Adds the pieces that these frames are.
+fn add_pieces(alloc: Global, frames: &Frames, pieces: &mut Vec<Piece>) -> Result<(), Trouble> {
     for index in 0..frames.len() {
         pieces.push(piece_at(alloc, frames, index)?)?;
     }
-    Ok(pieces)
+    Ok(())
 }
 
 fn piece_at(alloc: Global, frames: &Frames, index: usize) -> Result<Piece, Trouble> {
@@ -107,10 +137,18 @@ fn join(alloc: Global, pieces: &[Piece]) -> Result<usize, Trouble> {
 
 fn join_in(kept: &mut Assembly, pieces: &[Piece]) -> Result<usize, Trouble> {
     for piece in pieces.iter().rev() {
-        if kept.look(piece)?.is_some() {
+        if gives(kept, piece)? {
             return Ok(1);
         }
         kept.take(piece)?;
     }
     Ok(0)
+}
+
+/// Whether this piece is the last that a packet wants.
+fn gives(kept: &mut Assembly, piece: &Piece) -> Result<bool, Trouble> {
+    let packet = kept.look(piece)?;
+    let is_given = packet.is_some();
+    drop(packet);
+    Ok(is_given)
 }

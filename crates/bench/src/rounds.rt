@@ -1,6 +1,6 @@
 //! The rounds of a measurement, and the line that is printed of them.
 
-use crate::rows::Row;
+use crate::rows::ROWS;
 use crate::trouble::Trouble;
 use crate::watch::Watch;
 use crate::work::Work;
@@ -11,19 +11,19 @@ use std::time::{Clock, CpuClock};
 /// How many rounds there are.
 const ROUNDS: usize = 5;
 
-/// Prints a line for each row, or which words there are.
+/// Prints a line for each row of this word, or which words there are.
 pub fn measure_all<R: AllocGlobal + Print + Clock + CpuClock + Threads + Wait + Sync>(
     rt: &R,
-    rows: &[Row],
+    word: &str,
 ) -> Result<(), Trouble> {
-    if rows.is_empty() {
-        return print_words(rt);
+    let mut is_word = false;
+    for (of, name, work) in &ROWS {
+        if *of == word {
+            is_word = true;
+            measure_work(rt, name, *work)?;
+        }
     }
-    for row in rows {
-        let (name, work) = *row;
-        measure_work(rt, name, work)?;
-    }
-    Ok(())
+    if is_word { Ok(()) } else { print_words(rt) }
 }
 
 fn print_words<R: Print>(rt: &R) -> Result<(), Trouble> {

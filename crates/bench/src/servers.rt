@@ -12,8 +12,33 @@ use server_core::{Input, WriteEnd};
 use std::alloc::Global;
 use std::time::{Clock, CpuClock};
 
+/// What is done by the steps of a server.
+#[derive(Clone, Copy)]
+pub enum Deed {
+    /// A million writes are issued, and done.
+    Steps,
+    /// Triggers take the states of 16 jobs, each of another run. Each is measured on its own, the reading of
+    /// the clock among it.
+    Triggers,
+    /// Verifies with the longest text open checks of a run that has stopped. Each is measured on its own, as
+    /// above.
+    Verifies,
+}
+
 /// A server, over a note in memory.
 type Server = server_core::Server<MemNotes>;
+
+/// A server that writes a run, which one call lets go of.
+struct Begun {
+    server: Server,
+}
+
+impl Drop for Begun {
+    fn drop(self) {
+        let Begun { server } = self;
+        let _notes = server.off();
+    }
+}
 
 /// How often a round does what it measures, but for the writes.
 const TIMES: u64 = 2_000;
@@ -26,13 +51,24 @@ pub const RANDOM_TEXT: &[u8] =
 /// Sixteen jobs, whose states are taken.
 const SIXTEEN: &[u8] = b"[a]\nrw=write\nbs=512\nsize=1k\nnumjobs=16\n";
 
-/// A million writes are issued, and done.
-pub fn steps<R: AllocGlobal + Clock + CpuClock>(rt: &R, watch: &mut Watch) -> Result<u64, Trouble> {
-    let mut server = begun(rt.alloc(), RANDOM_TEXT)?;
-    write_all(rt, watch, &mut server)
+/// A new server does this.
+pub fn round<R: AllocGlobal + Clock + CpuClock>(
+    rt: &R,
+    watch: &mut Watch,
+    deed: Deed,
+) -> Result<u64, Trouble> {
+    let text = match deed {
+        Deed::Steps => RANDOM_TEXT,
+        Deed::Triggers | Deed::Verifies => SIXTEEN,
+    };
+    let mut begun = begin_new(rt.alloc(), text)?;
+    match deed {
+        Deed::Steps => write_all(rt, watch, &mut begun.server),
+        Deed::Triggers => triggers(rt, watch, &mut begun.server),
+        Deed::Verifies => verifies(rt, watch, &mut begun.server),
+    }
 }
 
-/// The same at this server.
 fn write_all<R: Clock + CpuClock>(
     rt: &R,
     watch: &mut Watch,
@@ -46,15 +82,13 @@ fn write_all<R: Clock + CpuClock>(
     Ok(MAX_WRITES)
 }
 
-/// Triggers take the states of 16 jobs, each of another run. Each is measured on its own, the reading of the
-/// clock among it.
-pub fn triggers<R: AllocGlobal + Clock + CpuClock>(
+fn triggers<R: AllocGlobal + Clock + CpuClock>(
     rt: &R,
     watch: &mut Watch,
+    server: &mut Server,
 ) -> Result<u64, Trouble> {
-    let mut server = begun(rt.alloc(), SIXTEEN)?;
     for run in 1..=TIMES {
-        trigger(rt, watch, &mut server, RunNo(run))?;
+        trigger(rt, watch, server, RunNo(run))?;
     }
     Ok(TIMES)
 }
@@ -71,16 +105,15 @@ fn trigger<R: AllocGlobal + Clock + CpuClock>(
     begin(rt.alloc(), server, RunNo(run.0.saturating_add(1)), SIXTEEN)
 }
 
-/// Verifies with the longest text open checks of a run that has stopped. Each is measured on its own, as above.
-pub fn verifies<R: AllocGlobal + Clock + CpuClock>(
+fn verifies<R: AllocGlobal + Clock + CpuClock>(
     rt: &R,
     watch: &mut Watch,
+    server: &mut Server,
 ) -> Result<u64, Trouble> {
     let run = RunNo(1);
-    let mut server = begun(rt.alloc(), SIXTEEN)?;
-    tell(rt.alloc(), &mut server, Body::Stop { run })?;
+    tell(rt.alloc(), server, Body::Stop { run })?;
     for attempt in 1..=TIMES {
-        verify(rt, watch, &mut server, Attempt(attempt))?;
+        verify(rt, watch, server, Attempt(attempt))?;
     }
     Ok(TIMES)
 }
@@ -115,18 +148,18 @@ fn take<R: AllocGlobal + Clock + CpuClock>(
 }
 
 /// Server 0, over a new note.
-fn new_server(alloc: Global) -> Result<Server, Trouble> {
+fn new_server(alloc: Global) -> Result<Begun, Trouble> {
     match Server::restart(alloc, ServerNo(0), MemNotes::new(Vec::new(alloc))) {
-        Ok(server) => Ok(server),
+        Ok(server) => Ok(Begun { server }),
         Err((_, fault)) => Err(Trouble::Refused(fault)),
     }
 }
 
 /// Server 0, where run 1 of the jobs of this text writes.
-fn begun(alloc: Global, text: &[u8]) -> Result<Server, Trouble> {
-    let mut server = new_server(alloc)?;
-    begin(alloc, &mut server, RunNo(1), text)?;
-    Ok(server)
+fn begin_new(alloc: Global, text: &[u8]) -> Result<Begun, Trouble> {
+    let mut begun = new_server(alloc)?;
+    begin(alloc, &mut begun.server, RunNo(1), text)?;
+    Ok(begun)
 }
 
 /// A run of the jobs of this text writes.
@@ -169,8 +202,10 @@ fn issue(server: &mut Server) -> Result<Ticket, Trouble> {
 /// The deliveries of the frames of what the client says.
 fn inputs(alloc: Global, body: Body) -> Result<Vec<Input>, Trouble> {
     let packet = packet_of(Node::Client, Node::Server(ServerNo(0)), body)?;
-    let frames = frames_of(alloc, &packet)?;
-    deliveries(alloc, &frames)
+    match frames_of(alloc, &packet) {
+        Ok(frames) => deliveries(alloc, &frames),
+        Err(error) => Err(Trouble::from(error)),
+    }
 }
 
 /// The deliveries of these frames.

@@ -1,6 +1,8 @@
 //! What is measured, a round at a time.
 
+use crate::clients::Delivery;
 use crate::pieces::Part;
+use crate::servers::Deed;
 use crate::trouble::Trouble;
 use crate::watch::Watch;
 use crate::worlds::Story;
@@ -17,28 +19,20 @@ pub enum Work {
     Assembly(u32),
     /// A million writes, by the engine alone.
     Engine,
-    /// The same by the steps of a server.
-    Steps,
     /// The same of a server under its lock.
     Lock,
     /// A check of a disk by this method, in blocks of this size.
     Check(Verify, u64),
     /// Copies of so many bytes, so often.
     Copies(usize, u32),
-    /// States of a new key, which a client that keeps so many saves.
-    NewStates(u32),
-    /// The same states again.
-    SameStates(u32),
-    /// Requests for kept states.
-    Requests,
+    /// What is delivered to a client.
+    Client(Delivery),
     /// Checks of eight disks by so many threads.
     Threads(u32),
     /// A part of what is done with the longest text.
     Pieces(Part),
-    /// Triggers of 16 jobs.
-    Triggers,
-    /// Verifies with the longest text.
-    Verifies,
+    /// The steps of a server.
+    Server(Deed),
     /// The writes of so many servers, by so many workers at each.
     Workers(u32, u32),
     /// What a world goes through.
@@ -62,17 +56,13 @@ impl Work {
         match self {
             Work::Assembly(writes) => assemblies::round(rt, watch, writes),
             Work::Engine => engines::round(rt, watch),
-            Work::Steps => servers::steps(rt, watch),
             Work::Lock => nodes::under_a_lock(rt, watch),
             Work::Check(verify, bs) => disks::check(rt, watch, verify, bs),
             Work::Copies(bytes, times) => copies::round(rt, watch, bytes, times),
-            Work::NewStates(kept) => clients::states(rt, watch, kept, false),
-            Work::SameStates(kept) => clients::states(rt, watch, kept, true),
-            Work::Requests => clients::requests(rt, watch),
+            Work::Client(delivery) => clients::round(rt, watch, delivery),
             Work::Threads(threads) => disks::check_by(rt, watch, threads),
             Work::Pieces(part) => pieces::round(rt, watch, part),
-            Work::Triggers => servers::triggers(rt, watch),
-            Work::Verifies => servers::verifies(rt, watch),
+            Work::Server(deed) => servers::round(rt, watch, deed),
             Work::Workers(servers, workers) => hands::round(rt, watch, servers, workers),
             Work::World(story) => worlds::round(rt, watch, story),
             Work::Blocks(writes) => worlds::blocks(rt, watch, writes),
