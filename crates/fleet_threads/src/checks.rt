@@ -175,7 +175,7 @@ fn tell_all<R: Wait>(
     reports: &[CheckReport],
 ) -> Result<(), FleetFault> {
     for (due, report) in dues.iter().zip(reports.iter()) {
-        tell(rt, nodes, attempt, due, *report)?;
+        tell(rt, nodes, attempt, due, report)?;
     }
     Ok(())
 }
@@ -186,7 +186,7 @@ fn tell<R: Wait>(
     nodes: &Nodes,
     attempt: Attempt,
     due: &Due,
-    report: CheckReport,
+    report: &CheckReport,
 ) -> Result<(), FleetFault> {
     let Some(server) = nodes.servers.get(due.place) else {
         return Err(FleetFault::NoServer);
@@ -195,7 +195,7 @@ fn tell<R: Wait>(
         boot: due.boot,
         attempt,
         job: due.key.job,
-        report,
+        report: *report,
     };
     post(rt, &nodes.hub, server, report)?;
     Ok(())
