@@ -146,17 +146,10 @@ impl Drop for Site {
 }
 
 /// A client over notes with these bytes, whose save number `failing` fails, and leaves the new bytes where
-/// `landed`. Memory may run out once.
+/// `landed`.
 fn open(alloc: Global, bytes: &[u8], failing: u64, landed: bool) -> Result<Site, Fault> {
-    let notes = match notes_of(alloc, bytes) {
-        Err(_) => notes_of(alloc, bytes)?,
-        Ok(notes) => notes,
-    };
-    let cell = match ClientCell::new(alloc, 2, FaultNotes::new(notes, failing, landed)) {
-        Err((notes, Fault::NoMemory)) => ClientCell::new(alloc, 2, notes),
-        opened => opened,
-    };
-    match cell {
+    let notes = notes_of(alloc, bytes)?;
+    match ClientCell::new(alloc, 2, FaultNotes::new(notes, failing, landed)) {
         Ok(cell) => Ok(Site {
             alloc,
             hub: Hub::new(alloc),
@@ -174,18 +167,18 @@ fn notes_of(alloc: Global, bytes: &[u8]) -> Result<MemNotes, Fault> {
 }
 
 impl Site {
-    /// It goes through this, or fails by the first row that isn't so.
-    fn lives(&mut self, story: &Story, rows: &[Row]) -> Result<(), Fail> {
+    /// It goes through this. The first row that isn't so; the number of rows, if what is left isn't.
+    fn lives(&mut self, story: &Story, rows: &[Row]) -> Result<Option<usize>, Fault> {
         for (i, (step, said, is_on)) in rows.iter().enumerate() {
-            let is_told = self.answers(*step, said.told(story.run));
+            let is_told = self.answers(*step, said.told(story.run))?;
             if !is_told || self.cell.client().is_some() != *is_on {
-                return Err(Fail::new(i));
+                return Ok(Some(i));
             }
         }
         if self.has_left(story) {
-            Ok(())
+            Ok(None)
         } else {
-            Err(Fail::new("what is left"))
+            Ok(Some(rows.len()))
         }
     }
 
@@ -197,14 +190,13 @@ impl Site {
             && self.hub.len() == story.frames
     }
 
-    /// Whether it answers this step so, for which memory may run out once, and enters it, if it is a task.
-    fn answers(&mut self, step: Step, wanted: Result<Told, Fault>) -> bool {
+    /// Whether it answers this step so, and enters it, if it is a task; or memory ran out.
+    fn answers(&mut self, step: Step, wanted: Result<Told, Fault>) -> Result<bool, Fault> {
         let entries = self.cell.history().len();
-        let told = match self.step(step) {
-            Err(Fault::NoMemory) => self.step(step),
-            told => told,
-        };
-        told == wanted && is_entered(step, self.cell.history(), entries)
+        match self.step(step) {
+            Err(Fault::NoMemory) => Err(Fault::NoMemory),
+            told => Ok(told == wanted && is_entered(step, self.cell.history(), entries)),
+        }
     }
 
     /// What is told of this step.
@@ -246,24 +238,45 @@ fn is_of(entry: &Logged, task: Task) -> bool {
 }
 
 /// A new client goes through this.
-fn tell(alloc: Global, story: &Story, rows: &[Row]) -> Result<(), Fail> {
+fn tell(alloc: Global, story: &Story, rows: &[Row]) -> Result<Option<usize>, Fault> {
     let mut site = open(alloc, &[], story.failing, story.landed)?;
     site.lives(story, rows)
 }
 
+/// The same, told anew where memory runs out once. It fails by the first row that isn't so.
+fn goes(alloc: Global, story: &Story, rows: &[Row]) -> Result<(), Fail> {
+    let unlike = match tell(alloc, story, rows) {
+        Err(Fault::NoMemory) => tell(alloc, story, rows),
+        unlike => unlike,
+    };
+    match unlike {
+        Ok(None) => Ok(()),
+        Ok(Some(row)) => Err(Fail::new(row)),
+        Err(fault) => Err(Fail::new(fault)),
+    }
+}
+
 #[test]
 fn cuts_and_restarts(rt: HostRuntime) -> Result<(), Fail> {
-    tell(rt.alloc(), &CUTS, &POWER)
+    goes(rt.alloc(), &CUTS, &POWER)
 }
 
 #[test]
 fn saves_that_fail(rt: HostRuntime) -> Result<(), Fail> {
-    tell(rt.alloc(), &LANDED, &SAVES)?;
-    tell(rt.alloc(), &LOST, &SAVES)
+    goes(rt.alloc(), &LANDED, &SAVES)?;
+    goes(rt.alloc(), &LOST, &SAVES)
+}
+
+/// Why a client isn't opened over bytes that are no note.
+fn refusal(alloc: Global) -> Option<Fault> {
+    open(alloc, b"FCC3", u64::MAX, false).err()
 }
 
 #[test]
 fn what_is_no_note(rt: HostRuntime) {
-    let opened = open(rt.alloc(), b"FCC3", u64::MAX, false);
-    assert!(rt; matches!(opened, Err(Fault::BadNote)));
+    let mut fault = refusal(rt.alloc());
+    if fault == Some(Fault::NoMemory) {
+        fault = refusal(rt.alloc());
+    }
+    assert!(rt; fault == Some(Fault::BadNote));
 }
