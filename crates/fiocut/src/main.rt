@@ -2,21 +2,13 @@
 //! workers run two job files live.
 #![tactic(auto)]
 
-mod command;
-mod jobs;
-mod lines;
-mod live;
-mod refusal;
-#[cfg(test)]
-mod tests;
-mod world;
+ghost use Rattle.commands.specs.Live.{IsFleetSize};
 
-ghost use Rattle.fiocut.specs.Live.{IsFleetSize};
-
-use command::{Request, read_words, refuse_words};
+use commands::{
+    FileTrigger, FleetSize, REFUSED, Request, read_words, refuse_script, refuse_words, run_in_blocks,
+    run_jobs, run_live,
+};
 use fc_base::Fault;
-use jobs::{REFUSED, run_jobs};
-use live::{FileTrigger, FleetSize, run_live};
 use std::fs::Files;
 use std::io;
 use std::io::BufWriter;
@@ -24,7 +16,6 @@ use std::process::ExitCode;
 use std::rt::Env;
 use std::sync::Wait;
 use std::thread::Threads;
-use world::{refuse_script, run_in_blocks};
 
 fn main(rt: HostRuntime) -> ExitCode {
     ExitCode::from(run(&rt))

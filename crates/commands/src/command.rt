@@ -1,0 +1,108 @@
+//! The command line.
+
+ghost use Rattle.std.specs.Prelude.{◌≡◌, ◌≤◌, IfOk, IfSome, OnOk, codes};
+ghost use Rattle.std.specs.Io.KnownBytes.{Appends};
+ghost use Rattle.commands.specs.Command.{IsRequest, IsLive};
+
+use crate::jobs::REFUSED;
+use crate::live::FleetSize;
+use clap::{Arg, ArgMatches, Command, Error};
+use std::alloc::{AllocError, Global};
+use std::convert::AsStr;
+use std::io;
+use std::io::Write;
+
+/// What a command line asks for.
+#[derive(Clone, Copy, Debug, PartialEq, Eq)]
+pub enum Request<'a> {
+    /// `fiocut jobs`: print the jobs of the job file on standard input.
+    Jobs,
+    /// `fiocut world`: run the script on standard input.
+    World,
+    /// `fiocut live SERVERS WORKERS PATH`: run the texts on standard input by so many servers of so
+    /// many workers each, until there is a file at the path or all writes are done.
+    Live { size: FleetSize, path: &'a str },
+}
+
+/// Reads the words of a command line, of which the first is the program's own name. `None` is a bad
+/// command: no command or an unknown one, a word too few or too many, a number out of its range (1 to
+/// 8 servers, 1 to 16 workers), or no memory to read the words with. There are no options, so a request
+/// for help or for a version is a bad command, too, and so is the word `--`, which would end them.
+pub fn read_words<'a, S: AsStr>(alloc: Global, words: &'a [S]) -> Option<Request<'a>>
+    ensures { IfSome result IsRequest }
+{
+    if has_end_of_options(words) {
+        return None;
+    }
+    let matches = matches_of(alloc, words).ok()?;
+    match matches.subcommand()? {
+        ("jobs", _) => Some(Request::Jobs),
+        ("world", _) => Some(Request::World),
+        ("live", words) => live_request(words),
+        _ => None,
+    }
+}
+
+fn has_end_of_options<S: AsStr>(words: &[S]) -> bool {
+    words.iter().any(|word| word.as_str() == "--")
+}
+
+fn matches_of<'a, S: AsStr>(alloc: Global, words: &'a [S]) -> Result<ArgMatches<'a>, Error> {
+    let command = command_of(alloc)?;
+    command.try_get_matches_from(words)
+}
+
+/// What a command line may have: one of three subcommands, and no options.
+fn command_of<'a>(alloc: Global) -> Result<Command<'a>, AllocError> {
+    let live = live_command(alloc)?;
+    Command::new(alloc, "fiocut")
+        .disable_help_flag(true)
+        .disable_help_subcommand(true)
+        .subcommand_required(true)
+        .subcommand(subcommand(alloc, "jobs"))?
+        .subcommand(subcommand(alloc, "world"))?
+        .subcommand(live)
+}
+
+fn live_command<'a>(alloc: Global) -> Result<Command<'a>, AllocError> {
+    subcommand(alloc, "live")
+        .arg(Arg::new(alloc, "servers").required(true))?
+        .arg(Arg::new(alloc, "workers").required(true))?
+        .arg(Arg::new(alloc, "path").required(true))
+}
+
+fn subcommand<'a>(alloc: Global, name: &'a str) -> Command<'a> {
+    Command::new(alloc, name).disable_help_flag(true)
+}
+
+/// What the words behind `live` ask for.
+fn live_request<'a>(words: &ArgMatches<'a>) -> Option<Request<'a>>
+    ensures { IfSome result IsLive }
+{
+    let size = FleetSize {
+        servers: number_among(words, "servers", 8)?,
+        workers: number_among(words, "workers", 16)?,
+    };
+    let path = words.get_str("path")?;
+    Some(Request::Live { size, path })
+}
+
+/// The word of this name, where it is a number from 1 to the most.
+fn number_among(words: &ArgMatches<'_>, name: &str, most: u32) -> Option<u32>
+    ensures { IfSome result (λ number. (1 ≤ number) × (number ≤ most)) }
+{
+    let number = words.get_one::<u32>(name)?;
+    (1..=most).contains(&number).then_some(number)
+}
+
+/// Answers a bad command line: it prints `bad command`, and the exit status is that of a refusal.
+/// An error is that of a write.
+pub fn refuse_words<W: Write>(writer: &mut W) -> io::Result<u8>
+    ensures status { IfOk result (λ status. status ≡ 2) }
+    ensures printed { OnOk result
+        (Appends (W.contents writer.old) (W.contents writer.new) (codes "bad command\n")) }
+{
+    writer.write_all(b"bad command\n")?;
+    writer.flush()?;
+    Ok(REFUSED)
+}

@@ -1,0 +1,57 @@
+//! `fiocut world`: a script in, what comes of it out.
+
+ghost use Rattle.std.specs.Prelude.{◌≡◌, OnOk, IfOk, IfSome};
+ghost use Rattle.std.specs.Io.Buffered.{writer_contents};
+ghost use Rattle.std.specs.Io.KnownBytes.{Appends};
+ghost use Rattle.commands.specs.Lines.{ended};
+ghost use Rattle.commands.specs.Refusal.{plain, refusal_line};
+ghost use Rattle.commands.specs.World.{AnswersScript, RefusesScript};
+
+use crate::jobs::REFUSED;
+use crate::refusal::{Refusal, write_refusal};
+use fc_base::Fault;
+use net_script::{ScriptFault, run_script};
+use std::alloc::Global;
+use std::io;
+use std::io::{BufWriter, ErrorKind, Read, Write};
+
+/// Runs a script as `run_world` does. Its lines go out in blocks, as these are full. Gives back the
+/// writer, too, to which all of them are written.
+pub fn run_in_blocks<R: Read, W: Write + Drop>(
+    alloc: Global,
+    reader: &mut R,
+    mut blocks: BufWriter<W>,
+) -> io::Result<(u8, W)>
+    ensures { IfSome (R.remaining reader.old) (λ script. IfOk result (λ done.
+        AnswersScript script (writer_contents W.contents blocks) (W.contents done.1) done.0)) }
+{
+    let status = run_world(alloc, reader, &mut blocks)?;
+    let writer = blocks.into_inner()?;
+    Ok((status, writer))
+}
+
+/// Runs a script and writes what comes of it, line by line. Answers the exit status: 0; 1 where a report
+/// has faults; 2 where a line is bad, the script is too long, or memory runs out. A script that could not
+/// be read is answered by `refused 91 ReadError`, or by `refused 35 NoMemory`, and status 2.
+///
+/// An error is that of a write: nothing is written after it.
+pub fn run_world<R: Read, W: Write>(alloc: Global, reader: &mut R, writer: &mut W) -> io::Result<u8>
+    ensures { IfSome (R.remaining reader.old) (λ script. IfOk result
+        (AnswersScript script (W.contents writer.old) (W.contents writer.new))) }
+{
+    let fault = match run_script(alloc, reader, writer) {
+        Ok(status) => return Ok(status),
+        Err(ScriptFault::ReadError) => Fault::ReadError,
+        Err(ScriptFault::NoMemory) => Fault::NoMemory,
+        Err(ScriptFault::WriteError) => return Err(ErrorKind::Other.into()),
+    };
+    refuse_script(writer, fault)
+}
+
+/// Writes why a script does not run, and answers the exit status.
+pub fn refuse_script<W: Write>(writer: &mut W, fault: Fault) -> io::Result<u8>
+    ensures { IfOk result (RefusesScript fault (W.contents writer.old) (W.contents writer.new)) }
+{
+    write_refusal(writer, Refusal::from(fault))?;
+    Ok(REFUSED)
+}

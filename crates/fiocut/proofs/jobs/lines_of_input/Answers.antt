@@ -1,9 +1,0 @@
-use Rattle.std.proofs.Common.{string_bytes, subst}
-use Rattle.fiocut.specs.Answer.{AnswersText}
-use Rattle.fiocut.proofs.Whole.{answers_whole}
-use Rattle.fiocut.proofs.jobs.lines_of_input.Goals as goal
-
-pub returns-clause-answer : goal.returns-clause-answer
-returns-clause-answer g c =
-    answers_whole string_bytes _ _ c.in_ok-text.text.items c.lines_of_text.result c.in_ok-text.ensures.ok
-    (subst (AnswersText string_bytes c.lines_of_text.result) c.deref.ensures.value c.lines_of_text.ensures)

@@ -1,7 +1,0 @@
-use Rattle.std.proofs.Common.{◌≡◌, ◌++◌, take, string_bytes}
-use Rattle.std.specs.List.{flat_map, enumerate_from}
-use Rattle.fiocut.specs.Lines.{ended, job_line}
-use Rattle.fiocut.proofs.lines.push_jobs.Given as goal
-
-abbrev pub invariant-loop-number : goal.invariant-loop-number
-invariant-loop-number l = string_bytes l.lines ≡ string_bytes l.initial.lines ++ flat_map (λ (number, job). ended (job_line number job)) (take l.number (enumerate_from 0 l.jobs))
