@@ -13,7 +13,7 @@ use std::io;
 use std::io::Write;
 
 /// What a command line asks for.
-#[derive(Clone, Copy, Debug, PartialEq, Eq)]
+#[derive(Clone, Copy, PartialEq, Eq)]
 pub enum Request<'a> {
     /// `fiocut jobs`: print the jobs of the job file on standard input.
     Jobs,
@@ -54,21 +54,28 @@ fn matches_of<'a, S: AsStr>(alloc: Global, words: &'a [S]) -> Result<ArgMatches<
 
 /// What a command line may have: one of three subcommands, and no options.
 fn command_of<'a>(alloc: Global) -> Result<Command<'a>, AllocError> {
+    let mut command = command_with_live(alloc)?;
+    for name in ["jobs", "world"] {
+        command = command.subcommand(subcommand(alloc, name))?;
+    }
+    Ok(command)
+}
+
+fn command_with_live<'a>(alloc: Global) -> Result<Command<'a>, AllocError> {
     let live = live_command(alloc)?;
     Command::new(alloc, "fiocut")
         .disable_help_flag(true)
         .disable_help_subcommand(true)
         .subcommand_required(true)
-        .subcommand(subcommand(alloc, "jobs"))?
-        .subcommand(subcommand(alloc, "world"))?
         .subcommand(live)
 }
 
 fn live_command<'a>(alloc: Global) -> Result<Command<'a>, AllocError> {
-    subcommand(alloc, "live")
-        .arg(Arg::new(alloc, "servers").required(true))?
-        .arg(Arg::new(alloc, "workers").required(true))?
-        .arg(Arg::new(alloc, "path").required(true))
+    let mut live = subcommand(alloc, "live");
+    for name in ["servers", "workers", "path"] {
+        live = live.arg(Arg::new(alloc, name).required(true))?;
+    }
+    Ok(live)
 }
 
 fn subcommand<'a>(alloc: Global, name: &'a str) -> Command<'a> {

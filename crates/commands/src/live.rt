@@ -37,7 +37,7 @@ pub const MAX_INPUT: usize = 2 * MAX_TEXT + 2;
 const MAX_READS: u32 = 40_000;
 
 /// How many servers there are, 1 to 8, and how many workers each has, 1 to 16.
-#[derive(Clone, Copy, Debug, PartialEq, Eq)]
+#[derive(Clone, Copy, PartialEq, Eq)]
 pub struct FleetSize {
     pub servers: u32,
     pub workers: u32,

@@ -16,7 +16,7 @@ use std::{fmt, io};
 
 /// A fault, and the line or the job where it is found, if it has one. It prints as
 /// `refused CODE NAME` or `refused CODE NAME NUMBER`, and takes no memory for that.
-#[derive(Clone, Copy, Debug, PartialEq, Eq)]
+#[derive(Clone, Copy)]
 pub struct Refusal {
     pub fault: Fault,
     /// The line, counted from 1, or the job, counted from 0.

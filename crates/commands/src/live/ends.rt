@@ -1,9 +1,9 @@
 //! What comes of each job, as it is printed.
 
-ghost use Rattle.std.specs.Prelude.{◌≡◌, OnOk};
+ghost use Rattle.std.specs.Prelude.{◌≡◌, OnOk, Some, None};
 ghost use Rattle.std.specs.Io.KnownBytes.{Appends};
-ghost use Rattle.commands.specs.Lines.{ended};
-ghost use Rattle.commands.specs.Live.{end_line, end_lines, ends_text, ends_status, has_misfit, is_faulty, counts_faults};
+ghost use Rattle.commands.specs.Lines.{spaced, ended};
+ghost use Rattle.commands.specs.Live.{end_words, end_line, end_lines, ends_text, ends_status, has_misfit, is_faulty, counts_faults};
 
 use super::{FAULTY, PRINTED};
 use crate::jobs::REFUSED;
@@ -37,18 +37,35 @@ fn write_lines<W: Write>(writer: &mut W, ends: &[End]) -> io::Result<()>
 fn write_end<W: Write>(writer: &mut W, end: &End) -> io::Result<()>
     ensures { OnOk result (Appends (W.contents writer.old) (W.contents writer.new) (ended (end_line end.now))) }
 {
-    let (server, job) = (end.server.0, end.job.0);
     match &end.report {
-        Some(report) => {
-            write!(writer, "report {server} {job} ")?;
-            write_report_words(writer, report)?;
-            writeln!(writer)
-        }
-        None => {
-            let fault = Fault::Misfit;
-            writeln!(writer, "refused {server} {job} {} {fault}", fault.number())
-        }
+        Some(report) => write_report(writer, end, report),
+        None => write_misfit(writer, end),
     }
+}
+
+/// Writes the line of an end that has this report.
+fn write_report<W: Write>(writer: &mut W, end: &End, report: &CheckReport) -> io::Result<()>
+    ensures { OnOk result (Appends (W.contents writer.old) (W.contents writer.new)
+        (ended (spaced (end_words end.now (Some report.now))))) }
+{
+    write!(writer, "report {} {} ", end.server.0, end.job.0)?;
+    write_report_words(writer, report)?;
+    writeln!(writer)
+}
+
+/// Writes the line of an end whose state doesn't fit.
+fn write_misfit<W: Write>(writer: &mut W, end: &End) -> io::Result<()>
+    ensures { OnOk result (Appends (W.contents writer.old) (W.contents writer.new)
+        (ended (spaced (end_words end.now None)))) }
+{
+    let fault = Fault::Misfit;
+    writeln!(
+        writer,
+        "refused {} {} {} {fault}",
+        end.server.0,
+        end.job.0,
+        fault.number(),
+    )
 }
 
 /// The exit status of these ends.

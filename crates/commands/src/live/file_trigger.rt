@@ -5,7 +5,7 @@ use std::fs;
 use std::fs::Files;
 
 /// It is pulled once there is a file at this path.
-#[derive(Clone, Copy, Drop)]
+#[derive(Drop)]
 pub struct FileTrigger<'a, F> {
     pub files: &'a F,
     pub path: &'a str,
