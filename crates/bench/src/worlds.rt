@@ -50,7 +50,13 @@ pub fn round<R: AllocGlobal + Clock + CpuClock>(
         Story::OneJob(_) => 1,
         _ => 8,
     };
-    let mut world = World::new(rt.alloc(), Config { servers })?;
+    let mut world = World::new(
+        rt.alloc(),
+        Config {
+            servers,
+            mirror: false,
+        },
+    )?;
     story.time(rt, watch, &mut world)
 }
 

@@ -100,7 +100,13 @@ fn open_world<W: Write>(
     ensures { (line : ℕ) → IfOk result (RunOrders lines_of_orders reads_well status_of_orders
         (Opens line servers ∷ orders_left orders.old) (W.contents writer.old) (W.contents writer.new)) }
 {
-    match World::new(alloc, Config { servers }) {
+    match World::new(
+        alloc,
+        Config {
+            servers,
+            mirror: false,
+        },
+    ) {
         Ok(mut world) => run_opened(alloc, &mut world, orders, writer),
         Err(_) => refuse_world(writer),
     }

@@ -1,5 +1,5 @@
 -- What a call of the client comes to in a world.
-use Rattle.std.proofs.Common.{◌≡◌, refl, sym, ◌∙◌, ap, subst, inl, inr, ◌⊎◌, ℕ, ◌+◌, ◌*◌, true, false, List, [], ◌∷◌, ◌++◌, length, Some, None, Result, Ok, Err, append-nil}
+use Rattle.std.proofs.Common.{◌≡◌, refl, sym, ◌∙◌, ap, subst, inl, inr, ◌⊎◌, ℕ, ◌+◌, ◌*◌, true, false, List, [], ◌∷◌, ◌++◌, length, Option, Some, None, Result, Ok, Err, append-nil}
 use Rattle.std.specs.Prelude.{map, slice_get, Vec}
 use Rattle.std.specs.declared.alloc.Global.{Global}
 use Rattle.std.proofs.lemmas.List.{length-map}
@@ -24,6 +24,8 @@ use Rattle.client_core.specs.Words as words
 use Rattle.client_core.specs.Hearing.{FrameEntry, Met, rules, heard_at, packets_heard}
 use Rattle.client_core.specs.FrameAnswers as answers
 use Rattle.net_world.specs.declared.asked.Asked.{Asked}
+use Rattle.net_world.specs.declared.mirror_node.MirrorNode.{MirrorNode}
+use Rattle.net_world.specs.declared.mirror_node.Mirrored.{Mirrored}
 use Rattle.net_world.specs.declared.server_node.ServerNode.{ServerNode}
 use Rattle.messages.specs.declared.refusal.Act.TheVariants as acts
 use Rattle.net_world.specs.declared.told.Answer.{Answer}
@@ -31,15 +33,15 @@ use Rattle.net_world.specs.declared.told.Told.{Told}
 use Rattle.net_world.specs.declared.world.World.{World}
 use Rattle.net_world.specs.Setup.{Setup}
 use Rattle.net_world.specs.Trace.{client_opening}
-use Rattle.net_world.specs.Frames.{frames_sent, frames_of_step}
+use Rattle.net_world.specs.Frames.{frames_sent, frames_of_step, client_entries, of_mirror}
 use Rattle.net_world.specs.Changes as changes
 use Rattle.net_world.specs.Changes.{Change, steps, trace}
 use Rattle.net_world.specs.Barred.{off, is_on, unless}
 use Rattle.net_world.specs.World.{frames}
 use Rattle.net_world.specs.Sending.{sent_in}
 use Rattle.net_world.specs.ClientNodes as nodes
-use Rattle.net_world.specs.ClientNodes.{is_up}
-use Rattle.net_world.specs.Stands.{StandsFor}
+use Rattle.net_world.specs.ClientNodes.{is_up, handed_in}
+use Rattle.net_world.specs.Stands.{IsMirror, IsGreatest, StandsFor}
 use Rattle.net_world.specs.Asking.{entries, step_of, step_by, told_of, IsBarred, Refuses, Faults, ClientEnds}
 use Rattle.net_world.proofs.ClientHeardLemmas.{heard_is, frames_are, entry_again}
 use Rattle.net_world.proofs.MetLemmas.{frames_more}
@@ -84,6 +86,14 @@ pub record HasMoved (sent : List (List ℕ)) (old new : World) : Type 0 where
   pub sent_is : sent_in new.sent ≡ sent_in old.sent ++ sent
   pub servers_are : new.servers ≡ old.servers
   pub files_are : new.files ≡ old.files
+  pub mirror_is : new.mirror ≡ old.mirror
+
+-- Frames were added, and all but the client and its generation is as it was.
+pub record HasPassed (sent : List (List ℕ)) (old new : World) : Type 0 where
+  pub sent_is : sent_in new.sent ≡ sent_in old.sent ++ sent
+  pub servers_are : new.servers ≡ old.servers
+  pub files_are : new.files ≡ old.files
+  pub node_is : new.mirror.node ≡ old.mirror.node
 
 -- The client was asked, and the world has moved.
 pub record HasAsked (e : Input) (result : Result Asked Fault) (sent : List (List ℕ)) (old new : World) : Type 0 where
@@ -91,19 +101,29 @@ pub record HasAsked (e : Input) (result : Result Asked Fault) (sent : List (List
   pub moved : HasMoved sent old new
 
 -- The client has made a step, for which its node stands and whose frames were added.
-pub client_stepped : (w : Setup) (past : List Change) (e : FrameEntry) (sent : List (List ℕ)) (old new : World) → StandsFor w past old → HasMoved sent old new
-    → sent ≡ map frame_spelling (frames_of_step w (steps past) (step_of e)) → nodes.Stands (client_opening w) (e ∷ entries w past) new.client → StandsFor w (changes.Met (step_of e) ∷ past) new
-client_stepped w past e sent old new stands h is node_is = record {
+pub client_passed : (w : Setup) (past : List Change) (e : FrameEntry) (sent : List (List ℕ)) (old new : World) → StandsFor w past old → HasPassed sent old new
+    → sent ≡ map frame_spelling (frames_of_step w (steps past) (step_of e)) → nodes.Stands (client_opening w) (e ∷ entries w past) new.client → IsGreatest new.mirror.greatest (handed_in (e ∷ entries w past)) → StandsFor w (changes.Met (step_of e) ∷ past) new
+client_passed w past e sent old new stands h is node_is greatest = record {
   some = stands.some;
   few = stands.few;
-  alone = stands.alone;
   number = ap (λ (v : Vec ServerNode Global). length v.items) h.servers_are ∙ stands.number;
   sent_is = h.sent_is ∙ ap (λ fs. fs ++ sent) stands.sent_is ∙ ap (λ fs. frames w past ++ fs) is ∙ sym (frames_more w past (step_of e));
   servers_are = λ s node at. stands.servers_are s node (ap (λ (v : Vec ServerNode Global). slice_get v.items s) (sym h.servers_are) ∙ at);
   client_is = subst (λ x. nodes.Stands (client_opening w) (x ∷ entries w past) new.client) (sym (entry_again e)) node_is;
+  mirror_is = subst (λ (m : Option MirrorNode). IsMirror w (of_mirror (steps past)) m) (sym h.node_is) stands.mirror_is;
+  greatest_is = subst (λ x. IsGreatest new.mirror.greatest (handed_in (x ∷ entries w past))) (sym (entry_again e)) greatest;
   files = ap (λ (v : Vec MemDisk Global). length v.items) h.files_are ∙ stands.files;
   files_are = λ s j disk l at. stands.files_are s j disk l (ap (λ (v : Vec MemDisk Global). slice_get v.items (16 * s + j)) (sym h.files_are) ∙ at);
 }
+
+-- A step that hands in no generation.
+pub client_stepped : (w : Setup) (past : List Change) (e : FrameEntry) (sent : List (List ℕ)) (old new : World) → StandsFor w past old → HasMoved sent old new
+    → sent ≡ map frame_spelling (frames_of_step w (steps past) (step_of e)) → nodes.Stands (client_opening w) (e ∷ entries w past) new.client → handed_in (e ∷ entries w past) ≡ handed_in (entries w past) → StandsFor w (changes.Met (step_of e) ∷ past) new
+client_stepped w past e sent old new stands h is node_is none =
+    client_passed w past e sent old new stands
+    (record { sent_is = h.sent_is; servers_are = h.servers_are; files_are = h.files_are; node_is = ap (λ (m : Mirrored). m.node) h.mirror_is })
+    is node_is
+    (subst (IsGreatest new.mirror.greatest) (sym none) (subst (λ (m : Mirrored). IsGreatest m.greatest (handed_in (entries w past))) (sym h.mirror_is) stands.greatest_is))
 
 -- The client stands for what it did, and nothing was sent.
 pub client_kept : (w : Setup) (past : List Change) (old new : World) → StandsFor w past old → HasMoved [] old new
@@ -111,11 +131,12 @@ pub client_kept : (w : Setup) (past : List Change) (old new : World) → StandsF
 client_kept w past old new stands h node_is = record {
   some = stands.some;
   few = stands.few;
-  alone = stands.alone;
   number = ap (λ (v : Vec ServerNode Global). length v.items) h.servers_are ∙ stands.number;
   sent_is = h.sent_is ∙ append-nil (sent_in old.sent) ∙ stands.sent_is;
   servers_are = λ s node at. stands.servers_are s node (ap (λ (v : Vec ServerNode Global). slice_get v.items s) (sym h.servers_are) ∙ at);
   client_is = node_is;
+  mirror_is = subst (λ (m : Mirrored). IsMirror w (of_mirror (steps past)) m.node) (sym h.mirror_is) stands.mirror_is;
+  greatest_is = subst (λ (m : Mirrored). IsGreatest m.greatest (handed_in (client_entries w (steps past)))) (sym h.mirror_is) stands.greatest_is;
   files = ap (λ (v : Vec MemDisk Global). length v.items) h.files_are ∙ stands.files;
   files_are = λ s j disk l at. stands.files_are s j disk l (ap (λ (v : Vec MemDisk Global). slice_get v.items (16 * s + j)) (sym h.files_are) ∙ at);
 }
@@ -141,7 +162,7 @@ answered w past e asked first told old new stands h is tells =
           (is ∙ first_is w past old stands)
           (ap (λ (fs : List (List ℕ)). length fs) sent ∙ length-map (frames_of_step w (steps past) (step_by w past e)) frame_spelling)
           a.answer_is;
-      stands = client_stepped w past (answers.answered o es e) asked.frames old new stands h.moved sent a.stands;
+      stands = client_stepped w past (answers.answered o es e) asked.frames old new stands h.moved sent a.stands refl;
     }
 
 refused : (w : Setup) (past : List Change) (e : Input) (fault : Fault) (old new : World) → StandsFor w past old → HasAsked e (Err fault) [] old new
@@ -155,7 +176,7 @@ refused w past e fault old new stands h (inr r) =
     inr (record {
       on = is_there w past r.on;
       why = r.why;
-      stands = client_stepped w past (Met e NoSave) [] old new stands h.moved nothing r.stands;
+      stands = client_stepped w past (Met e NoSave) [] old new stands h.moved nothing r.stands refl;
       unchanged = λ d. client_kept w past old new stands h.moved (r.unchanged d);
     })
 

@@ -69,7 +69,7 @@ cut_ends w past landed e i first t old new stands moved c cut f tells =
       answered = c.answered;
       silent = c.silent;
       asks = c.asks;
-    }) f tells
+    }) refl f tells
 
 -- It wasn't.
 pub uncut_ends : (w : Setup) (past : List Change) (landed : Bool) (e : Happening) (i : Input) (fault : Fault) (old new : World) → StandsFor w past old → HasMoved [] old new → CutsClient w past landed e i

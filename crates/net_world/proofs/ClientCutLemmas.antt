@@ -30,7 +30,7 @@ use Rattle.client_core.specs.FrameAnswers.{Sense, Hears, Keeps, Drops, Misses, s
 use Rattle.net_world.specs.declared.asked.Asked.{Asked}
 use Rattle.net_world.specs.declared.client_node.ClientNode.{ClientNode}
 use Rattle.net_world.specs.declared.client_node.ClientNode.TheVariants.{On, Off}
-use Rattle.net_world.specs.ClientNodes.{is_up, Stands, Faults, Asks, CutsIn}
+use Rattle.net_world.specs.ClientNodes.{is_up, Stands, IsEmptyIfBlank, Faults, Asks, CutsIn}
 
 -- ---- what the note says behind what a save left
 
@@ -102,12 +102,16 @@ down o past inputs.Tick left h d = falls (is_up o past) (is_lost left) h
 
 off_again : (o : Opening) (a b : List FrameEntry) (node : ClientNode) → Stands o a node → is_up o a ≡ false → is_up o b ≡ false → said o a ≡ said o b → Stands o b node
 unfolding said
-off_again o a b (On client) s up down same = absurd (both (is_up o a) s.1 up)
+off_again o a b (On client) s up off same = absurd (both (is_up o a) s.1 up)
   where
     both : (t : Bool) → t ≡ true → t ≡ false → ⊥
     both true h k = cc
     both false h k = cc
-off_again o a b (Off notes) s up down same = (subst (λ n. NoteSays (note_of notes).bytes n) same s.0, down)
+off_again o a b (Off notes) s up off same = (
+  subst (λ n. NoteSays (note_of notes).bytes n) same s.0,
+  off,
+  subst (λ n. IsEmptyIfBlank (note_of notes).bytes n) same s.2,
+)
 
 saves : (x : Option Addition) → is_some x ≡ true → left_by x ≡ Saved
 saves None h = cc

@@ -14,7 +14,7 @@ use Rattle.net_world.specs.Happenings.{Happening, Deliver}
 use Rattle.net_world.specs.Barred.{off, unsent}
 use Rattle.net_world.specs.Delivering.{FindsFrame}
 use Rattle.net_world.specs.Ends.{Ends}
-use Rattle.net_world.proofs.EndsLemmas.{bars_alone, refuses, stops}
+use Rattle.net_world.proofs.EndsLemmas.{refuses, stops}
 use Rattle.net_world.specs.Frames.{frames_sent, to_of}
 use Rattle.net_world.specs.Changes.{Change, steps, trace}
 use Rattle.net_world.specs.World.{world}
@@ -51,10 +51,6 @@ frame_found law w events now number bytes f stands at read =
     let in_it : Contains fs h.frame = (number, slice_get_within fs number h.frame h.is, get_or_from_slice_get fs number h.frame h.frame h.is) in
     let again = (law w events h.frame stands.few in_it).1 in
     h.is ∙ sym again ∙ ap frame_at h.bytes_are ∙ read
-
--- A frame to a mirror is barred.
-pub bars_mirror : (w : Setup) (past : List Change) (number : ℕ) (f : Frame) → slice_get (frames_sent w (steps past)) number ≡ Some f → to_of f ≡ Mirror → w.mirror ≡ false → unsent w (trace w past) (slice_get (frames_sent w (steps past)) number) ≡ Some NoMirror
-bars_mirror w past number f found to alone = ap (unsent w (trace w past)) found ∙ ap (off w (trace w past)) to ∙ bars_alone w.mirror _ alone
 
 -- There is no such frame, or memory has run out.
 pub lost_frame : (w : Setup) (past : List Change) (now : World) (number : ℕ) (fault : Fault) → StandsFor w past now → FindsFrame w past number (Err fault) → Ends w past (Deliver number) now (Err fault)

@@ -69,13 +69,6 @@ refusing w past e fault new is stands = (ap (told_by w past e) is, subst (λ x. 
 pub refuses : (w : Setup) (past : List Change) (e : Happening) (fault : Fault) (new : World) → sort_of fault ≡ sorts.Refusal → outcome w past e ≡ Refuses fault → StandsFor w past new → Ends w past e new (Err fault)
 refuses w past e fault new sort is stands = subst (λ x. ends.Faults w past e x fault new) (sym sort) (refusing w past e fault new is stands)
 
--- What is of a mirror is refused where there is none.
-pub bars_alone : (b : Bool) (x : Option Fault) → b ≡ false → option_or (unless b NoMirror) x ≡ Some NoMirror
-bars_alone b x alone = rw alone refl
-
-pub no_mirror : (w : Setup) (past : List Change) (e : Happening) (now : World) → barred w (trace w past) (frames_sent w (steps past)) e ≡ Some NoMirror → StandsFor w past now → Ends w past e now (Err NoMirror)
-no_mirror w past e now bar stands = refuses w past e NoMirror now refl (stops w past e NoMirror bar) stands
-
 -- ---- an event that a server meets
 
 -- What happens comes to the server as this, and is barred as all that asks for the server to be on.

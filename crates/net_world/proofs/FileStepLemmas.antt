@@ -16,13 +16,14 @@ use Rattle.disk_model.specs.File.{File, IsBlock, put, has_bit, with_landed}
 use Rattle.disk_model.specs.MemDisk.{file_of}
 use Rattle.disk_model.specs.declared.mem_disk.MemDisk.{MemDisk}
 use Rattle.messages.specs.FrameBytes.{frame_spelling}
+use Rattle.net_world.specs.declared.mirror_node.Mirrored.{Mirrored}
 use Rattle.net_world.specs.declared.server_node.ServerNode.{ServerNode}
 use Rattle.net_world.specs.declared.told.Told.{Told}
 use Rattle.net_world.specs.declared.world.World.{World}
 use Rattle.net_world.specs.Setup.{Setup}
 use Rattle.net_world.specs.Happenings.{Happening}
 use Rattle.net_world.specs.Trace.{opening_of, client_opening}
-use Rattle.net_world.specs.Frames.{frames_sent, server_entries, client_entries}
+use Rattle.net_world.specs.Frames.{frames_sent, server_entries, client_entries, of_mirror}
 use Rattle.net_world.specs.Changes.{Change, Landed, Rotted, steps, trace}
 use Rattle.net_world.specs.Contents.{content, with_block, with_write, is_file}
 use Rattle.std.specs.Option.{option_or}
@@ -37,7 +38,8 @@ use Rattle.net_world.specs.Telling.{plainly_told}
 use Rattle.net_world.specs.Sending.{sent_in}
 use Rattle.net_world.specs.ServerNodes as servers
 use Rattle.net_world.specs.ClientNodes as clients
-use Rattle.net_world.specs.Stands.{StandsFor, file}
+use Rattle.net_world.specs.ClientNodes.{handed_in}
+use Rattle.net_world.specs.Stands.{IsMirror, IsGreatest, StandsFor, file}
 use Rattle.net_world.specs.Ends.{Ends}
 use Rattle.net_world.proofs.SlotLemmas.{is_set, set_there}
 use Rattle.net_world.proofs.ServeLemmas.{first_is, lt_of, le_of, lt_true, lt_false}
@@ -57,6 +59,7 @@ pub record HasWritten (s j : ℕ) (disk : MemDisk) (old new : World) : Type 0 wh
   pub sent_is : sent_in new.sent ≡ sent_in old.sent
   pub client_is : new.client ≡ old.client
   pub servers_are : new.servers ≡ old.servers
+  pub mirror_is : new.mirror ≡ old.mirror
 
 -- A change of this file alone.
 pub record IsOfFile (w : Setup) (past : List Change) (s j : ℕ) (change : Change) (held : ℕ → List ℕ) : Type 0 where
@@ -99,7 +102,6 @@ pub file_changed : (w : Setup) (past : List Change) (s j : ℕ) (change : Change
 file_changed w past s j change held disk old new stands wrote f is = record {
   some = stands.some;
   few = stands.few;
-  alone = stands.alone;
   number = ap (λ (v : Vec ServerNode Global). length v.items) wrote.servers_are ∙ stands.number;
   sent_is = wrote.sent_is ∙ stands.sent_is ∙ ap (λ t. map frame_spelling (frames_sent w t)) (sym f.steps_are);
   servers_are = λ r node at.
@@ -108,6 +110,12 @@ file_changed w past s j change held disk old new stands wrote f is = record {
   client_is =
       subst (λ t. clients.Stands (client_opening w) (client_entries w t) new.client) (sym f.steps_are)
       (subst (λ x. clients.Stands (client_opening w) (client_entries w (steps past)) x) (sym wrote.client_is) stands.client_is);
+  mirror_is =
+      subst (λ t. IsMirror w (of_mirror t) new.mirror.node) (sym f.steps_are)
+      (subst (λ (m : Mirrored). IsMirror w (of_mirror (steps past)) m.node) (sym wrote.mirror_is) stands.mirror_is);
+  greatest_is =
+      subst (λ t. IsGreatest new.mirror.greatest (handed_in (client_entries w t))) (sym f.steps_are)
+      (subst (λ (m : Mirrored). IsGreatest m.greatest (handed_in (client_entries w (steps past)))) (sym wrote.mirror_is) stands.greatest_is);
   files = ap (λ (xs : List MemDisk). length xs) wrote.set_is ∙ length-set old.files.items wrote.place disk ∙ stands.files;
   files_are = λ t i x l at. each_file w past s j change held disk old new stands wrote f is t i x l at (is_file s j t i) refl;
 }
@@ -196,11 +204,12 @@ pub file_kept : (w : Setup) (past : List Change) (s j : ℕ) (disk : MemDisk) (o
 file_kept w past s j disk old new stands wrote is = record {
   some = stands.some;
   few = stands.few;
-  alone = stands.alone;
   number = ap (λ (v : Vec ServerNode Global). length v.items) wrote.servers_are ∙ stands.number;
   sent_is = wrote.sent_is ∙ stands.sent_is;
   servers_are = λ r node at. stands.servers_are r node (ap (λ (v : Vec ServerNode Global). slice_get v.items r) (sym wrote.servers_are) ∙ at);
   client_is = subst (λ x. clients.Stands (client_opening w) (client_entries w (steps past)) x) (sym wrote.client_is) stands.client_is;
+  mirror_is = subst (λ (m : Mirrored). IsMirror w (of_mirror (steps past)) m.node) (sym wrote.mirror_is) stands.mirror_is;
+  greatest_is = subst (λ (m : Mirrored). IsGreatest m.greatest (handed_in (client_entries w (steps past)))) (sym wrote.mirror_is) stands.greatest_is;
   files = ap (λ (xs : List MemDisk). length xs) wrote.set_is ∙ length-set old.files.items wrote.place disk ∙ stands.files;
   files_are = λ t i x l at. same_by w past s j disk old new stands wrote is t i x l at (is_file s j t i) refl;
 }

@@ -73,7 +73,7 @@ mirror_by_client : (x : Option client.Entry) (t : List Step) → packets.of_mirr
 mirror_by_client None t = refl
 mirror_by_client (Some e) t = refl
 
-mirror_hears : (w : Setup) (t : List FrameStep) → packets.of_mirror (trace_heard w t) ≡ of_mirror t
+pub mirror_hears : (w : Setup) (t : List FrameStep) → packets.of_mirror (trace_heard w t) ≡ of_mirror t
 mirror_hears w [] = refl
 mirror_hears w (OfServer r c ∷ past) = mirror_by_server r (entry_of (at_server r) (heard (at_server r) (of_server r past)) c) (trace_heard w past) ∙ mirror_hears w past
 mirror_hears w (OfClient c ∷ past) = mirror_by_client (entry_of (at_client w) (heard (at_client w) (of_client w past)) c) (trace_heard w past) ∙ mirror_hears w past

@@ -34,9 +34,11 @@ pub mod FaultLemmas
 pub mod HonestLaws
 pub mod ExampleLemmas
 pub mod MirrorExampleLemmas
+pub mod MirrorNodeLemmas
 pub mod HearingLemmas
 pub mod TagLemmas
 pub mod RangeLemmas
+pub mod RenewalLemmas
 pub mod OnlySentLemmas
 pub mod PieceLemmas
 pub mod WorldFitLemmas
@@ -49,6 +51,8 @@ pub mod FrameRangeLemmas
 pub mod ServeLemmas
 pub mod OutcomeLemmas
 pub mod EndsLemmas
+pub mod MirrorEndsLemmas
+pub mod RenewalEndsLemmas
 pub mod NodeLemmas
 pub mod FindLemmas
 pub mod PowerLemmas

@@ -8,17 +8,19 @@ use Rattle.messages.specs.FrameBytes.{frame_spelling}
 use Rattle.server_core.specs.declared.input.Input.TheVariants as inputs
 use Rattle.server_core.specs.Hearing as hearing
 use Rattle.server_core.specs.Hearing.{FrameEntry, coming}
+use Rattle.net_world.specs.declared.mirror_node.Mirrored.{Mirrored}
 use Rattle.net_world.specs.declared.server_node.ServerNode.{ServerNode}
 use Rattle.net_world.specs.declared.world.World.{World}
 use Rattle.net_world.specs.Setup.{Setup}
 use Rattle.net_world.specs.Trace.{opening_of, client_opening}
-use Rattle.net_world.specs.Frames.{FrameStep, of_server, frames_sent, frames_of_step, frame_entry, server_entries, client_entries}
+use Rattle.net_world.specs.Frames.{FrameStep, of_server, of_mirror, frames_sent, frames_of_step, frame_entry, server_entries, client_entries}
 use Rattle.net_world.specs.Changes.{Change, Met, steps}
 use Rattle.net_world.specs.World.{frames}
 use Rattle.net_world.specs.Sending.{sent_in}
 use Rattle.net_world.specs.ServerNodes as servers
 use Rattle.net_world.specs.ClientNodes as clients
-use Rattle.net_world.specs.Stands.{StandsFor}
+use Rattle.net_world.specs.ClientNodes.{handed_in}
+use Rattle.net_world.specs.Stands.{IsMirror, IsGreatest, StandsFor}
 use Rattle.net_world.specs.Serving.{entries, step_of}
 use Rattle.net_world.proofs.SlotLemmas.{set_there, is_set}
 
@@ -96,6 +98,7 @@ pub record HasMoved (s : ℕ) (node : ServerNode) (sent : List (List ℕ)) (old 
   pub sent_is : sent_in new.sent ≡ sent_in old.sent ++ sent
   pub client_is : new.client ≡ old.client
   pub files_are : new.files ≡ old.files
+  pub mirror_is : new.mirror ≡ old.mirror
 
 count : (s : ℕ) (node : ServerNode) (sent : List (List ℕ)) (old new : World) → HasMoved s node sent old new → length new.servers.items ≡ length old.servers.items
 count s node sent old new h = ap (λ (xs : List ServerNode). length xs) h.set_is ∙ length-set old.servers.items h.place node
@@ -109,7 +112,6 @@ pub server_stepped : (w : Setup) (past : List Change) (s : ℕ) (e : FrameEntry)
 server_stepped w past s e node sent old new stands h is node_is = record {
   some = stands.some;
   few = stands.few;
-  alone = stands.alone;
   number = count s node sent old new h ∙ stands.number;
   sent_is = h.sent_is ∙ ap (λ fs. fs ++ sent) stands.sent_is ∙ ap (λ fs. frames w past ++ fs) is ∙ sym (frames_more w past (step_of s e));
   servers_are =
@@ -122,6 +124,8 @@ server_stepped w past s e node sent old new stands h is node_is = record {
         each = stands.servers_are;
       });
   client_is = subst (λ c. clients.Stands (client_opening w) (client_entries w (steps past)) c) (sym h.client_is) stands.client_is;
+  mirror_is = subst (λ (m : Mirrored). IsMirror w (of_mirror (steps past)) m.node) (sym h.mirror_is) stands.mirror_is;
+  greatest_is = subst (λ (m : Mirrored). IsGreatest m.greatest (handed_in (client_entries w (steps past)))) (sym h.mirror_is) stands.greatest_is;
   files = ap (λ fs. length fs.items) h.files_are ∙ stands.files;
   files_are = λ r j disk l at. stands.files_are r j disk l (ap (λ fs. slice_get fs.items (16 * r + j)) (sym h.files_are) ∙ at);
 }
@@ -132,13 +136,14 @@ pub server_kept : (w : Setup) (past : List Change) (s : ℕ) (node : ServerNode)
 server_kept w past s node old new stands h node_is = record {
   some = stands.some;
   few = stands.few;
-  alone = stands.alone;
   number = count s node [] old new h ∙ stands.number;
   sent_is = h.sent_is ∙ append-nil (sent_in old.sent) ∙ stands.sent_is;
   servers_are =
       all_set s node old.servers.items new.servers.items (entries past) (entries past)
       (record { there = h.there; set_is = set_at s node [] old new h; node_is = node_is; others = λ r ne. refl; each = stands.servers_are });
   client_is = subst (λ c. clients.Stands (client_opening w) (client_entries w (steps past)) c) (sym h.client_is) stands.client_is;
+  mirror_is = subst (λ (m : Mirrored). IsMirror w (of_mirror (steps past)) m.node) (sym h.mirror_is) stands.mirror_is;
+  greatest_is = subst (λ (m : Mirrored). IsGreatest m.greatest (handed_in (client_entries w (steps past)))) (sym h.mirror_is) stands.greatest_is;
   files = ap (λ fs. length fs.items) h.files_are ∙ stands.files;
   files_are = λ r j disk l at. stands.files_are r j disk l (ap (λ fs. slice_get fs.items (16 * r + j)) (sym h.files_are) ∙ at);
 }

@@ -35,11 +35,12 @@ use Rattle.server_core.specs.Words as words
 use Rattle.server_core.specs.Hearing.{FrameEntry, Met, rules, heard_at, coming, packets_heard}
 use Rattle.server_core.specs.FrameAnswers as answers
 use Rattle.net_world.specs.declared.served.Served.{Served}
+use Rattle.net_world.specs.declared.mirror_node.Mirrored.{Mirrored}
 use Rattle.net_world.specs.declared.server_node.ServerNode.{ServerNode}
 use Rattle.net_world.specs.declared.world.World.{World}
 use Rattle.net_world.specs.Setup.{Setup}
 use Rattle.net_world.specs.Trace.{of_server, opening_of, client_opening}
-use Rattle.net_world.specs.Frames.{frames_sent, frames_of_step, client_entries}
+use Rattle.net_world.specs.Frames.{frames_sent, frames_of_step, client_entries, of_mirror}
 use Rattle.net_world.specs.Changes.{Change, steps, trace}
 use Rattle.net_world.specs.Barred.{off, is_on, unless}
 use Rattle.net_world.specs.World.{frames}
@@ -47,7 +48,8 @@ use Rattle.net_world.specs.Sending.{sent_in}
 use Rattle.net_world.specs.ServerNodes as nodes_of
 use Rattle.net_world.specs.ServerNodes.{is_up}
 use Rattle.net_world.specs.ClientNodes as clients
-use Rattle.net_world.specs.Stands.{StandsFor}
+use Rattle.net_world.specs.ClientNodes.{handed_in}
+use Rattle.net_world.specs.Stands.{IsMirror, IsGreatest, StandsFor}
 use Rattle.net_world.specs.Serving.{entries, step_of, step_by, Serves, IsBarred, Refuses, Faults, ServerEnds}
 use Rattle.net_world.proofs.HearingLemmas.{nodes_hear_their_own}
 use Rattle.net_world.proofs.StandLemmas.{servers_stand}
@@ -201,23 +203,24 @@ none_serves w past s e now stands h =
     inl (record { why = none_there w past s l; unchanged = stands })
 
 -- All but the frames' places in memory is as it was.
-pub settled : (w : Setup) (past : List Change) (old new : World) → StandsFor w past old → sent_in new.sent ≡ sent_in old.sent → new.servers ≡ old.servers → new.client ≡ old.client → new.files ≡ old.files → StandsFor w past new
-settled w past old new stands sent servers client files = record {
+pub settled : (w : Setup) (past : List Change) (old new : World) → StandsFor w past old → sent_in new.sent ≡ sent_in old.sent → new.servers ≡ old.servers → new.client ≡ old.client → new.files ≡ old.files → new.mirror ≡ old.mirror → StandsFor w past new
+settled w past old new stands sent servers client files mirror = record {
   some = stands.some;
   few = stands.few;
-  alone = stands.alone;
   number = ap (λ (v : Vec ServerNode Global). length v.items) servers ∙ stands.number;
   sent_is = sent ∙ stands.sent_is;
   servers_are = λ s node at. stands.servers_are s node (ap (λ (v : Vec ServerNode Global). slice_get v.items s) (sym servers) ∙ at);
   client_is = subst (λ x. clients.Stands (client_opening w) (client_entries w (steps past)) x) (sym client) stands.client_is;
+  mirror_is = subst (λ (m : Mirrored). IsMirror w (of_mirror (steps past)) m.node) (sym mirror) stands.mirror_is;
+  greatest_is = subst (λ (m : Mirrored). IsGreatest m.greatest (handed_in (client_entries w (steps past)))) (sym mirror) stands.greatest_is;
   files = ap (λ (v : Vec MemDisk Global). length v.items) files ∙ stands.files;
   files_are = λ s j disk l at. stands.files_are s j disk l (ap (λ (v : Vec MemDisk Global). slice_get v.items (16 * s + j)) (sym files) ∙ at);
 }
 
 -- Memory has run out.
 pub lacks : (w : Setup) (past : List Change) (s : ℕ) (e : Input) (old new : World) → StandsFor w past old → sent_in new.sent ≡ sent_in old.sent → new.servers ≡ old.servers → new.client ≡ old.client → new.files ≡ old.files
-    → ServerEnds w past s e new (Err NoMemory)
-lacks w past s e old new stands sent servers client files = (refl, settled w past old new stands sent servers client files)
+    → new.mirror ≡ old.mirror → ServerEnds w past s e new (Err NoMemory)
+lacks w past s e old new stands sent servers client files mirror = (refl, settled w past old new stands sent servers client files mirror)
 
 -- What was read at the place of server s.
 pub node_at : {X : Type 0} (xs : List X) (s place : ℕ) (x : X) → place ≡ s → s < length xs → x ≡ get_or xs place x → slice_get xs s ≡ Some x

@@ -6,7 +6,7 @@ use Rattle.net_world.specs.declared.event.PlainEvent.{PlainEvent}
 use Rattle.net_world.specs.declared.event.PlainEvent.TheVariants as plain
 use Rattle.net_world.specs.declared.event.Event.{Event}
 use Rattle.net_world.specs.declared.event.Event.TheVariants as events
-use Rattle.net_world.specs.Happenings.{Happening, Begin, Trigger, StopRun, Verify, Tick, Deliver, Issue, Land, Done, Fail, Rot, Check, Cut, Restart, CutIn}
+use Rattle.net_world.specs.Happenings.{Happening, Begin, Trigger, StopRun, Verify, Tick, Deliver, Issue, Land, Done, Fail, Rot, Check, Cut, Restart, LoseNote, Renew, CutIn}
 
 -- An event that is no cut within a save.
 abbrev pub plainly : PlainEvent → Happening
@@ -24,6 +24,8 @@ plainly (plain.Rot server job sector bytes) = Rot server job sector bytes.value
 plainly (plain.Check server job) = Check server job
 plainly (plain.Cut node) = Cut node
 plainly (plain.Restart node) = Restart node
+plainly plain.LoseNote = LoseNote
+plainly (plain.Renew generation) = Renew generation
 
 -- An event. Of the cuts within a cut within a save one stands for all: each is refused alike.
 abbrev pub happening : Event → Happening

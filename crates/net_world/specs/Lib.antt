@@ -9,6 +9,7 @@ pub mod Contents
 pub mod Checks
 pub mod Barred
 pub mod MirrorExamples
+pub mod MirrorNodes
 pub mod Outcomes
 pub mod World
 pub mod Exact

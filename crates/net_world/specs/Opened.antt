@@ -1,12 +1,17 @@
 -- What a world is made of.
-use Rattle.std.specs.Prelude.{◌≡◌, ℕ, List, [], ◌∷◌, length, Some, slice_get}
+use Rattle.std.specs.Prelude.{◌≡◌, ℕ, Bool, true, false, List, [], ◌∷◌, length, Option, Some, None, slice_get}
 use Rattle.disk_model.specs.File.{File, zeros}
 use Rattle.disk_model.specs.MemDisk.{file_of}
 use Rattle.disk_model.specs.declared.mem_disk.MemDisk.{MemDisk}
 use Rattle.disk_model.specs.declared.left.Left.TheVariants.{Saved}
 use Rattle.server_core.specs.Hearing.{Restart}
+use Rattle.mirror_core.specs.History as mirror
+use Rattle.net_world.specs.declared.config.Config.{Config}
+use Rattle.net_world.specs.declared.mirror_node.MirrorNode.{MirrorNode}
+use Rattle.net_world.specs.declared.mirror_node.Mirrored.{Mirrored}
 use Rattle.net_world.specs.declared.server_node.ServerNode.{ServerNode}
-use Rattle.net_world.specs.Trace.{opening_of}
+use Rattle.net_world.specs.Trace.{opening_of, mirror_opening}
+use Rattle.net_world.specs.MirrorNodes as mirrors
 use Rattle.net_world.specs.ServerNodes.{Stands}
 
 -- So many servers, each on since its first restart.
@@ -15,6 +20,16 @@ pub record AreOpened (count : ℕ) (nodes : List ServerNode) : Type 0 where
   pub each :
       (s : ℕ) (node : ServerNode) → slice_get nodes s ≡ Some node
       → Stands (opening_of s) (Restart Saved ∷ []) node
+
+-- Where a world has a mirror that is on since its first restart, generation 1 was handed in, else none.
+abbrev pub OpensMirror : Bool → Option MirrorNode → ℕ → Type 0
+OpensMirror false None greatest = greatest ≡ 0
+OpensMirror true (Some node) greatest = mirrors.Stands mirror_opening (mirror.Restart ∷ []) node × (greatest ≡ 1)
+OpensMirror _ _ greatest = ⊥
+
+-- The mirror is on since its first restart, where the world has one, and the client's generation was handed in.
+abbrev pub HasOpened : Config → Mirrored → Type 0
+HasOpened config m = OpensMirror config.mirror m.node m.greatest
 
 -- A file that was never written, in a disk that is on.
 abbrev pub blank : File

@@ -13,4 +13,4 @@ without_mirror n = record { servers = n; mirror = false }
 
 -- What a configuration says.
 abbrev pub setup_of : Config → Setup
-setup_of config = without_mirror config.servers
+setup_of config = record { servers = config.servers; mirror = config.mirror }

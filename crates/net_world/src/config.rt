@@ -1,7 +1,8 @@
-//! What a world is opened with.
+//! What a world is made with.
 
-/// How many servers a world has: 1 to 8.
+/// So many servers, and a mirror of the client's states or none.
 #[derive(Clone, Copy, Debug, PartialEq, Eq)]
 pub struct Config {
     pub servers: u32,
+    pub mirror: bool,
 }

@@ -1,10 +1,10 @@
 //! What can happen in a world.
 
-use fc_base::{JobNo, RunNo, Seq, ServerNo};
+use fc_base::{Generation, JobNo, RunNo, Seq, ServerNo};
 use messages::{Act, Node};
 
-/// What can happen to a client, its servers and their files, but for a cut within a save. Any number may
-/// be given: those of no server, frame or write are refused.
+/// What can happen to a client, its servers, a mirror and their files, but for a cut within a save. Any number may
+/// be given: those of no server, frame or write, and of no generation, are refused.
 #[derive(Debug, Drop)]
 pub enum PlainEvent {
     /// The client begins a run with this job file.
@@ -74,6 +74,12 @@ pub enum PlainEvent {
     /// A node is started again.
     Restart {
         node: Node,
+    },
+    /// The note of the client, which is off, is lost.
+    LoseNote,
+    /// The client, which is off and has no note, is started with this generation.
+    Renew {
+        generation: Generation,
     },
 }
 

@@ -11,6 +11,7 @@ mod example;
 mod frame_law;
 mod fresh;
 mod honest;
+mod mirror_node;
 mod passes;
 mod playing;
 mod ready;

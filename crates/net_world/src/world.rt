@@ -3,7 +3,10 @@
 ghost use Rattle.std.specs.Prelude.{◌≡◌, ◌≤◌, ◌+◌, ◌*◌, ◌&&◌, [], List, length, nat_lt, IfOk, OnOk, OnErr, ◌∷◌};
 ghost use Rattle.std.specs.Option.{option_copied};
 ghost use Rattle.net_world.specs.Setup.{Setup, setup_of};
-ghost use Rattle.net_world.specs.Opened.{AreOpened, AreBlank, blank};
+ghost use Rattle.net_world.specs.Opened.{AreOpened, AreBlank, HasOpened, blank};
+ghost use Rattle.net_world.specs.ClientNodes.{Stands};
+ghost use Rattle.net_world.specs.Trace.{client_opening};
+ghost use Rattle.net_world.specs.Frames.{client_entries};
 ghost use Rattle.disk_model.specs.MemDisk.{file_of};
 
 mod ask;
@@ -15,13 +18,16 @@ mod client_power;
 mod cut_in;
 mod deliver;
 mod find;
+mod mirror;
 mod power;
+mod renewal;
 mod serve;
 mod write;
 
 use crate::client_node::ClientNode;
 use crate::config::Config;
 use crate::event::{Event, PlainEvent};
+use crate::mirror_node::{MirrorNode, Mirrored};
 use crate::sent::Sent;
 use crate::server_node::ServerNode;
 use crate::told::Told;
@@ -31,12 +37,13 @@ use server_core::{Status, WriteEnd, looks_at_all};
 use std::alloc::{AllocError, Global};
 use verify_state::VerifyState;
 
-/// A world: a client, its servers, 16 files of each, one server's after the other's, and every frame that
-/// was ever sent.
+/// A world: a client, its servers, a mirror or none, 16 files of each server, one server's after the
+/// other's, and every frame that was ever sent.
 pub struct World {
     alloc: Global,
     servers: Vec<ServerNode>,
     client: ClientNode,
+    mirror: Mirrored,
     files: Vec<MemDisk>,
     sent: Sent,
 }
@@ -46,13 +53,14 @@ pub struct World {
 impl Drop for World {
     fn drop(self) {
         let World {
-            alloc: _,
+            alloc,
             servers: _,
             client,
+            mirror: _,
             files: _,
             sent: _,
         } = self;
-        let _notes = client.off();
+        let _notes = client.off(alloc);
     }
 }
 
@@ -65,7 +73,8 @@ impl World {
     ghost use Rattle.net_world.specs.Stands.{StandsFor};
     ghost use Rattle.net_world.specs.Ends.{Ends};
 
-    /// A world of so many servers. All nodes are on, the servers at their first boot.
+    /// A world of so many servers, and of a mirror or none. All nodes are on, the servers at their first
+    /// boot, and with a mirror the client in its first generation.
     pub fn new(alloc: Global, config: Config) -> Result<World, AllocError>
         requires some { 1 ≤ config.servers }
         requires few { config.servers ≤ 8 }
@@ -73,13 +82,13 @@ impl World {
     {
         let servers = open_servers(alloc, config.servers)?;
         let files = open_files(alloc, 16 * config.servers)?;
-        let Ok(client) = ClientNode::open(alloc, config.servers) else {
-            return Err(AllocError);
-        };
+        let mirror = open_mirror(alloc, config)?;
+        let client = open_client(alloc, config)?;
         Ok(World {
             alloc,
             servers,
             client,
+            mirror,
             files,
             sent: Sent::new(alloc),
         })
@@ -87,8 +96,9 @@ impl World {
 
     /// Something happens.
     ///
-    /// The refusals, in this order: `NoServer`; `NodeOff`; `NodeOn`; `NoFrame`; `NoWrite`; those of the
-    /// node, in whose place a cut within a save answers `NoSave`. A refused event changes nothing, but for
+    /// The refusals, in this order: `NoServer` and `NoMirror`; `NodeOff`; `NodeOn`; `NoFrame`; `NoWrite`;
+    /// `BadGeneration`; `UsedGeneration`; those of the node, in whose place a cut within a save answers
+    /// `NoSave`. A refused event changes nothing, but for
     /// `FrameBadField`: the node has dropped what came together of the frame's body. `NoMemory`: nothing
     /// has happened.
     pub fn apply(&mut self, event: &Event) -> Result<Told, Fault>
@@ -153,6 +163,8 @@ impl World {
             PlainEvent::Check { server, job } => self.check(*server, *job),
             PlainEvent::Cut { node } => self.cut(*node),
             PlainEvent::Restart { node } => self.restart(*node),
+            PlainEvent::LoseNote => self.lose_note(),
+            PlainEvent::Renew { generation } => self.renew(*generation),
         }
     }
 
@@ -212,6 +224,38 @@ pub(crate) fn place_of(server: ServerNo, job: JobNo) -> usize
     ensures { result ≡ 16 * server + job }
 {
     16 * server.0 as usize + job.0 as usize
+}
+
+/// The mirror, on a blank note, and the generation of the client.
+fn open_mirror(alloc: Global, config: Config) -> Result<Mirrored, AllocError>
+    ensures { IfOk result (λ m. HasOpened config m) }
+{
+    if !config.mirror {
+        return Ok(Mirrored {
+            node: None,
+            greatest: 0,
+        });
+    }
+    let node = MirrorNode::open(alloc)?;
+    Ok(Mirrored {
+        node: Some(node),
+        greatest: 1,
+    })
+}
+
+/// The client, on a blank note, or with a mirror in its first generation.
+fn open_client(alloc: Global, config: Config) -> Result<ClientNode, AllocError>
+    requires some { 1 ≤ config.servers }
+    requires few { config.servers ≤ 8 }
+    ensures { IfOk result (λ c. Stands (client_opening (setup_of config)) (client_entries (setup_of config) []) c) }
+{
+    if config.mirror {
+        return ClientNode::open_renewed(alloc, config.servers);
+    }
+    match ClientNode::open(alloc, config.servers) {
+        Ok(client) => Ok(client),
+        Err(_) => Err(AllocError),
+    }
 }
 
 /// The servers, each on a blank note.

@@ -16,7 +16,13 @@ pub fn sends_the_same(alloc: Global, left: &Left) -> Result<bool, Fault> {
     if servers == 0 || servers > 8 {
         return Err(Fault::NoServer);
     }
-    let Ok(mut world) = World::new(alloc, Config { servers }) else {
+    let Ok(mut world) = World::new(
+        alloc,
+        Config {
+            servers,
+            mirror: false,
+        },
+    ) else {
         return Err(Fault::NoMemory);
     };
     happen_all(alloc, &mut world, left)?;

@@ -1,18 +1,20 @@
 //! What a world refuses before a node is asked.
 
-ghost use Rattle.std.specs.Prelude.{◌≡◌, List, Err, unwrap_or, IfSome};
+ghost use Rattle.std.specs.Prelude.{◌≡◌, List, None, Err, unwrap_or, IfSome, IsTrue};
 ghost use Rattle.fc_base.specs.declared.fault.Fault.TheVariants.{NoSave};
 ghost use Rattle.fc_base.specs.declared.fault.FaultSort.TheVariants.{Refusal};
 ghost use Rattle.fc_base.specs.Fault.{sort_of};
-ghost use Rattle.messages.specs.declared.node.Node.TheVariants.{Server as OfServer, Client as OfClient};
+ghost use Rattle.messages.specs.Ranges.{is_generation};
+ghost use Rattle.messages.specs.declared.node.Node.TheVariants.{Server as OfServer, Client as OfClient, Mirror as OfMirror};
 ghost use Rattle.net_world.specs.Setup.{Setup};
-ghost use Rattle.net_world.specs.Barred.{off, unopen, no_file};
+ghost use Rattle.net_world.specs.Barred.{off, on, unopen, no_file, unlosable, unfit};
+ghost use Rattle.std.specs.Option.{option_or};
 ghost use Rattle.net_world.specs.Changes.{Change, trace};
 ghost use Rattle.net_world.specs.Stands.{StandsFor};
 
 use super::World;
 use crate::told::Told;
-use fc_base::{Fault, JobNo, MAX_JOBS, Seq, ServerNo};
+use fc_base::{Fault, Generation, JobNo, MAX_GENERATION, MAX_JOBS, Seq, ServerNo};
 
 impl World {
     /// The client has to be on.
@@ -41,6 +43,71 @@ impl World {
             None
         } else {
             Some(Fault::NodeOff)
+        }
+    }
+
+    /// The mirror has to be there and on.
+    pub(super) fn mirror_off(&self) -> Option<Fault>
+        ensures why { (w : Setup) (past : List Change) → StandsFor w past self.now →
+            result ≡ off w (trace w past) OfMirror }
+        ensures sort { IfSome result (λ fault. sort_of fault ≡ Refusal) }
+    {
+        let Some(node) = &self.mirror.node else {
+            return Some(Fault::NoMirror);
+        };
+        if node.on() {
+            None
+        } else {
+            Some(Fault::NodeOff)
+        }
+    }
+
+    /// The mirror has to be there and off.
+    pub(super) fn mirror_on(&self) -> Option<Fault>
+        ensures why { (w : Setup) (past : List Change) → StandsFor w past self.now →
+            result ≡ on w (trace w past) OfMirror }
+        ensures sort { IfSome result (λ fault. sort_of fault ≡ Refusal) }
+    {
+        let Some(node) = &self.mirror.node else {
+            return Some(Fault::NoMirror);
+        };
+        if node.on() { Some(Fault::NodeOn) } else { None }
+    }
+
+    /// There has to be a mirror, and the client to be off.
+    pub(super) fn unlosable(&self) -> Option<Fault>
+        ensures why { (w : Setup) (past : List Change) → StandsFor w past self.now →
+            result ≡ unlosable w (trace w past) }
+        ensures sort { IfSome result (λ fault. sort_of fault ≡ Refusal) }
+    {
+        if self.mirror.node.is_none() {
+            return Some(Fault::NoMirror);
+        }
+        if self.client.on() {
+            Some(Fault::NodeOn)
+        } else {
+            None
+        }
+    }
+
+    /// There has to be a mirror, the client to be off, and the number to be one of a generation that was
+    /// not used.
+    pub(super) fn unrenewable(&self, generation: Generation) -> Option<Fault>
+        ensures why { (w : Setup) (past : List Change) → StandsFor w past self.now →
+            result ≡ option_or (unlosable w (trace w past)) (unfit w (trace w past) generation) }
+        ensures sort { IfSome result (λ fault. sort_of fault ≡ Refusal) }
+        ensures fits { result ≡ None → IsTrue (is_generation generation) }
+    {
+        if let Some(fault) = self.unlosable() {
+            return Some(fault);
+        }
+        if generation.0 < 1 || generation.0 > MAX_GENERATION {
+            return Some(Fault::BadGeneration);
+        }
+        if self.mirror.greatest < generation.0 {
+            None
+        } else {
+            Some(Fault::UsedGeneration)
         }
     }
 

@@ -43,7 +43,8 @@ impl World {
         let Ok(first) = self.sent.settle() else {
             return Err(Fault::NoMemory);
         };
-        match self.client.restart(self.alloc, servers as u32) {
+        let mirror = self.mirror.node.is_some();
+        match self.client.restart(self.alloc, servers as u32, mirror) {
             Ok(()) => Ok(Told::plain(first)),
             Err(fault) => Err(fault),
         }

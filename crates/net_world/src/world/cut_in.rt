@@ -22,7 +22,7 @@ use messages::{Frame, Node};
 impl World {
     /// A node loses its power within the save that this would make.
     ///
-    /// `NoSave`: it would make none; `NoMirror`: it is of a mirror, and there is none.
+    /// `NoSave`: it would make none.
     pub(super) fn cut_in(&mut self, landed: bool, event: &PlainEvent) -> Result<Told, Fault>
         ensures { (w : Setup) (events : List Happening) → StandsFor w (world w events) self.old →
             Ends w (world w events) (CutIn landed (plainly event.now)) self.new result }
@@ -32,6 +32,8 @@ impl World {
             PlainEvent::Verify { run, text } => self.cut_in_verify(landed, *run, text),
             PlainEvent::Deliver { frame } => self.cut_in_delivery(landed, *frame),
             PlainEvent::Restart { node } => self.cut_in_restart(landed, *node),
+            PlainEvent::Renew { generation } => self.cut_in_renewal(landed, *generation),
+            PlainEvent::LoseNote => no_save(self.unlosable()),
             PlainEvent::Trigger { .. } => no_save(self.client_off()),
             PlainEvent::StopRun { .. } => no_save(self.client_off()),
             PlainEvent::Tick => no_save(self.client_off()),
@@ -62,7 +64,7 @@ impl World {
         match node {
             Node::Server(server) => no_save(self.server_off(server)),
             Node::Client => no_save(self.client_off()),
-            Node::Mirror => Err(Fault::NoMirror),
+            Node::Mirror => no_save(self.mirror_off()),
         }
     }
 
@@ -78,7 +80,7 @@ impl World {
         match to_of(&frame) {
             Node::Server(server) => self.cut_in_at_server(landed, server, frame),
             Node::Client => self.cut_in_client_delivery(landed, frame),
-            Node::Mirror => Err(Fault::NoMirror),
+            Node::Mirror => self.cut_in_mirror_delivery(landed, &frame),
         }
     }
 
@@ -90,7 +92,7 @@ impl World {
         match node {
             Node::Server(server) => self.cut_in_server_restart(landed, server),
             Node::Client => self.cut_in_client_restart(),
-            Node::Mirror => Err(Fault::NoMirror),
+            Node::Mirror => no_save(self.mirror_on()),
         }
     }
 

@@ -31,7 +31,7 @@ impl World {
         match to_of(&frame) {
             Node::Server(server) => self.deliver_to_server(server, frame),
             Node::Client => self.deliver_to_client(frame),
-            Node::Mirror => Err(Fault::NoMirror),
+            Node::Mirror => self.deliver_to_mirror(&frame),
         }
     }
 

@@ -14,7 +14,7 @@ use fc_base::{Fault, MAX_SERVERS, ServerNo};
 use messages::Node;
 
 impl World {
-    /// A node loses its power. `NoMirror`: there is none.
+    /// A node loses its power.
     pub(super) fn cut(&mut self, node: Node) -> Result<Told, Fault>
         ensures { (w : Setup) (past : List Change) → StandsFor w past self.old →
             Ends w past (Cut node) self.new result }
@@ -22,11 +22,11 @@ impl World {
         match node {
             Node::Server(server) => self.cut_server(server),
             Node::Client => self.cut_client(),
-            Node::Mirror => Err(Fault::NoMirror),
+            Node::Mirror => self.cut_mirror(),
         }
     }
 
-    /// A node is started again. `NoMirror`: there is none.
+    /// A node is started again.
     pub(super) fn restart(&mut self, node: Node) -> Result<Told, Fault>
         ensures { (w : Setup) (past : List Change) → StandsFor w past self.old →
             Ends w past (Restart node) self.new result }
@@ -34,7 +34,7 @@ impl World {
         match node {
             Node::Server(server) => self.restart_server(server),
             Node::Client => self.restart_client(),
-            Node::Mirror => Err(Fault::NoMirror),
+            Node::Mirror => self.restart_mirror(),
         }
     }
 

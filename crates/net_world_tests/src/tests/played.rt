@@ -101,7 +101,14 @@ fn played_by(alloc: Global, servers: Option<u32>, events: &[Event]) -> Result<Wo
     if servers < 1 || servers > 8 {
         return Err(Trouble::BadRow);
     }
-    match play(alloc, Config { servers }, events) {
+    match play(
+        alloc,
+        Config {
+            servers,
+            mirror: false,
+        },
+        events,
+    ) {
         Ok(world) => Ok(world),
         Err(_) => Err(Trouble::NoMemory),
     }

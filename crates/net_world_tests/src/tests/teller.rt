@@ -34,9 +34,21 @@ fn new_world(alloc: Global, servers: u32) -> Result<World, Trouble> {
     if servers < 1 || servers > 8 {
         return Err(Trouble::BadRow);
     }
-    match World::new(alloc, Config { servers }) {
+    match World::new(
+        alloc,
+        Config {
+            servers,
+            mirror: false,
+        },
+    ) {
         Ok(world) => Ok(world),
-        Err(_) => match World::new(alloc, Config { servers }) {
+        Err(_) => match World::new(
+            alloc,
+            Config {
+                servers,
+                mirror: false,
+            },
+        ) {
             Ok(world) => Ok(world),
             Err(_) => Err(Trouble::NoMemory),
         },

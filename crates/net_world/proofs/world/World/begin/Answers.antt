@@ -9,7 +9,7 @@ use Rattle.net_world.proofs.ServeLemmas.{settled}
 use Rattle.net_world.proofs.world.World.begin.Goals as goal
 
 pub returns-in_default : goal.returns-in_default
-returns-in_default c w past stands = (refl, settled w past c.args.self.now _ stands c.settle.ensures.same refl refl refl)
+returns-in_default c w past stands = (refl, settled w past c.args.self.now _ stands c.settle.ensures.same refl refl refl refl)
 
 pub returns-in-Err : goal.returns-in-Err
 returns-in-Err c w past stands =
@@ -17,7 +17,7 @@ returns-in-Err c w past stands =
     (unanswered w past (inputs.Begin c.args.text.now) c.in-Err.fault c.args.self.now _ stands
     (record {
       asks = λ o es h. c.in-Err.ensures o es h;
-      moved = record { sent_is = c.settle.ensures.same ∙ sym (append-nil (sent_in c.args.self.now.sent)); servers_are = refl; files_are = refl };
+      moved = record { sent_is = c.settle.ensures.same ∙ sym (append-nil (sent_in c.args.self.now.sent)); servers_are = refl; files_are = refl; mirror_is = refl };
     }))
 
 pub returns-in-Ok-begin : goal.returns-in-Ok-begin
@@ -26,7 +26,7 @@ returns-in-Ok-begin c w past stands =
     (answered w past (inputs.Begin c.args.text.now) c.in-Ok-begin.asked c.in-Ok.first c.send.result c.args.self.now c.send.new.self stands
     (record {
       asks = λ o es h. subst (λ x. Answers o es (inputs.Begin c.args.text.now) x c.in-Ok-begin.asked) (sym (ap (λ x. x.client) c.send.ensures.rest)) (c.in-Ok-begin.ensures o es h);
-      moved = record { sent_is = c.send.ensures.sent ∙ ap (λ fs. fs ++ c.in-Ok-begin.asked.frames) c.settle.ensures.same; servers_are = ap (λ x. x.servers) c.send.ensures.rest; files_are = ap (λ x. x.files) c.send.ensures.rest };
+      moved = record { sent_is = c.send.ensures.sent ∙ ap (λ fs. fs ++ c.in-Ok-begin.asked.frames) c.settle.ensures.same; servers_are = ap (λ x. x.servers) c.send.ensures.rest; files_are = ap (λ x. x.files) c.send.ensures.rest; mirror_is = ap (λ x. x.mirror) c.send.ensures.rest };
     })
     (c.in-Ok.ensures.first ∙ ap (λ (fs : List (List ℕ)). length fs) c.settle.ensures.same)
     c.send.ensures.told)

@@ -28,7 +28,7 @@ returns-in_default c w past stands =
     let held = stands.files_are s j c.index_mut.result.now slot.0 at in (
       refl,
       file_kept w past s j c.check_disk.new.disk c.args.self.now _ stands
-          (record { slot = slot.0; there = slot.1; place = c.place_of.result; place_is = c.place_of.ensures; set_is = refl; sent_is = refl; client_is = refl; servers_are = refl })
+          (record { slot = slot.0; there = slot.1; place = c.place_of.result; place_is = c.place_of.ensures; set_is = refl; sent_is = refl; client_is = refl; servers_are = refl; mirror_is = refl })
           (unchecked c.in-Ok.ready.key c.in-Ok.ready.rec (option_copied c.as_ref.result) c.in-Ok.ready.fatal c.in_default.field-0 (file_of c.index_mut.result.now) (file_of c.check_disk.new.disk) c.in_default.ensures ∙ held),
     )
 
@@ -44,7 +44,7 @@ returns-in-Ok-serve c w past stands =
     let made = report_is w past s j c.in-Ok.ready h r (file_of c.index_mut.result.now) (file_of c.check_disk.new.disk) held refl
     (subst (λ (x : Option State). ChecksDisk (Ok r) c.in-Ok.ready.key c.in-Ok.ready.rec x c.in-Ok.ready.fatal (file_of c.index_mut.result.now) (file_of c.check_disk.new.disk)) c.as_ref.ensures.value c.in-Ok-check_disk.ensures) in
     let kept = file_kept w past s j c.check_disk.new.disk c.args.self.now _ stands
-    (record { slot = slot.0; there = slot.1; place = c.place_of.result; place_is = c.place_of.ensures; set_is = refl; sent_is = refl; client_is = refl; servers_are = refl })
+    (record { slot = slot.0; there = slot.1; place = c.place_of.result; place_is = c.place_of.ensures; set_is = refl; sent_is = refl; client_is = refl; servers_are = refl; mirror_is = refl })
     (made.1 ∙ held) in
     check_ends w past s j c.in-Ok.ready h r c.in-Ok-serve.served c.told.result c.serve.new.self made.0 (c.in-Ok-serve.ensures w past kept) c.told.ensures
 
@@ -60,6 +60,6 @@ returns-in-Err-serve c w past stands =
     let made = report_is w past s j c.in-Ok.ready h r (file_of c.index_mut.result.now) (file_of c.check_disk.new.disk) held refl
     (subst (λ (x : Option State). ChecksDisk (Ok r) c.in-Ok.ready.key c.in-Ok.ready.rec x c.in-Ok.ready.fatal (file_of c.index_mut.result.now) (file_of c.check_disk.new.disk)) c.as_ref.ensures.value c.in-Ok-check_disk.ensures) in
     let kept = file_kept w past s j c.check_disk.new.disk c.args.self.now _ stands
-    (record { slot = slot.0; there = slot.1; place = c.place_of.result; place_is = c.place_of.ensures; set_is = refl; sent_is = refl; client_is = refl; servers_are = refl })
+    (record { slot = slot.0; there = slot.1; place = c.place_of.result; place_is = c.place_of.ensures; set_is = refl; sent_is = refl; client_is = refl; servers_are = refl; mirror_is = refl })
     (made.1 ∙ held) in
     check_fails w past s j c.in-Ok.ready h r c.in-Err-serve.fault c.serve.new.self made.0 (c.in-Err-serve.ensures w past kept)

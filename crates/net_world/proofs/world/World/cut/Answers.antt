@@ -1,10 +1,7 @@
-use Rattle.std.proofs.Common.{sym, subst, Err}
-use Rattle.fc_base.specs.declared.fault.Fault.TheVariants.{NoMirror}
+use Rattle.std.proofs.Common.{sym, subst}
 use Rattle.messages.specs.declared.node.Node.{Node}
-use Rattle.messages.specs.declared.node.Node.TheVariants.{Mirror}
 use Rattle.net_world.specs.Happenings.{Cut}
 use Rattle.net_world.specs.Ends.{Ends}
-use Rattle.net_world.proofs.EndsLemmas.{bars_alone, no_mirror}
 use Rattle.net_world.proofs.world.World.cut.Goals as goal
 
 pub returns-in-Server : goal.returns-in-Server
@@ -17,4 +14,4 @@ returns-in-Client c w past stands =
 
 pub returns-in-Mirror : goal.returns-in-Mirror
 returns-in-Mirror c w past stands =
-    subst (λ (node : Node). Ends w past (Cut node) c.args.self.now (Err NoMirror)) (sym c.in-Mirror.is) (no_mirror w past (Cut Mirror) c.args.self.now (bars_alone w.mirror _ stands.alone) stands)
+    subst (λ (node : Node). Ends w past (Cut node) c.cut_mirror.new.self c.cut_mirror.result) (sym c.in-Mirror.is) (c.cut_mirror.ensures w past stands)

@@ -1,8 +1,6 @@
 use Rattle.std.proofs.Common.{sym, ◌∙◌}
 use Rattle.net_world.specs.World.{world}
 use Rattle.net_world.specs.Happenings.{Deliver, CutIn}
-use Rattle.net_world.proofs.DeliverLemmas.{bars_mirror}
-use Rattle.net_world.proofs.EndsLemmas.{no_mirror}
 use Rattle.net_world.proofs.NoSaveLemmas.{lost_cut}
 use Rattle.net_world.proofs.world.World.cut_in_delivery.Goals as goal
 
@@ -19,4 +17,4 @@ returns-in-Client c w events stands =
 
 pub returns-in-Mirror : goal.returns-in-Mirror
 returns-in-Mirror c w events stands =
-    no_mirror w (world w events) (CutIn c.args.landed (Deliver c.args.number)) c.args.self.now (bars_mirror w (world w events) c.args.number c.in-Ok.frame (c.in-Ok.ensures w events stands) (sym c.to_of.ensures ∙ c.in-Mirror.is) stands.alone) stands
+    c.cut_in_mirror_delivery.ensures w (world w events) c.args.number stands (c.in-Ok.ensures w events stands) (sym c.to_of.ensures ∙ c.in-Mirror.is)

@@ -1,10 +1,7 @@
-use Rattle.std.proofs.Common.{sym, subst, Err}
-use Rattle.fc_base.specs.declared.fault.Fault.TheVariants.{NoMirror}
+use Rattle.std.proofs.Common.{sym, subst}
 use Rattle.messages.specs.declared.node.Node.{Node}
-use Rattle.messages.specs.declared.node.Node.TheVariants.{Mirror}
 use Rattle.net_world.specs.Happenings.{Restart, CutIn}
 use Rattle.net_world.specs.Ends.{Ends}
-use Rattle.net_world.proofs.EndsLemmas.{bars_alone, no_mirror}
 use Rattle.net_world.proofs.world.World.cut_in_restart.Goals as goal
 
 pub returns-in-Server : goal.returns-in-Server
@@ -14,7 +11,3 @@ returns-in-Server c w past stands =
 pub returns-in-Client : goal.returns-in-Client
 returns-in-Client c w past stands =
     subst (λ (node : Node). Ends w past (CutIn c.args.landed (Restart node)) c.args.self.now c.cut_in_client_restart.result) (sym c.in-Client.is) (c.cut_in_client_restart.ensures c.args.landed w past stands)
-
-pub returns-in-Mirror : goal.returns-in-Mirror
-returns-in-Mirror c w past stands =
-    subst (λ (node : Node). Ends w past (CutIn c.args.landed (Restart node)) c.args.self.now (Err NoMirror)) (sym c.in-Mirror.is) (no_mirror w past (CutIn c.args.landed (Restart Mirror)) c.args.self.now (bars_alone w.mirror _ stands.alone) stands)

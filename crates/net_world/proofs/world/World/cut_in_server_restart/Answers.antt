@@ -24,7 +24,7 @@ returns-then-not-has_server c w past stands =
     refuses w past e _ c.args.self.now refl (stops w past e _ (none_on w past c.args.server (omega (arith, stands.number, l)))) stands
 
 pub returns-in_default : goal.returns-in_default
-returns-in_default c w past stands = (refl, settled w past c.args.self.now _ stands c.settle.ensures.same refl refl refl)
+returns-in_default c w past stands = (refl, settled w past c.args.self.now _ stands c.settle.ensures.same refl refl refl refl)
 
 pub returns-in-Ok-cut_in_restart : goal.returns-in-Ok-cut_in_restart
 returns-in-Ok-cut_in_restart c w past stands =
@@ -34,7 +34,7 @@ returns-in-Ok-cut_in_restart c w past stands =
     let at = node_at c.args.self.now.servers.items s c.server-2.inside.0 c.index_mut.result.now c.server-2.view_is l c.index_mut.ensures.value in
     let h = c.in-Ok-cut_in_restart.ensures (opening_of s) (entries past s) refl (stands.servers_are s c.index_mut.result.now at) in
     plain_ends w past s (CutIn c.args.landed (Restart (nodes.Server s))) (hearing.Restart (lost_by c.args.landed)) c.cut_in_restart.new.self c.in-Ok.first c.plain.result c.args.self.now _ stands
-    (record { there = l; place = c.server-2.inside.0; place_is = c.server-2.view_is; set_is = refl; sent_is = c.settle.ensures.same ∙ sym (append-nil (sent_in c.args.self.now.sent)); client_is = refl; files_are = refl })
+    (record { there = l; place = c.server-2.inside.0; place_is = c.server-2.view_is; set_is = refl; sent_is = c.settle.ensures.same ∙ sym (append-nil (sent_in c.args.self.now.sent)); client_is = refl; files_are = refl; mirror_is = refl })
     h.2
     (restart_cut_plain w past s c.args.landed (may_restart w past s below h.0) h.1)
     (c.in-Ok.ensures.first ∙ ap (λ (fs : List (List ℕ)). length fs) c.settle.ensures.same)
@@ -46,6 +46,6 @@ returns-in-Err c w past stands =
     let l = lt_of s (length c.args.self.now.servers.items) (sym c.has_server.ensures ∙ c.if-not-has_server.false) in
     let at = node_at c.args.self.now.servers.items s c.server-2.inside.0 c.index_mut.result.now c.server-2.view_is l c.index_mut.ensures.value in
     restart_cut_ends w past s c.args.landed c.cut_in_restart.new.self c.in-Err.fault c.args.self.now _ stands
-    (record { there = l; place = c.server-2.inside.0; place_is = c.server-2.view_is; set_is = refl; sent_is = c.settle.ensures.same ∙ sym (append-nil (sent_in c.args.self.now.sent)); client_is = refl; files_are = refl })
+    (record { there = l; place = c.server-2.inside.0; place_is = c.server-2.view_is; set_is = refl; sent_is = c.settle.ensures.same ∙ sym (append-nil (sent_in c.args.self.now.sent)); client_is = refl; files_are = refl; mirror_is = refl })
     (omega (arith, stands.number, l))
     (c.in-Err.ensures (opening_of s) (entries past s) refl (stands.servers_are s c.index_mut.result.now at))

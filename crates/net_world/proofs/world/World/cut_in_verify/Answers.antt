@@ -9,12 +9,12 @@ use Rattle.net_world.proofs.ClientCutEndsLemmas.{cut_ends, uncut_ends, cuts_veri
 use Rattle.net_world.proofs.world.World.cut_in_verify.Goals as goal
 
 pub returns-in_default : goal.returns-in_default
-returns-in_default c w past stands = (refl, settled w past c.args.self.now _ stands c.settle.ensures.same refl refl refl)
+returns-in_default c w past stands = (refl, settled w past c.args.self.now _ stands c.settle.ensures.same refl refl refl refl)
 
 pub returns-in-Ok-cut_in_verify : goal.returns-in-Ok-cut_in_verify
 returns-in-Ok-cut_in_verify c w past stands =
     cut_ends w past c.args.landed (CutIn c.args.landed (Verify c.args.run c.args.text.now)) (inputs.Verify c.args.run c.args.text.now) c.in-Ok.first c.plain.result c.args.self.now _ stands
-    (record { sent_is = c.settle.ensures.same ∙ sym (append-nil (sent_in c.args.self.now.sent)); servers_are = refl; files_are = refl })
+    (record { sent_is = c.settle.ensures.same ∙ sym (append-nil (sent_in c.args.self.now.sent)); servers_are = refl; files_are = refl; mirror_is = refl })
     (cuts_verify w past c.args.landed c.args.run c.args.text.now)
     (c.in-Ok-cut_in_verify.ensures (client_opening w) (entries w past) stands.client_is)
     (c.in-Ok.ensures.first ∙ ap (λ (fs : List (List ℕ)). length fs) c.settle.ensures.same)
@@ -23,6 +23,6 @@ returns-in-Ok-cut_in_verify c w past stands =
 pub returns-in-Err : goal.returns-in-Err
 returns-in-Err c w past stands =
     uncut_ends w past c.args.landed (CutIn c.args.landed (Verify c.args.run c.args.text.now)) (inputs.Verify c.args.run c.args.text.now) c.in-Err.fault c.args.self.now _ stands
-    (record { sent_is = c.settle.ensures.same ∙ sym (append-nil (sent_in c.args.self.now.sent)); servers_are = refl; files_are = refl })
+    (record { sent_is = c.settle.ensures.same ∙ sym (append-nil (sent_in c.args.self.now.sent)); servers_are = refl; files_are = refl; mirror_is = refl })
     (cuts_verify w past c.args.landed c.args.run c.args.text.now)
     (c.in-Err.ensures (client_opening w) (entries w past) stands.client_is)

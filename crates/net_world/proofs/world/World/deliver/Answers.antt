@@ -1,8 +1,7 @@
 use Rattle.std.proofs.Common.{sym, ◌∙◌}
 use Rattle.net_world.specs.World.{world}
 use Rattle.net_world.specs.Happenings.{Deliver}
-use Rattle.net_world.proofs.DeliverLemmas.{bars_mirror, lost_frame}
-use Rattle.net_world.proofs.EndsLemmas.{no_mirror}
+use Rattle.net_world.proofs.DeliverLemmas.{lost_frame}
 use Rattle.net_world.proofs.world.World.deliver.Goals as goal
 
 pub returns-in-Err : goal.returns-in-Err
@@ -18,4 +17,4 @@ returns-in-Client c w events stands =
 
 pub returns-in-Mirror : goal.returns-in-Mirror
 returns-in-Mirror c w events stands =
-    no_mirror w (world w events) (Deliver c.args.number) c.args.self.now (bars_mirror w (world w events) c.args.number c.in-Ok.frame (c.in-Ok.ensures w events stands) (sym c.to_of.ensures ∙ c.in-Mirror.is) stands.alone) stands
+    c.deliver_to_mirror.ensures w (world w events) c.args.number stands (c.in-Ok.ensures w events stands) (sym c.to_of.ensures ∙ c.in-Mirror.is)

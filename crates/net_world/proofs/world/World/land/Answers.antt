@@ -49,7 +49,7 @@ returns-in-Ok-land c w past stands =
     let held = stands.files_are s j c.index_mut.result.now slot.0 at in
     let e = Land s j k c.args.mask in
     quiet_ends w past s j e (Landed s j k c.args.mask) (with_write k c.args.mask (open_at (trace w past) s j k) (content w past s j)) c.land.new.self c.in-Ok-settle.first c.plain.result c.args.self.now _ stands
-    (record { slot = slot.0; there = slot.1; place = c.place_of.result; place_is = c.place_of.ensures; set_is = refl; sent_is = c.settle.ensures.same; client_is = refl; servers_are = refl })
+    (record { slot = slot.0; there = slot.1; place = c.place_of.result; place_is = c.place_of.ensures; set_is = refl; sent_is = c.settle.ensures.same; client_is = refl; servers_are = refl; mirror_is = refl })
     (lands w past s j k c.args.mask)
     (landed_is w past s j k c.args.mask c.in-Ok.found.0 c.in-Ok.found.1 c.deref.result.now (file_of c.index_mut.result.now) (file_of c.land.new.self) h held (c.deref.ensures.value ∙ c.in-Ok-bytes_of.ensures) c.in-Ok-land.ensures.ok)
     (goes w past e h.there)
@@ -66,6 +66,6 @@ returns c w past stands =
     let held = stands.files_are s j c.index_mut.result.now slot.0 at in (
       refl,
       file_kept w past s j c.land.new.self c.args.self.now _ stands
-          (record { slot = slot.0; there = slot.1; place = c.place_of.result; place_is = c.place_of.ensures; set_is = refl; sent_is = c.settle.ensures.same; client_is = refl; servers_are = refl })
+          (record { slot = slot.0; there = slot.1; place = c.place_of.result; place_is = c.place_of.ensures; set_is = refl; sent_is = c.settle.ensures.same; client_is = refl; servers_are = refl; mirror_is = refl })
           (c.in-Err-land.ensures.err ∙ held),
     )

@@ -1,33 +1,38 @@
-use Rattle.std.proofs.Common.{refl, sym, ◌∙◌, ap, false, length, append-nil, arith, List, ℕ}
+use Rattle.std.proofs.Common.{refl, sym, ◌∙◌, ap, subst, length, append-nil, arith, List, ℕ, Ok, Err}
 use Rattle.messages.specs.declared.node.Node.TheVariants.{Client}
 use Rattle.client_core.specs.Hearing as hearing
 use Rattle.net_world.specs.declared.server_node.ServerNode.{ServerNode}
 use Rattle.net_world.specs.Trace.{client_opening}
 use Rattle.net_world.specs.Happenings.{Restart}
+use Rattle.net_world.specs.ClientNodes.{Restarts}
 use Rattle.net_world.specs.Sending.{sent_in}
 use Rattle.net_world.specs.Asking.{entries}
+use Rattle.net_world.proofs.MirrorEndsLemmas.{mirror_word}
 use Rattle.net_world.proofs.ServeLemmas.{settled}
 use Rattle.net_world.proofs.ClientPlainLemmas.{plain_ends, restart_plain, restart_ends}
 use Rattle.net_world.proofs.world.World.restart_client.Goals as goal
 
 pub returns-in_default : goal.returns-in_default
-returns-in_default c w past stands = (refl, settled w past c.args.self.now _ stands c.settle.ensures.same refl refl refl)
+returns-in_default c w past stands = (refl, settled w past c.args.self.now _ stands c.settle.ensures.same refl refl refl refl)
 
 pub returns-in-Ok-restart : goal.returns-in-Ok-restart
 returns-in-Ok-restart c w past stands =
-    let h = c.in-Ok-restart.ensures (client_opening w) (entries w past) (sym (ap (λ (xs : List ServerNode). length xs) c.as_slice-servers.ensures.value ∙ stands.number)) stands.client_is in
-    plain_ends w past (Restart Client) (hearing.Restart false) c.in-Ok.first c.plain.result c.args.self.now _ stands
-    (record { sent_is = c.settle.ensures.same ∙ sym (append-nil (sent_in c.args.self.now.sent)); servers_are = refl; files_are = refl })
-    h.1
-    (restart_plain w past stands.alone h.0)
+    let h = subst (λ mirror. Restarts (client_opening w) (entries w past) mirror c.restart.new.self (Ok tt)) (c.is_some-mirror.ensures ∙ mirror_word w past c.args.self.now.mirror.node stands.mirror_is)
+    (c.in-Ok-restart.ensures (client_opening w) (entries w past) (sym (ap (λ (xs : List ServerNode). length xs) c.as_slice-servers.ensures.value ∙ stands.number)) stands.client_is) in
+    plain_ends w past (Restart Client) (hearing.Restart w.mirror) c.in-Ok.first c.plain.result c.args.self.now _ stands
+    (record { sent_is = c.settle.ensures.same ∙ sym (append-nil (sent_in c.args.self.now.sent)); servers_are = refl; files_are = refl; mirror_is = refl })
+    h.2
+    (restart_plain w past h.0 h.1)
+    refl
     (c.in-Ok.ensures.first ∙ ap (λ (fs : List (List ℕ)). length fs) c.settle.ensures.same)
     c.plain.ensures
 
 pub returns-in-Err : goal.returns-in-Err
 returns-in-Err c w past stands =
     restart_ends w past c.in-Err.fault c.args.self.now _ stands
-    (record { sent_is = c.settle.ensures.same ∙ sym (append-nil (sent_in c.args.self.now.sent)); servers_are = refl; files_are = refl })
-    (c.in-Err.ensures (client_opening w) (entries w past) (sym (ap (λ (xs : List ServerNode). length xs) c.as_slice-servers.ensures.value ∙ stands.number)) stands.client_is)
+    (record { sent_is = c.settle.ensures.same ∙ sym (append-nil (sent_in c.args.self.now.sent)); servers_are = refl; files_are = refl; mirror_is = refl })
+    (subst (λ mirror. Restarts (client_opening w) (entries w past) mirror c.restart.new.self (Err c.in-Err.fault)) (c.is_some-mirror.ensures ∙ mirror_word w past c.args.self.now.mirror.node stands.mirror_is)
+    (c.in-Err.ensures (client_opening w) (entries w past) (sym (ap (λ (xs : List ServerNode). length xs) c.as_slice-servers.ensures.value ∙ stands.number)) stands.client_is))
 
 pub returns-then-servers-lt1 : goal.returns-then-servers-lt1
 returns-then-servers-lt1 c w past stands = absurd (omega (arith, stands.some, ap (λ (xs : List ServerNode). length xs) c.as_slice-servers.ensures.value ∙ stands.number, c.if-servers-lt1.true))

@@ -18,7 +18,7 @@ returns-then-not-has_server c w past stands =
     refuses w past e _ c.args.self.now refl (stops w past e _ (none_on w past c.args.server (omega (arith, stands.number, l)))) stands
 
 pub returns-in_default : goal.returns-in_default
-returns-in_default c w past stands = (refl, settled w past c.args.self.now _ stands c.settle.ensures.same refl refl refl)
+returns-in_default c w past stands = (refl, settled w past c.args.self.now _ stands c.settle.ensures.same refl refl refl refl)
 
 pub returns-in-Ok-restart : goal.returns-in-Ok-restart
 returns-in-Ok-restart c w past stands =
@@ -28,7 +28,7 @@ returns-in-Ok-restart c w past stands =
     let at = node_at c.args.self.now.servers.items s c.server-2.inside.0 c.index_mut.result.now c.server-2.view_is l c.index_mut.ensures.value in
     let h = c.in-Ok-restart.ensures (opening_of s) (entries past s) refl (stands.servers_are s c.index_mut.result.now at) in
     plain_ends w past s (Restart (nodes.Server s)) (hearing.Restart Saved) c.restart.new.self c.in-Ok.first c.plain.result c.args.self.now _ stands
-    (record { there = l; place = c.server-2.inside.0; place_is = c.server-2.view_is; set_is = refl; sent_is = c.settle.ensures.same ∙ sym (append-nil (sent_in c.args.self.now.sent)); client_is = refl; files_are = refl })
+    (record { there = l; place = c.server-2.inside.0; place_is = c.server-2.view_is; set_is = refl; sent_is = c.settle.ensures.same ∙ sym (append-nil (sent_in c.args.self.now.sent)); client_is = refl; files_are = refl; mirror_is = refl })
     h.2
     (restart_plain w past s (may_restart w past s below h.0) h.1)
     (c.in-Ok.ensures.first ∙ ap (λ (fs : List (List ℕ)). length fs) c.settle.ensures.same)
@@ -40,7 +40,7 @@ returns-in-Err c w past stands =
     let l = lt_of s (length c.args.self.now.servers.items) (sym c.has_server.ensures ∙ c.if-not-has_server.false) in
     let at = node_at c.args.self.now.servers.items s c.server-2.inside.0 c.index_mut.result.now c.server-2.view_is l c.index_mut.ensures.value in
     restart_ends w past s c.restart.new.self c.in-Err.fault c.args.self.now _ stands
-    (record { there = l; place = c.server-2.inside.0; place_is = c.server-2.view_is; set_is = refl; sent_is = c.settle.ensures.same ∙ sym (append-nil (sent_in c.args.self.now.sent)); client_is = refl; files_are = refl })
+    (record { there = l; place = c.server-2.inside.0; place_is = c.server-2.view_is; set_is = refl; sent_is = c.settle.ensures.same ∙ sym (append-nil (sent_in c.args.self.now.sent)); client_is = refl; files_are = refl; mirror_is = refl })
     (omega (arith, stands.number, l))
     (c.in-Err.ensures (opening_of s) (entries past s) refl (stands.servers_are s c.index_mut.result.now at))
 

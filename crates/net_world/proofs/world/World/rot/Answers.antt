@@ -25,7 +25,7 @@ returns-then-not-has_file c w past stands =
     refuses w past e _ c.args.self.now refl (stops w past e _ (rot_past w s c.args.job below far)) stands
 
 pub returns-in_default : goal.returns-in_default
-returns-in_default c w past stands = (refl, settled w past c.args.self.now _ stands c.settle.ensures.same refl refl refl)
+returns-in_default c w past stands = (refl, settled w past c.args.self.now _ stands c.settle.ensures.same refl refl refl refl)
 
 pub returns-in-Ok-rot : goal.returns-in-Ok-rot
 returns-in-Ok-rot c w past stands =
@@ -38,7 +38,7 @@ returns-in-Ok-rot c w past stands =
     let held = stands.files_are s j c.index_mut.result.now slot.0 at in
     let e = Rot s j c.args.sector c.args.bytes.now in
     quiet_ends w past s j e (Rotted s j c.args.sector c.args.bytes.now) (put c.args.sector c.args.bytes.now (content w past s j)) c.rot.new.self c.in-Ok.first c.plain.result c.args.self.now _ stands
-    (record { slot = slot.0; there = slot.1; place = c.place_of.result; place_is = c.place_of.ensures; set_is = refl; sent_is = c.settle.ensures.same; client_is = refl; servers_are = refl })
+    (record { slot = slot.0; there = slot.1; place = c.place_of.result; place_is = c.place_of.ensures; set_is = refl; sent_is = c.settle.ensures.same; client_is = refl; servers_are = refl; mirror_is = refl })
     (rots w past s j c.args.sector c.args.bytes.now)
     (c.in-Ok-rot.ensures.ok ∙ ap (with_sector c.args.sector c.args.bytes.now) held)
     (goes w past e (rot_free w s j below slot.0))
@@ -55,6 +55,6 @@ returns-in-Err c w past stands =
     let held = stands.files_are s j c.index_mut.result.now slot.0 at in (
       refl,
       file_kept w past s j c.rot.new.self c.args.self.now _ stands
-          (record { slot = slot.0; there = slot.1; place = c.place_of.result; place_is = c.place_of.ensures; set_is = refl; sent_is = c.settle.ensures.same; client_is = refl; servers_are = refl })
+          (record { slot = slot.0; there = slot.1; place = c.place_of.result; place_is = c.place_of.ensures; set_is = refl; sent_is = c.settle.ensures.same; client_is = refl; servers_are = refl; mirror_is = refl })
           (c.in-Err.ensures.err ∙ held),
     )

@@ -1,0 +1,298 @@
+-- How what comes to the mirror ends, as an event of a world.
+use Rattle.std.proofs.Common.{◌≡◌, refl, sym, ◌∙◌, ap, subst, inl, inr, ◌⊎◌, ℕ, ◌+◌, ◌*◌, Bool, true, false, ◌&&◌, List, [], ◌∷◌, ◌++◌, length, Option, Some, None, Ok, Err, append-nil}
+use Rattle.std.specs.Prelude.{if◌then◌else◌, not, map, is_some, is_none, slice_get, Vec}
+use Rattle.std.specs.List.{flat_map}
+use Rattle.std.specs.Option.{option_or}
+use Rattle.std.specs.declared.alloc.Global.{Global}
+use Rattle.std.proofs.lemmas.List.{length-map, map-append}
+use Rattle.fc_base.specs.declared.fault.Fault.{Fault}
+use Rattle.fc_base.specs.declared.fault.Fault.TheVariants.{NoMemory, NoMirror, NodeOff, NodeOn, NoSave}
+use Rattle.fc_base.specs.declared.fault.FaultSort.{FaultSort}
+use Rattle.fc_base.specs.declared.fault.FaultSort.TheVariants as sorts
+use Rattle.fc_base.specs.Fault.{sort_of}
+use Rattle.disk_model.specs.declared.mem_disk.MemDisk.{MemDisk}
+use Rattle.messages.specs.FrameBytes.{frame_spelling}
+use Rattle.messages.specs.FramesOf.{spelled_frames}
+use Rattle.messages.specs.Pieces.{frames_of}
+use Rattle.messages.specs.declared.frame.Frame.{Frame}
+use Rattle.messages.specs.declared.node.Node.TheVariants.{Mirror}
+use Rattle.messages.specs.declared.packet.PacketParts.{PacketParts}
+use Rattle.messages.specs.declared.refusal.Act.TheVariants as acts
+use Rattle.mirror_core.specs.History.{Entry, Met, Cut, Restart}
+use Rattle.mirror_core.specs.Words as words
+use Rattle.mirror_core.specs.Words.{refusal, due}
+use Rattle.mirror_core.specs.Saves.{Addition, left_by, is_answer}
+use Rattle.mirror_core.specs.Packets.{packets, packets_for, framed}
+use Rattle.mirror_core.specs.Requests.{request_in}
+use Rattle.mirror_core.specs.Ends.{answered}
+use Rattle.net_world.specs.declared.server_node.ServerNode.{ServerNode}
+use Rattle.net_world.specs.declared.mirror_node.MirrorNode.{MirrorNode}
+use Rattle.net_world.specs.declared.told.Answer.TheVariants.{Plain}
+use Rattle.net_world.specs.declared.told.Told.{Told}
+use Rattle.net_world.specs.declared.world.World.{World}
+use Rattle.net_world.specs.Setup.{Setup}
+use Rattle.net_world.specs.Happenings.{Happening, Deliver, CutIn}
+use Rattle.net_world.specs.Happenings as happenings
+use Rattle.net_world.specs.Trace as traces
+use Rattle.net_world.specs.Trace.{Step, opening_of, client_opening, mirror_opening}
+use Rattle.net_world.specs.Frames.{FrameStep, OfMirror, of_mirror, frames_sent, frames_of_step, server_entries, client_entries, to_of}
+use Rattle.net_world.specs.Changes as changes
+use Rattle.net_world.specs.Changes.{Change, steps, trace}
+use Rattle.net_world.specs.Barred.{unless, off, on, is_on, barred, unsent}
+use Rattle.net_world.specs.Outcomes.{Does, Refuses, stepped, unless_fault, left_for, where_saved, lost_by, comes_to, comes_to_mirror, mirror_frame_cut, frame_cut, delivered, delivery_cut_in, brings, outcome}
+use Rattle.net_world.specs.World.{frames, told, told_by}
+use Rattle.net_world.specs.Telling.{plainly_told}
+use Rattle.net_world.specs.Sending.{sent_in}
+use Rattle.net_world.specs.ServerNodes as servers
+use Rattle.net_world.specs.ClientNodes as clients
+use Rattle.net_world.specs.ClientNodes.{handed_in}
+use Rattle.net_world.specs.MirrorNodes as nodes
+use Rattle.net_world.specs.Stands.{IsMirror, IsGreatest, StandsFor}
+use Rattle.net_world.specs.Ends as ends
+use Rattle.net_world.specs.Ends.{Ends, after}
+use Rattle.net_world.proofs.HearingLemmas.{mirror_hears}
+use Rattle.net_world.proofs.MetLemmas.{frames_more}
+use Rattle.net_world.proofs.ServeLemmas.{first_is}
+use Rattle.net_world.proofs.EndsLemmas.{goes, stops, does, refusing, refuses}
+use Rattle.net_world.proofs.PlainLemmas.{IsPlain, told_plainly}
+
+-- ---- its list, and whether it is there and on
+
+heard_is : (w : Setup) (past : List Change) → traces.of_mirror (trace w past) ≡ of_mirror (steps past)
+heard_is w past = mirror_hears w (steps past)
+
+-- What a world has as its mirror, where there is a node.
+pub there : (w : Setup) (past : List Change) (x : Option MirrorNode) (node : MirrorNode) → x ≡ Some node → IsMirror w (of_mirror (steps past)) x → (w.mirror ≡ true) × nodes.Stands mirror_opening (of_mirror (steps past)) node
+there w past x node is h = subst (IsMirror w (of_mirror (steps past))) is h
+
+pub has_node : (w : Setup) (past : List Change) (x : Option MirrorNode) → is_some x ≡ true → IsMirror w (of_mirror (steps past)) x → w.mirror ≡ true
+has_node w past None e h = absurd cc
+has_node w past (Some node) e h = h.0
+
+pub mirror_word : (w : Setup) (past : List Change) (x : Option MirrorNode) → IsMirror w (of_mirror (steps past)) x → is_some x ≡ w.mirror
+mirror_word w past None h = sym h
+mirror_word w past (Some node) h = sym h.0
+
+pub lacking : (w : Setup) (past : List Change) (x : Option MirrorNode) → x ≡ None → IsMirror w (of_mirror (steps past)) x → w.mirror ≡ false
+lacking w past x is h = subst (IsMirror w (of_mirror (steps past))) is h
+
+tests : (a b : Bool) (x y : Fault) (c d : Bool) → a ≡ c → b ≡ d → option_or (unless a x) (unless b y) ≡ option_or (unless c x) (unless d y)
+tests a b x y c d e f = rw (e, f) refl
+
+on_same : (w : Setup) (past : List Change) (b : Bool) → words.is_on (of_mirror (steps past)) ≡ b → is_on w (trace w past) Mirror ≡ b
+on_same w past b h = ap words.is_on (heard_is w past) ∙ h
+
+pub is_there : (w : Setup) (past : List Change) → w.mirror ≡ true → words.is_on (of_mirror (steps past)) ≡ true → off w (trace w past) Mirror ≡ None
+is_there w past has h = tests w.mirror (is_on w (trace w past) Mirror) NoMirror NodeOff true true has (on_same w past true h)
+
+pub is_off : (w : Setup) (past : List Change) → w.mirror ≡ true → words.is_on (of_mirror (steps past)) ≡ false → off w (trace w past) Mirror ≡ Some NodeOff
+is_off w past has h = tests w.mirror (is_on w (trace w past) Mirror) NoMirror NodeOff true false has (on_same w past false h)
+
+pub none_there : (w : Setup) (past : List Change) → w.mirror ≡ false → off w (trace w past) Mirror ≡ Some NoMirror
+none_there w past has = rw has refl
+
+pub runs_on : (w : Setup) (past : List Change) → w.mirror ≡ true → words.is_on (of_mirror (steps past)) ≡ true → on w (trace w past) Mirror ≡ Some NodeOn
+runs_on w past has h = tests w.mirror (not (is_on w (trace w past) Mirror)) NoMirror NodeOn true false has (ap not (on_same w past true h))
+
+pub may_restart : (w : Setup) (past : List Change) → w.mirror ≡ true → words.is_on (of_mirror (steps past)) ≡ false → on w (trace w past) Mirror ≡ None
+may_restart w past has h = tests w.mirror (not (is_on w (trace w past) Mirror)) NoMirror NodeOn true true has (ap not (on_same w past false h))
+
+pub none_runs : (w : Setup) (past : List Change) → w.mirror ≡ false → on w (trace w past) Mirror ≡ Some NoMirror
+none_runs w past has = rw has refl
+
+-- ---- the world behind what comes to it
+
+-- Frames were added, the mirror is this node, and all else is as it was.
+pub record HasHeard (node : MirrorNode) (sent : List (List ℕ)) (old new : World) : Type 0 where
+  pub has : (w : Setup) (past : List Change) → StandsFor w past old → w.mirror ≡ true
+  pub node_is : new.mirror.node ≡ Some node
+  pub greatest_is : new.mirror.greatest ≡ old.mirror.greatest
+  pub sent_is : sent_in new.sent ≡ sent_in old.sent ++ sent
+  pub servers_are : new.servers ≡ old.servers
+  pub client_is : new.client ≡ old.client
+  pub files_are : new.files ≡ old.files
+
+-- The mirror has made a step, for which its node stands and whose frames were added.
+pub mirror_stepped : (w : Setup) (past : List Change) (e : Entry) (node : MirrorNode) (sent : List (List ℕ)) (old new : World) → StandsFor w past old → HasHeard node sent old new
+    → sent ≡ map frame_spelling (frames_of_step w (steps past) (OfMirror e)) → nodes.Stands mirror_opening (e ∷ of_mirror (steps past)) node → StandsFor w (changes.Met (OfMirror e) ∷ past) new
+mirror_stepped w past e node sent old new stands h is node_is = record {
+  some = stands.some;
+  few = stands.few;
+  number = ap (λ (v : Vec ServerNode Global). length v.items) h.servers_are ∙ stands.number;
+  sent_is = h.sent_is ∙ ap (λ fs. fs ++ sent) stands.sent_is ∙ ap (λ fs. frames w past ++ fs) is ∙ sym (frames_more w past (OfMirror e));
+  servers_are = λ s x at. stands.servers_are s x (ap (λ (v : Vec ServerNode Global). slice_get v.items s) (sym h.servers_are) ∙ at);
+  client_is = subst (λ c. clients.Stands (client_opening w) (client_entries w (steps past)) c) (sym h.client_is) stands.client_is;
+  mirror_is = subst (IsMirror w (e ∷ of_mirror (steps past))) (sym h.node_is) (h.has w past stands, node_is);
+  greatest_is = subst (λ g. IsGreatest g (handed_in (client_entries w (steps past)))) (sym h.greatest_is) stands.greatest_is;
+  files = ap (λ (v : Vec MemDisk Global). length v.items) h.files_are ∙ stands.files;
+  files_are = λ s j disk l at. stands.files_are s j disk l (ap (λ (v : Vec MemDisk Global). slice_get v.items (16 * s + j)) (sym h.files_are) ∙ at);
+}
+
+-- It stands for what it did, and nothing was sent.
+pub mirror_kept : (w : Setup) (past : List Change) (node : MirrorNode) (old new : World) → StandsFor w past old → HasHeard node [] old new
+    → nodes.Stands mirror_opening (of_mirror (steps past)) node → StandsFor w past new
+mirror_kept w past node old new stands h node_is = record {
+  some = stands.some;
+  few = stands.few;
+  number = ap (λ (v : Vec ServerNode Global). length v.items) h.servers_are ∙ stands.number;
+  sent_is = h.sent_is ∙ append-nil (sent_in old.sent) ∙ stands.sent_is;
+  servers_are = λ s x at. stands.servers_are s x (ap (λ (v : Vec ServerNode Global). slice_get v.items s) (sym h.servers_are) ∙ at);
+  client_is = subst (λ c. clients.Stands (client_opening w) (client_entries w (steps past)) c) (sym h.client_is) stands.client_is;
+  mirror_is = subst (IsMirror w (of_mirror (steps past))) (sym h.node_is) (h.has w past stands, node_is);
+  greatest_is = subst (λ g. IsGreatest g (handed_in (client_entries w (steps past)))) (sym h.greatest_is) stands.greatest_is;
+  files = ap (λ (v : Vec MemDisk Global). length v.items) h.files_are ∙ stands.files;
+  files_are = λ s j disk l at. stands.files_are s j disk l (ap (λ (v : Vec MemDisk Global). slice_get v.items (16 * s + j)) (sym h.files_are) ∙ at);
+}
+
+-- ---- a cut and a restart
+
+pub plain_ends : (w : Setup) (past : List Change) (e : Happening) (entry : Entry) (node : MirrorNode) (first : ℕ) (t : Told) (old new : World) → StandsFor w past old → HasHeard node [] old new
+    → nodes.Stands mirror_opening (entry ∷ of_mirror (steps past)) node → IsPlain w past e (OfMirror entry) → first ≡ length (sent_in old.sent) → t ≡ plainly_told first → Ends w past e new (Ok t)
+plain_ends w past e entry node first t old new stands moved node_is p f tells =
+    does w past e (changes.Met (OfMirror entry)) t new p.comes (told_plainly w past e (OfMirror entry) first t p (f ∙ first_is w past old stands) tells)
+    (mirror_stepped w past entry node [] old new stands moved (ap (map frame_spelling) (sym p.silent)) node_is)
+
+pub cut_plain : (w : Setup) (past : List Change) → off w (trace w past) Mirror ≡ None → IsPlain w past (happenings.Cut Mirror) (OfMirror Cut)
+cut_plain w past free = record { comes = goes w past (happenings.Cut Mirror) free; answered = refl; silent = refl; asks = refl }
+
+pub restart_plain : (w : Setup) (past : List Change) → on w (trace w past) Mirror ≡ None → IsPlain w past (happenings.Restart Mirror) (OfMirror Restart)
+restart_plain w past free = record { comes = goes w past (happenings.Restart Mirror) free; answered = refl; silent = refl; asks = refl }
+
+-- How a restart that isn't answered ends.
+pub restart_ends : (w : Setup) (past : List Change) (node : MirrorNode) (fault : Fault) (old new : World) → StandsFor w past old → HasHeard node [] old new → nodes.Restarts mirror_opening (of_mirror (steps past)) node (Err fault)
+    → Ends w past (happenings.Restart Mirror) new (Err fault)
+restart_ends w past node NodeOn old new stands h r =
+    refuses w past (happenings.Restart Mirror) NodeOn new refl (stops w past (happenings.Restart Mirror) NodeOn (runs_on w past (h.has w past stands) r.0)) (mirror_kept w past node old new stands h r.1)
+restart_ends w past node NoMemory old new stands h r = (refl, mirror_kept w past node old new stands h r.1)
+restart_ends w past node _ old new stands h r = absurd r
+
+-- ---- a frame
+
+-- It has this number, and goes to the mirror.
+pub record GoesTo (w : Setup) (past : List Change) (number : ℕ) (f : Frame) : Type 0 where
+  pub is_sent : slice_get (frames_sent w (steps past)) number ≡ Some f
+  pub goes_to : to_of f ≡ Mirror
+
+pub frame_bar : (w : Setup) (past : List Change) (number : ℕ) (f : Frame) → GoesTo w past number f → barred w (trace w past) (frames_sent w (steps past)) (Deliver number) ≡ off w (trace w past) Mirror
+frame_bar w past number f g = ap (unsent w (trace w past)) g.is_sent ∙ ap (off w (trace w past)) g.goes_to
+
+frame_brings : (w : Setup) (past : List Change) (number : ℕ) (f : Frame) → GoesTo w past number f → brings w past (Deliver number) ≡ stepped (comes_to_mirror (trace w past) f)
+frame_brings w past number f g = ap (delivered w past) g.is_sent ∙ ap (λ node. comes_to w past node f) g.goes_to
+
+left_same : (x : Option Addition) → left_for x ≡ left_by x
+left_same None = refl
+left_same (Some a) = refl
+
+met : (list : List Entry) (f : Frame) → refusal mirror_opening list f ≡ None
+    → unless_fault (refusal mirror_opening list f) (Ok (OfMirror (Met f (left_for (due mirror_opening list f))))) ≡ Ok (OfMirror (answered mirror_opening list f))
+met list f h = rw h refl ∙ ap (λ left. Ok (OfMirror (Met f left))) (left_same (due mirror_opening list f))
+
+met_err : (list : List Entry) (f : Frame) (fault : Fault) → refusal mirror_opening list f ≡ Some fault
+    → unless_fault (refusal mirror_opening list f) (Ok (OfMirror (Met f (left_for (due mirror_opening list f))))) ≡ Err fault
+met_err list f fault h = rw h refl
+
+comes_same : (w : Setup) (past : List Change) (f : Frame)
+    → comes_to_mirror (trace w past) f ≡ unless_fault (refusal mirror_opening (of_mirror (steps past)) f) (Ok (OfMirror (Met f (left_for (due mirror_opening (of_mirror (steps past)) f)))))
+comes_same w past f = ap (λ list. unless_fault (refusal mirror_opening list f) (Ok (OfMirror (Met f (left_for (due mirror_opening list f)))))) (heard_is w past)
+
+spelled : (ps : List PacketParts) → framed ps ≡ map frame_spelling (flat_map frames_of ps)
+spelled [] = refl
+spelled (p ∷ ps) = ap (λ fs. spelled_frames p ++ fs) (spelled ps) ∙ sym (map-append frame_spelling (frames_of p) (flat_map frames_of ps))
+
+abbrev pub told_with : ℕ → ℕ → Told
+told_with first sent = record { answer = Plain; first = first; sent = sent; act = acts.None }
+
+told_same : (first first' sent sent' : ℕ) → first ≡ first' → sent ≡ sent' → told_with first sent ≡ told_with first' sent'
+told_same first first' sent sent' e f = rw (e, f) refl
+
+-- A frame is answered.
+pub heard_ends : (w : Setup) (past : List Change) (number : ℕ) (f : Frame) (node : MirrorNode) (sent : List (List ℕ)) (first : ℕ) (t : Told) (old new : World) → StandsFor w past old → HasHeard node sent old new → GoesTo w past number f
+    → nodes.Answers mirror_opening (of_mirror (steps past)) f node sent → first ≡ length (sent_in old.sent) → t ≡ told_with first (length sent) → Ends w past (Deliver number) new (Ok t)
+heard_ends w past number f node sent first t old new stands h g a is tells =
+    let step = OfMirror (answered mirror_opening (of_mirror (steps past)) f) in
+    let frames : sent ≡ map frame_spelling (frames_of_step w (steps past) step) = a.frames_are ∙ spelled (packets mirror_opening (of_mirror (steps past)) (answered mirror_opening (of_mirror (steps past)) f)) in
+    let number_is = ap (λ (fs : List (List ℕ)). length fs) frames ∙ length-map (frames_of_step w (steps past) step) frame_spelling in
+    does w past (Deliver number) (changes.Met step) t new
+    (goes w past (Deliver number) (frame_bar w past number f g ∙ is_there w past (h.has w past stands) a.on)
+    ∙ frame_brings w past number f g ∙ ap stepped (comes_same w past f ∙ met (of_mirror (steps past)) f a.free))
+    (ap (λ x. Ok x) (sym (tells ∙ told_same first (length (frames_sent w (steps past))) (length sent) (length (frames_of_step w (steps past) step)) (is ∙ first_is w past old stands) number_is)))
+    (mirror_stepped w past (answered mirror_opening (of_mirror (steps past)) f) node sent old new stands h frames a.stands)
+
+refused : (w : Setup) (past : List Change) (number : ℕ) (f : Frame) (node : MirrorNode) (fault : Fault) (old new : World) → StandsFor w past old → HasHeard node [] old new → GoesTo w past number f
+    → nodes.IsOff mirror_opening (of_mirror (steps past)) fault node ⊎ nodes.Refuses mirror_opening (of_mirror (steps past)) f fault node → (told w past (Deliver number) ≡ Err fault) × StandsFor w (after w past (Deliver number)) new
+refused w past number f node fault old new stands h g (inl o) =
+    refusing w past (Deliver number) fault new (stops w past (Deliver number) fault (frame_bar w past number f g ∙ is_off w past (h.has w past stands) o.off ∙ ap Some (sym o.why))) (mirror_kept w past node old new stands h o.unchanged)
+refused w past number f node fault old new stands h g (inr r) =
+    refusing w past (Deliver number) fault new
+    (goes w past (Deliver number) (frame_bar w past number f g ∙ is_there w past (h.has w past stands) r.on)
+    ∙ frame_brings w past number f g ∙ ap stepped (comes_same w past f ∙ met_err (of_mirror (steps past)) f fault r.why))
+    (mirror_kept w past node old new stands h r.unchanged)
+
+by_sort : (w : Setup) (past : List Change) (number : ℕ) (f : Frame) (node : MirrorNode) (fault : Fault) (old new : World) → StandsFor w past old → HasHeard node [] old new → GoesTo w past number f
+    → (sort : FaultSort) → nodes.Faults mirror_opening (of_mirror (steps past)) f sort fault node → ends.Faults w past (Deliver number) sort fault new
+by_sort w past number f node fault old new stands h g sorts.Memory r = (r.0, mirror_kept w past node old new stands h r.1)
+by_sort w past number f node fault old new stands h g sorts.Save r = r
+by_sort w past number f node fault old new stands h g sorts.Refusal r = refused w past number f node fault old new stands h g r
+
+-- It isn't.
+pub unheard_ends : (w : Setup) (past : List Change) (number : ℕ) (f : Frame) (node : MirrorNode) (fault : Fault) (old new : World) → StandsFor w past old → HasHeard node [] old new → GoesTo w past number f
+    → nodes.Hears mirror_opening (of_mirror (steps past)) f node (Err fault) → Ends w past (Deliver number) new (Err fault)
+unheard_ends w past number f node fault old new stands h g r = by_sort w past number f node fault old new stands h g (sort_of fault) r
+
+-- ---- a cut within a save
+
+no_answer : (free : Bool) (x : Option Addition) (landed : Bool) → (free && is_answer x (lost_by landed)) ≡ false
+no_answer true None true = refl
+no_answer true None false = refl
+no_answer true (Some a) true = refl
+no_answer true (Some a) false = refl
+no_answer false x landed = refl
+
+silent : (list : List Entry) (f : Frame) (landed : Bool) → flat_map frames_of (packets mirror_opening list (Met f (lost_by landed))) ≡ []
+silent list f landed =
+    ap (λ b. flat_map frames_of (if b then packets_for (words.noted mirror_opening list) (request_in f) else []))
+    (no_answer (is_none (refusal mirror_opening list f)) (due mirror_opening list f) landed)
+
+some_save : {X Y : Type 0} (x : Option X) (y : Y) → is_some x ≡ true → where_saved x y ≡ Ok y
+some_save None y h = absurd cc
+some_save (Some a) y h = refl
+
+no_save : {X Y : Type 0} (x : Option X) (y : Y) → x ≡ None → where_saved x y ≡ Err NoSave
+no_save x y h = rw h refl
+
+cut_brings : (w : Setup) (past : List Change) (landed : Bool) (number : ℕ) (f : Frame) → GoesTo w past number f
+    → brings w past (CutIn landed (Deliver number)) ≡ stepped (where_saved (due mirror_opening (of_mirror (steps past)) f) (OfMirror (Met f (lost_by landed))))
+cut_brings w past landed number f g =
+    ap (λ x. stepped (delivery_cut_in w past landed x)) g.is_sent ∙ ap (λ node. stepped (frame_cut w past landed node f)) g.goes_to
+    ∙ ap (λ list. stepped (where_saved (due mirror_opening list f) (OfMirror (Met f (lost_by landed))))) (heard_is w past)
+
+-- It was cut.
+pub cut_ends : (w : Setup) (past : List Change) (landed : Bool) (number : ℕ) (f : Frame) (node : MirrorNode) (first : ℕ) (t : Told) (old new : World) → StandsFor w past old → HasHeard node [] old new → GoesTo w past number f
+    → nodes.CutsIn mirror_opening (of_mirror (steps past)) landed f node (Ok tt) → first ≡ length (sent_in old.sent) → t ≡ plainly_told first → Ends w past (CutIn landed (Deliver number)) new (Ok t)
+cut_ends w past landed number f node first t old new stands h g cut is tells =
+    plain_ends w past (CutIn landed (Deliver number)) (Met f (lost_by landed)) node first t old new stands h cut.2
+    (record {
+      comes =
+          goes w past (CutIn landed (Deliver number)) (frame_bar w past number f g ∙ is_there w past (h.has w past stands) cut.0)
+          ∙ cut_brings w past landed number f g ∙ ap stepped (some_save (due mirror_opening (of_mirror (steps past)) f) (OfMirror (Met f (lost_by landed))) cut.1);
+      answered = refl;
+      silent = silent (of_mirror (steps past)) f landed;
+      asks = refl;
+    }) is tells
+
+-- It wasn't.
+pub uncut_ends : (w : Setup) (past : List Change) (landed : Bool) (number : ℕ) (f : Frame) (node : MirrorNode) (fault : Fault) (old new : World) → StandsFor w past old → HasHeard node [] old new → GoesTo w past number f
+    → nodes.CutsIn mirror_opening (of_mirror (steps past)) landed f node (Err fault) → Ends w past (CutIn landed (Deliver number)) new (Err fault)
+uncut_ends w past landed number f node NodeOff old new stands h g cut =
+    refuses w past (CutIn landed (Deliver number)) NodeOff new refl (stops w past (CutIn landed (Deliver number)) NodeOff (frame_bar w past number f g ∙ is_off w past (h.has w past stands) cut.0)) (mirror_kept w past node old new stands h cut.1)
+uncut_ends w past landed number f node NoSave old new stands h g cut =
+    refuses w past (CutIn landed (Deliver number)) NoSave new refl
+    (goes w past (CutIn landed (Deliver number)) (frame_bar w past number f g ∙ is_there w past (h.has w past stands) cut.0)
+    ∙ cut_brings w past landed number f g ∙ ap stepped (no_save (due mirror_opening (of_mirror (steps past)) f) (OfMirror (Met f (lost_by landed))) cut.1))
+    (mirror_kept w past node old new stands h cut.2)
+uncut_ends w past landed number f node NoMemory old new stands h g cut = (refl, mirror_kept w past node old new stands h cut.1)
+uncut_ends w past landed number f node _ old new stands h g cut = absurd cut
+
+-- There is no mirror for a frame.
+pub unmirrored : (w : Setup) (past : List Change) (e : Happening) (now : World) → barred w (trace w past) (frames_sent w (steps past)) e ≡ Some NoMirror → StandsFor w past now → Ends w past e now (Err NoMirror)
+unmirrored w past e now bar stands = refuses w past e NoMirror now refl (stops w past e NoMirror bar) stands

@@ -1,0 +1,29 @@
+use Rattle.std.proofs.Common.{refl, sym, ◌∙◌, ap, length, append-nil, List, ℕ}
+use Rattle.disk_model.specs.declared.left.Left.TheVariants.{Saved}
+use Rattle.net_world.specs.declared.server_node.ServerNode.{ServerNode}
+use Rattle.net_world.specs.Happenings.{Renew, CutIn}
+use Rattle.net_world.specs.Outcomes.{lost_by}
+use Rattle.net_world.specs.Trace.{client_opening}
+use Rattle.net_world.specs.Sending.{sent_in}
+use Rattle.net_world.specs.Asking.{entries}
+use Rattle.net_world.proofs.RenewalEndsLemmas.{renewed, cut_in, renewal_ends, unrenewed_ends, uncut_ends}
+use Rattle.net_world.proofs.world.World.cut_in_renewal.Goals as goal
+
+pub returns-in-Ok-cut_in_renewal : goal.returns-in-Ok-cut_in_renewal
+returns-in-Ok-cut_in_renewal c w past stands =
+    let h = c.in-Ok-cut_in_renewal.ensures (client_opening w) (entries w past) (sym (ap (λ (xs : List ServerNode). length xs) c.as_slice-servers.ensures.value ∙ stands.number)) stands.client_is in
+    renewal_ends w past c.args.generation (lost_by c.args.landed) (CutIn c.args.landed (Renew c.args.generation)) c.in-Ok.first c.plain.result c.args.self.now _ (cut_in w past c.args.generation c.args.landed) stands
+    (record { sent_is = c.settle.ensures.same ∙ sym (append-nil (sent_in c.args.self.now.sent)); servers_are = refl; files_are = refl; node_is = refl })
+    c.generation.view_is
+    (sym (c.unrenewable.ensures.why w past stands) ∙ c.in_default.is)
+    (c.unrenewable.ensures.fits c.in_default.is)
+    h.1 h.2
+    (c.in-Ok.ensures.first ∙ ap (λ (fs : List (List ℕ)). length fs) c.settle.ensures.same)
+    c.plain.ensures
+
+pub returns-in-Err : goal.returns-in-Err
+returns-in-Err c w past stands =
+    uncut_ends w past c.args.generation c.args.landed c.in-Err.fault c.args.self.now _ stands
+    (record { sent_is = c.settle.ensures.same ∙ sym (append-nil (sent_in c.args.self.now.sent)); servers_are = refl; files_are = refl; mirror_is = refl })
+    (sym (c.unrenewable.ensures.why w past stands) ∙ c.in_default.is)
+    (c.in-Err.ensures (client_opening w) (entries w past) (sym (ap (λ (xs : List ServerNode). length xs) c.as_slice-servers.ensures.value ∙ stands.number)) stands.client_is)

@@ -1,0 +1,97 @@
+//! What comes to the mirror of a world.
+
+ghost use Rattle.std.specs.Prelude.{◌≡◌, ℕ, Bool, List, Some, slice_get};
+ghost use Rattle.messages.specs.declared.node.Node.TheVariants.{Mirror as OfMirror};
+ghost use Rattle.net_world.specs.Setup.{Setup};
+ghost use Rattle.net_world.specs.Changes.{Change, steps};
+ghost use Rattle.net_world.specs.Ends.{Ends};
+ghost use Rattle.net_world.specs.Frames.{to_of, frames_sent};
+ghost use Rattle.net_world.specs.Happenings.{Deliver, Cut, Restart, CutIn};
+ghost use Rattle.net_world.specs.Stands.{StandsFor};
+
+use super::World;
+use crate::asked::Asked;
+use crate::told::{Answer, Told};
+use fc_base::Fault;
+use messages::Frame;
+
+/// `NoMirror`: there is none.
+impl World {
+    /// A frame comes to it.
+    pub(super) fn deliver_to_mirror(&mut self, frame: &Frame) -> Result<Told, Fault>
+        ensures { (w : Setup) (past : List Change) (number : ℕ) → StandsFor w past self.old →
+            slice_get (frames_sent w (steps past)) number ≡ Some frame.now → to_of frame.now ≡ OfMirror →
+            Ends w past (Deliver number) self.new result }
+    {
+        let Ok(first) = self.sent.settle() else {
+            return Err(Fault::NoMemory);
+        };
+        let Some(node) = &mut self.mirror.node else {
+            return Err(Fault::NoMirror);
+        };
+        match node.deliver(frame) {
+            Ok(frames) => {
+                let answer = Answer::Plain;
+                Ok(self.send(first, Asked { answer, frames }))
+            }
+            Err(fault) => Err(fault),
+        }
+    }
+
+    /// It loses its power.
+    pub(super) fn cut_mirror(&mut self) -> Result<Told, Fault>
+        ensures { (w : Setup) (past : List Change) → StandsFor w past self.old →
+            Ends w past (Cut OfMirror) self.new result }
+    {
+        let Some(node) = &mut self.mirror.node else {
+            return Err(Fault::NoMirror);
+        };
+        if !node.on() {
+            return Err(Fault::NodeOff);
+        }
+        let Ok(first) = self.sent.settle() else {
+            return Err(Fault::NoMemory);
+        };
+        node.cut(self.alloc);
+        Ok(Told::plain(first))
+    }
+
+    /// It is started again.
+    pub(super) fn restart_mirror(&mut self) -> Result<Told, Fault>
+        ensures { (w : Setup) (past : List Change) → StandsFor w past self.old →
+            Ends w past (Restart OfMirror) self.new result }
+    {
+        let Ok(first) = self.sent.settle() else {
+            return Err(Fault::NoMemory);
+        };
+        let Some(node) = &mut self.mirror.node else {
+            return Err(Fault::NoMirror);
+        };
+        match node.restart(self.alloc) {
+            Ok(()) => Ok(Told::plain(first)),
+            Err(fault) => Err(fault),
+        }
+    }
+
+    /// It loses its power within the save that a frame would make.
+    pub(super) fn cut_in_mirror_delivery(
+        &mut self,
+        landed: bool,
+        frame: &Frame,
+    ) -> Result<Told, Fault>
+        ensures { (w : Setup) (past : List Change) (number : ℕ) → StandsFor w past self.old →
+            slice_get (frames_sent w (steps past)) number ≡ Some frame.now → to_of frame.now ≡ OfMirror →
+            Ends w past (CutIn landed (Deliver number)) self.new result }
+    {
+        let Ok(first) = self.sent.settle() else {
+            return Err(Fault::NoMemory);
+        };
+        let Some(node) = &mut self.mirror.node else {
+            return Err(Fault::NoMirror);
+        };
+        match node.cut_in_delivery(self.alloc, landed, frame) {
+            Ok(()) => Ok(Told::plain(first)),
+            Err(fault) => Err(fault),
+        }
+    }
+}

@@ -1,0 +1,89 @@
+//! The client of a world loses its note, and is begun anew.
+
+ghost use Rattle.std.specs.Prelude.{List};
+ghost use Rattle.net_world.specs.Setup.{Setup};
+ghost use Rattle.net_world.specs.Changes.{Change};
+ghost use Rattle.net_world.specs.Ends.{Ends};
+ghost use Rattle.net_world.specs.Happenings.{LoseNote, Renew, CutIn};
+ghost use Rattle.net_world.specs.Stands.{StandsFor};
+
+use super::World;
+use crate::told::Told;
+use fc_base::{Fault, Generation, MAX_SERVERS};
+
+/// `NoMirror`: there is none; `NodeOn`: the client is on.
+impl World {
+    /// Its note is lost.
+    pub(super) fn lose_note(&mut self) -> Result<Told, Fault>
+        ensures { (w : Setup) (past : List Change) → StandsFor w past self.old →
+            Ends w past LoseNote self.new result }
+    {
+        if let Some(fault) = self.unlosable() {
+            return Err(fault);
+        }
+        let Ok(first) = self.sent.settle() else {
+            return Err(Fault::NoMemory);
+        };
+        match self.client.lose(self.alloc) {
+            Ok(()) => Ok(Told::plain(first)),
+            Err(fault) => Err(fault),
+        }
+    }
+
+    /// It is started in this generation.
+    ///
+    /// `BadGeneration`; `UsedGeneration`: it isn't above all that were handed in; `BadNote`: there is a note.
+    pub(super) fn renew(&mut self, generation: Generation) -> Result<Told, Fault>
+        ensures { (w : Setup) (past : List Change) → StandsFor w past self.old →
+            Ends w past (Renew generation) self.new result }
+    {
+        if let Some(fault) = self.unrenewable(generation) {
+            return Err(fault);
+        }
+        let servers = self.servers.as_slice().len();
+        if servers < 1 || servers > MAX_SERVERS as usize {
+            return Err(Fault::NoServer);
+        }
+        let Ok(first) = self.sent.settle() else {
+            return Err(Fault::NoMemory);
+        };
+        match self.client.renew(self.alloc, servers as u32, generation) {
+            Ok(()) => {
+                self.mirror.greatest = generation.0;
+                Ok(Told::plain(first))
+            }
+            Err(fault) => Err(fault),
+        }
+    }
+
+    /// It loses its power within the save of its generation.
+    pub(super) fn cut_in_renewal(
+        &mut self,
+        landed: bool,
+        generation: Generation,
+    ) -> Result<Told, Fault>
+        ensures { (w : Setup) (past : List Change) → StandsFor w past self.old →
+            Ends w past (CutIn landed (Renew generation)) self.new result }
+    {
+        if let Some(fault) = self.unrenewable(generation) {
+            return Err(fault);
+        }
+        let servers = self.servers.as_slice().len();
+        if servers < 1 || servers > MAX_SERVERS as usize {
+            return Err(Fault::NoServer);
+        }
+        let Ok(first) = self.sent.settle() else {
+            return Err(Fault::NoMemory);
+        };
+        match self
+            .client
+            .cut_in_renewal(self.alloc, servers as u32, landed, generation)
+        {
+            Ok(()) => {
+                self.mirror.greatest = generation.0;
+                Ok(Told::plain(first))
+            }
+            Err(fault) => Err(fault),
+        }
+    }
+}
