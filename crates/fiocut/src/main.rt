@@ -5,8 +5,8 @@
 ghost use Rattle.commands.specs.Live.{IsFleetSize};
 
 use commands::{
-    FileTrigger, FleetSize, REFUSED, Request, read_words, refuse_script, refuse_words, run_in_blocks,
-    run_jobs, run_live,
+    FileTrigger, FleetSize, REFUSED, Request, read_words, refuse_script, refuse_words,
+    run_in_blocks, run_jobs, run_live,
 };
 use fc_base::Fault;
 use std::fs::Files;
