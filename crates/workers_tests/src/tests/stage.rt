@@ -173,13 +173,9 @@ impl Site {
     /// How a worker has ended, and how much its seat has applied. The seat comes back.
     fn end(&mut self, hand: &mut Hand) -> Result<(Ended, u64), Fault> {
         if let Some(seat) = hand.give_back() {
-            self.take_back(seat)?;
+            self.seats.push(seat).or(Err(Fault::NoMemory))?;
         }
         Ok((hand.ended?, hand.applied))
-    }
-
-    fn take_back(&mut self, seat: Seat) -> Result<(), Fault> {
-        self.seats.push(seat).or(Err(Fault::NoMemory))
     }
 
     /// What was taken of a job of run 1, with the check of its file.
@@ -224,10 +220,7 @@ pub fn stranger(alloc: Global, me: ServerNo) -> Result<Seat, Fault>
     requires { me < 8 }
 {
     let (_cell, mut seats) = server(alloc, me, Workers::One)?;
-    match seats.pop() {
-        Some(seat) => Ok(seat),
-        None => Err(Fault::WrongSeat),
-    }
+    seats.pop().ok_or(Fault::WrongSeat)
 }
 
 /// A server in its first boot, under its lock, with its seats.
