@@ -102,11 +102,11 @@ piece_silent o list landed Strays = refl
 
 -- ---- what comes of it
 
-some_save : {X Y : Type 0} (x : Option X) (y : Y) → is_some x ≡ true → where_saved x y ≡ Ok y
+pub some_save : {X Y : Type 0} (x : Option X) (y : Y) → is_some x ≡ true → where_saved x y ≡ Ok y
 some_save None y h = absurd cc
 some_save (Some a) y h = refl
 
-no_save : {X Y : Type 0} (x : Option X) (y : Y) → x ≡ None → where_saved x y ≡ Err NoSave
+pub no_save : {X Y : Type 0} (x : Option X) (y : Y) → x ≡ None → where_saved x y ≡ Err NoSave
 no_save x y h = rw h refl
 
 module _ (w : Setup) (past : List Change) (landed : Bool) where

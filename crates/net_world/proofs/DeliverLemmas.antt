@@ -1,21 +1,20 @@
 -- The frame of a number, read from where it lies.
-use Rattle.std.proofs.Common.{◌≡◌, refl, sym, ◌∙◌, ap, ℕ, ◌≤◌, arith, List, length, Option, Some, None, Err, false}
+use Rattle.std.proofs.Common.{◌≡◌, refl, sym, ◌∙◌, ap, ℕ, ◌≤◌, arith, List, length, Option, Some, None, Err}
 use Rattle.std.specs.Prelude.{slice_get, Contains}
 use Rattle.std.specs.Option.{option_map}
 use Rattle.std.proofs.lemmas.Option.{slice_get-map, slice_get_past, slice_get_within, get_or_from_slice_get}
 use Rattle.messages.specs.declared.frame.Frame.{Frame}
 use Rattle.messages.specs.FrameBytes.{frame_spelling, frame_at}
-use Rattle.messages.specs.declared.node.Node.TheVariants.{Mirror}
 use Rattle.net_world.specs.declared.world.World.{World}
 use Rattle.net_world.specs.Setup.{Setup}
 use Rattle.fc_base.specs.declared.fault.Fault.{Fault}
-use Rattle.fc_base.specs.declared.fault.Fault.TheVariants.{NoFrame, NoMemory, NoMirror}
+use Rattle.fc_base.specs.declared.fault.Fault.TheVariants.{NoFrame, NoMemory}
 use Rattle.net_world.specs.Happenings.{Happening, Deliver}
-use Rattle.net_world.specs.Barred.{off, unsent}
+use Rattle.net_world.specs.Barred.{unsent}
 use Rattle.net_world.specs.Delivering.{FindsFrame}
 use Rattle.net_world.specs.Ends.{Ends}
 use Rattle.net_world.proofs.EndsLemmas.{refuses, stops}
-use Rattle.net_world.specs.Frames.{frames_sent, to_of}
+use Rattle.net_world.specs.Frames.{frames_sent}
 use Rattle.net_world.specs.Changes.{Change, steps, trace}
 use Rattle.net_world.specs.World.{world}
 use Rattle.net_world.specs.WorldLaws.{SentFramesAreRead}

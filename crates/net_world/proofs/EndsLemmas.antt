@@ -1,7 +1,6 @@
 -- How what comes to a server ends, as an event of a world.
-use Rattle.std.proofs.Common.{◌≡◌, refl, sym, ◌∙◌, ap, subst, inl, inr, ◌⊎◌, ℕ, Bool, false, List, ◌∷◌, length, Option, Some, None, Ok, Err}
+use Rattle.std.proofs.Common.{◌≡◌, refl, sym, ◌∙◌, ap, subst, inl, inr, ◌⊎◌, ℕ, false, List, ◌∷◌, length, Some, None, Ok, Err}
 use Rattle.fc_base.specs.declared.fault.Fault.{Fault}
-use Rattle.fc_base.specs.declared.fault.Fault.TheVariants.{NoMirror}
 use Rattle.fc_base.specs.declared.fault.FaultSort.{FaultSort}
 use Rattle.fc_base.specs.declared.fault.FaultSort.TheVariants as sorts
 use Rattle.fc_base.specs.Fault.{sort_of}
@@ -29,11 +28,10 @@ use Rattle.net_world.specs.Happenings.{Happening}
 use Rattle.net_world.specs.Happenings as happenings
 use Rattle.net_world.specs.Trace.{opening_of}
 use Rattle.std.specs.Prelude.{slice_get}
-use Rattle.std.specs.Option.{option_or}
 use Rattle.messages.specs.declared.frame.Frame.{Frame}
 use Rattle.net_world.specs.Frames.{frames_sent, to_of}
 use Rattle.net_world.specs.Changes.{Change, Met, steps, trace}
-use Rattle.net_world.specs.Barred.{unless, off, unsent, unopen, barred}
+use Rattle.net_world.specs.Barred.{off, unsent, unopen, barred}
 use Rattle.net_world.specs.Writes.{open_at}
 use Rattle.net_world.specs.Events.{ending}
 use Rattle.net_world.specs.Finding.{IsOpen, FindsWrite}

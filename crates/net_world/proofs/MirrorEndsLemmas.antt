@@ -35,15 +35,14 @@ use Rattle.net_world.specs.Happenings.{Happening, Deliver, CutIn}
 use Rattle.net_world.specs.Happenings as happenings
 use Rattle.net_world.specs.Trace as traces
 use Rattle.net_world.specs.Trace.{Step, opening_of, client_opening, mirror_opening}
-use Rattle.net_world.specs.Frames.{FrameStep, OfMirror, of_mirror, frames_sent, frames_of_step, server_entries, client_entries, to_of}
+use Rattle.net_world.specs.Frames.{OfMirror, of_mirror, frames_sent, frames_of_step, client_entries, to_of}
 use Rattle.net_world.specs.Changes as changes
 use Rattle.net_world.specs.Changes.{Change, steps, trace}
 use Rattle.net_world.specs.Barred.{unless, off, on, is_on, barred, unsent}
-use Rattle.net_world.specs.Outcomes.{Does, Refuses, stepped, unless_fault, left_for, where_saved, lost_by, comes_to, comes_to_mirror, mirror_frame_cut, frame_cut, delivered, delivery_cut_in, brings, outcome}
-use Rattle.net_world.specs.World.{frames, told, told_by}
+use Rattle.net_world.specs.Outcomes.{stepped, unless_fault, left_for, where_saved, lost_by, comes_to, comes_to_mirror, frame_cut, delivered, delivery_cut_in, brings}
+use Rattle.net_world.specs.World.{frames, told}
 use Rattle.net_world.specs.Telling.{plainly_told}
 use Rattle.net_world.specs.Sending.{sent_in}
-use Rattle.net_world.specs.ServerNodes as servers
 use Rattle.net_world.specs.ClientNodes as clients
 use Rattle.net_world.specs.ClientNodes.{handed_in}
 use Rattle.net_world.specs.MirrorNodes as nodes
@@ -55,6 +54,7 @@ use Rattle.net_world.proofs.MetLemmas.{frames_more}
 use Rattle.net_world.proofs.ServeLemmas.{first_is}
 use Rattle.net_world.proofs.EndsLemmas.{goes, stops, does, refusing, refuses}
 use Rattle.net_world.proofs.PlainLemmas.{IsPlain, told_plainly}
+use Rattle.net_world.proofs.ClientCutEndsLemmas.{some_save, no_save}
 
 -- ---- its list, and whether it is there and on
 
@@ -73,9 +73,6 @@ pub mirror_word : (w : Setup) (past : List Change) (x : Option MirrorNode) → I
 mirror_word w past None h = sym h
 mirror_word w past (Some node) h = sym h.0
 
-pub lacking : (w : Setup) (past : List Change) (x : Option MirrorNode) → x ≡ None → IsMirror w (of_mirror (steps past)) x → w.mirror ≡ false
-lacking w past x is h = subst (IsMirror w (of_mirror (steps past))) is h
-
 tests : (a b : Bool) (x y : Fault) (c d : Bool) → a ≡ c → b ≡ d → option_or (unless a x) (unless b y) ≡ option_or (unless c x) (unless d y)
 tests a b x y c d e f = rw (e, f) refl
 
@@ -88,17 +85,11 @@ is_there w past has h = tests w.mirror (is_on w (trace w past) Mirror) NoMirror 
 pub is_off : (w : Setup) (past : List Change) → w.mirror ≡ true → words.is_on (of_mirror (steps past)) ≡ false → off w (trace w past) Mirror ≡ Some NodeOff
 is_off w past has h = tests w.mirror (is_on w (trace w past) Mirror) NoMirror NodeOff true false has (on_same w past false h)
 
-pub none_there : (w : Setup) (past : List Change) → w.mirror ≡ false → off w (trace w past) Mirror ≡ Some NoMirror
-none_there w past has = rw has refl
-
 pub runs_on : (w : Setup) (past : List Change) → w.mirror ≡ true → words.is_on (of_mirror (steps past)) ≡ true → on w (trace w past) Mirror ≡ Some NodeOn
 runs_on w past has h = tests w.mirror (not (is_on w (trace w past) Mirror)) NoMirror NodeOn true false has (ap not (on_same w past true h))
 
 pub may_restart : (w : Setup) (past : List Change) → w.mirror ≡ true → words.is_on (of_mirror (steps past)) ≡ false → on w (trace w past) Mirror ≡ None
 may_restart w past has h = tests w.mirror (not (is_on w (trace w past) Mirror)) NoMirror NodeOn true true has (ap not (on_same w past false h))
-
-pub none_runs : (w : Setup) (past : List Change) → w.mirror ≡ false → on w (trace w past) Mirror ≡ Some NoMirror
-none_runs w past has = rw has refl
 
 -- ---- the world behind what comes to it
 
@@ -253,13 +244,6 @@ silent list f landed =
     ap (λ b. flat_map frames_of (if b then packets_for (words.noted mirror_opening list) (request_in f) else []))
     (no_answer (is_none (refusal mirror_opening list f)) (due mirror_opening list f) landed)
 
-some_save : {X Y : Type 0} (x : Option X) (y : Y) → is_some x ≡ true → where_saved x y ≡ Ok y
-some_save None y h = absurd cc
-some_save (Some a) y h = refl
-
-no_save : {X Y : Type 0} (x : Option X) (y : Y) → x ≡ None → where_saved x y ≡ Err NoSave
-no_save x y h = rw h refl
-
 cut_brings : (w : Setup) (past : List Change) (landed : Bool) (number : ℕ) (f : Frame) → GoesTo w past number f
     → brings w past (CutIn landed (Deliver number)) ≡ stepped (where_saved (due mirror_opening (of_mirror (steps past)) f) (OfMirror (Met f (lost_by landed))))
 cut_brings w past landed number f g =
@@ -292,7 +276,3 @@ uncut_ends w past landed number f node NoSave old new stands h g cut =
     (mirror_kept w past node old new stands h cut.2)
 uncut_ends w past landed number f node NoMemory old new stands h g cut = (refl, mirror_kept w past node old new stands h cut.1)
 uncut_ends w past landed number f node _ old new stands h g cut = absurd cut
-
--- There is no mirror for a frame.
-pub unmirrored : (w : Setup) (past : List Change) (e : Happening) (now : World) → barred w (trace w past) (frames_sent w (steps past)) e ≡ Some NoMirror → StandsFor w past now → Ends w past e now (Err NoMirror)
-unmirrored w past e now bar stands = refuses w past e NoMirror now refl (stops w past e NoMirror bar) stands

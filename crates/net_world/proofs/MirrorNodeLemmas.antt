@@ -7,7 +7,6 @@ use Rattle.fc_base.specs.declared.fault.FaultSort.{FaultSort}
 use Rattle.fc_base.specs.declared.fault.FaultSort.TheVariants as sorts
 use Rattle.fc_base.specs.Fault.{sort_of}
 use Rattle.disk_model.specs.MemNotes.{Saved as Kept, note_of}
-use Rattle.disk_model.specs.declared.left.Left.{Left}
 use Rattle.disk_model.specs.declared.left.Left.TheVariants.{LostNew, LostOld}
 use Rattle.disk_model.specs.Left.{has_new, is_lost}
 use Rattle.messages.specs.declared.frame.Frame.{Frame}
@@ -22,7 +21,7 @@ use Rattle.mirror_core.specs.Ends as ends
 use Rattle.mirror_core.specs.Ends.{answered}
 use Rattle.net_world.specs.declared.mirror_node.MirrorNode.{MirrorNode}
 use Rattle.net_world.specs.declared.mirror_node.MirrorNode.TheVariants.{On, Off}
-use Rattle.net_world.specs.MirrorNodes.{Stands, Answers, Faults, Hears, CutsIn}
+use Rattle.net_world.specs.MirrorNodes.{Stands, Faults, Hears, CutsIn}
 
 -- ---- a frame
 

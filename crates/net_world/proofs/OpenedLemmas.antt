@@ -8,7 +8,6 @@ use Rattle.disk_model.specs.MemDisk.{file_of}
 use Rattle.disk_model.specs.declared.mem_disk.MemDisk.{MemDisk}
 use Rattle.disk_model.specs.declared.left.Left.TheVariants.{Saved}
 use Rattle.server_core.specs.Hearing.{Restart}
-use Rattle.client_core.specs.Hearing as client
 use Rattle.mirror_core.specs.History as mirror
 use Rattle.messages.specs.Hearing.{Happens}
 use Rattle.messages.specs.Ranges.{is_generation}

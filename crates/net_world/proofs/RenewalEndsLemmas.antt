@@ -1,9 +1,8 @@
 -- How the loss of the client's note ends, and a renewal, as events of a world.
-use Rattle.std.proofs.Common.{◌≡◌, refl, sym, ◌∙◌, ap, subst, ℕ, ◌<◌, ◌≤◌, arith, Bool, true, false, ◌&&◌, List, [], ◌∷◌, ◌++◌, length, Option, Some, None, Ok, Err, append-nil}
-use Rattle.std.specs.Prelude.{if◌then◌else◌, not, map, nat_lt, IsTrue}
+use Rattle.std.proofs.Common.{◌≡◌, refl, sym, ◌∙◌, ap, subst, ℕ, ◌≤◌, arith, Bool, true, false, ◌&&◌, List, [], ◌∷◌, length, Option, Some, None, Ok, Err}
+use Rattle.std.specs.Prelude.{if◌then◌else◌, not, map, nat_lt}
 use Rattle.std.specs.List.{list_all}
 use Rattle.std.specs.Option.{option_or}
-use Rattle.std.proofs.lemmas.Bool.{and_parts}
 use Rattle.std.proofs.lemmas.Bool.Decides.{nat_tests}
 use Rattle.fc_base.specs.declared.fault.Fault.{Fault}
 use Rattle.fc_base.specs.declared.fault.FaultSort.TheVariants as sorts
@@ -22,7 +21,6 @@ use Rattle.client_core.specs.Laws.{generations}
 use Rattle.client_core.specs.Hearing as hearing
 use Rattle.client_core.specs.Hearing.{FrameEntry, rules, heard_at, packets_heard}
 use Rattle.client_core.specs.declared.input.Input.TheVariants as inputs
-use Rattle.net_world.specs.declared.mirror_node.Mirrored.{Mirrored}
 use Rattle.net_world.specs.declared.told.Told.{Told}
 use Rattle.net_world.specs.declared.world.World.{World}
 use Rattle.net_world.specs.Setup.{Setup}
@@ -42,7 +40,7 @@ use Rattle.net_world.specs.Stands.{IsGreatest, StandsFor}
 use Rattle.net_world.specs.Ends.{Ends}
 use Rattle.net_world.specs.Asking.{entries, step_of}
 use Rattle.net_world.proofs.ServeLemmas.{first_is, lt_of, lt_true}
-use Rattle.net_world.proofs.EndsLemmas.{does, goes, stops, refuses}
+use Rattle.net_world.proofs.EndsLemmas.{does, goes, refuses}
 use Rattle.net_world.proofs.PlainLemmas.{IsPlain, told_plainly}
 use Rattle.net_world.proofs.ClientHeardLemmas.{heard_is, frames_are}
 use Rattle.net_world.proofs.AskLemmas.{up_is, HasMoved, HasPassed, client_passed, client_kept}
@@ -111,9 +109,6 @@ in_range n g e l m = grind (arith, nat_tests)
 pub fit_is : (w : Setup) (past : List Change) (g : ℕ) (now : World) (b : Bool) → StandsFor w past now → unlosable w (trace w past) ≡ None → is_generation g ≡ true → nat_lt now.mirror.greatest g ≡ b
     → option_or (unlosable w (trace w past)) (unfit w (trace w past) g) ≡ unless b UsedGeneration
 fit_is w past g now b stands free fits h = ap (λ x. option_or x (unfit w (trace w past) g)) free ∙ unfit_is w past g now b stands fits h
-
-pub unfit_bad : (w : Setup) (past : List Change) (g : ℕ) → is_generation g ≡ false → unfit w (trace w past) g ≡ Some BadGeneration
-unfit_bad w past g h = rw h refl
 
 first_free : (x y : Option Fault) → option_or x y ≡ None → x ≡ None
 first_free None y h = refl

@@ -1,5 +1,5 @@
 -- Which lists the mirror of a world stands for, and how what comes to it ends.
-use Rattle.std.specs.Prelude.{◌≡◌, ◌⊎◌, Bool, true, false, ℕ, List, ◌∷◌, Option, Some, None, is_some, Result, Ok, Err}
+use Rattle.std.specs.Prelude.{◌≡◌, ◌⊎◌, Bool, true, false, ℕ, List, ◌∷◌, Some, None, is_some, Result, Ok, Err}
 use Rattle.fc_base.specs.declared.fault.Fault.{Fault}
 use Rattle.fc_base.specs.declared.fault.Fault.TheVariants.{NoMemory, NodeOff, NodeOn, NoSave as SavesNothing}
 use Rattle.fc_base.specs.declared.fault.FaultSort.{FaultSort}
@@ -8,7 +8,7 @@ use Rattle.fc_base.specs.Fault.{sort_of}
 use Rattle.disk_model.specs.MemNotes.{note_of}
 use Rattle.messages.specs.declared.frame.Frame.{Frame}
 use Rattle.mirror_core.specs.declared.noted.Noted.{Noted}
-use Rattle.mirror_core.specs.History.{Entry, Met, Cut, Restart}
+use Rattle.mirror_core.specs.History.{Entry, Met, Restart}
 use Rattle.mirror_core.specs.Note.{Says}
 use Rattle.mirror_core.specs.Words.{is_on, noted, refusal, due}
 use Rattle.mirror_core.specs.Packets.{packets, framed}

@@ -1,6 +1,6 @@
-//! A client and its servers in one list of steps: what was sent, who holds which verify state, and
-//! that all who hold one of a job hold the same. And the world of what happens to them and to their
-//! files, and what each check tells.
+//! A client, its servers and a mirror or none in one list of steps: what was sent, who holds which
+//! verify state, and that all who hold one of a job hold the same. And the world of what happens to
+//! them and to their files, and what each check tells.
 #![tactic(auto)]
 
 mod asked;

@@ -17,7 +17,7 @@ use std::alloc::{AllocGlobal, Global};
 use std::process::Abort;
 use std::test::Fail;
 use stories::saves::STOPS;
-use stories::{ALL, Story, disks, numbers, pieces, refusals, runs, stops};
+use stories::{ALL, Story, disks, mirrors, numbers, pieces, refusals, renewals, runs, stops};
 use teller::Teller;
 use trouble::Trouble;
 
@@ -73,6 +73,16 @@ fn numbers_that_a_cut_uses_up(rt: HostRuntime) {
 #[test]
 fn disks_that_rot_and_tear(rt: HostRuntime) {
     are_answered(&rt, disks::STORIES);
+}
+
+#[test]
+fn notes_that_are_lost_and_come_back_from_a_mirror(rt: HostRuntime) {
+    are_answered(&rt, mirrors::STORIES);
+}
+
+#[test]
+fn clients_that_are_renewed(rt: HostRuntime) {
+    are_answered(&rt, renewals::STORIES);
 }
 
 #[test]

@@ -3,6 +3,7 @@
 use super::texts::text_named;
 use super::trouble::Trouble;
 use super::words::{first_word, job, mask, node, number, run, write};
+use fc_base::Generation;
 use messages::Act;
 use net_world::{Event, PlainEvent};
 use std::alloc::Global;
@@ -39,6 +40,10 @@ fn plain_in(alloc: Global, command: &str) -> Result<PlainEvent, Trouble> {
         }),
         "restart" => Ok(PlainEvent::Restart {
             node: node(&mut words)?,
+        }),
+        "losenote" => Ok(PlainEvent::LoseNote),
+        "renew" => Ok(PlainEvent::Renew {
+            generation: Generation(number(&mut words)?),
         }),
         "rot" => rotted(alloc, &mut words),
         _ => of_job(word, &mut words),

@@ -115,7 +115,7 @@ pub fn frame_at(world: &World, index: u64) -> Option<&[u8]> {
 pub fn server_of(world: &World, index: u64) -> Option<u32> {
     let bytes = frame_at(world, index)?;
     let look = look_at(bytes)?;
-    if look.to.is_client() {
+    if look.to.is_client() || look.to.is_mirror() {
         None
     } else {
         Some(look.to.number())

@@ -3,7 +3,7 @@
 use super::commands::event_in;
 use super::looks::is_look;
 use super::same::{are_same, are_same_states, key};
-use super::teller::{Teller, servers_in};
+use super::teller::{Teller, config_in};
 use super::trouble::Trouble;
 use super::words::first_word;
 use fc_base::ServerNo;
@@ -89,26 +89,19 @@ fn played(alloc: Global, story: &str, stop: Option<Stop>) -> Result<World, Troub
 
 fn played_once(alloc: Global, story: &str, stop: Option<Stop>) -> Result<World, Trouble> {
     match events_of(alloc, story, stop) {
-        Ok(events) => played_by(alloc, servers_in(story), &events),
+        Ok(events) => played_by(alloc, config_in(story), &events),
         Err(trouble) => Err(trouble),
     }
 }
 
-fn played_by(alloc: Global, servers: Option<u32>, events: &[Event]) -> Result<World, Trouble> {
-    let Some(servers) = servers else {
+fn played_by(alloc: Global, config: Option<Config>, events: &[Event]) -> Result<World, Trouble> {
+    let Some(config) = config else {
         return Err(Trouble::BadRow);
     };
-    if servers < 1 || servers > 8 {
+    if config.servers < 1 || config.servers > 8 {
         return Err(Trouble::BadRow);
     }
-    match play(
-        alloc,
-        Config {
-            servers,
-            mirror: false,
-        },
-        events,
-    ) {
+    match play(alloc, config, events) {
         Ok(world) => Ok(world),
         Err(_) => Err(Trouble::NoMemory),
     }

@@ -18,37 +18,29 @@ pub struct Teller {
     lines: String,
 }
 
-/// The number of servers that the first row of a story says: 1 to 8.
-pub fn servers_in(story: &str) -> Option<u32> {
+/// What the first row of a story says: 1 to 8 servers, and `mirror` behind them where there is one.
+pub fn config_in(story: &str) -> Option<Config> {
     let row = story.lines().find(|row| !row.trim().is_empty())?;
-    let word = row.trim().strip_prefix("servers ")?;
-    let servers = word.parse::<u32>().ok()?;
+    let words = row.trim().strip_prefix("servers ")?;
+    let (number, mirror) = match words.strip_suffix(" mirror") {
+        Some(number) => (number, true),
+        None => (words, false),
+    };
+    let servers = number.parse::<u32>().ok()?;
     if servers < 1 || servers > 8 {
         return None;
     }
-    Some(servers)
+    Some(Config { servers, mirror })
 }
 
-/// A new world with so many servers. Where memory runs out, it is made once more.
-fn new_world(alloc: Global, servers: u32) -> Result<World, Trouble> {
-    if servers < 1 || servers > 8 {
+/// A new world. Where memory runs out, it is made once more.
+fn new_world(alloc: Global, config: Config) -> Result<World, Trouble> {
+    if config.servers < 1 || config.servers > 8 {
         return Err(Trouble::BadRow);
     }
-    match World::new(
-        alloc,
-        Config {
-            servers,
-            mirror: false,
-        },
-    ) {
+    match World::new(alloc, config) {
         Ok(world) => Ok(world),
-        Err(_) => match World::new(
-            alloc,
-            Config {
-                servers,
-                mirror: false,
-            },
-        ) {
+        Err(_) => match World::new(alloc, config) {
             Ok(world) => Ok(world),
             Err(_) => Err(Trouble::NoMemory),
         },
@@ -58,10 +50,10 @@ fn new_world(alloc: Global, servers: u32) -> Result<World, Trouble> {
 impl Teller {
     /// A world as the first row of a story says.
     pub fn new(alloc: Global, story: &str) -> Result<Teller, Trouble> {
-        let Some(servers) = servers_in(story) else {
+        let Some(config) = config_in(story) else {
             return Err(Trouble::BadRow);
         };
-        match new_world(alloc, servers) {
+        match new_world(alloc, config) {
             Ok(world) => Ok(Teller {
                 alloc,
                 world,
@@ -148,7 +140,7 @@ impl Teller {
     }
 }
 
-/// Whether a row says nothing, or how many servers there are.
+/// Whether a row says nothing, or what world there is.
 fn is_heading(row: &str) -> bool {
     let row = row.trim();
     row.is_empty() || row.starts_with("servers ")

@@ -1,6 +1,5 @@
 use Rattle.std.proofs.Common.{sym, ◌∙◌}
 use Rattle.net_world.specs.World.{world}
-use Rattle.net_world.specs.Happenings.{Deliver, CutIn}
 use Rattle.net_world.proofs.NoSaveLemmas.{lost_cut}
 use Rattle.net_world.proofs.world.World.cut_in_delivery.Goals as goal
 

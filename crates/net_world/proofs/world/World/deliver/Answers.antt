@@ -1,6 +1,5 @@
 use Rattle.std.proofs.Common.{sym, ◌∙◌}
 use Rattle.net_world.specs.World.{world}
-use Rattle.net_world.specs.Happenings.{Deliver}
 use Rattle.net_world.proofs.DeliverLemmas.{lost_frame}
 use Rattle.net_world.proofs.world.World.deliver.Goals as goal
 

@@ -1,12 +1,11 @@
 use Rattle.std.proofs.Common.{refl, sym, ◌∙◌, ap, length, append-nil, List, ℕ}
 use Rattle.disk_model.specs.declared.left.Left.TheVariants.{Saved}
 use Rattle.net_world.specs.declared.server_node.ServerNode.{ServerNode}
-use Rattle.net_world.specs.Happenings.{Renew, CutIn}
-use Rattle.net_world.specs.Outcomes.{lost_by}
+use Rattle.net_world.specs.Happenings.{Renew}
 use Rattle.net_world.specs.Trace.{client_opening}
 use Rattle.net_world.specs.Sending.{sent_in}
 use Rattle.net_world.specs.Asking.{entries}
-use Rattle.net_world.proofs.RenewalEndsLemmas.{renewed, cut_in, renewal_ends, unrenewed_ends, uncut_ends}
+use Rattle.net_world.proofs.RenewalEndsLemmas.{renewed, renewal_ends, unrenewed_ends}
 use Rattle.net_world.proofs.world.World.renew.Goals as goal
 
 pub returns-in-Ok-renew : goal.returns-in-Ok-renew

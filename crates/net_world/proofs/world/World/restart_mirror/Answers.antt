@@ -1,4 +1,4 @@
-use Rattle.std.proofs.Common.{refl, sym, ◌∙◌, ap, ◌++◌, length, append-nil, List, ℕ}
+use Rattle.std.proofs.Common.{refl, sym, ◌∙◌, ap, length, append-nil, List, ℕ}
 use Rattle.net_world.specs.Trace.{mirror_opening}
 use Rattle.net_world.specs.Frames.{of_mirror}
 use Rattle.net_world.specs.Changes.{steps}
