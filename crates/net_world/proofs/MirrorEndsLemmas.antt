@@ -28,6 +28,7 @@ use Rattle.mirror_core.specs.Ends.{answered}
 use Rattle.net_world.specs.declared.server_node.ServerNode.{ServerNode}
 use Rattle.net_world.specs.declared.mirror_node.MirrorNode.{MirrorNode}
 use Rattle.net_world.specs.declared.told.Answer.TheVariants.{Plain}
+use Rattle.net_world.specs.declared.sent.Sent.{Sent}
 use Rattle.net_world.specs.declared.told.Told.{Told}
 use Rattle.net_world.specs.declared.world.World.{World}
 use Rattle.net_world.specs.Setup.{Setup}
@@ -102,6 +103,18 @@ pub record HasHeard (node : MirrorNode) (sent : List (List ℕ)) (old new : Worl
   pub servers_are : new.servers ≡ old.servers
   pub client_is : new.client ≡ old.client
   pub files_are : new.files ≡ old.files
+
+-- The mirror of this world is another node, and no frame was added.
+pub quiet : (was node : MirrorNode) (sent : Sent) (old : World) → old.mirror.node ≡ Some was → sent_in sent ≡ sent_in old.sent → HasHeard node [] old (record old { sent = sent; mirror = record { node = Some node; greatest = old.mirror.greatest } })
+quiet was node sent old is same = record {
+  has = λ w past h. (there w past old.mirror.node was is h.mirror_is).0;
+  node_is = refl;
+  greatest_is = refl;
+  sent_is = same ∙ sym (append-nil (sent_in old.sent));
+  servers_are = refl;
+  client_is = refl;
+  files_are = refl;
+}
 
 -- The mirror has made a step, for which its node stands and whose frames were added.
 pub mirror_stepped : (w : Setup) (past : List Change) (e : Entry) (node : MirrorNode) (sent : List (List ℕ)) (old new : World) → StandsFor w past old → HasHeard node sent old new

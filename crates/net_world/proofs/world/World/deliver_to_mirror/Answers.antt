@@ -1,9 +1,8 @@
-use Rattle.std.proofs.Common.{refl, sym, ◌∙◌, ap, ◌++◌, length, append-nil, List, ℕ}
+use Rattle.std.proofs.Common.{◌∙◌, ap, ◌++◌, length, List, ℕ}
 use Rattle.net_world.specs.Trace.{mirror_opening}
 use Rattle.net_world.specs.Frames.{of_mirror}
 use Rattle.net_world.specs.Changes.{steps}
-use Rattle.net_world.specs.Sending.{sent_in}
-use Rattle.net_world.proofs.MirrorEndsLemmas.{there, heard_ends, unheard_ends}
+use Rattle.net_world.proofs.MirrorEndsLemmas.{there, quiet, heard_ends, unheard_ends}
 use Rattle.net_world.proofs.world.World.deliver_to_mirror.Goals as goal
 
 pub returns-in-Ok-deliver : goal.returns-in-Ok-deliver
@@ -26,14 +25,6 @@ returns-in-Ok-deliver c w past number stands is goes =
 pub returns-in-Err : goal.returns-in-Err
 returns-in-Err c w past number stands is goes =
     unheard_ends w past number c.args.frame.now c.deliver.new.self c.in-Err.fault c.args.self.now _ stands
-    (record {
-      has = λ v list h. (there v list c.args.self.now.mirror.node _ c.in-Some.is h.mirror_is).0;
-      node_is = refl;
-      greatest_is = refl;
-      sent_is = c.settle.ensures.same ∙ sym (append-nil (sent_in c.args.self.now.sent));
-      servers_are = refl;
-      client_is = refl;
-      files_are = refl;
-    })
+    (quiet _ _ _ c.args.self.now c.in-Some.is c.settle.ensures.same)
     (record { is_sent = is; goes_to = goes })
     (c.in-Err.ensures mirror_opening (of_mirror (steps past)) (there w past c.args.self.now.mirror.node _ c.in-Some.is stands.mirror_is).1)
