@@ -5,4 +5,3 @@ pub mod NumberLemmas
 pub mod StepLemmas
 pub mod RingLemmas
 pub mod FlightLemmas
-pub mod PlainLemmas

@@ -4,5 +4,4 @@ pub mod InFlight
 pub mod Kept
 pub mod Legal
 pub mod Numbers
-pub mod Plain
 pub mod Sets

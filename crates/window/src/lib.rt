@@ -21,8 +21,3 @@ mod window;
 pub use law::{counting_law, examples, in_flight_law, marks_law, room_law, sets_law};
 pub use room::Room;
 pub use window::Window;
-
-#[cfg(test)]
-mod plain;
-#[cfg(test)]
-mod tests;
