@@ -7,44 +7,64 @@ mod plays;
 mod stage;
 mod unlike;
 
+use play::Play;
 use plays::{LOST, LOST_ORDER, REPEATED, REPEATED_ORDER, RUN, RUN_ORDER};
 use stage::outcome_of;
-use std::alloc::Global;
+use std::test::Fail;
 use unlike::UNLIKE;
 
-#[test]
-fn a_run_of_two_servers(rt: HostRuntime) {
-    assert!(rt; outcome_of(rt.alloc(), &RUN, &RUN_ORDER).is_order());
+/// A play, and the order of its events: their nodes, and the places in their histories.
+struct Ordered {
+    name: &'static str,
+    play: Play,
+    order: &'static [(u32, u64)],
 }
 
-#[test]
-fn a_save_that_failed_stands(rt: HostRuntime) {
-    for landed in [false, true] {
-        let play = LOST.failing(1, landed);
-        assert!(rt;
-            outcome_of(rt.alloc(), &play, &LOST_ORDER).is_order(),
-            "{landed}"
-        );
-    }
-}
+static ORDERED: [Ordered; 4] = [
+    Ordered {
+        name: "a run of two servers",
+        play: RUN,
+        order: &RUN_ORDER,
+    },
+    Ordered {
+        name: "a save that failed, with the old bytes",
+        play: Play {
+            failing: (1, false),
+            ..LOST
+        },
+        order: &LOST_ORDER,
+    },
+    Ordered {
+        name: "a save that failed, with the new bytes",
+        play: Play {
+            failing: (1, true),
+            ..LOST
+        },
+        order: &LOST_ORDER,
+    },
+    Ordered {
+        name: "entries put in by hand",
+        play: REPEATED,
+        order: &REPEATED_ORDER,
+    },
+];
 
 #[test]
-fn entries_put_in_by_hand(rt: HostRuntime) {
-    assert!(rt; outcome_of(rt.alloc(), &REPEATED, &REPEATED_ORDER).is_order());
-}
-
-#[test]
-fn nodes_that_are_unlike(rt: HostRuntime) {
-    let other = first_other(rt.alloc());
-    assert!(rt; other.is_none(), "{other:?}");
-}
-
-/// The first case that shows something else.
-fn first_other(alloc: Global) -> Option<usize> {
-    for (i, case) in UNLIKE.iter().enumerate() {
-        if !outcome_of(alloc, &case.play(), &[]).is_unlike(case.node, case.at) {
-            return Some(i);
+fn orders_of_plays(rt: HostRuntime) -> Result<(), Fail> {
+    for row in &ORDERED {
+        if !outcome_of(rt.alloc(), &row.play, row.order).is_order() {
+            return Err(Fail::new(row.name));
         }
     }
-    None
+    Ok(())
+}
+
+#[test]
+fn nodes_that_are_unlike(rt: HostRuntime) -> Result<(), Fail> {
+    for (i, case) in UNLIKE.iter().enumerate() {
+        if !outcome_of(rt.alloc(), &case.play(), &[]).is_unlike(case.node, case.at) {
+            return Err(Fail::new(i));
+        }
+    }
+    Ok(())
 }

@@ -1,78 +1,138 @@
 //! What no clause shows: that the calls succeed with ample memory, and that what they leave is what
 //! a reader of the manual expects.
 
-use disk_model::{Disk, FaultDisk, FaultNotes, MemDisk, MemNotes, Notes};
+mod notes;
+mod step;
+
+use disk_model::{Disk, FaultDisk, MemDisk};
 use fc_base::Fault;
 use std::alloc::{AllocError, Global};
 use std::test::Fail;
+use step::{Step, all_hold, is_full_of};
 
-/// Writes block 3, of two sectors, full of one byte.
-fn write(disk: &mut impl Disk, epoch: u64, byte: u8) -> Result<(), Fault> {
-    disk.write(epoch, 3, &[byte; 1024])
+/// Which call of a disk fails, if it is one whose calls do, and what happens to it from before its first
+/// boot on.
+struct Story {
+    name: &'static str,
+    failing: Option<u64>,
+    steps: &'static [Step],
 }
 
-/// Lands sectors of block 3, full of one byte.
-fn land(disk: &mut MemDisk, byte: u8, mask: u128) -> Result<(), AllocError> {
-    disk.land(3, &[byte; 1024], mask)
+static STORIES: [Story; 7] = [
+    Story {
+        name: "a read after a cut is off",
+        failing: None,
+        steps: &[
+            Step::Read(Err(Fault::Off)),
+            Step::On(7),
+            Step::Write(7, 5, Ok(())),
+            Step::Write(6, 6, Err(Fault::Off)),
+            Step::Cut,
+            Step::Read(Err(Fault::Off)),
+            Step::Write(7, 6, Err(Fault::Off)),
+            Step::On(8),
+            Step::Write(7, 6, Err(Fault::Off)),
+            Step::Holds(5, 5),
+        ],
+    },
+    Story {
+        name: "a torn overwrite",
+        failing: None,
+        steps: &[
+            Step::On(7),
+            Step::Write(7, 1, Ok(())),
+            Step::Cut,
+            Step::Land(2, 1),
+            Step::On(8),
+            Step::Holds(2, 1),
+            Step::Land(3, u128::MAX - 1),
+            Step::Holds(2, 3),
+        ],
+    },
+    Story {
+        name: "rot of one sector",
+        failing: None,
+        steps: &[
+            Step::On(7),
+            Step::Write(7, 1, Ok(())),
+            Step::Rot(7, 9),
+            Step::Holds(1, 9),
+            Step::Rot(1 << 63, 8),
+            Step::Holds(1, 9),
+        ],
+    },
+    Story {
+        name: "a sector never written reads as zeros",
+        failing: None,
+        steps: &[
+            Step::On(7),
+            Step::Holds(0, 0),
+            Step::LastIsClear,
+            Step::Rot(6, 9),
+            Step::Holds(9, 0),
+        ],
+    },
+    Story {
+        name: "a failing write",
+        failing: Some(2),
+        steps: &[
+            Step::On(7),
+            Step::Write(7, 1, Ok(())),
+            Step::Holds(1, 1),
+            Step::Write(7, 2, Err(Fault::WriteFault)),
+            Step::Holds(2, 1),
+            Step::Write(7, 3, Ok(())),
+            Step::Holds(3, 3),
+        ],
+    },
+    Story {
+        name: "a failing read",
+        failing: Some(2),
+        steps: &[
+            Step::On(7),
+            Step::Cut,
+            Step::Read(Err(Fault::Off)),
+            Step::On(8),
+            Step::Write(8, 1, Ok(())),
+            Step::Read(Err(Fault::ReadFault)),
+            Step::Holds(1, 1),
+        ],
+    },
+    Story {
+        name: "off comes before a fault",
+        failing: Some(0),
+        steps: &[
+            Step::Write(7, 1, Err(Fault::Off)),
+            Step::On(7),
+            Step::Write(7, 1, Ok(())),
+            Step::Holds(1, 1),
+        ],
+    },
+];
+
+/// Whether a story goes so.
+fn goes_so(alloc: Global, story: &Story) -> bool {
+    let mut disk = MemDisk::new(alloc);
+    match story.failing {
+        Some(call) => all_hold(&mut FaultDisk::new(disk, call), story.steps),
+        None => all_hold(&mut disk, story.steps),
+    }
 }
 
-/// Reads block 3, to see whether it may be read.
-fn read(disk: &mut impl Disk) -> Result<(), Fault> {
-    disk.read(3, &mut [0; 1024])
-}
-
-/// Whether the two sectors of block 3 are full of these bytes.
-fn holds(disk: &mut impl Disk, first: u8, second: u8) -> bool {
-    let mut bytes = [0xff; 1024];
-    let is_read = disk.read(3, &mut bytes).is_ok();
-    let (front, back) = bytes.split_at(512);
-    is_read && is_full_of(front, first) && is_full_of(back, second)
-}
-
-fn is_full_of(bytes: &[u8], byte: u8) -> bool {
-    for b in bytes {
-        if *b != byte {
-            return false;
+#[test]
+fn stories(rt: HostRuntime) -> Result<(), Fail> {
+    for story in &STORIES {
+        if !goes_so(rt.alloc(), story) {
+            return Err(Fail::new(story.name));
         }
     }
-    true
+    Ok(())
 }
 
 fn disk_that_is_on(alloc: Global) -> MemDisk {
     let mut disk = MemDisk::new(alloc);
     disk.power_on(7);
     disk
-}
-
-#[test]
-fn read_after_a_cut_is_off(rt: HostRuntime) {
-    let mut disk = MemDisk::new(rt.alloc());
-    assert!(rt; read(&mut disk) == Err(Fault::Off));
-    disk.power_on(7);
-    assert!(rt; write(&mut disk, 7, 5) == Ok(()) && write(&mut disk, 6, 6) == Err(Fault::Off));
-    disk.cut();
-    assert!(rt; read(&mut disk) == Err(Fault::Off) && write(&mut disk, 7, 6) == Err(Fault::Off));
-    disk.power_on(8);
-    assert!(rt; write(&mut disk, 7, 6) == Err(Fault::Off) && holds(&mut disk, 5, 5));
-}
-
-#[test]
-fn torn_overwrite(rt: HostRuntime) {
-    let mut disk = disk_that_is_on(rt.alloc());
-    assert!(rt; write(&mut disk, 7, 1) == Ok(()));
-    disk.cut();
-    assert!(rt; land(&mut disk, 2, 1) == Ok(()));
-    disk.power_on(8);
-    assert!(rt; holds(&mut disk, 2, 1));
-    assert!(rt; land(&mut disk, 3, u128::MAX - 1) == Ok(()) && holds(&mut disk, 2, 3));
-}
-
-#[test]
-fn rot_of_one_sector(rt: HostRuntime) {
-    let mut disk = disk_that_is_on(rt.alloc());
-    assert!(rt; write(&mut disk, 7, 1) == Ok(()));
-    assert!(rt; disk.rot(7, [9; 512]) == Ok(()) && holds(&mut disk, 1, 9));
-    assert!(rt; disk.rot(1 << 63, [8; 512]) == Ok(()) && holds(&mut disk, 1, 9));
 }
 
 /// The byte that fills the first sector of a run.
@@ -100,116 +160,42 @@ fn has_filler(disk: &mut MemDisk, run: u32) -> bool {
     is_read && is_full_of(front, filler(run)) && is_full_of(back, 0)
 }
 
+/// Whether 600 of 60,000 runs have their fillers, those with all last two digits.
+fn have_fillers(disk: &mut MemDisk) -> bool {
+    for i in 0..600 {
+        if !has_filler(disk, 100 * i + i % 100) {
+            return false;
+        }
+    }
+    true
+}
+
 #[test]
 fn rot_of_many_runs(rt: HostRuntime) {
     let mut disk = disk_that_is_on(rt.alloc());
-    assert!(rt; rot_runs(&mut disk, 60_000) == Ok(()));
-    for i in 0..600 {
-        let run = 100 * i + i % 100;
-        assert!(rt; has_filler(&mut disk, run), "run {run}");
-    }
+    assert!(rt; rot_runs(&mut disk, 60_000) == Ok(()) && have_fillers(&mut disk));
 }
 
-/// Whether the last block of the greatest size reads as zeros.
-fn last_is_clear(disk: &mut MemDisk) -> bool {
-    let mut last = [0xff; 65_536];
-    disk.read(65_535, &mut last).is_ok() && is_full_of(&last, 0)
-}
-
-#[test]
-fn sector_never_written_reads_as_zeros(rt: HostRuntime) {
-    let mut disk = disk_that_is_on(rt.alloc());
-    assert!(rt; holds(&mut disk, 0, 0) && last_is_clear(&mut disk));
-    assert!(rt; disk.rot(6, [9; 512]) == Ok(()) && holds(&mut disk, 9, 0));
-}
-
-#[test]
-fn block_across_runs(rt: HostRuntime) -> Result<(), Fail> {
-    let mut disk = disk_that_is_on(rt.alloc());
+/// Whether three sectors, no two of them alike, are read again as they were written.
+fn reads_again(disk: &mut MemDisk) -> bool {
     let mut bytes = [0; 1536];
     for (i, b) in bytes.iter_mut().enumerate() {
         *b = (i % 251) as u8;
     }
-    disk.write(7, 42, &bytes)?;
     let mut read = [0; 1536];
-    disk.read(42, &mut read)?;
-    assert_eq!(rt; read, bytes);
+    disk.write(7, 42, &bytes) == Ok(())
+        && disk.read(42, &mut read) == Ok(())
+        && read.as_slice() == bytes.as_slice()
+}
+
+/// Whether the three sectors behind them are zeros.
+fn is_clear_behind(disk: &mut MemDisk) -> bool {
     let mut after = [0xff; 1536];
-    disk.read(43, &mut after)?;
-    assert_eq!(rt; after, [0; 1536]);
-    Ok(())
+    disk.read(43, &mut after) == Ok(()) && is_full_of(&after, 0)
 }
 
 #[test]
-fn failing_write(rt: HostRuntime) {
-    let mut disk = FaultDisk::new(disk_that_is_on(rt.alloc()), 2);
-    assert!(rt; write(&mut disk, 7, 1) == Ok(()) && holds(&mut disk, 1, 1));
-    assert!(rt; write(&mut disk, 7, 2) == Err(Fault::WriteFault) && holds(&mut disk, 2, 1));
-    assert!(rt; write(&mut disk, 7, 3) == Ok(()) && holds(&mut disk, 3, 3));
-}
-
-#[test]
-fn failing_read(rt: HostRuntime) {
-    let mut disk = FaultDisk::new(disk_that_is_on(rt.alloc()), 2);
-    disk.disk_mut().cut();
-    assert!(rt; read(&mut disk) == Err(Fault::Off));
-    disk.disk_mut().power_on(8);
-    assert!(rt; write(&mut disk, 8, 1) == Ok(()) && read(&mut disk) == Err(Fault::ReadFault));
-    assert!(rt; holds(&mut disk, 1, 1));
-}
-
-#[test]
-fn off_comes_before_a_fault(rt: HostRuntime) {
-    let mut disk = FaultDisk::new(MemDisk::new(rt.alloc()), 0);
-    assert!(rt; write(&mut disk, 7, 1) == Err(Fault::Off));
-    disk.disk_mut().power_on(7);
-    assert!(rt; write(&mut disk, 7, 1) == Ok(()) && holds(&mut disk, 1, 1));
-}
-
-fn save(notes: &mut impl Notes, bytes: &[u8]) -> Result<(), Fault> {
-    notes.save(bytes)
-}
-
-/// Whether these bytes are loaded.
-fn loads(notes: &mut impl Notes, bytes: &[u8]) -> bool {
-    match notes.load() {
-        Ok(loaded) => loaded.as_slice() == bytes,
-        Err(_) => false,
-    }
-}
-
-/// Whether these bytes are loaded once the last save is taken back.
-fn reverts_to(notes: &mut MemNotes, bytes: &[u8]) -> bool {
-    notes.revert();
-    loads(notes, bytes)
-}
-
-#[test]
-fn revert_after_two_saves(rt: HostRuntime) -> Result<(), Fail> {
-    let mut notes = MemNotes::new(b"opening".to_vec(rt.alloc())?);
-    assert!(rt; reverts_to(&mut notes, b"opening"));
-    assert!(rt; save(&mut notes, b"one") == Ok(()) && save(&mut notes, b"second") == Ok(()));
-    assert!(rt; loads(&mut notes, b"second"));
-    assert!(rt; reverts_to(&mut notes, b"one") && reverts_to(&mut notes, b"one"));
-    Ok(())
-}
-
-/// Whether the second save fails and leaves these bytes, and the third succeeds.
-fn fails_once(notes: &mut FaultNotes, left: &[u8]) -> bool {
-    save(notes, b"one") == Ok(())
-        && save(notes, b"two") == Err(Fault::SaveFault)
-        && loads(notes, left)
-        && save(notes, b"three") == Ok(())
-        && loads(notes, b"three")
-}
-
-#[test]
-fn failing_save(rt: HostRuntime) -> Result<(), Fail> {
-    for landed in [false, true] {
-        let memory = MemNotes::new(b"opening".to_vec(rt.alloc())?);
-        let mut notes = FaultNotes::new(memory, 1, landed);
-        let left = if landed { b"two" } else { b"one" };
-        assert!(rt; fails_once(&mut notes, left), "landed: {landed}");
-    }
-    Ok(())
+fn block_across_runs(rt: HostRuntime) {
+    let mut disk = disk_that_is_on(rt.alloc());
+    assert!(rt; reads_again(&mut disk) && is_clear_behind(&mut disk));
 }

@@ -8,7 +8,7 @@ use fc_base::{Fault, JobNo, JobParts, JobRecord, Key, Kind, RunNo, Seq, ServerNo
 use std::alloc::Global;
 use std::process::Abort;
 use std::test::Fail;
-use step::{Step, copies_alike, first_unlike, state_after};
+use step::{Step, copies_alike, first_unlike, goes_so, state_after};
 use verify_state::VerifyState;
 
 const KEY: Key = Key {
@@ -91,8 +91,7 @@ fn overlap_on_one_block(rt: HostRuntime) -> Result<(), Fail> {
         Step::Done(ticket(1, 0), Ok(())),
         Step::Ended(true),
     ];
-    assert_eq!(rt; first_unlike(rt.alloc(), ONE_BLOCK, &steps)?, None);
-    Ok(())
+    goes_so(rt.alloc(), ONE_BLOCK, &steps)
 }
 
 #[test]
@@ -146,8 +145,7 @@ fn tickets_of_open_writes(rt: HostRuntime) -> Result<(), Fail> {
         Step::Failed(ticket(1, 1), Ok(())),
         Step::OpenWrite(Seq(1), None),
     ];
-    assert_eq!(rt; first_unlike(rt.alloc(), PARTS, &steps)?, None);
-    Ok(())
+    goes_so(rt.alloc(), PARTS, &steps)
 }
 
 #[test]
@@ -200,14 +198,19 @@ fn tickets_that_name_no_open_write(rt: HostRuntime) -> Result<(), Fail> {
 }
 
 /// A state of `PARTS` with this list, before any word of the generator is used.
-fn state_of(alloc: Global, issued: u64, list: &[Seq]) -> Result<VerifyState, Fail> {
-    let rec = JobRecord::make(PARTS).ok_or("within the limits")?;
+fn state_of(alloc: Global, issued: u64, list: &[Seq]) -> Option<VerifyState> {
+    let rec = JobRecord::make(PARTS)?;
     let place = [WORDS[0], WORDS[1], WORDS[2], WORDS[3]];
-    let list = Vec::from_slice(alloc, list)?;
-    let state = VerifyState::make(KEY, &rec, issued, place, list)
-        .ok()
-        .ok_or("a job can come to this list")?;
-    Ok(state)
+    let list = Vec::from_slice(alloc, list).ok()?;
+    VerifyState::make(KEY, &rec, issued, place, list).ok()
+}
+
+/// Whether a state is that of this list.
+fn is_listed(alloc: Global, state: &VerifyState, issued: u64, list: &[Seq]) -> bool {
+    match state_of(alloc, issued, list) {
+        Some(listed) => state.same(&listed),
+        None => false,
+    }
 }
 
 #[test]
@@ -225,8 +228,8 @@ fn completions_out_of_order(rt: HostRuntime) -> Result<(), Fail> {
         done(4),
     ];
     let state = state_after(rt.alloc(), PARTS, &steps)?;
-    let listed = state_of(rt.alloc(), 5, &[Seq(2), Seq(1), Seq(0), Seq(3), Seq(4)])?;
-    assert!(rt; has_marks(&state, 2, 7) && state.same(&listed));
+    let listed = [Seq(2), Seq(1), Seq(0), Seq(3), Seq(4)];
+    assert!(rt; has_marks(&state, 2, 7) && is_listed(rt.alloc(), &state, 5, &listed));
     Ok(())
 }
 
@@ -253,14 +256,12 @@ fn first_reason_is_told(rt: HostRuntime) -> Result<(), Fail> {
         done(2),
         Step::Ended(true),
     ];
-    assert_eq!(rt; first_unlike(rt.alloc(), job, &steps)?, None);
-    Ok(())
+    goes_so(rt.alloc(), job, &steps)
 }
 
 #[test]
 fn million_states_like_their_copies(rt: HostRuntime) -> Result<(), Fail> {
     let steps = [issued(0), issued(1), done(1)];
-    let alike = copies_alike(rt.alloc(), PARTS, &steps, 1_000_000)?;
-    assert_eq!(rt; alike, 1_000_000);
+    assert!(rt; copies_alike(rt.alloc(), PARTS, &steps, 1_000_000)?);
     Ok(())
 }

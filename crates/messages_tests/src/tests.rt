@@ -32,6 +32,9 @@ const JOB: JobParts = JobParts {
     window: 2,
 };
 
+/// What each byte of a frame is changed to.
+static CHANGED: [u8; 4] = [0, 1, 0x80, 0xff];
+
 /// Where the generator stands for that job.
 const PLACE: [u64; 4] = [
     0xcfc5_d07f_6f03_c29b,

@@ -9,14 +9,13 @@ mod disks;
 mod machine;
 mod plain;
 
-use disk_model::{Disk, FaultDisk, MemDisk};
+use disk_model::{Disk, MemDisk};
 use fc_base::{
     CheckReport, Fault, JobNo, JobParts, JobRecord, Key, Kind, ReportEnd, RunNo, Seq, ServerNo,
     Verify,
 };
 use recheck::{Recheck, Verdict, check_disk};
 use std::alloc::Global;
-use std::process::Abort;
 use std::test::Fail;
 use verify_state::VerifyState;
 use write_order::{fill_block, place_of};
@@ -48,51 +47,41 @@ struct Given {
 }
 
 impl Given {
-    fn new(job: JobParts) -> Result<Given, Fail> {
-        let job = JobRecord::make(job).ok_or("within the limits")?;
-        Ok(Given { key: KEY, job })
+    fn new(parts: JobParts) -> Option<Given> {
+        let job = JobRecord::make(parts)?;
+        Some(Given { key: KEY, job })
     }
 
-    /// A job that writes each of four blocks once.
-    fn four_blocks() -> Result<Given, Fail> {
-        Given::new(JobParts {
-            blocks: 4,
-            total: 4,
-            ..JOB
-        })
-    }
-
-    /// The state of two issued writes of which only write 0 has completed, with the generator at
-    /// this place.
-    fn state_at(&self, alloc: Global, place: [u64; 4]) -> Result<VerifyState, Fail> {
-        let mut list = Vec::new(alloc);
-        list.push(Seq(0))?;
-        match VerifyState::make(self.key, &self.job, 2, place, list) {
-            Ok(state) => Ok(state),
-            Err((fault, _)) => Err(fault.into()),
-        }
+    /// The state of so many issued writes of which these have completed, with the generator at this place.
+    fn state_of(
+        &self,
+        alloc: Global,
+        issued: u64,
+        place: [u64; 4],
+        completed: &[Seq],
+    ) -> Option<VerifyState> {
+        let list = Vec::from_slice(alloc, completed).ok()?;
+        VerifyState::make(self.key, &self.job, issued, place, list).ok()
     }
 
     /// The state of two issued writes of which only write 0 has completed.
-    fn state(&self, alloc: Global) -> Result<VerifyState, Fail> {
-        self.state_at(alloc, place_of(&self.job, 2))
+    fn state(&self, alloc: Global) -> Option<VerifyState> {
+        self.state_of(alloc, 2, place_of(&self.job, 2), &[Seq(0)])
     }
 
     /// The bytes of a write.
-    fn bytes_of(&self, alloc: Global, seq: u64, block: u32) -> Result<Vec<u8>, Fail> {
-        let mut bytes = vec![in alloc; 0u8; self.job.bs() as usize]?;
+    fn bytes_of(&self, alloc: Global, seq: u64, block: u32) -> Option<Vec<u8>> {
+        let mut bytes = vec![in alloc; 0u8; self.job.bs() as usize].ok()?;
         fill_block(self.key, &self.job, Seq(seq), block, &mut bytes);
-        Ok(bytes)
+        Some(bytes)
     }
 
-    /// A disk on which the first so many writes landed, each in its block.
-    fn disk(&self, alloc: Global, blocks: u32) -> Result<MemDisk, Fail> {
-        let mut disk = MemDisk::new(alloc);
-        disk.power_on(2);
+    /// Lands the first so many writes, each in its block.
+    fn land_first(&self, alloc: Global, disk: &mut MemDisk, blocks: u32) -> Option<()> {
         for block in 0..blocks {
-            self.land(alloc, &mut disk, u64::from(block), block, u128::MAX)?;
+            self.land(alloc, disk, u64::from(block), block, u128::MAX)?;
         }
-        Ok(disk)
+        Some(())
     }
 
     /// Lands these sectors of a write.
@@ -103,23 +92,18 @@ impl Given {
         seq: u64,
         block: u32,
         sectors: u128,
-    ) -> Result<(), Fail> {
+    ) -> Option<()> {
         let bytes = self.bytes_of(alloc, seq, block)?;
         if is_block(block, &bytes) {
-            disk.land(block, &bytes, sectors)?;
+            disk.land(block, &bytes, sectors).ok()
+        } else {
+            None
         }
-        Ok(())
     }
 
-    /// Why no check of the job by this state starts.
-    fn misfit(&self, alloc: Global, state: &VerifyState) -> Option<Fault> {
-        Recheck::new(alloc, &self.job, self.key, Some(state), false).err()
-    }
-
-    /// Whether a check by this state reads the block.
-    fn is_wanted(&self, alloc: Global, state: &VerifyState, block: u32) -> Result<bool, Fail> {
-        let check = Recheck::new(alloc, &self.job, self.key, Some(state), false)?;
-        Ok(check.wants(block))
+    /// A check by this state.
+    fn recheck(&self, alloc: Global, state: &VerifyState) -> Result<Recheck, Fault> {
+        Recheck::new(alloc, &self.job, self.key, Some(state), false)
     }
 
     /// What a check by this state finds at a block that holds these bytes.
@@ -129,12 +113,14 @@ impl Given {
         state: &VerifyState,
         block: u32,
         bytes: &[u8],
-    ) -> Result<Verdict, Fail> {
-        let mut check = Recheck::new(alloc, &self.job, self.key, Some(state), false)?;
+    ) -> Option<Verdict> {
         if self.job.blocks() <= block || bytes.len() != self.job.bs() as usize {
-            return Err("a block of the job".into());
+            return None;
         }
-        Ok(check.feed(block, bytes))
+        match Recheck::new(alloc, &self.job, self.key, Some(state), false) {
+            Ok(mut check) => Some(check.feed(block, bytes)),
+            Err(_) => None,
+        }
     }
 
     /// What a check of the disk by this state tells, or a full pass of it.
@@ -147,12 +133,13 @@ impl Given {
     ) -> Result<CheckReport, Fault> {
         check_disk(alloc, &self.job, self.key, state, fatal, disk)
     }
+}
 
-    /// What a full pass of a disk tells to which nothing was written.
-    fn check_of_zeros(&self, alloc: Global) -> Result<CheckReport, Fail> {
-        let mut disk = self.disk(alloc, 0)?;
-        Ok(self.check(alloc, None, false, &mut disk)?)
-    }
+/// A disk of the second boot to which nothing was written.
+fn blank_disk(alloc: Global) -> MemDisk {
+    let mut disk = MemDisk::new(alloc);
+    disk.power_on(2);
+    disk
 }
 
 /// Whether these bytes can be a block.
@@ -171,48 +158,101 @@ fn tells(report: &CheckReport, checked: u32, first: &[u32], end: ReportEnd) -> b
         && report.end() == end
 }
 
-#[test]
-fn open_write_at_the_trigger(rt: HostRuntime) -> Result<(), Fail> {
-    let given = Given::new(JOB)?;
-    let state = given.state(rt.alloc())?;
-    assert!(rt; given.is_wanted(rt.alloc(), &state, 0)?);
-    assert!(rt; !given.is_wanted(rt.alloc(), &state, 1)?);
-    assert!(rt; !given.is_wanted(rt.alloc(), &state, 2)?);
-    let bytes = given.bytes_of(rt.alloc(), 7, 1)?;
-    assert!(rt; given.verdict(rt.alloc(), &state, 1, &bytes)? == Verdict::Skipped);
-    Ok(())
+/// Whether a check by this state reads only the first of the blocks 0 to 2.
+fn wants_the_first(alloc: Global, given: &Given, state: &VerifyState) -> bool {
+    match given.recheck(alloc, state) {
+        Ok(check) => check.wants(0) && !check.wants(1) && !check.wants(2),
+        Err(_) => false,
+    }
 }
 
-/// Why no check of this job by the state starts.
-fn misfit_of(alloc: Global, job: JobParts, state: &VerifyState) -> Result<Option<Fault>, Fail> {
-    Ok(Given::new(job)?.misfit(alloc, state))
+/// Whether a check skips a write that was open at the trigger, whatever its block holds.
+fn skips_the_open_write(alloc: Global) -> Option<bool> {
+    let given = Given::new(JOB)?;
+    let state = given.state(alloc)?;
+    let bytes = given.bytes_of(alloc, 7, 1)?;
+    let verdict = given.verdict(alloc, &state, 1, &bytes)?;
+    Some(wants_the_first(alloc, &given, &state) && verdict == Verdict::Skipped)
 }
 
 #[test]
-fn states_that_do_not_fit(rt: HostRuntime) -> Result<(), Fail> {
+fn open_write_at_the_trigger(rt: HostRuntime) {
+    assert!(rt; skips_the_open_write(rt.alloc()) == Some(true));
+}
+
+/// A server and its job, with the place of the generator in a state of `JOB`, where that isn't its own; and
+/// why no check of the job by the state starts.
+struct Fit {
+    server: u32,
+    job: JobParts,
+    place: Option<[u64; 4]>,
+    fault: Option<Fault>,
+}
+
+/// A check by the state itself, which starts.
+const FITS: Fit = Fit {
+    server: 0,
+    job: JOB,
+    place: None,
+    fault: None,
+};
+
+static FITTING: [Fit; 5] = [
+    Fit {
+        server: 1,
+        fault: Some(Fault::OtherKey),
+        ..FITS
+    },
+    Fit {
+        job: JobParts { seed: 2, ..JOB },
+        fault: Some(Fault::OtherJob),
+        ..FITS
+    },
+    Fit {
+        job: JobParts { bs: 1024, ..JOB },
+        fault: Some(Fault::OtherJob),
+        ..FITS
+    },
+    Fit {
+        place: Some([1, 2, 3, 4]),
+        fault: Some(Fault::OtherPlace),
+        ..FITS
+    },
+    // The state of a deeper job fits.
+    Fit {
+        job: JobParts { depth: 1, ..JOB },
+        ..FITS
+    },
+];
+
+/// The state of two writes of `JOB`, with the generator at this place, or at its own.
+fn state_at(alloc: Global, place: Option<[u64; 4]>) -> Option<VerifyState> {
     let given = Given::new(JOB)?;
-    let state = given.state(rt.alloc())?;
-    let other_key = Given {
+    match place {
+        Some(place) => given.state_of(alloc, 2, place, &[Seq(0)]),
+        None => given.state(alloc),
+    }
+}
+
+/// Whether a check starts, or doesn't, as its row has it.
+fn fits(alloc: Global, row: &Fit) -> Option<bool> {
+    let state = state_at(alloc, row.place)?;
+    let given = Given {
         key: Key {
-            server: ServerNo(1),
+            server: ServerNo(row.server),
             ..KEY
         },
-        job: given.job,
+        job: JobRecord::make(row.job)?,
     };
-    assert!(rt; other_key.misfit(rt.alloc(), &state) == Some(Fault::OtherKey));
-    let other_seed = JobParts { seed: 2, ..JOB };
-    assert!(rt; misfit_of(rt.alloc(), other_seed, &state)? == Some(Fault::OtherJob));
-    let other_size = JobParts { bs: 1024, ..JOB };
-    assert!(rt; misfit_of(rt.alloc(), other_size, &state)? == Some(Fault::OtherJob));
-    let moved = given.state_at(rt.alloc(), [1, 2, 3, 4])?;
-    assert!(rt; given.misfit(rt.alloc(), &moved) == Some(Fault::OtherPlace));
-    Ok(())
+    Some(given.recheck(alloc, &state).err() == row.fault)
 }
 
 #[test]
-fn state_of_a_deeper_job_fits(rt: HostRuntime) -> Result<(), Fail> {
-    let state = Given::new(JOB)?.state(rt.alloc())?;
-    let shallower = JobParts { depth: 1, ..JOB };
-    assert!(rt; misfit_of(rt.alloc(), shallower, &state)? == None);
+fn states_that_fit_or_do_not(rt: HostRuntime) -> Result<(), Fail> {
+    for (i, row) in FITTING.iter().enumerate() {
+        if fits(rt.alloc(), row) != Some(true) {
+            return Err(Fail::new(i));
+        }
+    }
     Ok(())
 }

@@ -6,7 +6,7 @@ mod vectors;
 use fc_base::{JobNo, JobParts, JobRecord, Key, Kind, RunNo, Seq, ServerNo, Verify};
 use std::alloc::{AllocError, Global};
 use std::test::Fail;
-use vectors::{BLOCKS, FRONTS, PLACES, WORDS};
+use vectors::{BLOCKS, FRONTS, Front, PLACES, WORDS};
 use write_order::{Order, fill_block, holds_write, pick_blocks, place_of};
 
 const JOB: JobParts = JobParts {
@@ -43,9 +43,9 @@ fn has_words(seed: u64, words: [u64; 8]) -> bool {
 
 #[test]
 fn words_of_the_generator(_rt: HostRuntime) -> Result<(), Fail> {
-    for (seed, words) in WORDS {
-        if !has_words(seed, words) {
-            return Err(Fail::new(seed));
+    for (seed, words) in &WORDS {
+        if !has_words(*seed, *words) {
+            return Err(Fail::new(*seed));
         }
     }
     Ok(())
@@ -84,37 +84,46 @@ fn goes_to(order: &mut Order, rec: &JobRecord, block: u32) -> bool {
     true
 }
 
-/// Whether a job writes to just these blocks, in this order.
-fn follows<T: Copy + Into<u32>>(
-    alloc: Global,
-    rec: &JobRecord,
-    written: &[T],
-) -> Result<bool, AllocError> {
-    let mut order = Order::new(alloc, rec)?;
+/// Whether the writes that are left go to just these blocks, in this order.
+fn goes_on<T: Copy + Into<u32>>(order: &mut Order, rec: &JobRecord, written: &[T]) -> bool {
     for block in written {
-        if !goes_to(&mut order, rec, (*block).into()) {
-            return Ok(false);
+        if !goes_to(order, rec, (*block).into()) {
+            return false;
         }
     }
-    Ok(order.peek().is_none() && order.issued() == rec.total())
+    order.peek().is_none() && order.issued() == rec.total()
+}
+
+/// Whether a job writes to just these blocks, in this order.
+fn follows<T: Copy + Into<u32>>(alloc: Global, rec: &JobRecord, written: &[T]) -> bool {
+    match Order::new(alloc, rec) {
+        Ok(mut order) => goes_on(&mut order, rec, written),
+        Err(_) => false,
+    }
+}
+
+/// The same of a job of as many writes.
+fn follow(alloc: Global, kind: Kind, seed: u64, blocks: u64, written: &[u8]) -> bool {
+    match job(kind, seed, blocks, written.len() as u64) {
+        Some(rec) => follows(alloc, &rec, written),
+        None => false,
+    }
 }
 
 #[test]
 fn blocks_of_the_three_orders(rt: HostRuntime) -> Result<(), Fail> {
-    for (kind, seed, blocks, written) in BLOCKS {
-        let rec = job(kind, seed, blocks, written.len() as u64).ok_or("within the limits")?;
-        if !follows(rt.alloc(), &rec, written)? {
-            return Err(Fail::new(blocks));
+    for (kind, seed, blocks, written) in &BLOCKS {
+        if !follow(rt.alloc(), *kind, *seed, *blocks, written) {
+            return Err(Fail::new(*blocks));
         }
     }
     Ok(())
 }
 
 #[test]
-fn two_passes_by_io_size(rt: HostRuntime) -> Result<(), Fail> {
-    let rec = job(Kind::Sequential, 1, 4, 6).ok_or("within the limits")?;
-    assert!(rt; follows(rt.alloc(), &rec, b"\x00\x01\x02\x03\x00\x01")?);
-    Ok(())
+fn two_passes_by_io_size(rt: HostRuntime) {
+    let written = b"\x00\x01\x02\x03\x00\x01";
+    assert!(rt; follow(rt.alloc(), Kind::Sequential, 1, 4, written));
 }
 
 /// Whether these words pick these blocks of four.
@@ -142,18 +151,17 @@ fn words_of(alloc: Global, rec: &JobRecord) -> Result<Vec<u64>, AllocError> {
 }
 
 /// Whether a random job writes to the blocks that `pick_blocks` picks.
-fn follows_picks(alloc: Global, kind: Kind) -> Result<bool, Fail> {
-    let rec = job(kind, 42, 100, 300).ok_or("within the limits")?;
-    let words = words_of(alloc, &rec)?;
-    let picked = pick_blocks(alloc, &words, 100, kind == Kind::RandomMap)?;
-    Ok(follows(alloc, &rec, &picked)?)
+fn follows_picks(alloc: Global, kind: Kind) -> Option<bool> {
+    let rec = job(kind, 42, 100, 300)?;
+    let words = words_of(alloc, &rec).ok()?;
+    let picked = pick_blocks(alloc, &words, 100, kind == Kind::RandomMap).ok()?;
+    Some(follows(alloc, &rec, &picked))
 }
 
 #[test]
-fn order_beside_pick_blocks(rt: HostRuntime) -> Result<(), Fail> {
-    assert!(rt; follows_picks(rt.alloc(), Kind::RandomMap)?);
-    assert!(rt; follows_picks(rt.alloc(), Kind::RandomFree)?);
-    Ok(())
+fn order_beside_pick_blocks(rt: HostRuntime) {
+    assert!(rt; follows_picks(rt.alloc(), Kind::RandomMap) == Some(true));
+    assert!(rt; follows_picks(rt.alloc(), Kind::RandomFree) == Some(true));
 }
 
 const KEY: Key = Key {
@@ -172,13 +180,18 @@ fn is_framed(rec: &JobRecord, seq: u64, block: u32, front: &[u8], back: &[u8]) -
     bytes.starts_with(front) && bytes.ends_with(back)
 }
 
-#[test]
-fn bytes_of_a_stamp(rt: HostRuntime) -> Result<(), Fail> {
-    let rec = JobRecord::make(JOB).ok_or("within the limits")?;
-    let front = b"\x00\x00\x00\x00\x00\x00\x00\x01\x00\x00\x00\x00\x00\x00\x00\x00\x00\x00\x00\x00\
+/// The first bytes of a stamp, of write 5 to block 1.
+static STAMP: [u8; 40] =
+    *b"\x00\x00\x00\x00\x00\x00\x00\x01\x00\x00\x00\x00\x00\x00\x00\x00\x00\x00\x00\x00\
           \x00\x00\x00\x05\x00\x00\x00\x00\x00\x00\x00\x01\x00\x00\x00\x00\x05\x06\x07\x08";
-    assert!(rt; is_framed(&rec, 5, 1, front, b"\xdd\xde\xdf\xe0"));
-    Ok(())
+
+#[test]
+fn bytes_of_a_stamp(rt: HostRuntime) {
+    let framed = match JobRecord::make(JOB) {
+        Some(rec) => is_framed(&rec, 5, 1, &STAMP, b"\xdd\xde\xdf\xe0"),
+        None => false,
+    };
+    assert!(rt; framed);
 }
 
 /// Whether bytes count up from this one, modulo 256.
@@ -224,21 +237,35 @@ fn is_filled(rec: &JobRecord, bytes: &[u8], front: &[u8]) -> bool {
     is_full && bytes.starts_with(front)
 }
 
+/// Whether a write fills its block as its row has it. There is room for the largest.
+fn fills(row: &Front, room: &mut [u8]) -> bool {
+    let ((run, server, job), verify, pattern, bs, seq, block, front) = *row;
+    let Some(rec) = JobRecord::make(JobParts {
+        verify,
+        pattern,
+        bs,
+        ..JOB
+    }) else {
+        return false;
+    };
+    let key = Key {
+        run: RunNo(run),
+        server: ServerNo(server),
+        job: JobNo(job),
+    };
+    let Some(bytes) = room.get_mut(..rec.bs() as usize) else {
+        return false;
+    };
+    fill_block(key, &rec, Seq(seq), block, bytes);
+    is_filled(&rec, bytes, front)
+}
+
 #[test]
 fn bytes_of_writes(_rt: HostRuntime) -> Result<(), Fail> {
     let mut room = [0; 65_536];
-    for (key, verify, pattern, bs, seq, block, front) in FRONTS {
-        let rec = JobRecord::make(JobParts {
-            verify,
-            pattern,
-            bs,
-            ..JOB
-        })
-        .ok_or("within the limits")?;
-        let bytes = &mut room[..rec.bs() as usize];
-        fill_block(key, &rec, Seq(seq), block, bytes);
-        if !is_filled(&rec, bytes, front) {
-            return Err(Fail::new(seq));
+    for (at, row) in FRONTS.iter().enumerate() {
+        if !fills(row, &mut room) {
+            return Err(Fail::new(at));
         }
     }
     Ok(())

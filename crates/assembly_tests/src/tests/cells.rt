@@ -18,10 +18,19 @@ pub const TWINS: usize = 2;
 
 /// The two servers that play, and behind them their twins, which do nothing but elsewhere; and the one seat
 /// of each.
-#[derive(Drop)]
 pub struct Cells {
     pub servers: Vec<Server>,
     pub seats: Vec<Seat>,
+}
+
+/// Each drop by hand is one function, which calls that of each field: where it is derived, the proof of each
+/// function that drops a node goes through all that it holds.
+impl Drop for Cells {
+    fn drop(self) {
+        let Cells { servers, seats } = self;
+        drop(servers);
+        drop(seats);
+    }
 }
 
 impl Cells {
@@ -31,11 +40,18 @@ impl Cells {
             servers: Vec::new(alloc),
             seats: Vec::new(alloc),
         };
-        cells.open_one(alloc, 0, notes_of(alloc, play)?)?;
-        for place in 1..4 {
-            cells.open_one(alloc, place % 2, blank(alloc))?;
+        match cells.open_all(alloc, play) {
+            Ok(()) => Ok(cells),
+            Err(fault) => Err(fault),
         }
-        Ok(cells)
+    }
+
+    fn open_all(&mut self, alloc: Global, play: &Play) -> Result<(), Fault> {
+        self.open_one(alloc, 0, notes_of(alloc, play)?)?;
+        for place in 1..4 {
+            self.open_one(alloc, place % 2, blank(alloc))?;
+        }
+        Ok(())
     }
 
     fn open_one(&mut self, alloc: Global, number: u32, notes: FaultNotes) -> Result<(), Fault> {
@@ -44,24 +60,41 @@ impl Cells {
         }
         match ServerCell::new(alloc, ServerNo(number), notes, 1) {
             Ok((server, seats)) => self.add(server, seats),
-            Err((_, fault)) => Err(fault),
+            Err((notes, fault)) => {
+                drop(notes);
+                Err(fault)
+            }
         }
     }
 
+    /// Adds a server and its one seat.
     fn add(&mut self, server: Server, seats: Vec<Seat>) -> Result<(), Fault> {
-        for seat in seats {
-            push(&mut self.seats, seat)?;
-        }
-        push(&mut self.servers, server)
+        let has_server = push(&mut self.servers, server);
+        let has_seat = push_first(&mut self.seats, seats);
+        has_server.and(has_seat)
     }
 
     /// What a server is asked from its seat.
     pub fn apply(&mut self, number: u32, task: ServerTask) -> Result<Told, Fault> {
         let place = number as usize;
-        match (self.servers.get_mut(place), self.seats.get_mut(place)) {
-            (Some(server), Some(seat)) => server.apply(seat, task),
-            _ => Err(Fault::NoServer),
+        let Some(server) = self.servers.get_mut(place) else {
+            return Err(Fault::NoServer);
+        };
+        match self.seats.get_mut(place) {
+            Some(seat) => server.apply(seat, task),
+            None => Err(Fault::NoServer),
         }
+    }
+}
+
+/// Adds the first of these seats.
+fn push_first(list: &mut Vec<Seat>, seats: Vec<Seat>) -> Result<(), Fault> {
+    let mut seats = seats;
+    let first = seats.pop();
+    drop(seats);
+    match first {
+        Some(seat) => push(list, seat),
+        None => Err(Fault::WrongSeat),
     }
 }
 
@@ -73,17 +106,29 @@ fn push<T: Drop>(list: &mut Vec<T>, item: T) -> Result<(), Fault> {
 }
 
 /// A client and its rival, which begins elsewhere.
-#[derive(Drop)]
 pub struct Clients {
     pub client: Client,
     pub rival: Client,
 }
 
+impl Drop for Clients {
+    fn drop(self) {
+        let Clients { client, rival } = self;
+        drop(client);
+        drop(rival);
+    }
+}
+
 /// Two clients, over blank notes.
 pub fn two_clients(alloc: Global, servers: u32) -> Result<Clients, Fault> {
     let client = client_of(alloc, servers)?;
-    let rival = client_of(alloc, servers)?;
-    Ok(Clients { client, rival })
+    match client_of(alloc, servers) {
+        Ok(rival) => Ok(Clients { client, rival }),
+        Err(fault) => {
+            drop(client);
+            Err(fault)
+        }
+    }
 }
 
 /// A client over a blank note.
@@ -93,7 +138,10 @@ fn client_of(alloc: Global, servers: u32) -> Result<Client, Fault> {
     }
     match ClientCell::new(alloc, servers, blank(alloc)) {
         Ok(cell) => Ok(cell),
-        Err((_, fault)) => Err(fault),
+        Err((notes, fault)) => {
+            drop(notes);
+            Err(fault)
+        }
     }
 }
 
@@ -116,6 +164,9 @@ fn notes_of(alloc: Global, play: &Play) -> Result<FaultNotes, Fault> {
 fn used(alloc: Global, notes: FaultNotes) -> Result<FaultNotes, Fault> {
     match Core::restart(alloc, ServerNo(0), notes) {
         Ok(server) => Ok(server.off()),
-        Err((_, fault)) => Err(fault),
+        Err((notes, fault)) => {
+            drop(notes);
+            Err(fault)
+        }
     }
 }

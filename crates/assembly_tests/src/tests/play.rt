@@ -44,13 +44,3 @@ pub struct Play {
     pub steps: &'static [Step],
     pub handed: Handed,
 }
-
-impl Play {
-    /// The same with this save failing.
-    pub fn failing(self, at: u64, landed: bool) -> Play {
-        Play {
-            failing: (at, landed),
-            ..self
-        }
-    }
-}

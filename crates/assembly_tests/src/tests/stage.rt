@@ -41,13 +41,28 @@ impl Shown {
 }
 
 /// The nodes, and the hubs.
-#[derive(Drop)]
 struct Stage {
     alloc: Global,
     hub: Hub,
     elsewhere: Hub,
     clients: Clients,
     cells: Cells,
+}
+
+impl Drop for Stage {
+    fn drop(self) {
+        let Stage {
+            alloc: _,
+            hub,
+            elsewhere,
+            clients,
+            cells,
+        } = self;
+        drop(hub);
+        drop(elsewhere);
+        drop(clients);
+        drop(cells);
+    }
 }
 
 /// What is assembled after a play; played anew where memory runs out once.
@@ -62,20 +77,27 @@ pub fn outcome_of(alloc: Global, play: &Play, order: &[(u32, u64)]) -> Shown {
 
 fn played(alloc: Global, play: &Play, order: &[(u32, u64)]) -> Result<Shown, Fault> {
     let mut stage = Stage::new(alloc, play)?;
-    stage.play(play, order)
+    let shown = stage.play(play, order);
+    drop(stage);
+    shown
 }
 
 impl Stage {
     fn new(alloc: Global, play: &Play) -> Result<Stage, Fault> {
         let clients = two_clients(alloc, play.servers)?;
-        let cells = Cells::open(alloc, play)?;
-        Ok(Stage {
-            alloc,
-            hub: Hub::new(alloc),
-            elsewhere: Hub::new(alloc),
-            clients,
-            cells,
-        })
+        match Cells::open(alloc, play) {
+            Ok(cells) => Ok(Stage {
+                alloc,
+                hub: Hub::new(alloc),
+                elsewhere: Hub::new(alloc),
+                clients,
+                cells,
+            }),
+            Err(fault) => {
+                drop(clients);
+                Err(fault)
+            }
+        }
     }
 
     /// What is assembled after the steps of a play.
@@ -104,6 +126,18 @@ impl Stage {
             Step::Done(number) => self.ask(number, done(number)),
             Step::Cut(number) => self.ask(number, ServerTask::Cut),
             Step::Restart(number) => self.ask(number, ServerTask::Restart),
+            Step::Forged(node, at, frame) => return self.forge(node, at, frame),
+            elsewhere => self.take_elsewhere(elsewhere),
+        };
+        match answer {
+            Err(Fault::NoMemory) => Err(Fault::NoMemory),
+            _ => Ok(()),
+        }
+    }
+
+    /// One step at the hub elsewhere.
+    fn take_elsewhere(&mut self, step: Step) -> Result<Told, Fault> {
+        match step {
             Step::TickElsewhere => self.clients.client.post(&mut self.elsewhere, Command::Tick),
             Step::RivalBegins => self.rival_begins(LONGER),
             Step::RivalBeginsAlike => self.rival_begins(WRITING),
@@ -111,11 +145,7 @@ impl Stage {
             Step::ToClientElsewhere(position) => {
                 self.clients.client.deliver(&mut self.elsewhere, position)
             }
-            Step::Forged(node, at, frame) => return self.forge(node, at, frame),
-        };
-        match answer {
-            Err(Fault::NoMemory) => Err(Fault::NoMemory),
-            _ => Ok(()),
+            _ => Err(Fault::NoFrame),
         }
     }
 
@@ -200,7 +230,11 @@ impl Stage {
 /// What is assembled, against an order.
 fn show(assembled: Result<Assembled, AssembleFault>, order: &[(u32, u64)]) -> Result<Shown, Fault> {
     match assembled {
-        Ok(assembled) => Ok(order_of(&assembled, order)),
+        Ok(assembled) => {
+            let shown = order_of(&assembled, order);
+            drop(assembled);
+            Ok(shown)
+        }
         Err(AssembleFault::Unlike { node, at }) => Ok(Shown::Unlike(node.number(), at)),
         Err(AssembleFault::NoMemory) => Err(Fault::NoMemory),
     }

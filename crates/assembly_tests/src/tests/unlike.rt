@@ -49,7 +49,7 @@ const ELSEWHERE: Handed = Handed {
 };
 
 /// Plays, and what is unlike behind each.
-pub const UNLIKE: [Case; 15] = [
+pub static UNLIKE: [Case; 15] = [
     // The hub lacks the entry of the client's second event: the last, and with others behind it.
     Case {
         is_used: false,

@@ -37,9 +37,9 @@ impl Step {
     }
 }
 
-fn engine_of(alloc: Global, job: JobParts) -> Result<Engine, Fail> {
-    let rec = JobRecord::make(job).ok_or("within the limits")?;
-    Ok(Engine::new(alloc, 3, KEY, &rec)?)
+fn engine_of(alloc: Global, job: JobParts) -> Option<Engine> {
+    let rec = JobRecord::make(job)?;
+    Engine::new(alloc, 3, KEY, &rec).ok()
 }
 
 /// Takes the engine through the steps, up to the first that it answers otherwise: which one that is.
@@ -54,31 +54,58 @@ fn step_through(engine: &mut Engine, steps: &[Step]) -> Option<usize> {
 
 /// Which is the first of these steps that a new engine of the job answers otherwise.
 pub fn first_unlike(alloc: Global, job: JobParts, steps: &[Step]) -> Result<Option<usize>, Fail> {
-    let mut engine = engine_of(alloc, job)?;
-    Ok(step_through(&mut engine, steps))
+    match engine_of(alloc, job) {
+        Some(mut engine) => Ok(step_through(&mut engine, steps)),
+        None => Err(Fail::new("no engine")),
+    }
+}
+
+/// Fails by that step.
+pub fn goes_so(alloc: Global, job: JobParts, steps: &[Step]) -> Result<(), Fail> {
+    match first_unlike(alloc, job, steps)? {
+        None => Ok(()),
+        Some(i) => Err(Fail::new(i)),
+    }
+}
+
+/// The state behind these steps, if the engine answers so.
+fn state_behind(engine: &mut Engine, steps: &[Step]) -> Result<VerifyState, Fail> {
+    match step_through(engine, steps) {
+        None => Ok(engine.take()),
+        Some(i) => Err(Fail::new(i)),
+    }
 }
 
 /// The state of the job after these steps.
 pub fn state_after(alloc: Global, job: JobParts, steps: &[Step]) -> Result<VerifyState, Fail> {
-    let mut engine = engine_of(alloc, job)?;
-    match step_through(&mut engine, steps) {
-        None => Ok(engine.take()),
-        Some(_) => Err("the engine answers otherwise".into()),
+    match engine_of(alloc, job) {
+        Some(mut engine) => state_behind(&mut engine, steps),
+        None => Err(Fail::new("no engine")),
     }
 }
 
-/// How many of the states that are taken after these steps, so many times, are the same as their
-/// copies.
-pub fn copies_alike(alloc: Global, job: JobParts, steps: &[Step], times: u32) -> Result<u32, Fail> {
-    let mut engine = engine_of(alloc, job)?;
-    if step_through(&mut engine, steps).is_some() {
-        return Err("the engine answers otherwise".into());
+/// Whether the states that are taken after these steps, so many times, are the same as their copies.
+pub fn copies_alike(
+    alloc: Global,
+    job: JobParts,
+    steps: &[Step],
+    times: u32,
+) -> Result<bool, Fail> {
+    match engine_of(alloc, job) {
+        Some(mut engine) => {
+            Ok(step_through(&mut engine, steps).is_none() && are_alike_now(&engine, times))
+        }
+        None => Err(Fail::new("no engine")),
     }
-    Ok(alike_now(&engine, times))
 }
 
-fn alike_now(engine: &Engine, times: u32) -> u32 {
-    (0..times).filter(|_| is_like_its_copy(engine)).count() as u32
+fn are_alike_now(engine: &Engine, times: u32) -> bool {
+    for _ in 0..times {
+        if !is_like_its_copy(engine) {
+            return false;
+        }
+    }
+    true
 }
 
 fn is_like_its_copy(engine: &Engine) -> bool {

@@ -41,14 +41,22 @@ fn look_again(kept: &Assembly, piece: &Piece) -> Result<Option<Packet>, Fault> {
 fn gives_nothing(kept: &Assembly, piece: &Piece) -> bool {
     match look_again(kept, piece) {
         Ok(None) => true,
-        _ => false,
+        Ok(Some(packet)) => {
+            drop(packet);
+            false
+        }
+        Err(_) => false,
     }
 }
 
 /// Whether looking at a piece gives this packet.
 fn gives(alloc: Global, kept: &Assembly, piece: &Piece, packet: &Packet) -> bool {
     match look_again(kept, piece) {
-        Ok(Some(given)) => are_alike(alloc, &given, packet),
+        Ok(Some(given)) => {
+            let same = are_alike(alloc, &given, packet);
+            drop(given);
+            same
+        }
         _ => false,
     }
 }
@@ -78,11 +86,23 @@ fn takes_again(kept: &mut Assembly, first: &Piece, last: &Piece) -> bool {
 /// calls is refused.
 fn come_together(alloc: Global, first: &Piece, last: &Piece, packet: &Packet) -> bool {
     let mut kept = Assembly::new(alloc);
-    gives_nothing(&kept, last)
-        && takes_again(&mut kept, first, last)
-        && gives(alloc, &kept, last, packet)
+    let together = come_together_in(alloc, &mut kept, first, last, packet);
+    drop(kept);
+    together
+}
+
+fn come_together_in(
+    alloc: Global,
+    kept: &mut Assembly,
+    first: &Piece,
+    last: &Piece,
+    packet: &Packet,
+) -> bool {
+    gives_nothing(kept, last)
+        && takes_again(kept, first, last)
+        && gives(alloc, kept, last, packet)
         && kept.take(last).is_ok()
-        && gives_nothing(&kept, last)
+        && gives_nothing(kept, last)
 }
 
 /// The same of the pieces that these bytes are.

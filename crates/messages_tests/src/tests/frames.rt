@@ -5,6 +5,7 @@ use super::vectors::{ANSWERS, REQUESTS};
 use super::*;
 use fc_base::Attempt;
 use messages::Act;
+use std::test::Fail;
 
 fn compare_orders(rows: &mut Rows) {
     let run = RunNo(1);
@@ -38,15 +39,18 @@ fn compare_checks(alloc: Global, rows: &mut Rows) {
     rows.compare(from_client(0, Body::NoSaved { run, attempt, job }));
 }
 
-#[test]
-fn frames_of_requests(rt: HostRuntime) {
-    let alloc = rt.alloc();
-    let mut rows = Rows::new(alloc, &REQUESTS);
+fn compare_jobs(alloc: Global, rows: &mut Rows) {
     rows.compare_made(jobs(alloc, 0, 1, b"[a]\nrw=write\nsize=4k\n"));
     rows.compare_made(jobs(alloc, 7, u64::MAX, b""));
+}
+
+#[test]
+fn frames_of_requests(rt: HostRuntime) -> Result<(), Fail> {
+    let mut rows = Rows::new(rt.alloc(), &REQUESTS);
+    compare_jobs(rt.alloc(), &mut rows);
     compare_orders(&mut rows);
-    compare_checks(alloc, &mut rows);
-    assert_eq!(rt; rows.first_unlike(), None);
+    compare_checks(rt.alloc(), &mut rows);
+    rows.end()
 }
 
 fn state(alloc: Global) -> Option<PacketParts> {
@@ -60,14 +64,22 @@ fn compare_lost(rows: &mut Rows) {
     rows.compare(from_server(0, Body::Stopped { run: RunNo(2) }));
 }
 
-#[test]
-fn frames_of_answers(rt: HostRuntime) {
-    let (run, attempt, job) = (RunNo(1), Attempt(9), JobNo(0));
-    let mut rows = Rows::new(rt.alloc(), &ANSWERS);
+fn compare_started(rows: &mut Rows, run: RunNo) {
     rows.compare(from_server(0, Body::JobsOk { run, jobs: 16 }));
     rows.compare(from_server(0, Body::Started { run }));
+}
+
+fn compare_wanted(rows: &mut Rows, run: RunNo) {
+    let (attempt, job) = (Attempt(9), JobNo(0));
+    rows.compare(from_server(0, Body::WantState { run, attempt, job }));
+}
+
+#[test]
+fn frames_of_answers(rt: HostRuntime) -> Result<(), Fail> {
+    let mut rows = Rows::new(rt.alloc(), &ANSWERS);
+    compare_started(&mut rows, RunNo(1));
     rows.compare_made(state(rt.alloc()));
     compare_lost(&mut rows);
-    rows.compare(from_server(0, Body::WantState { run, attempt, job }));
-    assert_eq!(rt; rows.first_unlike(), None);
+    compare_wanted(&mut rows, RunNo(1));
+    rows.end()
 }

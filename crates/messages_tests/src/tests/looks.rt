@@ -3,9 +3,10 @@
 use super::*;
 use messages::look_at;
 use std::fmt;
+use std::test::Fail;
 
 /// Bytes, and what their header says.
-const LOOKED: &[(&[u8], &str)] = &[
+static LOOKED: [(&[u8], &str); 4] = [
     (
         b"FC\x01\x08\0\0\0\x08\0\0\0\x03\0\0\0\x0c\0\0\0\0\0\0\0\x05\0\0\0\x0f",
         "Client Server(ServerNo(3)) StateAck",
@@ -26,7 +27,7 @@ const LOOKED: &[(&[u8], &str)] = &[
 
 /// Bytes that have no header of a frame: too few, another letter, another version, a kind that isn't
 /// known, and a node above 9.
-const STRANGE: &[&[u8]] = &[
+static STRANGE: [&[u8]; 9] = [
     b"",
     b"FC\x01\x08\0\0\0\x08\0\0\0\x03\0\0\0",
     b"fC\x01\x08\0\0\0\x08\0\0\0\x03\0\0\0\x0c",
@@ -56,15 +57,21 @@ fn says(alloc: Global, bytes: &[u8], wanted: &str) -> bool {
 }
 
 #[test]
-fn looks_at_headers(rt: HostRuntime) {
-    for (bytes, wanted) in LOOKED {
-        assert!(rt; says(rt.alloc(), bytes, wanted), "{wanted}");
+fn looks_at_headers(rt: HostRuntime) -> Result<(), Fail> {
+    for (bytes, wanted) in &LOOKED {
+        if !says(rt.alloc(), bytes, wanted) {
+            return Err(Fail::new(*wanted));
+        }
     }
+    Ok(())
 }
 
 #[test]
-fn looks_at_strange_headers(rt: HostRuntime) {
+fn looks_at_strange_headers(_rt: HostRuntime) -> Result<(), Fail> {
     for (row, bytes) in STRANGE.iter().enumerate() {
-        assert!(rt; look_at(bytes).is_none(), "at {row}");
+        if look_at(bytes).is_some() {
+            return Err(Fail::new(row));
+        }
     }
+    Ok(())
 }

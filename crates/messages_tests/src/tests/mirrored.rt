@@ -6,6 +6,7 @@ use super::vectors::MIRRORED;
 use super::*;
 use fc_base::{Fault, Generation};
 use messages::decode_frame;
+use std::test::Fail;
 
 fn to_mirror(body: Body) -> PacketParts {
     PacketParts {
@@ -44,14 +45,18 @@ fn compare_grants(rows: &mut Rows) {
     rows.compare(from_mirror(Body::Granted { generation }));
 }
 
+fn compare_copies(alloc: Global, rows: &mut Rows) {
+    rows.compare_made(copy(alloc, Node::Client, Node::Mirror));
+    rows.compare_made(copy(alloc, Node::Mirror, Node::Client));
+}
+
 #[test]
-fn frames_of_a_mirror(rt: HostRuntime) {
+fn frames_of_a_mirror(rt: HostRuntime) -> Result<(), Fail> {
     let mut rows = Rows::new(rt.alloc(), &MIRRORED);
-    rows.compare_made(copy(rt.alloc(), Node::Client, Node::Mirror));
-    rows.compare_made(copy(rt.alloc(), Node::Mirror, Node::Client));
+    compare_copies(rt.alloc(), &mut rows);
     rows.compare(from_mirror(copy_ok()));
     compare_grants(&mut rows);
-    assert_eq!(rt; rows.first_unlike(), None);
+    rows.end()
 }
 
 /// A Copy of a state in layout 1, in 1,028 bytes.

@@ -2,6 +2,7 @@
 
 use super::*;
 use messages::{Assembly, Frame, Frames, Piece, decode_frame, frames_of};
+use std::test::Fail;
 
 /// How many bytes of a body a piece has at most.
 const PART: usize = 1_024;
@@ -44,17 +45,24 @@ static LENGTHS: [(usize, &[usize]); 3] = [
 ];
 
 #[test]
-fn long_texts_go_out_in_pieces(rt: HostRuntime) {
+fn long_texts_go_out_in_pieces(rt: HostRuntime) -> Result<(), Fail> {
     for (count, lens) in &LENGTHS {
-        assert!(rt; goes_out_in(rt.alloc(), *count, lens), "at {count}");
+        if !goes_out_in(rt.alloc(), *count, lens) {
+            return Err(Fail::new(*count));
+        }
     }
+    Ok(())
 }
 
 /// The piece that these bytes are.
 pub(super) fn piece_in(alloc: Global, bytes: &[u8]) -> Option<Piece> {
     match decode_frame(alloc, bytes) {
         Ok(Frame::Piece(piece)) => Some(piece),
-        _ => None,
+        Ok(Frame::Whole(packet)) => {
+            drop(packet);
+            None
+        }
+        Err(_) => None,
     }
 }
 
@@ -121,28 +129,30 @@ fn piece_of(alloc: Global, step: Step) -> Option<Piece> {
 fn answer_to(alloc: Global, kept: &Assembly, piece: &Piece, frame: &[u8]) -> u8 {
     match kept.look(piece) {
         Ok(None) => 0,
-        Ok(Some(packet)) if has_frame(alloc, &packet, frame) => 1,
-        Ok(Some(_)) => 2,
+        Ok(Some(packet)) => {
+            let same = has_frame(alloc, &packet, frame);
+            drop(packet);
+            if same { 1 } else { 2 }
+        }
         Err(fault) => fault.number(),
     }
 }
 
 fn is_answered(alloc: Global, kept: &mut Assembly, step: Step, frame: &[u8]) -> bool {
     let (_, _, answer) = step;
-    match piece_of(alloc, step) {
-        Some(piece) => {
-            answer_to(alloc, kept, &piece, frame) == answer && kept.take(&piece).is_ok()
-        }
-        None => false,
-    }
+    let Some(piece) = piece_of(alloc, step) else {
+        return false;
+    };
+    let agree = answer_to(alloc, kept, &piece, frame) == answer && kept.take(&piece).is_ok();
+    drop(piece);
+    agree
 }
 
 /// Whether the steps are answered so, one after the other.
-fn are_answered(alloc: Global, steps: &[Step], frame: &[u8]) -> bool {
-    let mut kept = Assembly::new(alloc);
+fn are_answered(alloc: Global, kept: &mut Assembly, steps: &[Step], frame: &[u8]) -> bool {
     let mut agree = true;
     for step in steps {
-        agree = agree && is_answered(alloc, &mut kept, *step, frame);
+        agree = agree && is_answered(alloc, kept, *step, frame);
     }
     agree
 }
@@ -162,10 +172,13 @@ fn whole_frame(alloc: Global) -> Option<Vec<u8>> {
 
 /// Whether the steps are answered so, where a packet is the state.
 fn come_together(alloc: Global, steps: &[Step]) -> bool {
-    match whole_frame(alloc) {
-        Some(frame) => are_answered(alloc, steps, &frame),
-        None => false,
-    }
+    let Some(frame) = whole_frame(alloc) else {
+        return false;
+    };
+    let mut kept = Assembly::new(alloc);
+    let agree = are_answered(alloc, &mut kept, steps, &frame);
+    drop(kept);
+    agree
 }
 
 static STEPS: [&[Step]; 4] = [
@@ -176,10 +189,13 @@ static STEPS: [&[Step]; 4] = [
 ];
 
 #[test]
-fn states_come_together(rt: HostRuntime) {
+fn states_come_together(rt: HostRuntime) -> Result<(), Fail> {
     for (row, steps) in STEPS.iter().enumerate() {
-        assert!(rt; come_together(rt.alloc(), steps), "at {row}");
+        if !come_together(rt.alloc(), steps) {
+            return Err(Fail::new(row));
+        }
     }
+    Ok(())
 }
 
 /// The first or the last of the two pieces of a text, in a run.
@@ -220,8 +236,14 @@ fn gives_packet(kept: &Assembly, piece: &Piece) -> Option<bool> {
 /// Whether the runs 1 and 2 are completed, behind the first pieces of so many runs.
 fn completed_after(alloc: Global, runs: u64) -> (Option<bool>, Option<bool>) {
     let mut kept = Assembly::new(alloc);
-    if takes_firsts(alloc, &mut kept, runs) {
-        (is_completed(alloc, &kept, 1), is_completed(alloc, &kept, 2))
+    let completed = completed_in(alloc, &mut kept, runs);
+    drop(kept);
+    completed
+}
+
+fn completed_in(alloc: Global, kept: &mut Assembly, runs: u64) -> (Option<bool>, Option<bool>) {
+    if takes_firsts(alloc, kept, runs) {
+        (is_completed(alloc, kept, 1), is_completed(alloc, kept, 2))
     } else {
         (None, None)
     }

@@ -1,6 +1,7 @@
 //! Packets that come in turn, and rows that say their frames.
 
 use super::*;
+use std::test::Fail;
 
 /// The name of a packet's kind, and its frame.
 pub(super) type Row = (&'static str, &'static [u8]);
@@ -47,22 +48,34 @@ impl Rows {
     }
 
     /// The first packet that isn't as its row says, or the first that never came.
-    pub(super) fn first_unlike(&self) -> Option<usize> {
+    fn first_unlike(&self) -> Option<usize> {
         if self.unlike.is_none() && self.count < self.rows.len() {
             return Some(self.count);
         }
         self.unlike
     }
+
+    /// Each packet came, and is as its row says.
+    pub(super) fn end(&self) -> Result<(), Fail> {
+        match self.first_unlike() {
+            None => Ok(()),
+            Some(row) => Err(Fail::new(row)),
+        }
+    }
 }
 
 /// Whether the packet of these parts has this frame, and the frame says this packet.
 fn is_frame_of(alloc: Global, parts: PacketParts, name: &str, frame: &[u8]) -> bool {
-    match Packet::make(parts) {
-        Ok(packet) => {
-            is_written(alloc, &packet, name, frame) && is_read_back(alloc, &packet, name, frame)
-        }
-        Err(_) => false,
-    }
+    let Ok(packet) = Packet::make(parts) else {
+        return false;
+    };
+    let same = has_row(alloc, &packet, name, frame);
+    drop(packet);
+    same
+}
+
+fn has_row(alloc: Global, packet: &Packet, name: &str, frame: &[u8]) -> bool {
+    is_written(alloc, packet, name, frame) && is_read_back(alloc, packet, name, frame)
 }
 
 /// Whether a packet has this name and this frame.
@@ -72,10 +85,12 @@ fn is_written(alloc: Global, packet: &Packet, name: &str, frame: &[u8]) -> bool 
 
 /// Whether the frame is read as a packet with this name, these ends and this frame again.
 fn is_read_back(alloc: Global, packet: &Packet, name: &str, frame: &[u8]) -> bool {
-    match decode(alloc, frame) {
-        Ok(read) => have_same_ends(&read, packet) && is_written(alloc, &read, name, frame),
-        Err(_) => false,
-    }
+    let Ok(read) = decode(alloc, frame) else {
+        return false;
+    };
+    let same = have_same_ends(&read, packet) && is_written(alloc, &read, name, frame);
+    drop(read);
+    same
 }
 
 fn have_same_ends(one: &Packet, other: &Packet) -> bool {

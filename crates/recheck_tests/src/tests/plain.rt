@@ -34,24 +34,12 @@ impl PlainCheck {
     ) -> Result<PlainCheck, AllocError>
         ensures { IfOk result (λ check. check.job ≡ job.now) }
     {
-        let mut writes = Vec::new(alloc);
-        let mut order = Order::new(alloc, job)?;
         let issued = match state {
             None => job.total(),
             Some(state) => state.issued().min(job.total()),
         };
-        for k in 0..issued {
-            let Some(block) = order.peek() else {
-                break;
-            };
-            let seq = Seq(k);
-            let counts = match state {
-                None => true,
-                Some(state) => state.counts(seq),
-            };
-            writes.push(Issued { seq, block, counts })?;
-            order.advance();
-        }
+        let mut writes = Vec::new(alloc);
+        note_all(&mut writes, &mut Order::new(alloc, job)?, issued, state)?;
         Ok(PlainCheck {
             key,
             job: *job,
@@ -82,4 +70,26 @@ impl PlainCheck {
         }
         Verdict::Fault
     }
+}
+
+/// Notes the first so many writes, each with its block and whether it counts.
+fn note_all(
+    writes: &mut Vec<Issued>,
+    order: &mut Order,
+    issued: u64,
+    state: Option<&VerifyState>,
+) -> Result<(), AllocError> {
+    for k in 0..issued {
+        let Some(block) = order.peek() else {
+            break;
+        };
+        let seq = Seq(k);
+        let counts = match state {
+            None => true,
+            Some(state) => state.counts(seq),
+        };
+        writes.push(Issued { seq, block, counts })?;
+        order.advance();
+    }
+    Ok(())
 }

@@ -3,37 +3,42 @@
 use engine::Ticket;
 use fc_base::Seq;
 use std::sync::atomic::{AtomicBool, Ordering};
-use workers::Gate;
+use workers::{Gate, OpenGate};
 
-/// Lets the writes below this number through.
+/// Which writes a gate lets through.
 #[derive(Clone, Copy)]
-pub struct OpensBelow(pub Seq);
-
-impl Gate for OpensBelow {
-    fn may_write(&self, ticket: &Ticket) -> bool {
-        ticket.seq < self.0
-    }
-
-    fn written(&self, _ticket: &Ticket) {}
+pub enum Lets {
+    /// All, as the open gate does.
+    All,
+    /// Those below this number.
+    Below(u64),
+    /// Write 0 once write 1 is done, and the others.
+    Crosswise,
 }
 
-/// Lets write 0 through once write 1 is done.
+/// A gate that holds the other writes back.
 #[derive(Drop)]
-pub struct Crossing {
+pub struct Holding {
+    lets: Lets,
     second: AtomicBool,
 }
 
-impl Crossing {
-    pub fn new() -> Crossing {
-        Crossing {
+impl Holding {
+    pub fn new(lets: Lets) -> Holding {
+        Holding {
+            lets,
             second: AtomicBool::new(false),
         }
     }
 }
 
-impl Gate for Crossing {
+impl Gate for Holding {
     fn may_write(&self, ticket: &Ticket) -> bool {
-        ticket.seq != Seq(0) || self.second.load(Ordering::SeqCst)
+        match self.lets {
+            Lets::All => OpenGate.may_write(ticket),
+            Lets::Below(number) => ticket.seq.0 < number,
+            Lets::Crosswise => ticket.seq != Seq(0) || self.second.load(Ordering::SeqCst),
+        }
     }
 
     fn written(&self, ticket: &Ticket) {

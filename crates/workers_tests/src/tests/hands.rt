@@ -1,6 +1,6 @@
 //! Workers in threads of their own, and how they end.
 
-use super::stage::Server;
+use super::site::Server;
 use disk_model::Disk;
 use engine::Issue;
 use fc_base::Fault;

@@ -1,9 +1,9 @@
 //! Values that were computed apart from this program, by another reading of the rules.
 
-use fc_base::{JobNo, Key, Kind, RunNo, ServerNo, Verify};
+use fc_base::{Kind, Verify};
 
 /// A seed, and the first words of its generator.
-pub const WORDS: [(u64, [u64; 8]); 6] = [
+pub static WORDS: [(u64, [u64; 8]); 6] = [
     (
         0,
         [
@@ -85,7 +85,7 @@ pub const WORDS: [(u64, [u64; 8]); 6] = [
 ];
 
 /// A seed, a number of writes of a random order, and the place after them.
-pub const PLACES: [(u64, u64, [u64; 4]); 5] = [
+pub static PLACES: [(u64, u64, [u64; 4]); 5] = [
     (
         1,
         0,
@@ -137,8 +137,9 @@ pub const PLACES: [(u64, u64, [u64; 4]); 5] = [
         ],
     ),
 ];
+
 /// An order, its seed, how many blocks it has, and the blocks of its first writes.
-pub const BLOCKS: [(Kind, u64, u64, &[u8]); 12] = [
+pub static BLOCKS: [(Kind, u64, u64, &[u8]); 12] = [
     (
         Kind::Sequential,
         1,
@@ -197,14 +198,14 @@ pub const BLOCKS: [(Kind, u64, u64, &[u8]); 12] = [
         b"\x0e\x06\x0f\x0e\x0f\x0a\x0d\x0a\x0a\x07\x01\x01\x03\x0c\x09\x00\x00\x0b\x0c\x07\x05\x04\x05\x02\x0f\x0e\x04\x03\x0d\x0c\x0e\x08\x00\x0a\x0a\x09\x05\x05\x08\x0a",
     ),
 ];
-/// A write, and the first bytes of its block: its key, what it writes, the block size, its number, its block.
-pub const FRONTS: [(Key, Verify, u8, u64, u64, u32, &[u8]); 5] = [
+
+/// A write, and the first bytes of its block: its run, server and job, what it writes, the block size, its
+/// number, its block.
+pub type Front = ((u64, u32, u32), Verify, u8, u64, u64, u32, &'static [u8]);
+
+pub static FRONTS: [Front; 5] = [
     (
-        Key {
-            run: RunNo(1),
-            server: ServerNo(0),
-            job: JobNo(0),
-        },
+        (1, 0, 0),
         Verify::Stamp,
         0x00,
         512,
@@ -214,11 +215,7 @@ pub const FRONTS: [(Key, Verify, u8, u64, u64, u32, &[u8]); 5] = [
           \x00\x00\x00\x05\x00\x00\x00\x00\x00\x00\x00\x01\x00\x00\x00\x00\x05\x06\x07\x08",
     ),
     (
-        Key {
-            run: RunNo(u64::MAX),
-            server: ServerNo(7),
-            job: JobNo(15),
-        },
+        (u64::MAX, 7, 15),
         Verify::Stamp,
         0x00,
         4096,
@@ -228,11 +225,7 @@ pub const FRONTS: [(Key, Verify, u8, u64, u64, u32, &[u8]); 5] = [
           \x00\x0f\x42\x3f\x00\x00\x00\x00\x00\x00\xff\xff\x00\x00\x00\x00\x3f\x40\x41\x42",
     ),
     (
-        Key {
-            run: RunNo(3),
-            server: ServerNo(1),
-            job: JobNo(2),
-        },
+        (3, 1, 2),
         Verify::Stamp,
         0x00,
         65_536,
@@ -242,11 +235,7 @@ pub const FRONTS: [(Key, Verify, u8, u64, u64, u32, &[u8]); 5] = [
           \x00\x00\x00\xff\x00\x00\x00\x00\x00\x00\x00\x00\x00\x00\x00\x00\xff\x00\x01\x02",
     ),
     (
-        Key {
-            run: RunNo(1),
-            server: ServerNo(0),
-            job: JobNo(0),
-        },
+        (1, 0, 0),
         Verify::Pattern,
         0xa5,
         1024,
@@ -256,11 +245,7 @@ pub const FRONTS: [(Key, Verify, u8, u64, u64, u32, &[u8]); 5] = [
           \xa5\xa5\xa5\xa5\xa5\xa5\xa5\xa5\xa5\xa5\xa5\xa5\xa5\xa5\xa5\xa5\xa5\xa5\xa5\xa5",
     ),
     (
-        Key {
-            run: RunNo(9),
-            server: ServerNo(2),
-            job: JobNo(3),
-        },
+        (9, 2, 3),
         Verify::Stamp,
         0x00,
         1536,
