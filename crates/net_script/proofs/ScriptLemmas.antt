@@ -7,7 +7,7 @@ use Rattle.std.proofs.lemmas.Bool.{cases_lt}
 use Rattle.std.proofs.lemmas.Bool.Decides.{nat_tests}
 use Rattle.fc_base.specs.declared.fault.Fault.TheVariants.{NoMemory}
 use Rattle.bounded_input.specs.Input.{IsRead}
-use Rattle.net_world.specs.Setup.{without_mirror}
+use Rattle.net_world.specs.Setup.{Setup}
 use Rattle.net_script.specs.Orders.{Order, Opens, ended, orders_of}
 use Rattle.net_script.specs.Printed.{bad_line, refusal_line}
 use Rattle.net_script.specs.Script.{are_commands, lines_in, lines_of_orders, status_by, status_in, status_of_orders, reads_well, finds_faults, is_too_long, text_of, status_of}
@@ -18,25 +18,25 @@ pub nothing_run : (orders : List Order) (old : Option (List ℕ)) → orders ≡
 nothing_run orders old none = inl (subst (λ os. Appends old old (flat_map ended (lines_of_orders os))) (sym none) (Appends-nil old), ap status_of_orders (sym none))
 
 -- The world is made, and the orders behind have run in it.
-pub opened : (line n : ℕ) (orders : List Order) (old mid new : Option (List ℕ)) (status : ℕ) → Appends old mid (codes "ok\n")
-    → RunOrders (lines_in (without_mirror n) []) are_commands (status_in (without_mirror n) []) orders mid new status
-    → RunOrders lines_of_orders reads_well status_of_orders (Opens line n ∷ orders) old new status
-opened line n orders old mid new status ok (inl ran) = inl (Appends-trans old mid new _ _ ok ran.0, ran.1)
-opened line n orders old mid new status ok (inr soon) = inr (record {
-  before = Opens line n ∷ soon.before;
+pub opened : (line : ℕ) (setup : Setup) (orders : List Order) (old mid new : Option (List ℕ)) (status : ℕ) → Appends old mid (codes "ok\n")
+    → RunOrders (lines_in setup []) are_commands (status_in setup []) orders mid new status
+    → RunOrders lines_of_orders reads_well status_of_orders (Opens line setup ∷ orders) old new status
+opened line setup orders old mid new status ok (inl ran) = inl (Appends-trans old mid new _ _ ok ran.0, ran.1)
+opened line setup orders old mid new status ok (inr soon) = inr (record {
+  before = Opens line setup ∷ soon.before;
   lacking = soon.lacking;
   rest = soon.rest;
-  split = ap (λ os. Opens line n ∷ os) soon.split;
+  split = ap (λ os. Opens line setup ∷ os) soon.split;
   lacks = soon.lacks;
   finishes = (Appends-trans old mid new _ _ ok soon.finishes.0, soon.finishes.1);
 })
 
 -- No memory for the world.
-pub no_world : (line n : ℕ) (orders : List Order) (old new : Option (List ℕ)) → Appends old new (ended (refusal_line NoMemory))
-    → RunOrders lines_of_orders reads_well status_of_orders (Opens line n ∷ orders) old new 2
-no_world line n orders old new wrote = inr (record {
+pub no_world : (line : ℕ) (setup : Setup) (orders : List Order) (old new : Option (List ℕ)) → Appends old new (ended (refusal_line NoMemory))
+    → RunOrders lines_of_orders reads_well status_of_orders (Opens line setup ∷ orders) old new 2
+no_world line setup orders old new wrote = inr (record {
   before = [];
-  lacking = Opens line n;
+  lacking = Opens line setup;
   rest = orders;
   split = refl;
   lacks = refl;

@@ -1,16 +1,16 @@
 -- A line asks for 1 to 8 servers.
-use Rattle.std.proofs.Common.{◌≡◌, ℕ, Bool, true, false, ◌&&◌, cond, nat_le, List, [], ◌∷◌, ◌++◌, Option, Some, None, take, drop, bytes_eq, refl, arith}
+use Rattle.std.proofs.Common.{◌≡◌, ℕ, Bool, true, false, ◌&&◌, cond, nat_le, codes, List, [], ◌∷◌, ◌++◌, Option, Some, None, take, drop, bytes_eq, refl, arith}
 use Rattle.std.proofs.lemmas.Bool.Decides.{nat_tests}
 use Rattle.messages.specs.declared.node.Node.{Node}
 use Rattle.net_script.specs.declared.command.Saving.{Saving}
-use Rattle.net_script.specs.declared.command.Saving.TheVariants.{Begin, Verify, Deliver, Restart}
+use Rattle.net_script.specs.declared.command.Saving.TheVariants.{Begin, Verify, Deliver, Restart, Renew}
 use Rattle.net_script.specs.declared.command.Command.{Command}
-use Rattle.net_script.specs.declared.command.Command.TheVariants.{Saves, CutShort, Trigger, Stop, Tick, Issue, Land, Done, Fail, Rot, Check, Cut}
+use Rattle.net_script.specs.declared.command.Command.TheVariants.{Saves, CutShort, Trigger, Stop, Tick, Issue, Land, Done, Fail, Rot, Check, Cut, LoseNote}
 use Rattle.net_script.specs.declared.line.Line.{Line}
 use Rattle.net_script.specs.declared.line.Line.TheVariants.{Servers, Asks, Unread}
 use Rattle.net_script.specs.Words.{number_of}
-use Rattle.net_script.specs.Arguments.{read_as, alone, numbers, numbers_of, one, two, three, four, node, node_of, place, sectors_of}
-use Rattle.net_script.specs.Table.{Row, named, or_unread, by_table, act_of, triggered, trigger, land, rot, servers, saving, asking, of_jobs, cuts, table, AsksFew}
+use Rattle.net_script.specs.Arguments.{read_as, alone, maybe, numbers, numbers_of, one, two, three, four, node, node_of, place, sectors_of}
+use Rattle.net_script.specs.Table.{Row, named, or_unread, by_table, act_of, triggered, trigger, land, rot, world_of, servers, saving, asking, of_jobs, cuts, table, AsksFew}
 
 -- So it is with each row.
 abbrev EachAsksFew : List Row → Type 0
@@ -56,13 +56,19 @@ node_few line few [] = tt
 node_few line few (word ∷ []) = read_few line few (node_of word)
 node_few line few (word ∷ next ∷ words) = tt
 
-servers_few : (n : ℕ) → AsksFew (servers n)
-servers_few n = by_bounds (nat_le 1 n) (nat_le n 8) refl refl
+world_few : (n : ℕ) (mirror : Bool) → AsksFew (world_of n mirror)
+world_few n mirror = by_bounds (nat_le 1 n) (nat_le n 8) refl refl
   where
-    by_bounds : (low high : Bool) → nat_le 1 n ≡ low → nat_le n 8 ≡ high → AsksFew (cond (low && high) (Servers n) Unread)
+    by_bounds : (low high : Bool) → nat_le 1 n ≡ low → nat_le n 8 ≡ high → AsksFew (cond (low && high) (Servers (record { servers = n; mirror = mirror })) Unread)
     by_bounds true true some few = (grind (arith, nat_tests), grind (arith, nat_tests))
     by_bounds true false some few = tt
     by_bounds false high some few = tt
+
+servers_few : (words : List (List ℕ)) → AsksFew (servers words)
+servers_few [] = tt
+servers_few (count ∷ behind) =
+    read_few (λ n. read_as (λ mirror. world_of n mirror) (maybe (codes "mirror") behind))
+    (λ n. read_few (λ mirror. world_of n mirror) (world_few n) (maybe (codes "mirror") behind)) (number_of count)
 
 trigger_few : (words : List (List ℕ)) → AsksFew (trigger words)
 trigger_few [] = tt
@@ -107,7 +113,10 @@ saving_few ask = (
       (λ ws. read_few (one (λ r. Asks (ask (Deliver r)))) (one_few (λ r. Asks (ask (Deliver r))) (λ r. tt)) (numbers_of ws)),
       (
         node_few (λ n. Asks (ask (Restart n))) (λ n. tt),
-        tt,
+        (
+          (λ ws. read_few (one (λ g. Asks (ask (Renew g)))) (one_few (λ g. Asks (ask (Renew g))) (λ g. tt)) (numbers_of ws)),
+          tt,
+        ),
       ),
     ),
   ),
@@ -115,7 +124,7 @@ saving_few ask = (
 
 asking_few : EachAsksFew asking
 asking_few = (
-  (λ ws. read_few (one servers) (one_few servers servers_few) (numbers_of ws)),
+  servers_few,
   (
     trigger_few,
     (
@@ -156,7 +165,10 @@ cuts_few = (
     by_table_few (saving (CutShort false)) (saving_few (CutShort false)),
     (
       by_table_few (saving (CutShort true)) (saving_few (CutShort true)),
-      tt,
+      (
+        alone_few (Asks LoseNote) tt,
+        tt,
+      ),
     ),
   ),
 )

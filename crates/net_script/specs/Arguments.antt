@@ -1,7 +1,7 @@
 -- The words behind a command's own.
-use Rattle.std.specs.Prelude.{ℕ, ◌-◌, ◌^◌, min, List, [], ◌∷◌, Option, Some, None, option_map, option_and_then, bytes_eq, codes, if◌then◌else◌}
+use Rattle.std.specs.Prelude.{ℕ, Bool, true, false, ◌-◌, ◌^◌, min, List, [], ◌∷◌, Option, Some, None, option_map, option_and_then, bytes_eq, codes, if◌then◌else◌}
 use Rattle.messages.specs.declared.node.Node.{Node}
-use Rattle.messages.specs.declared.node.Node.TheVariants.{Server, Client}
+use Rattle.messages.specs.declared.node.Node.TheVariants.{Server, Client, Mirror}
 use Rattle.net_script.specs.declared.line.Line.{Line}
 use Rattle.net_script.specs.declared.line.Line.TheVariants.{Unread}
 use Rattle.net_script.specs.Words.{number_of}
@@ -26,6 +26,12 @@ leading (word ∷ words) = option_map (λ n. (n, words)) (number_of word)
 abbrev pub alone : Line → List (List ℕ) → Line
 alone line [] = line
 alone line _ = Unread
+
+-- Whether this word stands behind the command's own. None where others do.
+abbrev pub maybe : List ℕ → List (List ℕ) → Option Bool
+maybe name [] = Some false
+maybe name (word ∷ []) = if bytes_eq word name then Some true else None
+maybe name _ = None
 
 -- One number, two, three, or four.
 abbrev pub one : (ℕ → Line) → List ℕ → Line
@@ -52,10 +58,11 @@ numbers line words = read_as line (numbers_of words)
 abbrev pub place : ℕ → ℕ
 place n = min n (2 ^ 32 - 1)
 
--- A node: `client`, or the number of a server.
+-- A node: `client`, `mirror`, or the number of a server.
 abbrev pub node_of : List ℕ → Option Node
 node_of word =
     if bytes_eq word (codes "client") then Some Client
+    else if bytes_eq word (codes "mirror") then Some Mirror
     else option_map (λ n. Server (place n)) (number_of word)
 
 -- One word, a node.

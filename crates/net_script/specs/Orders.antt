@@ -1,6 +1,7 @@
 -- What a script asks for, in its order.
 use Rattle.std.specs.Prelude.{ℕ, ◌+◌, Bool, true, false, not, List, [], ◌∷◌, ◌++◌, length, bytes_eq, codes, if◌then◌else◌}
 use Rattle.std.specs.List.{list_any, before_first, flat_map}
+use Rattle.net_world.specs.Setup.{Setup, setup_of}
 use Rattle.net_script.specs.declared.command.Saving.{Saving}
 use Rattle.net_script.specs.declared.command.Saving.TheVariants.{Begin, Verify}
 use Rattle.net_script.specs.declared.command.Command.{Command}
@@ -10,10 +11,10 @@ use Rattle.net_script.specs.declared.line.Line.TheVariants as lines
 use Rattle.net_script.specs.Words.{lines_of}
 use Rattle.net_script.specs.Table.{line_of}
 
--- An order, with the number of its line: a world of so many servers; a command, with its text if it has
--- one; or a bad line, by the number that is printed.
+-- An order, with the number of its line: a world of this setup; a command, with its text if it has one; or
+-- a bad line, by the number that is printed.
 pub data Order : Type 0 where
-  Opens : ℕ → ℕ → Order
+  Opens : ℕ → Setup → Order
   Asks : ℕ → Command → List ℕ → Order
   Fails : ℕ → ℕ → Order
 
@@ -56,7 +57,7 @@ with_text number command below =
 -- The order of a line with this number, above these lines.
 abbrev pub order_of : ℕ → Line → List (List ℕ) → List Order
 order_of number lines.Skipped below = []
-order_of number (lines.Servers n) below = Opens number n ∷ []
+order_of number (lines.Servers config) below = Opens number (setup_of config) ∷ []
 order_of number (lines.Asks command) below =
     (if has_text command then with_text number command below else Asks number command []) ∷ []
 order_of number lines.Unread below = Fails number number ∷ []

@@ -1,7 +1,7 @@
 -- What a script prints, and its status.
 use Rattle.std.specs.Prelude.{ℕ, Bool, true, false, ◌||◌, nat_lt, List, [], ◌∷◌, ◌++◌, length, codes, if◌then◌else◌}
 use Rattle.std.specs.List.{flat_map}
-use Rattle.net_world.specs.Setup.{Setup, without_mirror}
+use Rattle.net_world.specs.Setup.{Setup}
 use Rattle.net_world.specs.declared.told.Answer.{Answer}
 use Rattle.net_world.specs.Happenings.{Happening}
 use Rattle.net_world.specs.Outcomes.{Outcome, Does, Refuses, Drops, outcome}
@@ -23,7 +23,7 @@ lines_in setup before (Opens line more ∷ orders) = bad_line line ∷ []
 -- The lines of all orders: the first makes the world.
 abbrev pub lines_of_orders : List Order → List (List ℕ)
 lines_of_orders [] = []
-lines_of_orders (Opens line n ∷ orders) = codes "ok" ∷ lines_in (without_mirror n) [] orders
+lines_of_orders (Opens line setup ∷ orders) = codes "ok" ∷ lines_in setup [] orders
 lines_of_orders (Asks line command text ∷ orders) = bad_line line ∷ []
 lines_of_orders (Fails line at ∷ orders) = bad_line line ∷ []
 
@@ -36,7 +36,7 @@ are_commands (order ∷ orders) = false
 -- No line is bad.
 abbrev pub reads_well : List Order → Bool
 reads_well [] = true
-reads_well (Opens line n ∷ orders) = are_commands orders
+reads_well (Opens line setup ∷ orders) = are_commands orders
 reads_well (order ∷ orders) = false
 
 -- What comes of it isn't refused, and tells of faults.
@@ -58,7 +58,7 @@ some_faults setup before _ = false
 
 -- Some report of the script has faults.
 abbrev pub finds_faults : List Order → Bool
-finds_faults (Opens line n ∷ orders) = some_faults (without_mirror n) [] orders
+finds_faults (Opens line setup ∷ orders) = some_faults setup [] orders
 finds_faults _ = false
 
 -- The status: 2 where a line is bad, 1 where a report has faults, else 0.

@@ -1,16 +1,16 @@
 -- The table of commands.
-use Rattle.std.specs.Prelude.{◌≤◌, ℕ, true, false, ◌&&◌, nat_eq, nat_le, List, [], ◌∷◌, ◌++◌, Option, Some, None, take, drop, bytes_eq, codes, if◌then◌else◌}
+use Rattle.std.specs.Prelude.{◌≤◌, ℕ, Bool, true, false, ◌&&◌, nat_eq, nat_le, List, [], ◌∷◌, ◌++◌, Option, Some, None, option_map, take, drop, bytes_eq, codes, if◌then◌else◌}
 use Rattle.std.specs.List.{starts_with}
 use Rattle.messages.specs.declared.refusal.Act.{Act}
 use Rattle.messages.specs.declared.refusal.Act.TheVariants as acts
 use Rattle.net_script.specs.declared.command.Saving.{Saving}
-use Rattle.net_script.specs.declared.command.Saving.TheVariants.{Begin, Verify, Deliver, Restart}
+use Rattle.net_script.specs.declared.command.Saving.TheVariants.{Begin, Verify, Deliver, Restart, Renew}
 use Rattle.net_script.specs.declared.command.Command.{Command}
-use Rattle.net_script.specs.declared.command.Command.TheVariants.{Saves, CutShort, Trigger, Stop, Tick, Issue, Land, Done, Fail, Rot, Check, Cut}
+use Rattle.net_script.specs.declared.command.Command.TheVariants.{Saves, CutShort, Trigger, Stop, Tick, Issue, Land, Done, Fail, Rot, Check, Cut, LoseNote}
 use Rattle.net_script.specs.declared.line.Line.{Line}
 use Rattle.net_script.specs.declared.line.Line.TheVariants.{Skipped, Servers, Asks, Unread}
 use Rattle.net_script.specs.Words.{words_of, number_of}
-use Rattle.net_script.specs.Arguments.{read_as, alone, numbers, one, two, three, four, node, place, sectors_of}
+use Rattle.net_script.specs.Arguments.{read_as, alone, maybe, numbers, one, two, three, four, node, place, sectors_of}
 
 -- A row of the table: the word of a command, and what it asks for by the words behind it.
 pub record Row : Type 0 where
@@ -39,9 +39,7 @@ by_table rows (word ∷ behind) = or_unread (named rows word behind)
 
 -- What is asked behind the states: nothing, or `cut`.
 abbrev pub act_of : List (List ℕ) → Option Act
-act_of [] = Some acts.None
-act_of (word ∷ []) = if bytes_eq word (codes "cut") then Some acts.Cut else None
-act_of _ = None
+act_of words = option_map (λ cut. if cut then acts.Cut else acts.None) (maybe (codes "cut") words)
 
 -- A run's trigger with what is asked behind it.
 abbrev pub triggered : ℕ → Option Act → Line
@@ -63,9 +61,16 @@ land words =
 abbrev pub rot : ℕ → ℕ → ℕ → ℕ → Line
 rot s j sector byte = if nat_le byte 255 then Asks (Rot (place s) (place j) sector byte) else Unread
 
--- `servers N`: 1 to 8.
-abbrev pub servers : ℕ → Line
-servers n = if nat_le 1 n && nat_le n 8 then Servers n else Unread
+-- A world of so many servers, 1 to 8, with a mirror or without.
+abbrev pub world_of : ℕ → Bool → Line
+world_of n mirror =
+    if nat_le 1 n && nat_le n 8 then Servers (record { servers = n; mirror = mirror }) else Unread
+
+-- `servers N`, `servers N mirror`.
+abbrev pub servers : List (List ℕ) → Line
+servers [] = Unread
+servers (count ∷ behind) =
+    read_as (λ n. read_as (λ mirror. world_of n mirror) (maybe (codes "mirror") behind)) (number_of count)
 
 -- The commands in which a node may save, each asked for as it is or cut short.
 abbrev pub saving : (Saving → Command) → List Row
@@ -74,12 +79,13 @@ saving ask =
     ∷ row (codes "verify") (numbers (one (λ r. Asks (ask (Verify r)))))
     ∷ row (codes "deliver") (numbers (one (λ i. Asks (ask (Deliver i)))))
     ∷ row (codes "restart") (node (λ n. Asks (ask (Restart n))))
+    ∷ row (codes "renew") (numbers (one (λ g. Asks (ask (Renew g)))))
     ∷ []
 
 -- The others that the client is asked, and the one that makes the world.
 abbrev pub asking : List Row
 asking =
-    row (codes "servers") (numbers (one servers))
+    row (codes "servers") servers
     ∷ row (codes "trigger") trigger
     ∷ row (codes "stop") (numbers (one (λ r. Asks (Stop r))))
     ∷ row (codes "tick") (alone (Asks Tick))
@@ -96,12 +102,13 @@ of_jobs =
     ∷ row (codes "check") (numbers (two (λ s j. Asks (Check (place s) (place j)))))
     ∷ []
 
--- The cuts of power.
+-- The cuts of power, and the loss of the client's note.
 abbrev pub cuts : List Row
 cuts =
     row (codes "cut") (node (λ n. Asks (Cut n)))
     ∷ row (codes "cutold") (by_table (saving (CutShort false)))
     ∷ row (codes "cutnew") (by_table (saving (CutShort true)))
+    ∷ row (codes "losenote") (alone (Asks LoseNote))
     ∷ []
 
 -- All commands.
@@ -120,7 +127,7 @@ line_of line = asked_by (words_of line)
 
 -- Where a line asks for a world, that has 1 to 8 servers.
 abbrev pub AsksFew : Line → Type 0
-AsksFew (Servers n) = (1 ≤ n) × (n ≤ 8)
+AsksFew (Servers config) = (1 ≤ config.servers) × (config.servers ≤ 8)
 AsksFew Skipped = Unit {0}
 AsksFew (Asks command) = Unit {0}
 AsksFew Unread = Unit {0}

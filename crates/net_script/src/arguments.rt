@@ -3,10 +3,11 @@
 ghost use Rattle.std.specs.Prelude.{◌≡◌, ℕ, [], ◌==◌, length, MatchOption, min, ◌-◌, ◌^◌};
 ghost use Rattle.std.specs.Option.{option_map};
 ghost use Rattle.messages.specs.declared.node.Node.{Node as ANode};
-ghost use Rattle.net_script.specs.declared.line.Line.{Line};
+ghost use Rattle.net_script.specs.declared.line.Line.{Line as ALine};
 ghost use Rattle.net_script.specs.Words.{words_of};
-ghost use Rattle.net_script.specs.Arguments.{read_as, leading, numbers, one, two, three, four, node, node_of, place, first_sectors, sectors_of};
+ghost use Rattle.net_script.specs.Arguments.{read_as, leading, alone, maybe, numbers, one, two, three, four, node, node_of, place, first_sectors, sectors_of};
 
+use crate::line::Line;
 use crate::words::{is_word, number_of, split_word};
 use fc_base::ServerNo;
 use messages::Node;
@@ -26,9 +27,32 @@ pub(crate) fn is_end(words: &[u8]) -> bool
     split_word(words).is_none()
 }
 
+/// This line, where no word is left.
+pub(crate) fn alone(line: Line, words: &[u8]) -> Line
+    ensures { result ≡ alone line (words_of words.now) }
+{
+    if is_end(words) { line } else { Line::Unread }
+}
+
+/// Whether this word is left: it and no more, or none. `None` where others are.
+pub(crate) fn maybe(name: &[u8], words: &[u8]) -> Option<bool>
+    ensures { result ≡ maybe name.now (words_of words.now) }
+{
+    match split_word(words) {
+        None => Some(false),
+        Some((word, rest)) => {
+            if is_word(word, name) && is_end(rest) {
+                Some(true)
+            } else {
+                None
+            }
+        }
+    }
+}
+
 /// One number, and no more.
 pub(crate) fn one_number(words: &[u8]) -> Option<u64>
-    ensures { (line : ℕ → Line) → numbers (one line) (words_of words.now) ≡ read_as line result }
+    ensures { (line : ℕ → ALine) → numbers (one line) (words_of words.now) ≡ read_as line result }
 {
     let (first, rest) = leading_number(words)?;
     if is_end(rest) { Some(first) } else { None }
@@ -36,7 +60,7 @@ pub(crate) fn one_number(words: &[u8]) -> Option<u64>
 
 /// Two numbers, and no more.
 pub(crate) fn two_numbers(words: &[u8]) -> Option<(u64, u64)>
-    ensures { (line : ℕ → ℕ → Line) → numbers (two line) (words_of words.now)
+    ensures { (line : ℕ → ℕ → ALine) → numbers (two line) (words_of words.now)
         ≡ read_as (λ n. line n.0 n.1) result }
 {
     let (first, rest) = leading_number(words)?;
@@ -45,7 +69,7 @@ pub(crate) fn two_numbers(words: &[u8]) -> Option<(u64, u64)>
 
 /// Three numbers, and no more.
 pub(crate) fn three_numbers(words: &[u8]) -> Option<(u64, u64, u64)>
-    ensures { (line : ℕ → ℕ → ℕ → Line) → numbers (three line) (words_of words.now)
+    ensures { (line : ℕ → ℕ → ℕ → ALine) → numbers (three line) (words_of words.now)
         ≡ read_as (λ n. line n.0 n.1 n.2) result }
 {
     let (first, rest) = leading_number(words)?;
@@ -55,7 +79,7 @@ pub(crate) fn three_numbers(words: &[u8]) -> Option<(u64, u64, u64)>
 
 /// Four numbers, and no more.
 pub(crate) fn four_numbers(words: &[u8]) -> Option<(u64, u64, u64, u64)>
-    ensures { (line : ℕ → ℕ → ℕ → ℕ → Line) → numbers (four line) (words_of words.now)
+    ensures { (line : ℕ → ℕ → ℕ → ℕ → ALine) → numbers (four line) (words_of words.now)
         ≡ read_as (λ n. line n.0 n.1 n.2 n.3) result }
 {
     let (first, rest) = leading_number(words)?;
@@ -72,18 +96,21 @@ pub(crate) fn place(number: u64) -> u32
 
 /// A node, and no more.
 pub(crate) fn one_node(words: &[u8]) -> Option<Node>
-    ensures { (line : ANode → Line) → node line (words_of words.now) ≡ read_as line result }
+    ensures { (line : ANode → ALine) → node line (words_of words.now) ≡ read_as line result }
 {
     let (word, rest) = split_word(words)?;
     if is_end(rest) { node_of(word) } else { None }
 }
 
-/// The node of a word: `client`, or the number of a server.
+/// The node of a word: `client`, `mirror`, or the number of a server.
 fn node_of(word: &[u8]) -> Option<Node>
     ensures { result ≡ node_of word.now }
 {
     if is_word(word, b"client") {
         return Some(Node::Client);
+    }
+    if is_word(word, b"mirror") {
+        return Some(Node::Mirror);
     }
     let server = number_of(word)?;
     Some(Node::Server(ServerNo(place(server))))

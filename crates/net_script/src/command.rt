@@ -1,6 +1,6 @@
 //! What the commands of a script ask for.
 
-use fc_base::{JobNo, RunNo, Seq, ServerNo};
+use fc_base::{Generation, JobNo, RunNo, Seq, ServerNo};
 use messages::{Act, Node};
 
 /// A command in which a node may save.
@@ -14,6 +14,8 @@ pub enum Saving {
     Deliver(u64),
     /// `restart NODE`.
     Restart(Node),
+    /// `renew G`.
+    Renew(Generation),
 }
 
 /// A command.
@@ -74,4 +76,6 @@ pub enum Command {
     },
     /// `cut NODE`.
     Cut(Node),
+    /// `losenote`.
+    LoseNote,
 }

@@ -51,6 +51,7 @@ pub(crate) fn event_of(alloc: Global, command: &Command, text: &[u8]) -> Result<
         },
         Command::Check { server, job } => PlainEvent::Check { server, job },
         Command::Cut(node) => PlainEvent::Cut { node },
+        Command::LoseNote => PlainEvent::LoseNote,
     };
     Ok(Event::Plain(event))
 }
@@ -69,6 +70,7 @@ fn saving_event(alloc: Global, command: &Saving, text: &[u8]) -> Result<PlainEve
         },
         Saving::Deliver(frame) => PlainEvent::Deliver { frame },
         Saving::Restart(node) => PlainEvent::Restart { node },
+        Saving::Renew(generation) => PlainEvent::Renew { generation },
     })
 }
 

@@ -1,14 +1,15 @@
 //! What a script asks for in one place.
 
 use crate::command::Command;
+use net_world::Config;
 
 /// An order of a script. Lines are counted from 1.
 #[derive(Clone, Copy, Debug, PartialEq, Eq)]
 pub(crate) enum Order<'a> {
-    /// `servers N`: a world of so many.
+    /// `servers N`, `servers N mirror`: a world of so many.
     Opens {
         line: u64,
-        servers: u32,
+        config: Config,
     },
     /// A command, with the text below it if it has one.
     Asks {

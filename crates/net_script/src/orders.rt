@@ -48,10 +48,10 @@ impl<'a> Orders<'a> {
             let line = self.take_line();
             match line_of(line) {
                 Line::Skipped => {}
-                Line::Servers(servers) => {
+                Line::Servers(config) => {
                     return Some(Order::Opens {
                         line: number,
-                        servers,
+                        config,
                     });
                 }
                 Line::Asks(command) => return Some(self.asked(number, command)),

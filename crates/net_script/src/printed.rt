@@ -35,7 +35,7 @@ impl fmt::Display for BadLine {
     }
 }
 
-/// A node: `client`, or a server's number.
+/// A node: `client`, `mirror`, or a server's number.
 #[derive(Clone, Copy, Drop)]
 pub(crate) struct NodeWord(pub(crate) Node);
 

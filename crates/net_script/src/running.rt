@@ -2,6 +2,7 @@
 
 ghost use Rattle.std.specs.Prelude.{◌≡◌, ◌≤◌, ◌+◌, ◌∷◌, ℕ, length, IfOk, OnOk, IfSome};
 ghost use Rattle.std.specs.Io.KnownBytes.{Appends};
+ghost use Rattle.net_world.specs.Setup.{setup_of};
 ghost use Rattle.net_script.specs.Left.{orders_left};
 ghost use Rattle.net_script.specs.Orders.{Opens, ended, orders_of};
 ghost use Rattle.net_script.specs.Printed.{bad_line, refusal_line};
@@ -80,33 +81,27 @@ fn run_text<W: Write>(alloc: Global, script: &[u8], writer: &mut W) -> io::Resul
     let mut orders = Orders::of(script);
     match orders.next() {
         None => Ok(NO_FAULTS),
-        Some(Order::Opens { line: _, servers }) => open_world(alloc, servers, &mut orders, writer),
+        Some(Order::Opens { line: _, config }) => open_world(alloc, config, &mut orders, writer),
         Some(Order::Asks { line, .. }) | Some(Order::Fails { line, .. }) => {
             refuse_line(writer, line)
         }
     }
 }
 
-/// Makes a world of so many servers, and runs the orders behind `servers` in it.
+/// Makes the world that is asked for, and runs the orders behind `servers` in it.
 fn open_world<W: Write>(
     alloc: Global,
-    servers: u32,
+    config: Config,
     orders: &mut Orders,
     writer: &mut W,
 ) -> io::Result<u8>
-    requires some { 1 ≤ servers }
-    requires few { servers ≤ 8 }
+    requires some { 1 ≤ config.servers }
+    requires few { config.servers ≤ 8 }
     requires room { orders.old.number + length orders.old.rest.now ≤ u64.MAX }
     ensures { (line : ℕ) → IfOk result (RunOrders lines_of_orders reads_well status_of_orders
-        (Opens line servers ∷ orders_left orders.old) (W.contents writer.old) (W.contents writer.new)) }
+        (Opens line (setup_of config) ∷ orders_left orders.old) (W.contents writer.old) (W.contents writer.new)) }
 {
-    match World::new(
-        alloc,
-        Config {
-            servers,
-            mirror: false,
-        },
-    ) {
+    match World::new(alloc, config) {
         Ok(mut world) => run_opened(alloc, &mut world, orders, writer),
         Err(_) => refuse_world(writer),
     }

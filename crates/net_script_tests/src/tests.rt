@@ -1,7 +1,10 @@
 //! What no clause shows: that lines ask for what the manual says.
 
+mod mirrors;
+mod refusals;
 mod running;
 mod scripts;
+mod stories;
 
 use net_script::line_of;
 use std::alloc::{AllocGlobal, Global};
@@ -15,8 +18,15 @@ const READ: &[(&str, &str)] = &[
     (" \t ", "Skipped"),
     ("  # a comment", "Skipped"),
     ("#tick", "Skipped"),
-    ("servers 1", "Servers(1)"),
-    ("servers\t 008 ", "Servers(8)"),
+    ("servers 1", "Servers(Config { servers: 1, mirror: false })"),
+    (
+        "servers\t 008 ",
+        "Servers(Config { servers: 8, mirror: false })",
+    ),
+    (
+        "servers 3 mirror ",
+        "Servers(Config { servers: 3, mirror: true })",
+    ),
     ("tick", "Asks(Tick)"),
     ("begin", "Asks(Saves(Begin))"),
     ("verify 3", "Asks(Saves(Verify(RunNo(3))))"),
@@ -27,7 +37,11 @@ const READ: &[(&str, &str)] = &[
     ),
     ("restart client", "Asks(Saves(Restart(Client)))"),
     ("restart 1", "Asks(Saves(Restart(Server(ServerNo(1)))))"),
+    ("restart mirror", "Asks(Saves(Restart(Mirror)))"),
+    ("renew 2", "Asks(Saves(Renew(Generation(2))))"),
+    ("losenote", "Asks(LoseNote)"),
     ("cut client", "Asks(Cut(Client))"),
+    ("cut mirror", "Asks(Cut(Mirror))"),
     ("cut 8", "Asks(Cut(Server(ServerNo(8))))"),
     ("stop 4", "Asks(Stop(RunNo(4)))"),
     ("trigger 4", "Asks(Trigger { run: RunNo(4), act: None })"),
@@ -84,6 +98,10 @@ const READ: &[(&str, &str)] = &[
         "cutnew verify 3",
         "Asks(CutShort { landed: true, command: Verify(RunNo(3)) })",
     ),
+    (
+        "cutold renew 18446744073709551615",
+        "Asks(CutShort { landed: false, command: Renew(Generation(18446744073709551615)) })",
+    ),
 ];
 
 /// Lines that can't be read: a word too few, too many, or another one; a number with a sign, without a
@@ -93,6 +111,11 @@ const UNREAD: &[&str] = &[
     "servers 0",
     "servers 9",
     "servers 1 2",
+    "servers mirror",
+    "servers 0 mirror",
+    "servers 9 mirror",
+    "servers 1 Mirror",
+    "servers 1 mirror 2",
     "begin 1",
     "verify",
     "verify 1 2",
@@ -106,8 +129,14 @@ const UNREAD: &[&str] = &[
     "restart",
     "restart server",
     "restart 1 2",
+    "renew",
+    "renew 1 2",
+    "renew mirror",
+    "losenote 1",
+    "losenote client",
     "cut",
     "cut 1 2",
+    "cut mirrors",
     "stop",
     "stop 1 2",
     "tick 1",
@@ -139,6 +168,8 @@ const UNREAD: &[&str] = &[
     "cutnew check 0 0",
     "cutnew cutold deliver 0",
     "cutold deliver",
+    "cutold losenote",
+    "cutnew renew",
     "frob",
     ".",
 ];

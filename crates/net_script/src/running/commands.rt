@@ -4,7 +4,7 @@ ghost use Rattle.std.specs.Prelude.{◌≡◌, ◌+◌, ◌≤◌, [], ◌∷◌
 ghost use Rattle.std.specs.Option.{option_map};
 ghost use Rattle.std.specs.Io.KnownBytes.{Appends};
 ghost use Rattle.fc_base.specs.Fault.{sort_of};
-ghost use Rattle.net_world.specs.Setup.{Setup, without_mirror};
+ghost use Rattle.net_world.specs.Setup.{Setup};
 ghost use Rattle.net_world.specs.Changes.{steps};
 ghost use Rattle.net_world.specs.Frames.{frames_sent, to_of};
 ghost use Rattle.net_world.specs.Happenings.{Happening};
@@ -50,8 +50,8 @@ pub(crate) fn run_opened<W: Write>(
     writer: &mut W,
 ) -> io::Result<u8>
     requires { orders.old.number + length orders.old.rest.now ≤ u64.MAX }
-    ensures { (n : ℕ) → StandsFor (without_mirror n) [] world.old → (line : ℕ) →
-        IfOk result (RunOrders lines_of_orders reads_well status_of_orders (Opens line n ∷ orders_left orders.old)
+    ensures { (setup : Setup) → StandsFor setup [] world.old → (line : ℕ) →
+        IfOk result (RunOrders lines_of_orders reads_well status_of_orders (Opens line setup ∷ orders_left orders.old)
         (W.contents writer.old) (W.contents writer.new)) }
 {
     writeln!(writer, "ok")?;

@@ -1,19 +1,19 @@
-//! The commands in which a node may save, and the cuts of power, within such a save too.
+//! The commands in which a node may save, and the cuts of power, within such a save too, and the loss of a note.
 
 ghost use Rattle.std.specs.Prelude.{◌≡◌};
-ghost use Rattle.net_script.specs.declared.command.Saving.TheVariants.{Begin, Verify, Deliver, Restart};
-ghost use Rattle.net_script.specs.declared.command.Command.TheVariants.{Saves, CutShort, Cut};
+ghost use Rattle.net_script.specs.declared.command.Saving.TheVariants.{Begin, Verify, Deliver, Restart, Renew};
+ghost use Rattle.net_script.specs.declared.command.Command.TheVariants.{Saves, CutShort, Cut, LoseNote};
 ghost use Rattle.net_script.specs.declared.line.Line.TheVariants.{Asks};
 ghost use Rattle.net_script.specs.Words.{words_of};
 ghost use Rattle.net_script.specs.Arguments.{alone, numbers, one, node};
 ghost use Rattle.net_script.specs.Table.{named, by_table, saving, cuts};
 ghost use Rattle.net_script.specs.Asked.{asked};
 
-use crate::arguments::{is_end, one_node, one_number};
+use crate::arguments::{alone, one_node, one_number};
 use crate::command::{Command, Saving};
 use crate::line::Line;
 use crate::words::{is_word, split_word};
-use fc_base::RunNo;
+use fc_base::{Generation, RunNo};
 
 /// How a command is asked in which a node may save: as it is, or cut short.
 #[derive(Clone, Copy)]
@@ -52,6 +52,8 @@ fn saving_asked(how: Asked, word: &[u8], words: &[u8]) -> Option<Line>
         Some(deliver(how, words))
     } else if is_word(word, b"restart") {
         Some(restart(how, words))
+    } else if is_word(word, b"renew") {
+        Some(renew(how, words))
     } else {
         None
     }
@@ -61,11 +63,7 @@ fn saving_asked(how: Asked, word: &[u8], words: &[u8]) -> Option<Line>
 fn begin(how: Asked, words: &[u8]) -> Line
     ensures { result ≡ alone (Asks (asked how Begin)) (words_of words.now) }
 {
-    if is_end(words) {
-        how.line(Saving::Begin)
-    } else {
-        Line::Unread
-    }
+    alone(how.line(Saving::Begin), words)
 }
 
 /// `verify R`.
@@ -98,7 +96,17 @@ fn restart(how: Asked, words: &[u8]) -> Line
     }
 }
 
-/// The line of a command with this word that cuts the power, if it is one of these.
+/// `renew G`.
+fn renew(how: Asked, words: &[u8]) -> Line
+    ensures { result ≡ numbers (one (λ g. Asks (asked how (Renew g)))) (words_of words.now) }
+{
+    match one_number(words) {
+        Some(generation) => how.line(Saving::Renew(Generation(generation))),
+        None => Line::Unread,
+    }
+}
+
+/// The line of a command with this word that cuts the power or loses a note, if it is one of these.
 pub(crate) fn cuts(word: &[u8], words: &[u8]) -> Option<Line>
     ensures { result ≡ named cuts word.now (words_of words.now) }
 {
@@ -108,6 +116,8 @@ pub(crate) fn cuts(word: &[u8], words: &[u8]) -> Option<Line>
         Some(cut_short(false, words))
     } else if is_word(word, b"cutnew") {
         Some(cut_short(true, words))
+    } else if is_word(word, b"losenote") {
+        Some(lose_note(words))
     } else {
         None
     }
@@ -121,6 +131,13 @@ fn cut(words: &[u8]) -> Line
         Some(node) => Line::Asks(Command::Cut(node)),
         None => Line::Unread,
     }
+}
+
+/// `losenote`.
+fn lose_note(words: &[u8]) -> Line
+    ensures { result ≡ alone (Asks LoseNote) (words_of words.now) }
+{
+    alone(Line::Asks(Command::LoseNote), words)
 }
 
 /// `cutold COMMAND`, `cutnew COMMAND`.

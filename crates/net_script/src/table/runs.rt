@@ -5,14 +5,15 @@ ghost use Rattle.net_script.specs.declared.line.Line.TheVariants.{Asks};
 ghost use Rattle.net_script.specs.declared.command.Command.TheVariants.{Stop, Tick};
 ghost use Rattle.net_script.specs.Words.{words_of};
 ghost use Rattle.net_script.specs.Arguments.{alone, numbers, one};
-ghost use Rattle.net_script.specs.Table.{named, asking, servers, act_of, trigger};
+ghost use Rattle.net_script.specs.Table.{named, asking, servers, world_of, act_of, trigger};
 
-use crate::arguments::{is_end, one_number};
+use crate::arguments::{alone, maybe, one_number};
 use crate::command::Command;
 use crate::line::Line;
 use crate::words::{is_word, number_of, split_word};
 use fc_base::{MAX_SERVERS, RunNo};
 use messages::Act;
+use net_world::Config;
 
 /// The line of a command with this word, if it is one of these.
 pub(crate) fn asking(word: &[u8], words: &[u8]) -> Option<Line>
@@ -31,22 +32,31 @@ pub(crate) fn asking(word: &[u8], words: &[u8]) -> Option<Line>
     }
 }
 
-/// `servers N`.
+/// `servers N`, `servers N mirror`.
 fn servers(words: &[u8]) -> Line
-    ensures { result ≡ numbers (one servers) (words_of words.now) }
+    ensures { result ≡ servers (words_of words.now) }
 {
-    match one_number(words) {
-        Some(count) => servers_of(count),
+    let Some((count, rest)) = split_word(words) else {
+        return Line::Unread;
+    };
+    let Some(mirror) = maybe(b"mirror", rest) else {
+        return Line::Unread;
+    };
+    match number_of(count) {
+        Some(count) => world_of(count, mirror),
         None => Line::Unread,
     }
 }
 
 /// A world has 1 to 8 servers.
-fn servers_of(count: u64) -> Line
-    ensures { result ≡ servers count }
+fn world_of(count: u64, mirror: bool) -> Line
+    ensures { result ≡ world_of count mirror }
 {
     if 1 <= count && count <= u64::from(MAX_SERVERS) {
-        Line::Servers(count as u32)
+        Line::Servers(Config {
+            servers: count as u32,
+            mirror,
+        })
     } else {
         Line::Unread
     }
@@ -75,15 +85,10 @@ fn trigger(words: &[u8]) -> Line
 fn act_of(words: &[u8]) -> Option<Act>
     ensures { result ≡ act_of (words_of words.now) }
 {
-    match split_word(words) {
-        None => Some(Act::None),
-        Some((word, rest)) => {
-            if is_word(word, b"cut") && is_end(rest) {
-                Some(Act::Cut)
-            } else {
-                None
-            }
-        }
+    match maybe(b"cut", words) {
+        Some(true) => Some(Act::Cut),
+        Some(false) => Some(Act::None),
+        None => None,
     }
 }
 
@@ -101,9 +106,5 @@ fn stop(words: &[u8]) -> Line
 fn tick(words: &[u8]) -> Line
     ensures { result ≡ alone (Asks Tick) (words_of words.now) }
 {
-    if is_end(words) {
-        Line::Asks(Command::Tick)
-    } else {
-        Line::Unread
-    }
+    alone(Line::Asks(Command::Tick), words)
 }

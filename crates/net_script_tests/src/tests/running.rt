@@ -68,7 +68,7 @@ const SCRIPTS: &[(&str, &str, u8)] = &[
 ];
 
 /// Checks what a script prints, and its status.
-fn expect<R: Abort + AllocGlobal>(rt: &R, source: &mut Source<'_>, printed: &[u8], status: u8) {
+pub fn expect<R: Abort + AllocGlobal>(rt: &R, source: &mut Source<'_>, printed: &[u8], status: u8) {
     let mut page = page_with(rt.alloc(), usize::MAX);
     let ended = run_script(rt.alloc(), source, &mut page);
     assert!(rt; ended == Ok(status), "{ended:?}, where {status} is wanted");
