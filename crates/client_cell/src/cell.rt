@@ -19,7 +19,6 @@ use std::marker::Model;
 use std::snapshot::Snapshot;
 
 /// The client, and the history of all that came to it. Its state is always the replay of that history.
-#[derive(Drop)]
 pub struct ClientCell<N: Notes + Drop> {
     alloc: Global,
     servers: u32,
@@ -29,6 +28,20 @@ pub struct ClientCell<N: Notes + Drop> {
     is_blank: bool,
     power: Power<N>,
     history: Vec<Logged>,
+}
+
+/// By hand, so that the crates above need no proof of it.
+impl<N: Notes + Drop> Drop for ClientCell<N> {
+    fn drop(self) {
+        let ClientCell {
+            alloc: _,
+            servers: _,
+            opened: _,
+            is_blank: _,
+            power: _,
+            history: _,
+        } = self;
+    }
 }
 
 impl<N: Notes + Drop> Model for ClientCell<N> {

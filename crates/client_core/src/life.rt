@@ -19,13 +19,24 @@ use std::collections::BTreeMap;
 
 /// The requests of this life, by the numbers of their runs and attempts, the reports that came, and what
 /// the mirror said it keeps.
-#[derive(Drop)]
 pub struct Life {
     pub runs: BTreeMap<u64, RunAsked>,
     pub attempts: BTreeMap<u64, Option<AttemptAsked>>,
     pub reports: Vec<Received>,
     /// The keys of the states that the mirror said it keeps.
     pub copied: IndexSet<Key>,
+}
+
+/// By hand, so that the crates above need no proof of it.
+impl Drop for Life {
+    fn drop(self) {
+        let Life {
+            runs: _,
+            attempts: _,
+            reports: _,
+            copied: _,
+        } = self;
+    }
 }
 
 impl Life {

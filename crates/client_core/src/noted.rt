@@ -26,7 +26,6 @@ pub(crate) const GENERATION_NUMBERS: u64 = 4_294_967_296;
 
 /// What a client's note says. A blank note says that nothing was begun, and keeps no state, and it is of
 /// no generation.
-#[derive(Drop)]
 pub struct Noted {
     /// Its generation, 0 where it has none.
     pub generation: NotedGeneration,
@@ -36,6 +35,18 @@ pub struct Noted {
     pub attempts: u64,
     /// The kept states.
     pub kept: Kept,
+}
+
+/// By hand, so that the crates above need no proof of it.
+impl Drop for Noted {
+    fn drop(self) {
+        let Noted {
+            generation: _,
+            runs: _,
+            attempts: _,
+            kept: _,
+        } = self;
+    }
 }
 
 impl Noted {

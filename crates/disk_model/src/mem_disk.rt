@@ -12,10 +12,19 @@ use fc_base::Fault;
 use std::alloc::{AllocError, Global};
 
 /// A disk that keeps its file in memory. It never fails, but for want of memory.
-#[derive(Drop)]
 pub struct MemDisk {
     sectors: Sectors,
     power: Option<u64>,
+}
+
+/// By hand, so that the crates above need no proof of it.
+impl Drop for MemDisk {
+    fn drop(self) {
+        let MemDisk {
+            sectors: _,
+            power: _,
+        } = self;
+    }
 }
 
 impl MemDisk {

@@ -10,11 +10,20 @@ use std::marker::Model;
 use std::mem;
 
 /// Notes that lie in memory. They never fail, but for want of memory.
-#[derive(Drop)]
 pub struct MemNotes {
     bytes: Vec<u8>,
     /// The bytes from before the last save, where it was not taken back.
     before: Option<Vec<u8>>,
+}
+
+/// By hand, so that the crates above need no proof of it.
+impl Drop for MemNotes {
+    fn drop(self) {
+        let MemNotes {
+            bytes: _,
+            before: _,
+        } = self;
+    }
 }
 
 impl Model for MemNotes {

@@ -24,7 +24,7 @@ use write_order::Order;
 ///
 /// Only making it takes memory. `issue`, `done` and `failed` take as many steps as there are open
 /// writes, and taking a state constant time.
-#[derive(Debug, Drop)]
+#[derive(Debug)]
 pub struct Engine {
     boot: u64,
     key: Key,
@@ -38,6 +38,22 @@ pub struct Engine {
     stopped: bool,
     /// Whether a write has failed.
     failed: bool,
+}
+
+/// By hand, so that the crates above need no proof of it.
+impl Drop for Engine {
+    fn drop(self) {
+        let Engine {
+            boot: _,
+            key: _,
+            rec: _,
+            window: _,
+            order: _,
+            open: _,
+            stopped: _,
+            failed: _,
+        } = self;
+    }
 }
 
 impl Model for Engine {

@@ -12,13 +12,25 @@ use std::alloc::Global;
 
 /// What is left of a fleet that has ended: the network, the nodes with their histories, the seats of all
 /// servers, and all that has happened in one order, the oldest first.
-#[derive(Drop)]
 pub struct Left {
     pub hub: Hub,
     pub client: Client,
     pub servers: Vec<Server>,
     pub seats: Vec<Seat>,
     pub order: Vec<Place>,
+}
+
+/// By hand, so that the crates above need no proof of it.
+impl Drop for Left {
+    fn drop(self) {
+        let Left {
+            hub: _,
+            client: _,
+            servers: _,
+            seats: _,
+            order: _,
+        } = self;
+    }
 }
 
 /// Takes the nodes out of their locks, and the seats out of all hands, and makes one list of all events.

@@ -17,11 +17,22 @@ use std::marker::Model;
 
 /// The frames, numbered from 0 as they were sent, the journal, and for each node the numbers of the
 /// frames that it hasn't taken.
-#[derive(Debug, Drop)]
+#[derive(Debug)]
 pub struct Hub {
     store: Store,
     journal: Vec<Line>,
     queues: Queues,
+}
+
+/// By hand, so that the crates above need no proof of it.
+impl Drop for Hub {
+    fn drop(self) {
+        let Hub {
+            store: _,
+            journal: _,
+            queues: _,
+        } = self;
+    }
 }
 
 impl Model for Hub {

@@ -16,7 +16,7 @@ pub enum Phase {
 }
 
 /// One job.
-#[derive(Debug, Drop)]
+#[derive(Debug)]
 pub struct Job {
     /// The name of its section.
     pub name: Text,
@@ -31,10 +31,31 @@ pub struct Job {
     pub fatal: bool,
 }
 
+/// By hand, so that the crates above need no proof of it.
+impl Drop for Job {
+    fn drop(self) {
+        let Job {
+            name: _,
+            filename: _,
+            rec: _,
+            save: _,
+            load: _,
+            fatal: _,
+        } = self;
+    }
+}
+
 /// Jobs, numbered from 0 in the order of the text.
-#[derive(Debug, Drop)]
+#[derive(Debug)]
 pub struct Jobs {
     jobs: Vec<Job>,
+}
+
+/// By hand, so that the crates above need no proof of it.
+impl Drop for Jobs {
+    fn drop(self) {
+        let Jobs { jobs: _ } = self;
+    }
 }
 
 impl Model for Jobs {
@@ -80,9 +101,16 @@ pub struct Note {
 }
 
 /// Notes, in the order of the lines.
-#[derive(Debug, Drop)]
+#[derive(Debug)]
 pub struct Notes {
     notes: Vec<Note>,
+}
+
+/// By hand, so that the crates above need no proof of it.
+impl Drop for Notes {
+    fn drop(self) {
+        let Notes { notes: _ } = self;
+    }
 }
 
 impl Model for Notes {

@@ -11,10 +11,17 @@ use std::alloc::{AllocError, Global};
 use std::marker::Model;
 
 /// The bytes of frames, in their order. They lie in one piece of memory, one behind the other.
-#[derive(Debug, Drop)]
+#[derive(Debug)]
 pub struct Frames {
     bytes: Vec<u8>,
     ends: Vec<usize>,
+}
+
+/// By hand, so that the crates above need no proof of it.
+impl Drop for Frames {
+    fn drop(self) {
+        let Frames { bytes: _, ends: _ } = self;
+    }
 }
 
 impl Model for Frames {

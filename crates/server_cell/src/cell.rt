@@ -20,7 +20,6 @@ use std::alloc::Global;
 use std::marker::Model;
 
 /// A server, and the history of all that came to it. Its state is always the replay of that history.
-#[derive(Drop)]
 pub struct ServerCell<N: Notes + Drop> {
     alloc: Global,
     me: ServerNo,
@@ -30,6 +29,21 @@ pub struct ServerCell<N: Notes + Drop> {
     history: Vec<Logged>,
     /// How many events of each seat the history has.
     applied: [u64; SEATS],
+}
+
+/// By hand, so that the crates above need no proof of it.
+impl<N: Notes + Drop> Drop for ServerCell<N> {
+    fn drop(self) {
+        let ServerCell {
+            alloc: _,
+            me: _,
+            boot: _,
+            last_run: _,
+            power: _,
+            history: _,
+            applied: _,
+        } = self;
+    }
 }
 
 impl<N: Notes + Drop> Model for ServerCell<N> {

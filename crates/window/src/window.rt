@@ -26,11 +26,22 @@ use std::marker::Model;
 ///
 /// Only making it and [`recent`](Window::recent) take memory, and only `recent` takes time that
 /// grows with the window.
-#[derive(Debug, Drop)]
+#[derive(Debug)]
 pub struct Window {
     depth: u64,
     in_flight: InFlight,
     completions: HeapCircularBuffer<Seq>,
+}
+
+/// By hand, so that the crates above need no proof of it.
+impl Drop for Window {
+    fn drop(self) {
+        let Window {
+            depth: _,
+            in_flight: _,
+            completions: _,
+        } = self;
+    }
 }
 
 impl Model for Window {

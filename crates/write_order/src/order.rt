@@ -25,12 +25,24 @@ enum Chooser {
 /// one word of xoshiro256++ a write, seeded with the job's seed (`randseed`), and picks with it
 /// from the blocks that its pass has left, or from all of them (`norandommap`). Which block a word
 /// picks is this project's own rule.
-#[derive(Debug, Drop)]
+#[derive(Debug)]
 pub struct Order {
     rec: JobRecord,
     issued: u64,
     words: Words,
     chooser: Chooser,
+}
+
+/// By hand, so that the crates above need no proof of it.
+impl Drop for Order {
+    fn drop(self) {
+        let Order {
+            rec: _,
+            issued: _,
+            words: _,
+            chooser: _,
+        } = self;
+    }
 }
 
 impl Model for Order {
