@@ -3,11 +3,13 @@
 
 mod fits;
 mod lists;
+mod sweeps;
 mod vectors;
 
 use fc_base::{Fault, JobNo, JobParts, JobRecord, Key, RunNo, Seq, ServerNo};
 use std::alloc::Global;
 use std::test::Fail;
+use sweeps::swept;
 use vectors::{BEFORE_ANY_ISSUE, IN_FLIGHT, OPEN_WRITE, OUT_OF_ORDER, ROWS, Row};
 use verify_state::VerifyState;
 
@@ -184,26 +186,6 @@ fn says_or_refuses(alloc: Global, bytes: &[u8]) -> bool {
     }
 }
 
-/// The same of bytes with another one at this offset.
-fn says_or_refuses_with(alloc: Global, bytes: &[u8], at: usize, byte: u8) -> bool {
-    match changed(alloc, bytes, at, byte) {
-        Some(changed) => says_or_refuses(alloc, &changed),
-        None => false,
-    }
-}
-
-/// Whether that holds of each change of one byte of these.
-fn says_or_refuses_each(alloc: Global, bytes: &[u8]) -> bool {
-    for at in 0..bytes.len() {
-        for byte in [0, 1, 0x80, 0xff] {
-            if !says_or_refuses_with(alloc, bytes, at, byte) {
-                return false;
-            }
-        }
-    }
-    true
-}
-
 /// What holds of each row.
 #[derive(Clone, Copy)]
 enum Claim {
@@ -219,7 +201,7 @@ fn holds(alloc: Global, row: &Row, claim: Claim) -> bool {
             ends_where_it_ends(alloc, row.bytes) && ends_where_it_ends(alloc, row.listed)
         }
         Claim::SaysOrRefuses => {
-            says_or_refuses_each(alloc, row.bytes) && says_or_refuses_each(alloc, row.listed)
+            swept(alloc, row.bytes).is_some() && swept(alloc, row.listed).is_some()
         }
     }
 }

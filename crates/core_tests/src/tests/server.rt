@@ -2,6 +2,7 @@
 //! others computed, and that each call answers where memory is there.
 
 mod calls;
+mod changes;
 mod looks;
 mod lost;
 mod notes;
@@ -132,4 +133,12 @@ fn notes_that_a_server_is_restarted_over(rt: HostRuntime) {
 #[test]
 fn notes_that_can_not_be_loaded(rt: HostRuntime) {
     assert!(rt; notes::come_back(rt.alloc()));
+}
+
+#[test]
+fn a_note_that_is_cut_short_or_changed(rt: HostRuntime) {
+    let whole = changes::is_whole(rt.alloc());
+    assert!(rt; whole == Ok(true), "{whole:?}");
+    let count = changes::changes(rt.alloc());
+    assert!(rt; count == Ok(changes::CHANGES), "{count:?}");
 }
