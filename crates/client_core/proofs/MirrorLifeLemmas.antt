@@ -4,7 +4,7 @@ use Rattle.std.specs.Prelude.{cond, if◌then◌else◌, Result, Ok, Err, OnOk}
 use Rattle.std.proofs.lemmas.Bool.Decides.{nat_tests}
 use Rattle.fc_base.specs.declared.numbers.Key.{Key}
 use Rattle.fc_base.specs.Keys.{is_same_key}
-use Rattle.indexmap.specs.IndexSet.{contains, Updates}
+use Rattle.std.specs.HashSet.{contains, Updates}
 use Rattle.messages.specs.declared.body.Body.{Body}
 use Rattle.messages.specs.declared.body.Body.TheVariants as bodies
 use Rattle.messages.specs.declared.node.Node.{Node}

@@ -12,10 +12,9 @@ use crate::attempt_asked::AttemptAsked;
 use crate::received::Received;
 use crate::run_asked::RunAsked;
 use fc_base::{Attempt, Key, RunNo};
-use indexmap::IndexSet;
 use messages::{Act, Body, Text};
 use std::alloc::{AllocError, Global};
-use std::collections::BTreeMap;
+use std::collections::{BTreeMap, HashSet};
 
 /// The requests of this life, by the numbers of their runs and attempts, the reports that came, and what
 /// the mirror said it keeps.
@@ -24,7 +23,7 @@ pub struct Life {
     pub attempts: BTreeMap<u64, Option<AttemptAsked>>,
     pub reports: Vec<Received>,
     /// The keys of the states that the mirror said it keeps.
-    pub copied: IndexSet<Key>,
+    pub copied: HashSet<Key>,
 }
 
 /// By hand, so that the crates above need no proof of it.
@@ -51,7 +50,7 @@ impl Life {
             runs: BTreeMap::new(alloc),
             attempts: BTreeMap::new(alloc),
             reports: Vec::new(alloc),
-            copied: IndexSet::new(alloc),
+            copied: HashSet::new(alloc),
         }
     }
 

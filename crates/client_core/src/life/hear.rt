@@ -2,7 +2,7 @@
 
 ghost use Rattle.std.specs.Prelude.{◌≡◌, ◌<◌, ◌∷◌, true, IsTrue, List, Some, OnOk, OnErr};
 ghost use Rattle.fc_base.specs.Keys.{is_same_key};
-ghost use Rattle.indexmap.specs.IndexSet.{IsUnchanged, Updates};
+ghost use Rattle.std.specs.HashSet.{IsUnchanged, Updates};
 ghost use Rattle.messages.specs.Ranges.{is_body};
 ghost use Rattle.messages.specs.Bodies.{kind_of};
 ghost use Rattle.messages.specs.Kinds.{is_of_mirror};

@@ -4,7 +4,7 @@ use Rattle.std.specs.BTreeMap.{get}
 use Rattle.messages.specs.declared.body.Body.TheVariants.{Report}
 use Rattle.fc_base.specs.declared.numbers.Key.{Key}
 use Rattle.fc_base.specs.Keys.{is_same_key}
-use Rattle.indexmap.specs.IndexSet.{IndexSet, contains}
+use Rattle.std.specs.HashSet.{HashSet, contains}
 use Rattle.client_core.specs.Life.{Hears}
 use Rattle.client_core.specs.Lives.{RunFor, AttemptFor}
 use Rattle.client_core.specs.Reports.{reports_heard, said}
@@ -24,5 +24,5 @@ returns-clause-left c deeds h =
           (subst (λ j. (q : ℕ) → AttemptFor q (Hears c.server.inside.0 (Report r.run r.attempt j c.args.jobs r.report) ∷ deeds) (get nat_cmp c.tell_report.new.self.attempts q)) c.job.view_is
           (c.tell_report.ensures.attempts deeds r.report (subst (λ m. (q : ℕ) → AttemptFor q deeds (get nat_cmp m q)) (sym c.keep_report.ensures.attempts) h.attempts)));
       reports_are = c.tell_report.ensures.reports ∙ (c.in_ok-keep_report.ensures.kept deeds h.attempts ∙ ap (reports_heard deeds r.server body) h.reports_are);
-      copied = λ key. ap (λ (m : IndexSet Key _). contains is_same_key m key) (c.tell_report.ensures.copied ∙ c.keep_report.ensures.copied) ∙ h.copied key ∙ sym (server_keeps_none r.server body key deeds c.requires.server);
+      copied = λ key. ap (λ (m : HashSet Key _). contains is_same_key m key) (c.tell_report.ensures.copied ∙ c.keep_report.ensures.copied) ∙ h.copied key ∙ sym (server_keeps_none r.server body key deeds c.requires.server);
     }
