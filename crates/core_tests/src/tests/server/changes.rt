@@ -25,23 +25,30 @@ impl Reader for NoteReader {
     }
 }
 
-fn note(alloc: Global) -> Draft {
+/// The bytes of the note. Where memory runs out, they are put once more.
+fn note(alloc: Global) -> Result<Draft, Trouble> {
     let mut note = Draft::new(alloc);
     note.put_hex(NOTE);
-    note
+    if note.told() == Err(Trouble::NoMemory) {
+        note.clear();
+        note.put_hex(NOTE);
+    }
+    match note.told() {
+        Ok(()) => Ok(note),
+        Err(trouble) => Err(trouble),
+    }
 }
 
 /// Whether the note is one, and nothing shorter.
 pub fn is_whole(alloc: Global) -> Result<bool, Trouble> {
-    let note = note(alloc);
+    let note = note(alloc)?;
     let len = first_note(&NoteReader, note.bytes())?;
     Ok(len == Some(note.bytes().len()))
 }
 
 /// How many changes of one byte leave a note.
 pub fn changes(alloc: Global) -> Result<u32, Trouble> {
-    let mut note = note(alloc);
-    note.told()?;
+    let mut note = note(alloc)?;
     let bytes = note.bytes_mut();
     let mut count: u32 = 0;
     for at in 0..bytes.len() {
