@@ -1,10 +1,9 @@
--- The rows of a map by tag: what looking a tag up, and changing or removing its entry, makes of them.
-use Rattle.std.proofs.Common.{rules, ◌≡◌, refl, sym, ◌∙◌, ap, subst, ℕ, suc, ◌+◌, ◌-◌, ◌≤◌, arith, Bool, true, false, ◌&&◌, ◌==◌, cond, Option, Some, None, List, [], ◌∷◌, ◌++◌, length, drop}
-use Rattle.std.specs.Prelude.{is_some, if◌then◌else◌, Result, Ok, Err, OnOk, OnErr}
-use Rattle.std.specs.List.{remove}
-use Rattle.std.specs.Map.{lookup, remove_entry, set_value}
-use Rattle.indexmap.specs.IndexMap.{insert_entry}
+-- The rows of tags: what looking a tag up, and changing or removing its row, makes of them.
+use Rattle.std.proofs.Common.{rules, ◌≡◌, refl, sym, ◌∙◌, ap, subst, not, ℕ, suc, ◌+◌, ◌-◌, ◌<◌, ◌≤◌, arith, Bool, true, false, ◌&&◌, ◌==◌, cond, Option, Some, None, List, [], ◌∷◌, ◌++◌, length, drop, get_or}
+use Rattle.std.specs.Prelude.{is_some, nat_lt, slice_set, Result, Ok, Err, OnOk, OnErr}
+use Rattle.std.specs.List.{remove, position, position_or_len}
 use Rattle.std.proofs.lemmas.Bool.{eqb-true, eq-eqb}
+use Rattle.std.proofs.lemmas.Bool.Decides.{nat_tests}
 use Rattle.std.proofs.lemmas.List.{length-append}
 use denote.Enum.Bare.{sameb, same_true, true_same}
 use Rattle.messages.specs.declared.kind.PacketKind.{PacketKind}
@@ -13,13 +12,11 @@ use Rattle.messages.specs.contracts.piece.TagPartialEq.TheImpl.{eq-value}
 use Rattle.messages.specs.declared.piece.Tag.{Tag}
 use Rattle.messages.specs.declared.piece.PieceParts.{PieceParts}
 use Rattle.messages.specs.declared.places.Filled.{Filled}
-use Rattle.messages.specs.Assemblies.{joined, Row}
 use Rattle.messages.specs.Kinds.{number_of}
 use Rattle.messages.specs.Pieces.{places}
 use Rattle.messages.specs.Tags.{is_tag}
-use Rattle.messages.specs.Assemblies.{rows_of}
-use Rattle.messages.specs.Assemblies.{fill, filled_of, with_piece, completed, without, has_tag, replaced, newest, put, taken_at, taken}
-use Rattle.messages.proofs.TagLemmas.{is_tag_self, same_tag, same_kind}
+use Rattle.messages.specs.Assemblies.{joined, Row, fill, filled_of, with_piece, completed, without, has_tag, replaced, newest, put, taken_at, taken}
+use Rattle.messages.proofs.TagLemmas.{same_kind}
 
 -- Tags are equal where they are the same.
 
@@ -46,78 +43,88 @@ eq_is a b =
     ap (λ (k : Bool). k && ((a.run == b.run) && ((a.number == b.number) && ((a.server == b.server) && ((a.job == b.job) && (a.length == b.length)))))) (kinds_same a.whole b.whole)
     ∙ regrouped (number_of a.whole == number_of b.whole) (a.run == b.run) (a.number == b.number) (a.server == b.server) (a.job == b.job) (a.length == b.length)
 
-turned : (a b : Tag) → is_tag a b ≡ true → is_tag b a ≡ true
-turned a b e = subst (λ (t : Tag). is_tag t a ≡ true) (same_tag a b e) (is_tag_self a)
+-- Where a tag has its first row.
 
-is_tag_either : (a b : Tag) → is_tag a b ≡ is_tag b a
-is_tag_either a b = same_bool (is_tag a b) (is_tag b a) (turned a b) (turned b a)
+-- What the row of a tag at a place shows of the rows.
+pub record Stands (tag : Tag) (rows : List Row) (i : ℕ) : Type 0 where
+  pub inside : i < length rows
+  pub has : has_tag tag rows ≡ true
+  pub filled : (d : Row) → filled_of tag rows ≡ (get_or rows i d).filled
+  pub left : without tag rows ≡ remove rows i
+  pub changed : (d : Row) (fs : List Filled) → replaced tag fs rows ≡ slice_set rows i (record { tag = (get_or rows i d).tag; filled = fs })
 
--- A test of keys that asks for the tag.
-abbrev pub AsksFor : (Tag → Bool) → Tag → Type 0
-AsksFor test tag = (k : Tag) → test k ≡ is_tag k tag
+abbrev asks : Tag → Row → Bool
+asks tag row = is_tag row.tag tag
 
-pub eq_asks : (tag : Tag) → AsksFor ((eq-value).it tag) tag
-eq_asks tag k = eq_is tag k ∙ is_tag_either tag k
+stands_first : (tag : Tag) (row : Row) (rows : List Row) → is_tag row.tag tag ≡ true → Stands tag (row ∷ rows) 0
+stands_first tag row rows e = record {
+  inside = omega arith;
+  has = rw e refl;
+  filled = λ d. rw e refl;
+  left = rw e refl;
+  changed = λ d fs. rw e refl;
+}
 
--- What is found.
+stands_later : (tag : Tag) (row : Row) (rows : List Row) (i : ℕ) → is_tag row.tag tag ≡ false → Stands tag rows i → Stands tag (row ∷ rows) (suc i)
+stands_later tag row rows i e s = record {
+  inside = omega (arith, s.inside);
+  has = rw e s.has;
+  filled = λ d. rw e (s.filled d);
+  left = rw e (ap (λ (rs : List Row). row ∷ rs) s.left);
+  changed = λ d fs. rw e (ap (λ (rs : List Row). row ∷ rs) (s.changed d fs));
+}
 
-abbrev pub or_none : Option (List Filled) → List Filled
-or_none None = []
-or_none (Some fs) = fs
+stands_at : (tag : Tag) (row : Row) (rows : List Row) (i : ℕ) (b : Bool) → is_tag row.tag tag ≡ b → cond (not b) (1 + position_or_len (asks tag) rows) 0 ≡ i → i < suc (length rows)
+    → ((j : ℕ) → position_or_len (asks tag) rows ≡ j → j < length rows → Stands tag rows j) → Stands tag (row ∷ rows) i
+stands_at tag row rows i true e h lt f = subst (Stands tag (row ∷ rows)) h (stands_first tag row rows e)
+stands_at tag row rows i false e h lt f =
+    let n = position_or_len (asks tag) rows in
+    let more : 1 + n ≡ i = h in
+    let next : suc n ≡ i = omega (arith, more) in
+    subst (Stands tag (row ∷ rows)) next (stands_later tag row rows n e (f n refl (omega (arith, next, lt))))
 
-found_here : (t u : Bool) (fs gs : List Filled) (o : Option (List Filled)) → t ≡ u → gs ≡ or_none o → (if u then fs else gs) ≡ or_none (cond t (Some fs) o)
-found_here true true fs gs o e h = refl
-found_here true false fs gs o e h = absurd cc
-found_here false true fs gs o e h = absurd cc
-found_here false false fs gs o e h = h
+placed : (tag : Tag) (rows : List Row) (i : ℕ) → position_or_len (asks tag) rows ≡ i → i < length rows → Stands tag rows i
+placed tag [] i h lt = absurd (omega (arith, lt))
+placed tag (row ∷ rows) i h lt = stands_at tag row rows i (is_tag row.tag tag) refl h lt (λ j g l. placed tag rows j g l)
 
-pub filled_found : (test : Tag → Bool) (tag : Tag) → AsksFor test tag → (es : List (Tag × List Filled)) → filled_of tag (rows_of es) ≡ or_none (lookup test es)
-filled_found test tag asks [] = refl
-filled_found test tag asks (e ∷ es) = found_here (test e.0) (is_tag e.0 tag) e.1 (filled_of tag (rows_of es)) (lookup test es) (asks e.0) (filled_found test tag asks es)
+some_place : (b : Bool) (n i : ℕ) → Some i ≡ cond b (Some n) None → (b ≡ true) × (n ≡ i)
+some_place true n i e = (refl, cc)
+some_place false n i e = absurd cc
 
-has_here : (t u : Bool) (fs : List Filled) (g : Bool) (o : Option (List Filled)) → t ≡ u → g ≡ is_some o → (if u then true else g) ≡ is_some (cond t (Some fs) o)
-has_here true true fs g o e h = refl
-has_here true false fs g o e h = absurd cc
-has_here false true fs g o e h = absurd cc
-has_here false false fs g o e h = h
+pub stands : (tag : Tag) (rows : List Row) (i : ℕ) → Some i ≡ position (λ (row : Row). is_tag row.tag tag) rows → Stands tag rows i
+stands tag rows i e =
+    let p = some_place (nat_lt (position_or_len (asks tag) rows) (length rows)) (position_or_len (asks tag) rows) i e in
+    let lt : position_or_len (asks tag) rows < length rows = grind (arith, nat_tests, p.0) in
+    placed tag rows i p.1 (omega (arith, lt, p.1))
 
-pub has_found : (test : Tag → Bool) (tag : Tag) → AsksFor test tag → (es : List (Tag × List Filled)) → has_tag tag (rows_of es) ≡ is_some (lookup test es)
-has_found test tag asks [] = refl
-has_found test tag asks (e ∷ es) = has_here (test e.0) (is_tag e.0 tag) e.1 (has_tag tag (rows_of es)) (lookup test es) (asks e.0) (has_found test tag asks es)
+-- What the lack of a row shows of the rows.
+pub record Lacks (tag : Tag) (rows : List Row) : Type 0 where
+  pub absent : has_tag tag rows ≡ false
+  pub empty : filled_of tag rows ≡ []
+  pub left : without tag rows ≡ rows
 
--- What is left.
+lacks_here : (tag : Tag) (row : Row) (rows : List Row) (b : Bool) → is_tag row.tag tag ≡ b → nat_lt (cond (not b) (1 + position_or_len (asks tag) rows) 0) (suc (length rows)) ≡ false
+    → (nat_lt (position_or_len (asks tag) rows) (length rows) ≡ false → Lacks tag rows) → Lacks tag (row ∷ rows)
+lacks_here tag row rows true e h f = absurd (let first : nat_lt 0 (suc (length rows)) ≡ true = grind (arith, nat_tests) in cc)
+lacks_here tag row rows false e h f =
+    let rest : nat_lt (position_or_len (asks tag) rows) (length rows) ≡ false = grind (arith, nat_tests, h) in
+    let l = f rest in
+    record { absent = rw e l.absent; empty = rw e l.empty; left = rw e (ap (λ (rs : List Row). row ∷ rs) l.left) }
 
-left_here : (t u : Bool) (row : Row) (es fs : List (Tag × List Filled)) (rows : List Row) (e : Tag × List Filled) → t ≡ u → rows_of (e ∷ []) ≡ row ∷ [] → rows_of fs ≡ rows → rows_of (cond t es (e ∷ fs)) ≡ (if u then rows_of es else record { tag = e.0; filled = e.1 } ∷ rows)
-left_here true true row es fs rows e same is h = refl
-left_here true false row es fs rows e same is h = absurd cc
-left_here false true row es fs rows e same is h = absurd cc
-left_here false false row es fs rows e same is h = ap (λ (rs : List Row). record { tag = e.0; filled = e.1 } ∷ rs) h
+lacks_all : (tag : Tag) (rows : List Row) → nat_lt (position_or_len (asks tag) rows) (length rows) ≡ false → Lacks tag rows
+lacks_all tag [] h = record { absent = refl; empty = refl; left = refl }
+lacks_all tag (row ∷ rows) h = lacks_here tag row rows (is_tag row.tag tag) refl h (λ g. lacks_all tag rows g)
 
-pub without_rows : (test : Tag → Bool) (tag : Tag) → AsksFor test tag → (es : List (Tag × List Filled)) → rows_of (remove_entry test es) ≡ without tag (rows_of es)
-without_rows test tag asks [] = refl
-without_rows test tag asks (e ∷ es) =
-    left_here (test e.0) (is_tag e.0 tag) (record { tag = e.0; filled = e.1 }) es (remove_entry test es) (without tag (rows_of es)) e (asks e.0) refl (without_rows test tag asks es)
+no_place : (b : Bool) (n : ℕ) → None ≡ cond b (Some n) None → b ≡ false
+no_place true n e = absurd cc
+no_place false n e = refl
 
-set_here : (t u : Bool) (k : Tag) (fs w : List Filled) (es gs : List (Tag × List Filled)) (rows : List Row) → t ≡ u → rows_of gs ≡ rows
-    → rows_of (cond t ((k, w) ∷ es) ((k, fs) ∷ gs)) ≡ (if u then record { tag = k; filled = w } ∷ rows_of es else record { tag = k; filled = fs } ∷ rows)
-set_here true true k fs w es gs rows same h = refl
-set_here true false k fs w es gs rows same h = absurd cc
-set_here false true k fs w es gs rows same h = absurd cc
-set_here false false k fs w es gs rows same h = ap (λ (rs : List Row). record { tag = k; filled = fs } ∷ rs) h
+pub lacking : (place : Option ℕ) → ((i : ℕ) → place ≡ Some i → ⊥) → None ≡ place
+lacking None f = refl
+lacking (Some i) f = absurd (f i refl)
 
-pub replaced_rows : (test : Tag → Bool) (tag : Tag) → AsksFor test tag → (w : List Filled) (es : List (Tag × List Filled)) → rows_of (set_value test es w) ≡ replaced tag w (rows_of es)
-replaced_rows test tag asks w [] = refl
-replaced_rows test tag asks w (e ∷ es) = set_here (test e.0) (is_tag e.0 tag) e.0 e.1 w es (set_value test es w) (replaced tag w (rows_of es)) (asks e.0) (replaced_rows test tag asks w es)
-
-unset_here : (t : Bool) (k : Tag) (fs w : List Filled) (es gs : List (Tag × List Filled)) (o : Option (List Filled)) → cond t (Some fs) o ≡ Some w → (o ≡ Some w → rows_of gs ≡ rows_of es)
-    → rows_of (cond t ((k, w) ∷ es) ((k, fs) ∷ gs)) ≡ rows_of ((k, fs) ∷ es)
-unset_here true k fs w es gs o e h = let same : fs ≡ w = cc in ap (λ (x : List Filled). record { tag = k; filled = x } ∷ rows_of es) (sym same)
-unset_here false k fs w es gs o e h = ap (λ (rs : List Row). record { tag = k; filled = fs } ∷ rs) (h e)
-
--- A value that is written over itself.
-pub unset : (test : Tag → Bool) (w : List Filled) (es : List (Tag × List Filled)) → lookup test es ≡ Some w → rows_of (set_value test es w) ≡ rows_of es
-unset test w [] e = absurd cc
-unset test w (e ∷ es) h = unset_here (test e.0) e.0 e.1 w es (set_value test es w) (lookup test es) h (unset test w es)
+pub lacks : (tag : Tag) (rows : List Row) → None ≡ position (λ (row : Row). is_tag row.tag tag) rows → Lacks tag rows
+lacks tag rows e = lacks_all tag rows (no_place (nat_lt (position_or_len (asks tag) rows) (length rows)) (position_or_len (asks tag) rows) e)
 
 -- What taking a piece leaves where it isn't the last one.
 
@@ -134,15 +141,10 @@ still_waits rows q fs t all is tag_is told lacks =
 taken_waiting : (rows : List Row) (q : PieceParts) → completed rows q ≡ None → taken rows q ≡ put (has_tag q.tag rows) q.tag (with_piece rows q) rows
 taken_waiting rows q e = ap (λ (o : Option (List ℕ)). taken_at o q (with_piece rows q) rows) e
 
-pub taken_more : (test : Tag → Bool) (q : PieceParts) → AsksFor test q.tag → (es : List (Tag × List Filled)) (fs : List Filled) → lookup test es ≡ Some fs → completed (rows_of es) q ≡ None
-    → rows_of (set_value test es (fill q fs)) ≡ taken (rows_of es) q
-taken_more test q asks es fs found waits =
-    let filled : filled_of q.tag (rows_of es) ≡ fs = filled_found test q.tag asks es ∙ ap or_none found in
-    let there : has_tag q.tag (rows_of es) ≡ true = has_found test q.tag asks es ∙ ap (λ (o : Option (List Filled)). is_some o) found in
-    replaced_rows test q.tag asks (fill q fs) es
-    ∙ ap (λ (gs : List Filled). replaced q.tag (fill q gs) (rows_of es)) (sym filled)
-    ∙ ap (λ (t : Bool). put t q.tag (with_piece (rows_of es) q) (rows_of es)) (sym there)
-    ∙ sym (taken_waiting (rows_of es) q waits)
+pub taken_more : (q : PieceParts) (rows : List Row) → has_tag q.tag rows ≡ true → completed rows q ≡ None → replaced q.tag (fill q (filled_of q.tag rows)) rows ≡ taken rows q
+taken_more q rows there waits =
+    ap (λ (t : Bool). put t q.tag (with_piece rows q) rows) (sym there)
+    ∙ sym (taken_waiting rows q waits)
 
 pub taken_first : (rows : List Row) (q : PieceParts) → has_tag q.tag rows ≡ false → filled_of q.tag rows ≡ [] → completed rows q ≡ None
     → newest (rows ++ record { tag = q.tag; filled = record { at = q.at; bytes = q.bytes } ∷ [] } ∷ []) ≡ taken rows q
@@ -159,46 +161,14 @@ pub on_err : {X E A B : Type 0} (r : Result X E) → (A → B) → OnErr r A →
 on_err (Ok x) f a = tt
 on_err (Err e) f a = f a
 
--- A new row goes last, and past 128 rows the oldest goes.
-
-pub pushed : (es : List (Tag × List Filled)) (k : Tag) (fs : List Filled) → rows_of (es ++ (k, fs) ∷ []) ≡ rows_of es ++ record { tag = k; filled = fs } ∷ []
-pushed [] k fs = refl
-pushed (e ∷ es) k fs = ap (λ (rs : List Row). record { tag = e.0; filled = e.1 } ∷ rs) (pushed es k fs)
-
-pub length-rows_of : (es : List (Tag × List Filled)) → length (rows_of es) ≡ length es
-length-rows_of [] = refl
-length-rows_of (e ∷ es) = ap suc (length-rows_of es)
+-- Past 128 rows the oldest goes.
 
 pub newest_all : (rows : List Row) → length rows ≤ 128 → newest rows ≡ rows
 newest_all rows h = let e : length rows - 128 ≡ 0 = omega arith in ap (λ (n : ℕ). drop n rows) e
 
-pub newest_rest : (es : List (Tag × List Filled)) → length es ≡ 129 → newest (rows_of es) ≡ rows_of (remove es 0)
+pub newest_rest : (rows : List Row) → length rows ≡ 129 → newest rows ≡ remove rows 0
 newest_rest [] h = absurd (omega (arith, h))
-newest_rest (e ∷ es) h = let n : length (rows_of (e ∷ es)) - 128 ≡ 1 = omega (arith, length-rows_of (e ∷ es)) in ap (λ (n : ℕ). drop n (rows_of (e ∷ es))) n
-
-nothing_of : (o : Option (List Filled)) → is_some o ≡ false → o ≡ None
-nothing_of None e = refl
-nothing_of (Some fs) e = absurd cc
-
-inserted_here : (t : Bool) (k : Tag) (fs v : List Filled) (es gs : List (Tag × List Filled)) (o : Option (List Filled)) (row : Row) → cond t (Some fs) o ≡ None → (o ≡ None → rows_of gs ≡ rows_of es ++ row ∷ [])
-    → rows_of (if t then (k, v) ∷ es else (k, fs) ∷ gs) ≡ record { tag = k; filled = fs } ∷ (rows_of es ++ row ∷ [])
-inserted_here true k fs v es gs o row e h = absurd cc
-inserted_here false k fs v es gs o row e h = ap (λ (rs : List Row). record { tag = k; filled = fs } ∷ rs) (h e)
-
-inserted : (eq : Tag → Tag → Bool) (k : Tag) (v : List Filled) (es : List (Tag × List Filled)) → lookup (eq k) es ≡ None → rows_of (insert_entry eq es k v) ≡ rows_of es ++ record { tag = k; filled = v } ∷ []
-inserted eq k v [] e = refl
-inserted eq k v (e ∷ es) h = inserted_here (eq k e.0) e.0 e.1 v es (insert_entry eq es k v) (lookup (eq k) es) (record { tag = k; filled = v }) h (inserted eq k v es)
-
--- What a new entry makes of the rows.
-pub begun : (es new : List (Tag × List Filled)) (rows : List Row) (k tag : Tag) (v fs : List Filled) → new ≡ insert_entry (eq-value).it es k v → rows_of es ≡ rows → k ≡ tag → v ≡ fs → has_tag tag rows ≡ false
-    → rows_of new ≡ rows ++ record { tag = tag; filled = fs } ∷ []
-begun es new rows k tag v fs is same tag_is filled_is absent =
-    let gone : is_some (lookup ((eq-value).it tag) es) ≡ false = sym (has_found ((eq-value).it tag) tag (eq_asks tag) es) ∙ ap (has_tag tag) same ∙ absent in
-    let none : lookup ((eq-value).it k) es ≡ None = ap (λ (t : Tag). lookup ((eq-value).it t) es) tag_is ∙ nothing_of (lookup ((eq-value).it tag) es) gone in
-    ap rows_of is ∙ inserted (eq-value).it k v es none
-    ∙ ap (λ (rs : List Row). rs ++ record { tag = k; filled = v } ∷ []) same
-    ∙ ap (λ (t : Tag). rows ++ record { tag = t; filled = v } ∷ []) tag_is
-    ∙ ap (λ (gs : List Filled). rows ++ record { tag = tag; filled = gs } ∷ []) filled_is
+newest_rest (row ∷ rows) h = let n : length (row ∷ rows) - 128 ≡ 1 = omega (arith, h) in ap (λ (n : ℕ). drop n (row ∷ rows)) n
 
 pub one_more : (rows : List Row) (row : Row) → length (rows ++ row ∷ []) ≡ length rows + 1
 one_more rows row = omega (arith, length-append rows (row ∷ []))

@@ -1,5 +1,5 @@
 -- What comes together of the pieces that a node takes.
-use Rattle.std.specs.Prelude.{◌≡◌, ◌⊎◌, ℕ, ◌-◌, Bool, true, false, ◌==◌, if◌then◌else◌, List, [], ◌∷◌, ◌++◌, length, drop, map, Option, Some, None, Result, Ok, Err}
+use Rattle.std.specs.Prelude.{◌≡◌, ◌⊎◌, ℕ, ◌-◌, Bool, true, false, ◌==◌, if◌then◌else◌, List, [], ◌∷◌, ◌++◌, length, drop, Option, Some, None, Result, Ok, Err}
 use Rattle.fc_base.specs.declared.fault.Fault.{Fault}
 use Rattle.fc_base.specs.declared.fault.Fault.TheVariants.{FrameBadField, NoMemory}
 use Rattle.messages.specs.declared.body.Body.{Body}
@@ -110,10 +110,6 @@ taken rows q = taken_at (completed rows q) q (with_piece rows q) rows
 pub record IsKept (rows : List Row) (q : PieceParts) : Type 0 where
   pub empty : filled_at (filled_of q.tag rows) q.at ≡ None
   pub waits : completed rows q ≡ None
-
--- The rows of a map by tag, in its order.
-abbrev pub rows_of : List (Tag × List Filled) → List Row
-rows_of entries = map (λ (e : Tag × List Filled). record { tag = e.0; filled = e.1 }) entries
 
 -- What a frame gives to a node at which this has come together.
 abbrev pub given : List Row → Frame → Look

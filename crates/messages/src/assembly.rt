@@ -1,37 +1,53 @@
 //! What comes together of the pieces that a node takes.
 
-ghost use Rattle.std.specs.Prelude.{◌≡◌, false, OnOk, OnErr, [], ◌∷◌, ◌++◌};
+ghost use Rattle.std.specs.Prelude.{◌≡◌, OnOk, OnErr, [], ◌∷◌, ◌++◌};
+ghost use Rattle.std.specs.List.{position};
 ghost use Rattle.messages.specs.Bodies.{body_at};
-ghost use Rattle.messages.specs.Assemblies.{filled_of, has_tag, look, of_tag, taken, without, newest, IsKept, LookAnswers};
+ghost use Rattle.messages.specs.Tags.{is_tag};
+ghost use Rattle.messages.specs.Assemblies.{filled_of, look, of_tag, taken, without, newest, IsKept, LookAnswers};
 
 use crate::packet::{Packet, PacketParts};
 use crate::piece::{Piece, Tag};
 use crate::places::{Filled, Places, is_completed, join};
 use crate::reading::body_of;
 use fc_base::Fault;
-use indexmap::IndexMap;
 use std::alloc::{AllocError, Global};
 use std::marker::Model;
 
 /// How many tags are kept.
 const TAGS: usize = 128;
 
+/// A tag, and what has come of its body.
+#[derive(Debug, Drop)]
+struct Waiting {
+    tag: Tag,
+    places: Places,
+}
+
+impl Model for Waiting {
+    ghost use Rattle.messages.specs.Assemblies.{Row};
+
+    ghost Value = { Row };
+
+    ghost view = { λ w. record { tag = w.tag; filled = w.places } };
+}
+
 /// The pieces that came and whose bodies aren't whole yet: of at most 128 tags, in order of arrival.
 #[derive(Debug, Drop)]
 pub struct Assembly {
     alloc: Global,
-    rows: IndexMap<Tag, Places>,
+    rows: Vec<Waiting>,
 }
 
 impl Model for Assembly {
     ghost use Rattle.std.specs.Prelude.{List, length, ◌≤◌};
-    ghost use Rattle.messages.specs.Assemblies.{Row, rows_of};
+    ghost use Rattle.messages.specs.Assemblies.{Row};
 
     ghost Value = { List Row };
 
-    ghost view = { λ a. rows_of a.rows.entries };
+    ghost view = { λ a. a.rows.items };
 
-    ghost invariant = { λ a. length a.rows.entries ≤ 128 };
+    ghost invariant = { λ a. length a.rows.items ≤ 128 };
 }
 
 impl Assembly {
@@ -41,7 +57,7 @@ impl Assembly {
     {
         Assembly {
             alloc,
-            rows: IndexMap::new(alloc),
+            rows: Vec::new(alloc),
         }
     }
 
@@ -72,8 +88,8 @@ impl Assembly {
             return Ok(());
         }
         let alloc = self.alloc;
-        match self.rows.get_mut(&piece.tag()) {
-            Some(places) => places.fill(alloc, piece),
+        match self.place_of(piece.tag()) {
+            Some(place) => self.rows[place].places.fill(alloc, piece),
             None => self.begin(piece),
         }
     }
@@ -82,29 +98,40 @@ impl Assembly {
     pub fn drop(&mut self, tag: Tag)
         ensures { self.new ≡ without tag self.old }
     {
-        let _ = self.rows.shift_remove(&tag);
+        if let Some(place) = self.place_of(tag) {
+            let _ = self.rows.remove(place);
+        }
+    }
+
+    /// Where the row of a tag stands.
+    fn place_of(&self, tag: Tag) -> Option<usize>
+        ensures { result ≡ position (λ row. is_tag row.tag tag) self.now }
+    {
+        self.rows.iter().position(|row| row.tag == tag)
     }
 
     /// The filled places of a tag.
     fn filled_of(&self, tag: Tag) -> &[Filled]
         ensures { result.now ≡ filled_of tag self.now }
     {
-        match self.rows.get(&tag) {
-            Some(places) => places.as_slice(),
+        match self.place_of(tag) {
+            Some(place) => self.rows[place].places.as_slice(),
             None => &[],
         }
     }
 
-    /// Begins the row of a tag that has none.
+    /// Begins a row with a piece.
     fn begin(&mut self, piece: &Piece) -> Result<(), AllocError>
-        requires { has_tag piece.now.tag self.old ≡ false }
         ensures begun { OnOk result (self.new ≡ newest (self.old ++ record { tag = piece.now.tag; filled = record { at = piece.now.at; bytes = piece.now.bytes } ∷ [] } ∷ [])) }
         ensures same { OnErr result (self.new ≡ self.old) }
     {
-        let filled = Places::new(self.alloc, piece)?;
-        self.rows.insert(piece.tag(), filled)?;
+        let places = Places::new(self.alloc, piece)?;
+        self.rows.push(Waiting {
+            tag: piece.tag(),
+            places,
+        })?;
         if self.rows.len() > TAGS {
-            let _ = self.rows.shift_remove_index(0);
+            let _ = self.rows.remove(0);
         }
         Ok(())
     }

@@ -1,3 +1,3 @@
-mod EntryLemmas
+mod PlaceLemmas
 mod ReadingLemmas
 mod TableLemmas

@@ -1,12 +1,16 @@
-use Rattle.std.proofs.Common.{◌∙◌, ap, sym}
-use Rattle.messages.specs.Assemblies.{filled_of}
-use Rattle.messages.proofs.RowLemmas.{or_none, eq_asks, filled_found}
+use Rattle.std.proofs.Common.{◌∙◌, ap, sym, List}
+use Rattle.std.specs.Prelude.{slice_index_or}
+use Rattle.messages.specs.Assemblies.{Row}
+use Rattle.messages.proofs.RowLemmas.{stands, lacks}
 use Rattle.messages.proofs.assembly.Assembly.filled_of.Goals as goal
 
 pub returns-in-Some : goal.returns-in-Some
 returns-in-Some c =
-    c.as_slice.ensures ∙ ap or_none c.in-Some.ensures.value ∙ sym (filled_found _ c.args.tag (eq_asks c.args.tag) c.self.inside.rows.entries) ∙ ap (filled_of c.args.tag) c.self.view_is
+    let row = c.index.result.now in
+    c.as_slice.ensures
+    ∙ ap (λ (r : Row). r.filled) (c.behind-self.view_is ∙ c.index.ensures)
+    ∙ ap (λ (rows : List Row). (slice_index_or rows c.in-Some.place row).filled) c.self.view_is
+    ∙ sym ((stands c.args.tag c.args.self.now c.in-Some.place c.in-Some.ensures).filled row)
 
 pub returns-in-None : goal.returns-in-None
-returns-in-None c =
-    ap or_none c.in-None.ensures.value ∙ sym (filled_found _ c.args.tag (eq_asks c.args.tag) c.self.inside.rows.entries) ∙ ap (filled_of c.args.tag) c.self.view_is
+returns-in-None c = sym (lacks c.args.tag c.args.self.now c.in-None.ensures).empty
