@@ -58,6 +58,7 @@ pub mod FindLemmas
 pub mod PowerLemmas
 pub mod PlainLemmas
 pub mod PlayLemmas
+pub mod PutLemmas
 pub mod FileStepLemmas
 pub mod DeliverLemmas
 pub mod CheckLemmas

@@ -32,5 +32,6 @@ pub mod Asking
 pub mod Finding
 pub mod Telling
 pub mod Events
+pub mod PutIn
 pub mod Claims
 pub mod Headline

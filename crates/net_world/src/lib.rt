@@ -14,6 +14,7 @@ mod honest;
 mod mirror_node;
 mod passes;
 mod playing;
+mod put_in;
 mod ready;
 mod sent;
 mod served;
@@ -36,6 +37,7 @@ pub use passes::{
     checked_states_were_sent, held_states_were_sent, saved_states_were_kept, sent_states_were_taken,
 };
 pub use playing::play;
+pub use put_in::{with_cut, with_stop};
 pub use sent::Sent;
 pub use told::{Answer, Told};
 pub use verdict::one_state_of_each_job;

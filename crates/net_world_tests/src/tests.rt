@@ -12,11 +12,13 @@ mod texts;
 mod trouble;
 mod words;
 
-use played::{Leaves, Stop, left, plays_the_same};
+use fc_base::ServerNo;
+use messages::Node;
+use played::{Change, Leaves, left, plays_the_same};
 use std::alloc::{AllocGlobal, Global};
 use std::process::Abort;
 use std::test::Fail;
-use stories::saves::STOPS;
+use stories::saves::{CUTS, STOPS, Whose};
 use stories::{ALL, Story, disks, mirrors, numbers, pieces, refusals, renewals, runs, stops};
 use teller::Teller;
 use trouble::Trouble;
@@ -92,15 +94,41 @@ fn stories_that_are_played(rt: HostRuntime) {
     }
 }
 
+/// The node whose save it would be.
+fn node_of(whose: &Whose) -> Node {
+    match whose {
+        Whose::Server => Node::Server(ServerNo(0)),
+        Whose::Client => Node::Client,
+    }
+}
+
+/// A change leaves this of the stored run.
+fn leaves(rt: &(impl Abort + AllocGlobal), at: usize, change: Change, wanted: &Leaves) {
+    let (_, rows) = runs::STORIES[0];
+    let leaves = left(rt.alloc(), rows, change);
+    assert!(rt; leaves == Ok(Some(*wanted)), "{at}: {leaves:?}");
+}
+
 /// Wherever a node stops within a save of the stored run, the client keeps of its job the state that was
 /// taken, or none; and what makes no save isn't stopped in one.
 #[test]
 fn a_stop_in_each_save(rt: HostRuntime) {
-    let (_, rows) = runs::STORIES[0];
-    for (at, (before, behind)) in STOPS.iter().enumerate() {
+    for (at, (whose, before, behind)) in STOPS.iter().enumerate() {
         for (landed, wanted) in [(false, before), (true, behind)] {
-            let leaves = left(rt.alloc(), rows, Stop { at, landed });
-            assert!(rt; leaves == Ok(Some(*wanted)), "{at}, {landed}: {leaves:?}");
+            let node = node_of(whose);
+            leaves(&rt, at, Change::Stop { at, landed, node }, wanted);
+        }
+    }
+}
+
+/// Wherever a node of the stored run loses its power, and is started again, the client keeps of its job the
+/// state that was taken, or none, and no report faults a block.
+#[test]
+fn a_cut_at_each_place(rt: HostRuntime) {
+    for (at, (server, client)) in CUTS.iter().enumerate() {
+        for (whose, wanted) in [(Whose::Server, server), (Whose::Client, client)] {
+            let node = node_of(&whose);
+            leaves(&rt, at, Change::Cut { at, node }, wanted);
         }
     }
 }

@@ -1,4 +1,4 @@
-//! Stories that are played at once.
+//! Stories that are played at once, and with a cut put in.
 
 use super::commands::event_in;
 use super::looks::is_look;
@@ -6,28 +6,35 @@ use super::same::{are_same, are_same_states, key};
 use super::teller::{Teller, config_in};
 use super::trouble::Trouble;
 use super::words::first_word;
-use fc_base::ServerNo;
-use messages::Node;
-use net_world::{Config, Event, PlainEvent, World, play};
+use messages::{Node, look_at};
+use net_world::{Config, Event, World, play, with_cut, with_stop};
 use std::alloc::Global;
 
-/// A command that is stopped within its save: the number of its event, and whether the save lands.
+/// What is put into a story before the command with this number: a node loses its power, or does so within
+/// the save of this command, and is started again.
 #[derive(Clone, Copy)]
-pub struct Stop {
-    pub at: usize,
-    pub landed: bool,
+pub enum Change {
+    Cut { at: usize, node: Node },
+    Stop { at: usize, landed: bool, node: Node },
 }
 
-/// What a stop leaves.
+/// What a change leaves of the stored run. No report but the whole run's is ever sent.
 #[derive(Clone, Copy, Debug, PartialEq, Eq)]
 pub enum Leaves {
-    /// The world as it is without the stop.
+    /// The world as it is without the change.
     Same,
-    /// Another world, in which the client keeps the same state of the first job.
+    /// Another world, in which the client keeps the same state of the first job, and its check is reported.
+    Checked,
+    /// The client keeps this state, and no check is reported.
     Kept,
-    /// The client keeps no state of it.
+    /// The client keeps no state of it, and no check is reported.
     Nothing,
 }
+
+/// The Report of the stored run behind its run and its attempt: of job 0, one block checked and no fault.
+const REPORT: [u8; 25] = [
+    0, 0, 0, 0, 0, 0, 0, 1, 0, 0, 0, 0, 0, 0, 0, 0, 1, 0, 0, 0, 0, 0, 0, 0, 0,
+];
 
 /// Whether a story that is played at once gives the world that it gives event by event.
 pub fn plays_the_same(alloc: Global, story: &str) -> Result<bool, Trouble> {
@@ -45,11 +52,11 @@ fn plays_as(alloc: Global, story: &str, told: &World) -> Result<bool, Trouble> {
     }
 }
 
-/// What a stop leaves of the world of a story, where the nodes that are off are started again behind it,
-/// and the command is given again. `None` is answered where the client keeps another state.
-pub fn left(alloc: Global, story: &str, stop: Stop) -> Result<Option<Leaves>, Trouble> {
+/// What a change leaves of the world of the stored run. `None` is answered where the client keeps another
+/// state, or a check is reported otherwise.
+pub fn left(alloc: Global, story: &str, change: Change) -> Result<Option<Leaves>, Trouble> {
     match played(alloc, story, None) {
-        Ok(world) => left_of(alloc, story, stop, &world),
+        Ok(world) => left_of(alloc, story, change, &world),
         Err(trouble) => Err(trouble),
     }
 }
@@ -57,40 +64,87 @@ pub fn left(alloc: Global, story: &str, stop: Stop) -> Result<Option<Leaves>, Tr
 fn left_of(
     alloc: Global,
     story: &str,
-    stop: Stop,
+    change: Change,
     whole: &World,
 ) -> Result<Option<Leaves>, Trouble> {
-    match played(alloc, story, Some(stop)) {
+    match played(alloc, story, Some(change)) {
         Ok(world) => Ok(compare(&world, whole)),
         Err(trouble) => Err(trouble),
     }
 }
 
 fn compare(world: &World, whole: &World) -> Option<Leaves> {
-    let kept = world.saved(key(1, 0, 0));
     if are_same(world, whole) {
-        Some(Leaves::Same)
-    } else if kept.is_none() {
-        Some(Leaves::Nothing)
-    } else if are_same_states(kept, whole.saved(key(1, 0, 0))) {
-        Some(Leaves::Kept)
-    } else {
-        None
+        return Some(Leaves::Same);
+    }
+    let reported = is_reported(world)?;
+    let kept = world.saved(key(1, 0, 0));
+    match (kept.is_some(), reported) {
+        (false, false) => Some(Leaves::Nothing),
+        (true, _) if !are_same_states(kept, whole.saved(key(1, 0, 0))) => None,
+        (true, true) => Some(Leaves::Checked),
+        (true, false) => Some(Leaves::Kept),
+        (false, true) => None,
     }
 }
 
+/// Whether a check is reported, as in the stored run. `None` is answered where one is reported otherwise.
+fn is_reported(world: &World) -> Option<bool> {
+    let mut reported = false;
+    for index in 0..world.frames().len() {
+        let frame = world.frames().get(index)?;
+        if look_at(frame)?.kind.name() == "Report" {
+            reported = true;
+            if frame.get(32..)? != REPORT.as_slice() {
+                return None;
+            }
+        }
+    }
+    Some(reported)
+}
+
 /// The world of a story's commands. Where memory runs out, it is played once more.
-fn played(alloc: Global, story: &str, stop: Option<Stop>) -> Result<World, Trouble> {
-    match played_once(alloc, story, stop) {
-        Err(Trouble::NoMemory) => played_once(alloc, story, stop),
+fn played(alloc: Global, story: &str, change: Option<Change>) -> Result<World, Trouble> {
+    match played_once(alloc, story, change) {
+        Err(Trouble::NoMemory) => played_once(alloc, story, change),
         answer => answer,
     }
 }
 
-fn played_once(alloc: Global, story: &str, stop: Option<Stop>) -> Result<World, Trouble> {
-    match events_of(alloc, story, stop) {
-        Ok(events) => played_by(alloc, config_in(story), &events),
+fn played_once(alloc: Global, story: &str, change: Option<Change>) -> Result<World, Trouble> {
+    match events_of(alloc, story) {
+        Ok(events) => played_with(alloc, config_in(story), &events, change),
         Err(trouble) => Err(trouble),
+    }
+}
+
+fn played_with(
+    alloc: Global,
+    config: Option<Config>,
+    events: &[Event],
+    change: Option<Change>,
+) -> Result<World, Trouble> {
+    let Some(change) = change else {
+        return played_by(alloc, config, events);
+    };
+    match changed(alloc, events, change) {
+        Ok(events) => played_by(alloc, config, &events),
+        Err(trouble) => Err(trouble),
+    }
+}
+
+/// The events with a change put in.
+fn changed(alloc: Global, events: &[Event], change: Change) -> Result<Vec<Event>, Trouble> {
+    let events = match change {
+        Change::Cut { at, node } if at <= events.len() => with_cut(alloc, events, at, node),
+        Change::Stop { at, landed, node } if at < events.len() => {
+            with_stop(alloc, events, at, landed, node)
+        }
+        _ => return Err(Trouble::BadRow),
+    };
+    match events {
+        Ok(events) => Ok(events),
+        Err(_) => Err(Trouble::NoMemory),
     }
 }
 
@@ -107,17 +161,14 @@ fn played_by(alloc: Global, config: Option<Config>, events: &[Event]) -> Result<
     }
 }
 
-/// The events of a story's commands. Before the one that is stopped stand its stop, and restarts.
-fn events_of(alloc: Global, story: &str, stop: Option<Stop>) -> Result<Vec<Event>, Trouble> {
+/// The events of a story's commands.
+fn events_of(alloc: Global, story: &str) -> Result<Vec<Event>, Trouble> {
     let mut events = Vec::new(alloc);
-    let mut number: usize = 0;
     for row in story.lines() {
         let Some(command) = command_in(row) else {
             continue;
         };
-        let stopped = stop.filter(|stop| stop.at == number);
-        put_command(alloc, &mut events, command, stopped)?;
-        number = number.saturating_add(1);
+        put(&mut events, event_in(alloc, command))?;
     }
     Ok(events)
 }
@@ -130,43 +181,6 @@ fn command_in(row: &str) -> Option<&str> {
         return None;
     }
     Some(command.trim())
-}
-
-fn put_command(
-    alloc: Global,
-    events: &mut Vec<Event>,
-    command: &str,
-    stop: Option<Stop>,
-) -> Result<(), Trouble> {
-    if let Some(stop) = stop {
-        put_stop(alloc, events, command, stop.landed)?;
-    }
-    put(events, event_in(alloc, command))
-}
-
-/// Puts the stop of a command, and the restarts of all nodes, which are refused where they are on.
-fn put_stop(
-    alloc: Global,
-    events: &mut Vec<Event>,
-    command: &str,
-    landed: bool,
-) -> Result<(), Trouble> {
-    put(events, stopped(event_in(alloc, command), landed))?;
-    put(events, restart(Node::Client))?;
-    put(events, restart(Node::Server(ServerNo(0))))
-}
-
-fn restart(node: Node) -> Result<Event, Trouble> {
-    Ok(Event::Plain(PlainEvent::Restart { node }))
-}
-
-/// The stop of an event within its save.
-fn stopped(event: Result<Event, Trouble>, landed: bool) -> Result<Event, Trouble> {
-    match event {
-        Ok(Event::Plain(event)) => Ok(Event::CutIn { landed, event }),
-        Ok(_) => Ok(Event::CutInCut),
-        Err(trouble) => Err(trouble),
-    }
 }
 
 fn put(events: &mut Vec<Event>, event: Result<Event, Trouble>) -> Result<(), Trouble> {
