@@ -2,6 +2,7 @@
 //! computed, and that each call answers where memory is there.
 
 mod calls;
+mod changed_states;
 mod changes;
 mod looks;
 mod notes;
@@ -162,4 +163,10 @@ fn notes_that_are_changed(rt: HostRuntime) {
 fn old_notes_that_are_changed(rt: HostRuntime) {
     let count = changes::changes_of(rt.alloc(), notes::OLD_TWO);
     assert!(rt; count == Ok(changes::OLD_CHANGES), "{count:?}");
+}
+
+#[test]
+fn a_changed_state_of_a_kept_key(rt: HostRuntime) {
+    let outcomes = changed_states::outcomes(rt.alloc());
+    assert!(rt; outcomes == Ok(changed_states::OUTCOMES), "{outcomes:?}");
 }

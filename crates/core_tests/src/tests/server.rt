@@ -116,7 +116,7 @@ fn are_lost_in_turn(alloc: Global, rows: &str) -> Result<bool, Trouble> {
 
 #[test]
 fn each_save_fails(rt: HostRuntime) {
-    for (name, rows) in &starts::STORIES {
+    for (name, rows) in starts::STORIES.iter().chain(&triggers::STORIES) {
         let lost = are_lost_in_turn(rt.alloc(), rows);
         assert!(rt; lost == Ok(true), "{name}: {lost:?}");
     }

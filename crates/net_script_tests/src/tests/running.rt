@@ -143,25 +143,56 @@ fn expect_unread<R: Abort + AllocGlobal>(rt: &R, source: &mut Source<'_>) {
     assert!(rt; page.text.as_slice().is_empty());
 }
 
+/// How many bytes a read gives.
+const STEP: usize = 16;
+
+/// Each read fails in turn, and the one that tells the end; the one behind that isn't made.
 #[test]
 fn failed_reads(rt: HostRuntime) {
-    for read in 0..20 {
-        expect_unread(&rt, &mut failing_at(STORED.as_bytes(), 16, read));
+    let reads = STORED.len().div_ceil(STEP) as u32 + 1;
+    for read in 0..reads {
+        expect_unread(&rt, &mut failing_at(STORED.as_bytes(), STEP, read));
     }
+    expect(
+        &rt,
+        &mut failing_at(STORED.as_bytes(), STEP, reads),
+        STORED_LINES.as_bytes(),
+        0,
+    );
     expect_unread(&rt, &mut interrupted(b"", 2_000_000));
     expect(&rt, &mut interrupted(b"", 1_999_999), b"", 0);
 }
 
+/// Checks that a script is refused the first write that finds no room, and makes none behind it.
+fn expect_unwritten<R: Abort + AllocGlobal>(rt: &R, script: &str, lines: &str, room: usize) {
+    let mut page = page_with(rt.alloc(), room);
+    let ended = run_script(rt.alloc(), &mut source_of(script.as_bytes()), &mut page);
+    assert!(rt; ended == Err(ScriptFault::WriteError), "{room}: {ended:?}");
+    assert!(rt; page.late_writes == 0);
+    assert!(rt; lines.as_bytes().starts_with(page.text.as_slice()));
+}
+
+/// A short script, and what it prints.
+const SHORT: &str = "servers 1\nbegin\n.\ntick\ndeliver 2\n";
+
+const SHORT_LINES: &str =
+    "ok\nok run 1\nsent 0 client 0 Jobs 24\nok\nsent 1 client 0 Jobs 24\nrefused 80 NoFrame\n";
+
+/// The room ends within each line of a long script, and at each byte of a short one.
 #[test]
 fn failed_writes(rt: HostRuntime) {
     for line in 0..38 {
-        let room = 12 * line;
-        let mut page = page_with(rt.alloc(), room);
-        let ended = run_script(rt.alloc(), &mut source_of(STORED.as_bytes()), &mut page);
-        assert!(rt; ended == Err(ScriptFault::WriteError), "{room}: {ended:?}");
-        assert!(rt; page.late_writes == 0);
-        assert!(rt; STORED_LINES.as_bytes().starts_with(page.text.as_slice()));
+        expect_unwritten(&rt, STORED, STORED_LINES, 12 * line);
     }
+    for room in 0..SHORT_LINES.len() {
+        expect_unwritten(&rt, SHORT, SHORT_LINES, room);
+    }
+    expect(
+        &rt,
+        &mut source_of(SHORT.as_bytes()),
+        SHORT_LINES.as_bytes(),
+        0,
+    );
 }
 
 #[test]

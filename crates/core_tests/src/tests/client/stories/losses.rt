@@ -2,7 +2,7 @@
 
 use super::LostSave;
 
-pub static LOST_SAVES: [LostSave; 6] = [
+pub static LOST_SAVES: [LostSave; 8] = [
     LostSave {
         name: "a begin whose number is lost",
         at: 0,
@@ -111,6 +111,41 @@ pub static LOST_SAVES: [LostSave; 6] = [
         restart => -
         piece 6 1 0 0 0 1032 0 of State 1 listed_116 =>
         piece 6 1 0 0 0 1032 1024 of State 1 listed_116 => StateAck 1 0
+        ",
+    },
+    LostSave {
+        name: "a state in pieces whose save stays",
+        at: 0,
+        landed: true,
+        rows: "
+        restart => -
+        piece 6 1 0 0 0 1032 1024 of State 1 listed_116 =>
+        piece 6 1 0 0 0 1032 0 of State 1 listed_116 => 53
+        saved 1 0 0 => none
+        restart => 0 0 first~39=200~51=58~55=58~63=116~103=58~104=3~105=255~106=255~107=255\
+        ~108=255~109=255~110=255~111=255
+        piece 6 1 0 0 0 1032 0 of State 1 listed_116 =>
+        would_save piece 6 1 0 0 0 1032 1024 of State 1 listed_116 => 0
+        piece 6 1 0 0 0 1032 1024 of State 1 listed_116 => StateAck 1 0
+        ",
+    },
+    LostSave {
+        name: "a second state whose save is lost",
+        at: 2,
+        landed: false,
+        rows: "
+        restart => -
+        begin writes => run 1 + Jobs 1 writes
+        JobsOk 1 1 => Start 1
+        trigger 1 1 => Trigger 1 1
+        State 2 first => StateAck 1 0
+        State 2 first~19=1 => 53
+        saved 1 0 0 => first
+        saved 1 0 1 => none
+        restart => 1 0 first
+        State 2 first~19=1 => StateAck 1 1
+        State 2 first => StateAck 1 0
+        saved 1 0 1 => first~19=1
         ",
     },
 ];

@@ -1,0 +1,4 @@
+//! What no clause shows of `messages` and `hub`.
+
+mod network;
+mod packets;
