@@ -18,7 +18,7 @@ use played::{Change, Leaves, left, plays_the_same};
 use std::alloc::{AllocGlobal, Global};
 use std::process::Abort;
 use std::test::Fail;
-use stories::saves::{CUTS, STOPS, Whose};
+use stories::saves::{CUTS, CUTS_WITH_MIRROR, STOPS, STOPS_WITH_MIRROR, Whose};
 use stories::{ALL, Story, disks, mirrors, numbers, pieces, refusals, renewals, runs, stops};
 use teller::Teller;
 use trouble::Trouble;
@@ -99,36 +99,97 @@ fn node_of(whose: &Whose) -> Node {
     match whose {
         Whose::Server => Node::Server(ServerNo(0)),
         Whose::Client => Node::Client,
+        Whose::Mirror => Node::Mirror,
     }
 }
 
-/// A change leaves this of the stored run.
-fn leaves(rt: &(impl Abort + AllocGlobal), at: usize, change: Change, wanted: &Leaves) {
+/// A story that is changed, and the run in it whose state is kept.
+#[derive(Clone, Copy)]
+struct Tried {
+    rows: &'static str,
+    run: u64,
+}
+
+fn stored_run() -> Tried {
     let (_, rows) = runs::STORIES[0];
-    let leaves = left(rt.alloc(), rows, change);
+    Tried { rows, run: 1 }
+}
+
+fn fetched_run() -> Tried {
+    let (_, rows) = mirrors::STORIES[0];
+    Tried {
+        rows,
+        run: 4_294_967_297,
+    }
+}
+
+/// A change leaves this of a story.
+fn leaves(
+    rt: &(impl Abort + AllocGlobal),
+    tried: &Tried,
+    at: usize,
+    change: Change,
+    wanted: &Leaves,
+) {
+    let leaves = left(rt.alloc(), tried.rows, tried.run, change);
     assert!(rt; leaves == Ok(Some(*wanted)), "{at}: {leaves:?}");
+}
+
+/// What the stops of each command leave of a story.
+fn stops_leave(rt: &(impl Abort + AllocGlobal), tried: &Tried, stops: &[(Whose, Leaves, Leaves)]) {
+    for (at, (whose, before, behind)) in stops.iter().enumerate() {
+        for (landed, wanted) in [(false, before), (true, behind)] {
+            let node = node_of(whose);
+            leaves(rt, tried, at, Change::Stop { at, landed, node }, wanted);
+        }
+    }
+}
+
+/// What the cuts at each place leave of a story.
+fn cuts_leave(rt: &(impl Abort + AllocGlobal), tried: &Tried, cuts: &[(Leaves, Leaves)]) {
+    for (at, (server, client)) in cuts.iter().enumerate() {
+        for (whose, wanted) in [(Whose::Server, server), (Whose::Client, client)] {
+            let node = node_of(&whose);
+            leaves(rt, tried, at, Change::Cut { at, node }, wanted);
+        }
+    }
 }
 
 /// Wherever a node stops within a save of the stored run, the client keeps of its job the state that was
 /// taken, or none; and what makes no save isn't stopped in one.
 #[test]
 fn a_stop_in_each_save(rt: HostRuntime) {
-    for (at, (whose, before, behind)) in STOPS.iter().enumerate() {
-        for (landed, wanted) in [(false, before), (true, behind)] {
-            let node = node_of(whose);
-            leaves(&rt, at, Change::Stop { at, landed, node }, wanted);
-        }
-    }
+    stops_leave(&rt, &stored_run(), &STOPS);
 }
 
 /// Wherever a node of the stored run loses its power, and is started again, the client keeps of its job the
 /// state that was taken, or none, and no report faults a block.
 #[test]
 fn a_cut_at_each_place(rt: HostRuntime) {
-    for (at, (server, client)) in CUTS.iter().enumerate() {
-        for (whose, wanted) in [(Whose::Server, server), (Whose::Client, client)] {
-            let node = node_of(&whose);
-            leaves(&rt, at, Change::Cut { at, node }, wanted);
-        }
+    cuts_leave(&rt, &stored_run(), &CUTS);
+}
+
+/// The same of a run whose client loses its note, and has the state back from the mirror.
+#[test]
+fn a_stop_in_each_save_with_a_mirror(rt: HostRuntime) {
+    stops_leave(&rt, &fetched_run(), &STOPS_WITH_MIRROR);
+}
+
+#[test]
+fn a_cut_at_each_place_with_a_mirror(rt: HostRuntime) {
+    cuts_leave(&rt, &fetched_run(), &CUTS_WITH_MIRROR);
+}
+
+#[test]
+fn a_cut_of_the_mirror_at_each_place(rt: HostRuntime) {
+    let node = node_of(&Whose::Mirror);
+    for at in 0..CUTS_WITH_MIRROR.len() {
+        leaves(
+            &rt,
+            &fetched_run(),
+            at,
+            Change::Cut { at, node },
+            &Leaves::Same,
+        );
     }
 }

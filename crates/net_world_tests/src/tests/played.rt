@@ -18,7 +18,7 @@ pub enum Change {
     Stop { at: usize, landed: bool, node: Node },
 }
 
-/// What a change leaves of the stored run. No report but the whole run's is ever sent.
+/// What a change leaves of a story. No report but that of the whole story is ever sent.
 #[derive(Clone, Copy, Debug, PartialEq, Eq)]
 pub enum Leaves {
     /// The world as it is without the change.
@@ -31,7 +31,7 @@ pub enum Leaves {
     Nothing,
 }
 
-/// The Report of the stored run behind its run and its attempt: of job 0, one block checked and no fault.
+/// The Report of each story behind its run and its attempt: of job 0, one block checked and no fault.
 const REPORT: [u8; 25] = [
     0, 0, 0, 0, 0, 0, 0, 1, 0, 0, 0, 0, 0, 0, 0, 0, 1, 0, 0, 0, 0, 0, 0, 0, 0,
 ];
@@ -52,11 +52,16 @@ fn plays_as(alloc: Global, story: &str, told: &World) -> Result<bool, Trouble> {
     }
 }
 
-/// What a change leaves of the world of the stored run. `None` is answered where the client keeps another
-/// state, or a check is reported otherwise.
-pub fn left(alloc: Global, story: &str, change: Change) -> Result<Option<Leaves>, Trouble> {
+/// What a change leaves of the world of a story, whose run this is. `None` is answered where the client keeps
+/// another state, or a check is reported otherwise.
+pub fn left(
+    alloc: Global,
+    story: &str,
+    run: u64,
+    change: Change,
+) -> Result<Option<Leaves>, Trouble> {
     match played(alloc, story, None) {
-        Ok(world) => left_of(alloc, story, change, &world),
+        Ok(world) => left_of(alloc, story, run, change, &world),
         Err(trouble) => Err(trouble),
     }
 }
@@ -64,31 +69,31 @@ pub fn left(alloc: Global, story: &str, change: Change) -> Result<Option<Leaves>
 fn left_of(
     alloc: Global,
     story: &str,
+    run: u64,
     change: Change,
     whole: &World,
 ) -> Result<Option<Leaves>, Trouble> {
     match played(alloc, story, Some(change)) {
-        Ok(world) => Ok(compare(&world, whole)),
+        Ok(world) => Ok(compare(&world, whole, run)),
         Err(trouble) => Err(trouble),
     }
 }
 
-fn compare(world: &World, whole: &World) -> Option<Leaves> {
-    if are_same(world, whole) {
+fn compare(world: &World, whole: &World, run: u64) -> Option<Leaves> {
+    let (kept, wanted) = (world.saved(key(run, 0, 0)), whole.saved(key(run, 0, 0)));
+    if are_same(world, whole) && are_same_states(kept, wanted) {
         return Some(Leaves::Same);
     }
-    let reported = is_reported(world)?;
-    let kept = world.saved(key(1, 0, 0));
-    match (kept.is_some(), reported) {
+    match (kept.is_some(), is_reported(world)?) {
         (false, false) => Some(Leaves::Nothing),
-        (true, _) if !are_same_states(kept, whole.saved(key(1, 0, 0))) => None,
+        (true, _) if !are_same_states(kept, wanted) => None,
         (true, true) => Some(Leaves::Checked),
         (true, false) => Some(Leaves::Kept),
         (false, true) => None,
     }
 }
 
-/// Whether a check is reported, as in the stored run. `None` is answered where one is reported otherwise.
+/// Whether a check is reported, as in the whole story. `None` is answered where one is reported otherwise.
 fn is_reported(world: &World) -> Option<bool> {
     let mut reported = false;
     for index in 0..world.frames().len() {
