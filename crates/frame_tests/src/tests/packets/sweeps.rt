@@ -3,6 +3,7 @@
 
 use super::changed_pieces::{outcome, outcome_of, piece_of_letters};
 use super::run::RUN;
+use super::vectors::MIRRORED;
 use super::*;
 use std::test::Fail;
 
@@ -26,6 +27,31 @@ const FRONT: usize = 49;
 const FRONTS: [Counts; 2] = [
     [2_372, 0, 765, 235, 8_103, 983, 37],
     [2_060, 6, 765, 235, 8_415, 762, 252],
+];
+
+/// What the changes of the frames to and from a mirror come to, in the order of the vectors: a Copy each way, a
+/// CopyOk, a Fetch and a Granted.
+const MIRROR: [(Counts, Counts); 5] = [
+    (
+        [13_700, 182, 765, 236, 23_039, 702, 136],
+        [13_700, 122, 765, 235, 23_040, 762, 136],
+    ),
+    (
+        [13_700, 182, 765, 236, 23_039, 702, 136],
+        [13_700, 122, 765, 235, 23_040, 762, 136],
+    ),
+    (
+        [2_082, 303, 765, 236, 4_057, 701, 16],
+        [2_082, 243, 765, 235, 4_058, 761, 16],
+    ),
+    (
+        [1_043, 311, 765, 236, 3_056, 701, 8],
+        [1_043, 251, 765, 235, 3_057, 761, 8],
+    ),
+    (
+        [1_044, 311, 765, 236, 3_055, 701, 8],
+        [1_044, 251, 765, 235, 3_056, 761, 8],
+    ),
 ];
 
 /// What reading bytes comes to: 0 for what is written as these very bytes, 1 for another, else the number of
@@ -109,25 +135,31 @@ fn are_short(alloc: Global, reader: Reader, frame: &[u8]) -> bool {
     agree
 }
 
+/// Whether each front of a frame is too short, and its changes come to this, by both readers.
+fn is_swept(alloc: Global, frame: &[u8], packets: &Counts, frames: &Counts) -> bool {
+    let mut agree = true;
+    for (reader, wanted) in [(Reader::Packets, packets), (Reader::Frames, frames)] {
+        agree = are_short(alloc, reader, frame) && agree;
+        agree = swept(alloc, reader, frame, frame.len()) == Some(*wanted) && agree;
+    }
+    agree
+}
+
 #[test]
-fn fronts_of_the_frames_of_a_run(rt: HostRuntime) -> Result<(), Fail> {
-    for (index, (frame, _, _)) in RUN.iter().enumerate() {
-        for reader in [Reader::Packets, Reader::Frames] {
-            if !are_short(rt.alloc(), reader, frame) {
-                return Err(Fail::new(index));
-            }
+fn changes_of_the_frames_of_a_run(rt: HostRuntime) -> Result<(), Fail> {
+    for (index, (frame, packets, frames)) in RUN.iter().enumerate() {
+        if !is_swept(rt.alloc(), frame, packets, frames) {
+            return Err(Fail::new(index));
         }
     }
     Ok(())
 }
 
 #[test]
-fn changes_of_the_frames_of_a_run(rt: HostRuntime) -> Result<(), Fail> {
-    for (index, (frame, packets, frames)) in RUN.iter().enumerate() {
-        for (reader, wanted) in [(Reader::Packets, packets), (Reader::Frames, frames)] {
-            if swept(rt.alloc(), reader, frame, frame.len()) != Some(*wanted) {
-                return Err(Fail::new(index));
-            }
+fn changes_of_the_frames_of_a_mirror(rt: HostRuntime) -> Result<(), Fail> {
+    for ((name, frame), (packets, frames)) in MIRRORED.iter().zip(&MIRROR) {
+        if !is_swept(rt.alloc(), frame, packets, frames) {
+            return Err(Fail::new(*name));
         }
     }
     Ok(())
