@@ -46,7 +46,7 @@ pub fn plays_the_same(alloc: Global, story: &str) -> Result<bool, Trouble> {
 }
 
 fn plays_as(alloc: Global, story: &str, told: &World) -> Result<bool, Trouble> {
-    match played(alloc, story, None) {
+    match played(alloc, story, &None) {
         Ok(world) => Ok(are_same(&world, told)),
         Err(trouble) => Err(trouble),
     }
@@ -60,7 +60,7 @@ pub fn left(
     run: u64,
     change: Change,
 ) -> Result<Option<Leaves>, Trouble> {
-    match played(alloc, story, None) {
+    match played(alloc, story, &None) {
         Ok(world) => left_of(alloc, story, run, change, &world),
         Err(trouble) => Err(trouble),
     }
@@ -73,7 +73,7 @@ fn left_of(
     change: Change,
     whole: &World,
 ) -> Result<Option<Leaves>, Trouble> {
-    match played(alloc, story, Some(change)) {
+    match played(alloc, story, &Some(change)) {
         Ok(world) => Ok(compare(&world, whole, run)),
         Err(trouble) => Err(trouble),
     }
@@ -109,14 +109,14 @@ fn is_reported(world: &World) -> Option<bool> {
 }
 
 /// The world of a story's commands. Where memory runs out, it is played once more.
-fn played(alloc: Global, story: &str, change: Option<Change>) -> Result<World, Trouble> {
+fn played(alloc: Global, story: &str, change: &Option<Change>) -> Result<World, Trouble> {
     match played_once(alloc, story, change) {
         Err(Trouble::NoMemory) => played_once(alloc, story, change),
         answer => answer,
     }
 }
 
-fn played_once(alloc: Global, story: &str, change: Option<Change>) -> Result<World, Trouble> {
+fn played_once(alloc: Global, story: &str, change: &Option<Change>) -> Result<World, Trouble> {
     match events_of(alloc, story) {
         Ok(events) => played_with(alloc, config_in(story), &events, change),
         Err(trouble) => Err(trouble),
@@ -127,7 +127,7 @@ fn played_with(
     alloc: Global,
     config: Option<Config>,
     events: &[Event],
-    change: Option<Change>,
+    change: &Option<Change>,
 ) -> Result<World, Trouble> {
     let Some(change) = change else {
         return played_by(alloc, config, events);
@@ -139,11 +139,11 @@ fn played_with(
 }
 
 /// The events with a change put in.
-fn changed(alloc: Global, events: &[Event], change: Change) -> Result<Vec<Event>, Trouble> {
+fn changed(alloc: Global, events: &[Event], change: &Change) -> Result<Vec<Event>, Trouble> {
     let events = match change {
-        Change::Cut { at, node } if at <= events.len() => with_cut(alloc, events, at, node),
-        Change::Stop { at, landed, node } if at < events.len() => {
-            with_stop(alloc, events, at, landed, node)
+        Change::Cut { at, node } if *at <= events.len() => with_cut(alloc, events, *at, *node),
+        Change::Stop { at, landed, node } if *at < events.len() => {
+            with_stop(alloc, events, *at, *landed, *node)
         }
         _ => return Err(Trouble::BadRow),
     };
