@@ -98,7 +98,7 @@ fn is_reported(world: &World) -> Option<bool> {
     let mut reported = false;
     for index in 0..world.frames().len() {
         let frame = world.frames().get(index)?;
-        if look_at(frame)?.kind.name() == "Report" {
+        if is_report(frame) {
             reported = true;
             if frame.get(32..)? != REPORT.as_slice() {
                 return None;
@@ -106,6 +106,14 @@ fn is_reported(world: &World) -> Option<bool> {
         }
     }
     Some(reported)
+}
+
+/// Whether a frame is a Report.
+fn is_report(frame: &[u8]) -> bool {
+    match look_at(frame) {
+        Some(look) => look.kind.name() == "Report",
+        None => false,
+    }
 }
 
 /// The world of a story's commands. Where memory runs out, it is played once more.
