@@ -145,10 +145,16 @@ fn stops_leave(rt: &(impl Abort + AllocGlobal), tried: &Tried, stops: &[(Whose, 
     }
 }
 
-/// What the cuts at each place leave of a story.
+/// What the cuts at each place leave of a story. Those of the mirror change nothing: all that it says is in its
+/// note, and where there is none, they are refused.
 fn cuts_leave(rt: &(impl Abort + AllocGlobal), tried: &Tried, cuts: &[(Leaves, Leaves)]) {
     for (at, (server, client)) in cuts.iter().enumerate() {
-        for (whose, wanted) in [(Whose::Server, server), (Whose::Client, client)] {
+        let mirror = &Leaves::Same;
+        for (whose, wanted) in [
+            (Whose::Server, server),
+            (Whose::Client, client),
+            (Whose::Mirror, mirror),
+        ] {
             let node = node_of(&whose);
             leaves(rt, tried, at, Change::Cut { at, node }, wanted);
         }
@@ -178,18 +184,4 @@ fn a_stop_in_each_save_with_a_mirror(rt: HostRuntime) {
 #[test]
 fn a_cut_at_each_place_with_a_mirror(rt: HostRuntime) {
     cuts_leave(&rt, &fetched_run(), &CUTS_WITH_MIRROR);
-}
-
-#[test]
-fn a_cut_of_the_mirror_at_each_place(rt: HostRuntime) {
-    let node = node_of(&Whose::Mirror);
-    for at in 0..CUTS_WITH_MIRROR.len() {
-        leaves(
-            &rt,
-            &fetched_run(),
-            at,
-            Change::Cut { at, node },
-            &Leaves::Same,
-        );
-    }
 }

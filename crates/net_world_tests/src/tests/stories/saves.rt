@@ -128,7 +128,6 @@ pub const STOPS_WITH_MIRROR: [(Whose, Leaves, Leaves); 35] = [
 ];
 
 /// What is left of it where the server is cut before each command and behind the last, and where the client is.
-/// Where the mirror is, nothing changes: all that it says is in its note.
 pub const CUTS_WITH_MIRROR: [(Leaves, Leaves); 36] = [
     // The server has stored nothing yet.
     (Checked, Same),
