@@ -42,8 +42,12 @@ pub fn read_input<R: Read>(
     Ok(bytes)
 }
 
-/// Reads until the input ends or the buffer is full, and answers how many of its bytes are filled.
-fn fill<R: Read>(reader: &mut R, buffer: &mut [u8], max_reads: u32) -> Result<usize, InputFault>
+/// Reads until the input ends or the buffer is full, and answers how many of its bytes are filled: all, or fewer
+/// where the input has ended.
+///
+/// It calls `read` at most `max_reads` times. Calls that a signal interrupts are made again, and
+/// count. The fault is [`InputFault::ReadError`]; what was read by then is lost.
+pub fn fill<R: Read>(reader: &mut R, buffer: &mut [u8], max_reads: u32) -> Result<usize, InputFault>
     ensures bound { IfOk result (λ filled. filled ≤ length buffer.new) }
     ensures ok { IfOk result (λ filled. IsRead (length buffer.new) (R.remaining reader.old)
         (R.remaining reader.new) (take filled buffer.new)) }

@@ -2,7 +2,9 @@
 #![tactic(auto)]
 
 mod input;
+mod law;
 #[cfg(test)]
 mod tests;
 
-pub use input::{InputFault, read_input};
+pub use input::{InputFault, fill, read_input};
+pub use law::read_law;

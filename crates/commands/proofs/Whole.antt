@@ -7,21 +7,10 @@ use Rattle.job_file.specs.declared.fault.JobFault.{JobFault}
 use Rattle.job_file.specs.declared.fault.JobFault.TheVariants.{TooLong}
 use Rattle.job_file.specs.Fault.{when}
 use Rattle.job_file.specs.JobSet.{refusal_of}
-use Rattle.commands.specs.declared.refusal.Refusal.{Refusal}
-use Rattle.bounded_input.specs.Input.{IsRead}
-use Rattle.commands.specs.Refusal.{RefusesText}
+use Rattle.printed.specs.declared.refusal.Refusal.{Refusal}
+use Rattle.bounded_input.specs.Input.{IsRead, ReadsAreFronts, ShortReadsAreWhole}
+use Rattle.printed.specs.Refusals.{RefusesText}
 use Rattle.commands.specs.Answer.{AreLinesOf, AnswersText}
-
--- Fewer bytes than the bound are all bytes.
-pub all_read : (bound : ℕ) (text : List ℕ) (new : Option (List ℕ)) (bytes : List ℕ) → IsRead bound (Some text) new bytes → length bytes < bound → bytes ≡ text
-all_read bound text None bytes read short = absurd read.taken
-all_read bound text (Some rest) bytes read short =
-    sym (append-nil bytes) ∙ (ap (λ l. bytes ++ l) (sym (read.whole short)) ∙ sym read.taken)
-
--- The bytes are no more than there are.
-pub no_more : (bound : ℕ) (text : List ℕ) (new : Option (List ℕ)) (bytes : List ℕ) → IsRead bound (Some text) new bytes → length bytes ≤ length text
-no_more bound text None bytes read = absurd read.taken
-no_more bound text (Some rest) bytes read = omega (arith, length-append bytes rest, ap length read.taken)
 
 first_is_long : (test : Bool) (faults more : List JobFault) → test ≡ true → slice_get ((when test TooLong ++ faults) ++ more) 0 ≡ Some TooLong
 first_is_long true faults more e = refl
@@ -41,26 +30,26 @@ sound_is_short text sound =
     grind (arith, nat_tests)
 
 -- The lines of what was read are those of the whole.
-lines_of_whole : (text : List ℕ) (new : Option (List ℕ)) (bytes lines : List ℕ) → IsRead (MAX_TEXT + 1) (Some text) new bytes → AreLinesOf lines bytes → AreLinesOf lines text
-lines_of_whole text new bytes lines read are =
-    subst (AreLinesOf lines) (all_read (MAX_TEXT + 1) text new bytes read (sound_is_short bytes are.sound)) are
+lines_of_whole : ShortReadsAreWhole → (text : List ℕ) (new : Option (List ℕ)) (bytes lines : List ℕ) → IsRead (MAX_TEXT + 1) (Some text) new bytes → AreLinesOf lines bytes → AreLinesOf lines text
+lines_of_whole whole text new bytes lines read are =
+    subst (AreLinesOf lines) (whole (MAX_TEXT + 1) text new bytes read (sound_is_short bytes are.sound)) are
 
 -- The first fault of what was read is that of the whole.
-refuses_whole : (text : List ℕ) (new : Option (List ℕ)) (bytes : List ℕ) (refusal : Refusal) → IsRead (MAX_TEXT + 1) (Some text) new bytes → RefusesText refusal bytes → RefusesText refusal text
-refuses_whole text new bytes refusal read refuses =
+refuses_whole : ShortReadsAreWhole → ReadsAreFronts → (text : List ℕ) (new : Option (List ℕ)) (bytes : List ℕ) (refusal : Refusal) → IsRead (MAX_TEXT + 1) (Some text) new bytes → RefusesText refusal bytes → RefusesText refusal text
+refuses_whole whole fronts text new bytes refusal read refuses =
     elim (cases_lt (length bytes) (MAX_TEXT + 1)) [
-      | inl short ↦ subst (RefusesText refusal) (all_read (MAX_TEXT + 1) text new bytes read short) refuses
+      | inl short ↦ subst (RefusesText refusal) (whole (MAX_TEXT + 1) text new bytes read short) refuses
       | inr long ↦ record {
         fault = refuses.fault;
-        first = refused_long text (omega (arith, long, no_more (MAX_TEXT + 1) text new bytes read)) ∙ (sym (refused_long bytes (omega (arith, long))) ∙ refuses.first);
+        first = refused_long text (omega (arith, long, fronts (MAX_TEXT + 1) text new bytes read)) ∙ (sym (refused_long bytes (omega (arith, long))) ∙ refuses.first);
         refused = refuses.refused;
       }
     ]
 
 -- The answer to what was read of an input is the answer to all of it.
-pub answers_whole : {X : Type 0} (view : X → List ℕ) (old new : Option (List ℕ)) (bytes : List ℕ) (answer : Result X Refusal)
+pub answers_whole : ShortReadsAreWhole → ReadsAreFronts → {X : Type 0} (view : X → List ℕ) (old new : Option (List ℕ)) (bytes : List ℕ) (answer : Result X Refusal)
     → IsRead (MAX_TEXT + 1) old new bytes → AnswersText view answer bytes → IfSome old (AnswersText view answer)
-answers_whole view None new bytes answer read h = tt
-answers_whole view (Some text) new bytes (Ok lines) read h = lines_of_whole text new bytes (view lines) read h
-answers_whole view (Some text) new bytes (Err refusal) read (inl first) = inl (refuses_whole text new bytes refusal read first)
-answers_whole view (Some text) new bytes (Err refusal) read (inr other) = inr other
+answers_whole whole fronts view None new bytes answer read h = tt
+answers_whole whole fronts view (Some text) new bytes (Ok lines) read h = lines_of_whole whole text new bytes (view lines) read h
+answers_whole whole fronts view (Some text) new bytes (Err refusal) read (inl first) = inl (refuses_whole whole fronts text new bytes refusal read first)
+answers_whole whole fronts view (Some text) new bytes (Err refusal) read (inr other) = inr other

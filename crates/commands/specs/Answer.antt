@@ -4,9 +4,10 @@ use Rattle.std.specs.Io.KnownBytes.{Appends}
 use Rattle.fc_base.specs.declared.fault.Fault.TheVariants.{JobNoMemory, ReadError}
 use Rattle.job_file.specs.declared.job.JobSet.{JobSet}
 use Rattle.job_file.specs.JobSet.{refusal_of, IsSetOf}
-use Rattle.commands.specs.declared.refusal.Refusal.{Refusal}
-use Rattle.commands.specs.Lines.{set_lines, ended}
-use Rattle.commands.specs.Refusal.{plain, refusal_line, RefusesText}
+use Rattle.printed.specs.declared.refusal.Refusal.{Refusal}
+use Rattle.printed.specs.Words.{ended}
+use Rattle.commands.specs.Lines.{set_lines}
+use Rattle.printed.specs.Refusals.{plain, refusal_line, RefusesText}
 
 -- The text has no fault, and these are the lines of its set.
 pub record AreLinesOf (lines : List ℕ) (text : List ℕ) : Type 0 where

@@ -1,8 +1,15 @@
 -- What a command line may ask for.
-use Rattle.std.specs.Prelude.{⊤}
+use Rattle.std.specs.Prelude.{◌≤◌, ⊤}
+use Rattle.commands.specs.declared.command.FleetSize.{FleetSize}
 use Rattle.commands.specs.declared.command.Request.{Request}
 use Rattle.commands.specs.declared.command.Request.TheVariants.{Jobs, World, Live}
-use Rattle.commands.specs.Live.{IsFleetSize}
+
+-- There are 1 to 8 servers, of 1 to 16 workers each.
+pub record IsFleetSize (size : FleetSize) : Type 0 where
+  pub one_server : 1 ≤ size.servers
+  pub few_servers : size.servers ≤ 8
+  pub one_worker : 1 ≤ size.workers
+  pub few_workers : size.workers ≤ 16
 
 -- A live run has a size that a fleet may have.
 abbrev pub IsRequest : Request → Type 0

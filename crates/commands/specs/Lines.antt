@@ -1,7 +1,7 @@
 -- What is printed of a set of jobs.
 use Rattle.std.specs.Prelude.{ℕ, ◌/◌, ◌%◌, Bool, false, List, [], ◌∷◌, ◌++◌, length, Option, Some, None, codes, decimal, if◌then◌else◌}
 use Rattle.std.specs.Fmt.{digit_glyph}
-use Rattle.std.specs.List.{flat_map, enumerate_from, join_with_byte}
+use Rattle.std.specs.List.{flat_map, enumerate_from}
 use Rattle.fc_base.specs.declared.record.Kind.{Kind}
 use Rattle.fc_base.specs.declared.record.Kind.TheVariants.{Sequential, RandomMap, RandomFree}
 use Rattle.fc_base.specs.declared.record.Verify.{Verify}
@@ -11,14 +11,7 @@ use Rattle.job_file.specs.declared.job.JobSet.{JobSet}
 use Rattle.job_file.specs.declared.job.Note.{Note}
 use Rattle.job_file.specs.declared.job.Phase.{Phase}
 use Rattle.job_file.specs.declared.job.Phase.TheVariants.{Read, Write}
-
--- Words separated by blanks.
-abbrev pub spaced : List (List ℕ) → List ℕ
-spaced words = join_with_byte 32 words
-
--- A line with its line feed.
-abbrev pub ended : List ℕ → List ℕ
-ended line = line ++ codes "\n"
+use Rattle.printed.specs.Words.{spaced, ended}
 
 -- The order in which a job writes its blocks.
 abbrev pub order_word : Kind → List ℕ

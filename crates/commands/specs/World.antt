@@ -2,9 +2,9 @@
 use Rattle.std.specs.Prelude.{◌⊎◌, ℕ, List, Option}
 use Rattle.fc_base.specs.declared.fault.Fault.{Fault}
 use Rattle.fc_base.specs.declared.fault.Fault.TheVariants.{ReadError, NoMemory}
-use Rattle.net_script.specs.Runs.{HasRun, Finishes}
-use Rattle.commands.specs.Lines.{ended}
-use Rattle.commands.specs.Refusal.{plain, refusal_line}
+use Rattle.net_script.specs.Runs.{HasRun}
+use Rattle.printed.specs.Words.{ended, Finishes}
+use Rattle.printed.specs.Refusals.{plain, refusal_line}
 
 -- A script that was not read: the one line of this refusal is written.
 abbrev pub RefusesScript : Fault → Option (List ℕ) → Option (List ℕ) → ℕ → Type 0

@@ -5,12 +5,18 @@ ghost use Rattle.std.specs.Io.KnownBytes.{Appends};
 ghost use Rattle.commands.specs.Command.{IsRequest, IsLive};
 
 use crate::jobs::REFUSED;
-use crate::live::FleetSize;
 use clap::{Arg, ArgMatches, Command, Error};
 use std::alloc::{AllocError, Global};
 use std::convert::AsStr;
 use std::io;
 use std::io::Write;
+
+/// How many servers there are, 1 to 8, and how many workers each has, 1 to 16.
+#[derive(Clone, Copy, PartialEq, Eq)]
+pub struct FleetSize {
+    pub servers: u32,
+    pub workers: u32,
+}
 
 /// What a command line asks for.
 #[derive(Clone, Copy, PartialEq, Eq)]

@@ -2,16 +2,16 @@
 
 ghost use Rattle.std.specs.Prelude.{◌≡◌, ◌⊎◌, ◌+◌, IfOk, OnOk, IfSome, string_bytes};
 ghost use Rattle.std.specs.Io.KnownBytes.{Appends};
-ghost use Rattle.commands.specs.Lines.{ended};
-ghost use Rattle.commands.specs.Refusal.{refusal_line};
+ghost use Rattle.printed.specs.Words.{ended};
+ghost use Rattle.printed.specs.Refusals.{refusal_line};
 ghost use Rattle.bounded_input.specs.Input.{HasRead};
 ghost use Rattle.commands.specs.Answer.{AnswersText, WritesLinesOf, WritesRefusalOf};
 
 use crate::lines::lines_of_set;
-use crate::refusal::{Refusal, write_refusal};
-use bounded_input::read_input;
+use bounded_input::{read_input, read_law};
 use fc_base::MAX_TEXT;
 use job_file::parse;
+use printed::{Refusal, write_refusal};
 use std::alloc::Global;
 use std::io;
 use std::io::{Read, Write};
@@ -60,6 +60,7 @@ fn lines_of_input<R: Read>(alloc: Global, reader: &mut R) -> Result<String, Refu
     ensures answer { IfSome (R.remaining reader.old) (AnswersText string_bytes result) }
     ensures read { HasRead (MAX_TEXT + 1) (R.remaining reader.old) (R.remaining reader.new) }
 {
+    read_law();
     let text = read_input(alloc, reader, MAX_BYTES, MAX_READS)?;
     lines_of_text(alloc, &text)
 }

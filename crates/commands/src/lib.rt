@@ -1,14 +1,11 @@
-//! What fiocut's three commands do, over readers and writers that are handed in: it prints the jobs of a
-//! job file of fio, runs a script of events, or has servers and workers run two job files live.
+//! What fiocut's commands are, and what two of them do, over readers and writers that are handed in: `jobs` prints the jobs
+//! of a job file of fio, and `world` runs a script of events. (`live` has a crate of its own.)
 //!
 //! ```text
 //! match read_words(alloc, words) {
 //!     Some(Request::Jobs) => run_jobs(alloc, &mut reader, &mut writer),
 //!     Some(Request::World) => run_world(alloc, &mut reader, &mut writer),
-//!     Some(Request::Live { size, path }) => {
-//!         let mut trigger = FileTrigger { files, path };
-//!         run_live(rt, alloc, size, &mut trigger, &mut reader, &mut writer)
-//!     }
+//!     Some(Request::Live { size, path }) => ..
 //!     None => refuse_words(&mut writer),
 //! }
 //! ```
@@ -19,12 +16,8 @@
 mod command;
 mod jobs;
 mod lines;
-mod live;
-mod refusal;
 mod world;
 
-pub use command::{Request, read_words, refuse_words};
+pub use command::{FleetSize, Request, read_words, refuse_words};
 pub use jobs::{REFUSED, run_jobs};
-pub use live::{FileTrigger, FleetSize, MAX_INPUT, run_live};
-pub use refusal::Refusal;
 pub use world::{refuse_script, run_in_blocks, run_world};

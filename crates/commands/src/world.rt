@@ -3,14 +3,14 @@
 ghost use Rattle.std.specs.Prelude.{◌≡◌, OnOk, IfOk, IfSome};
 ghost use Rattle.std.specs.Io.Buffered.{writer_contents};
 ghost use Rattle.std.specs.Io.KnownBytes.{Appends};
-ghost use Rattle.commands.specs.Lines.{ended};
-ghost use Rattle.commands.specs.Refusal.{plain, refusal_line};
+ghost use Rattle.printed.specs.Words.{ended};
+ghost use Rattle.printed.specs.Refusals.{plain, refusal_line};
 ghost use Rattle.commands.specs.World.{AnswersScript, RefusesScript};
 
 use crate::jobs::REFUSED;
-use crate::refusal::{Refusal, write_refusal};
 use fc_base::Fault;
 use net_script::{ScriptFault, run_script};
+use printed::{Refusal, write_refusal};
 use std::alloc::Global;
 use std::io;
 use std::io::{BufWriter, ErrorKind, Read, Write};

@@ -2,7 +2,7 @@
 //! command lines are read.
 
 mod jobs;
-mod live;
+mod live_runs;
 mod words;
 mod world;
 

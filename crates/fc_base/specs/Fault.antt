@@ -1,7 +1,7 @@
 -- The table of faults: what each is called, which number it has, and what sort it is of.
 use Rattle.std.specs.Prelude.{ℕ, List, codes}
 use Rattle.fc_base.specs.declared.fault.Fault.{Fault}
-use Rattle.fc_base.specs.declared.fault.Fault.TheVariants.{JobTooLong, NotAscii, BadLine, UnknownOption, BadValue, JobNoJobs, TooManyJobs, NoSize, OutOfLimits, SharedFile, MixedPhases, JobNoMemory, WrongPhase, OldBoot, NotInFlight, StateShort, StateBadMagic, StateBadField, Impossible, StateTrailing, NoMemory, OtherKey, OtherJob, OtherPlace, FrameShort, FrameBadMagic, BadKind, FrameBadField, FrameTooLong, FrameTrailing, FrameNoMemory, Off, WriteFault, ReadFault, SaveFault, BadNote, LoadFault, Old, Busy, NoJobs, Gone, Overwritten, Unknown, BadJobs, Misfit, Down, Misdirected, NoSuchRun, Conflict, NumbersSpent, TableFull, NoFrame, NodeOff, NodeOn, NoWrite, NoSave, NoServer, Unlike, UsedGeneration, BadGeneration, NoMirror, TurnsSpent, ReadError, WriteError, WrongSeat}
+use Rattle.fc_base.specs.declared.fault.Fault.TheVariants.{JobTooLong, NotAscii, BadLine, UnknownOption, BadValue, JobNoJobs, TooManyJobs, NoSize, OutOfLimits, SharedFile, MixedPhases, JobNoMemory, WrongPhase, OldBoot, NotInFlight, StateShort, StateBadMagic, StateBadField, Impossible, StateTrailing, NoMemory, OtherKey, OtherJob, OtherPlace, FrameShort, FrameBadMagic, BadKind, FrameBadField, FrameTooLong, FrameTrailing, FrameNoMemory, Off, WriteFault, ReadFault, SaveFault, BadNote, LoadFault, Old, Busy, NoJobs, Gone, Overwritten, Unknown, BadJobs, Misfit, Down, Misdirected, NoSuchRun, Conflict, NumbersSpent, TableFull, NoFrame, NodeOff, NodeOn, NoWrite, NoSave, NoServer, Unlike, UsedGeneration, BadGeneration, NoMirror, TurnsSpent, ReadError, WriteError, WrongSeat, BadNotice, EndOfInput, NoJob}
 use Rattle.fc_base.specs.declared.fault.FaultSort.{FaultSort}
 use Rattle.fc_base.specs.declared.fault.FaultSort.TheVariants.{Memory, Save, Refusal}
 
@@ -72,6 +72,9 @@ number_of TurnsSpent = 90
 number_of ReadError = 91
 number_of WriteError = 92
 number_of WrongSeat = 93
+number_of BadNotice = 94
+number_of EndOfInput = 95
+number_of NoJob = 96
 
 -- The name that is printed for a fault.
 abbrev pub name_of : Fault → List ℕ
@@ -140,6 +143,9 @@ name_of TurnsSpent = codes "TurnsSpent"
 name_of ReadError = codes "ReadError"
 name_of WriteError = codes "WriteError"
 name_of WrongSeat = codes "WrongSeat"
+name_of BadNotice = codes "BadNotice"
+name_of EndOfInput = codes "EndOfInput"
+name_of NoJob = codes "NoJob"
 
 -- The faults that say that memory ran out, the one that says that a save failed, and all others.
 abbrev pub sort_of : Fault → FaultSort

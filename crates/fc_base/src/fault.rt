@@ -141,6 +141,12 @@ pub enum Fault {
     WriteError = 92,
     /// A seat of another server.
     WrongSeat = 93,
+    /// Bytes that are no notice of a write.
+    BadNotice = 94,
+    /// Input that ended early.
+    EndOfInput = 95,
+    /// A job file has no job of this number.
+    NoJob = 96,
 }
 
 /// What a refusal says of the world outside: rules that go by cases need no more than this.
@@ -155,7 +161,7 @@ pub enum FaultSort {
 }
 
 impl Fault {
-    /// The number that is printed and sent, from 1 to 93.
+    /// The number that is printed and sent, from 1 to 96.
     pub fn number(self) -> u8
         ensures { result ≡ number_of self }
     {
@@ -224,6 +230,9 @@ impl Fault {
             Fault::ReadError => "ReadError",
             Fault::WriteError => "WriteError",
             Fault::WrongSeat => "WrongSeat",
+            Fault::BadNotice => "BadNotice",
+            Fault::EndOfInput => "EndOfInput",
+            Fault::NoJob => "NoJob",
         }
     }
 

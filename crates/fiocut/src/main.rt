@@ -2,13 +2,13 @@
 //! workers run two job files live.
 #![tactic(auto)]
 
-ghost use Rattle.commands.specs.Live.{IsFleetSize};
+ghost use Rattle.commands.specs.Command.{IsFleetSize};
 
 use commands::{
-    FileTrigger, FleetSize, REFUSED, Request, read_words, refuse_script, refuse_words,
-    run_in_blocks, run_jobs, run_live,
+    FleetSize, REFUSED, Request, read_words, refuse_script, refuse_words, run_in_blocks, run_jobs,
 };
 use fc_base::Fault;
+use live::{FileTrigger, run_live};
 use std::fs::Files;
 use std::io;
 use std::io::BufWriter;

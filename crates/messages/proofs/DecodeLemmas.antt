@@ -62,3 +62,9 @@ pub says : OnlyPacketsAreRead → (bytes : List ℕ) (p : PacketParts) → IsByt
 says law bytes p fits answer =
     let found = law bytes fits answer.0 in
     subst (Says bytes) (same_packet found.0 p (sym found.1 ∙ answer.1)) found.2
+
+-- What isn't read of a body isn't read of what is made of it.
+pub reads_mapped : {X Y : Type 0} (f : X → Y) (fault : Fault) (said : Option X) (fits : Bool) → fits ≡ true → Reads {X = X} (Err fault) said → Reads {X = Y} (Err fault) (if fits then option_map f said else None)
+reads_mapped f fault said false e h = absurd cc
+reads_mapped f fault None true e h = h
+reads_mapped f fault (Some x) true e h = h

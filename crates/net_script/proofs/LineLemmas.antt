@@ -5,7 +5,7 @@ use Rattle.std.proofs.lemmas.Bool.Decides.{nat_tests}
 use Rattle.std.proofs.lemmas.List.{take-append-drop}
 use Rattle.std.proofs.lemmas.List.Splits.{slice_split_first, length-slice_split}
 use Rattle.net_script.specs.Words.{is_line_feed, ended_parts, lines_of}
-use Rattle.net_script.specs.Orders.{ended}
+use Rattle.printed.specs.Words.{ended}
 
 -- Each part before the last is a line.
 ended_more : (x : List ℕ) (parts : List (List ℕ)) → 0 < length parts → ended_parts (x ∷ parts) ≡ x ∷ ended_parts parts

@@ -5,55 +5,18 @@ use Rattle.std.proofs.lemmas.Grind.{flat_map-append}
 use Rattle.std.proofs.lemmas.List.{get_or-drop, get_or-take, get_or-map, take_more, length-take-le}
 use Rattle.std.proofs.lemmas.List.Elements.{Contains-get_or}
 use Rattle.std.proofs.lemmas.Option.{slice_get_cases, get_or_from_slice_get}
-use Rattle.fc_base.specs.declared.report.ReportEnd.{ReportEnd}
-use Rattle.fc_base.specs.declared.report.ReportEnd.TheVariants.{Whole, AtFault, ReadFault}
 use Rattle.messages.specs.declared.frame.Frame.{Frame}
 use Rattle.messages.specs.declared.reading.look.FrameLook.{FrameLook}
 use Rattle.messages.specs.FrameBytes.{frame_spelling}
 use Rattle.messages.specs.Looks.{look_of, LooksAtFrames}
-use Rattle.net_script.specs.Orders.{ended}
-use Rattle.net_script.specs.Printed.{spaced, end_words, frame_line, sent_line, sent_lines}
-use Rattle.net_script.specs.Told.{blank_before, AreBytesOf}
+use Rattle.printed.specs.Words.{ended}
+use Rattle.net_script.specs.Printed.{frame_line, sent_line, sent_lines}
+use Rattle.net_script.specs.Told.{AreBytesOf}
 
 -- What holds where there is an answer.
 pub on_ok : {T E P Q : Type 0} (r : Result T E) → (P → Q) → OnOk r P → OnOk r Q
 on_ok (Ok x) f p = f p
 on_ok (Err e) f p = tt
-
--- Words are the first, and each of the others with a blank before it.
-words_text : (word : List ℕ) (words : List (List ℕ)) → spaced (word ∷ words) ≡ word ++ flat_map blank_before words
-words_text word [] = sym (append-nil word)
-words_text word (next ∷ words) = ap (λ text. word ++ 32 ∷ text) (words_text next words)
-
--- Two words of any length among others.
-two_behind : (d f b c rest : List ℕ) → (d ++ (b ++ (f ++ c))) ++ rest ≡ d ++ (b ++ (f ++ (c ++ rest)))
-two_behind d f b c rest =
-    append_assoc d (b ++ (f ++ c)) rest
-    ∙ ap (λ l. d ++ l) (append_assoc b (f ++ c) rest ∙ ap (λ l. b ++ l) (append_assoc f c rest))
-
--- The blocks stand behind the other words.
-blocks_behind : (d f b c : List ℕ) (blocks : List (List ℕ))
-    → (d ++ (b ++ (f ++ (c ++ codes "first")))) ++ flat_map blank_before blocks
-    ≡ d ++ (b ++ (f ++ (c ++ spaced (codes "first" ∷ blocks))))
-blocks_behind d f b c blocks =
-    two_behind d f b (c ++ codes "first") (flat_map blank_before blocks)
-    ∙ ap (λ l. d ++ (b ++ (f ++ l))) (append_assoc c (codes "first") (flat_map blank_before blocks) ∙ ap (λ l. c ++ l) (sym (words_text (codes "first") blocks)))
-
--- The words of a report.
-pub report_text : (checked faults : ℕ) (end : ReportEnd) (blocks : List (List ℕ))
-    → (codes "checked " ++ (decimal checked ++ (codes " faults " ++ (decimal faults ++ (codes " end " ++ (spaced (end_words end) ++ codes " first"))))))
-    ++ flat_map blank_before blocks
-    ≡ spaced (codes "checked" ∷ decimal checked ∷ codes "faults" ∷ decimal faults ∷ codes "end" ∷ (end_words end ++ (codes "first" ∷ blocks)))
-report_text checked faults Whole blocks =
-    ap (λ l. codes "checked " ++ l) (blocks_behind (decimal checked) (decimal faults) (codes " faults ") (codes " end whole ") blocks)
-report_text checked faults AtFault blocks =
-    ap (λ l. codes "checked " ++ l) (blocks_behind (decimal checked) (decimal faults) (codes " faults ") (codes " end fault ") blocks)
-report_text checked faults (ReadFault block) blocks =
-    ap (λ l. codes "checked " ++ ((decimal checked ++ (codes " faults " ++ (decimal faults ++ (codes " end read " ++ l)))) ++ flat_map blank_before blocks))
-    (sym (append_assoc (decimal block) (codes " ") (codes "first")))
-    ∙ ap (λ l. codes "checked " ++ l) (blocks_behind (decimal checked) (decimal faults) (codes " faults ") (codes " end read " ++ (decimal block ++ codes " ")) blocks)
-    ∙ ap (λ l. codes "checked " ++ (decimal checked ++ (codes " faults " ++ (decimal faults ++ (codes " end read " ++ l)))))
-    (append_assoc (decimal block) (codes " ") (spaced (codes "first" ∷ blocks)))
 
 -- One more line.
 line_more : (first : ℕ) (sent : List Frame) (f : Frame) → sent_lines first (sent ++ f ∷ []) ≡ sent_lines first sent ++ sent_line (first + length sent) f ∷ []

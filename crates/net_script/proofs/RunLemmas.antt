@@ -13,7 +13,8 @@ use Rattle.net_world.specs.World.{world}
 use Rattle.net_script.specs.declared.command.Command.{Command}
 use Rattle.net_script.specs.declared.running.commands.Ran.TheVariants.{Answered}
 use Rattle.net_script.specs.Commands.{happens}
-use Rattle.net_script.specs.Orders.{Order, Asks, ended}
+use Rattle.printed.specs.Words.{ended}
+use Rattle.net_script.specs.Orders.{Order, Asks}
 use Rattle.net_script.specs.Printed.{lines_at, bad_line, refusal_line}
 use Rattle.net_script.specs.Script.{lines_in, are_commands, some_faults, finds_fault, status_by, status_in}
 use Rattle.net_script.specs.Runs.{RunOrders}

@@ -8,7 +8,8 @@ use Rattle.std.proofs.lemmas.Bool.Decides.{nat_tests}
 use Rattle.fc_base.specs.declared.fault.Fault.TheVariants.{NoMemory}
 use Rattle.bounded_input.specs.Input.{IsRead}
 use Rattle.net_world.specs.Setup.{Setup}
-use Rattle.net_script.specs.Orders.{Order, Opens, ended, orders_of}
+use Rattle.printed.specs.Words.{ended}
+use Rattle.net_script.specs.Orders.{Order, Opens, orders_of}
 use Rattle.net_script.specs.Printed.{bad_line, refusal_line}
 use Rattle.net_script.specs.Script.{are_commands, lines_in, lines_of_orders, status_by, status_in, status_of_orders, reads_well, finds_faults, is_too_long, text_of, status_of}
 use Rattle.net_script.specs.Runs.{RunOrders, HasRun}

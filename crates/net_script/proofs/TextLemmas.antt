@@ -2,7 +2,8 @@
 use Rattle.std.proofs.Common.{◌≡◌, ◌⊎◌, inl, inr, ℕ, ◌+◌, true, false, cond, not, ◌||◌, List, [], ◌∷◌, ◌++◌, take, append_assoc, append-nil, refl, sym, ◌∙◌, ap, suc, arith}
 use Rattle.std.specs.List.{list_any, flat_map, position_or_len}
 use Rattle.net_script.specs.Words.{lines_of}
-use Rattle.net_script.specs.Orders.{closes, ended, text_in}
+use Rattle.printed.specs.Words.{ended}
+use Rattle.net_script.specs.Orders.{closes, text_in}
 
 -- The front of what stands below is read: no line of it closes the text.
 pub record Below (below rest : List ℕ) : Type 0 where

@@ -22,7 +22,7 @@ use Rattle.net_world.specs.Ends.{Faults}
 use Rattle.net_world.specs.World as worlds
 use Rattle.net_world.specs.World.{world, and_outcome, answer, act, told_by, told}
 use Rattle.net_world.specs.WorldLaws.{SentAreFrames}
-use Rattle.net_script.specs.Orders.{ended}
+use Rattle.printed.specs.Words.{ended}
 use Rattle.net_script.specs.Printed.{answer_line, refusal_line, has_faults, sent_lines, frames_with, addressee, act_lines, lines_by}
 use Rattle.net_script.specs.Script.{tells_faults}
 use Rattle.net_script.specs.Told.{AreBytesOf}

@@ -1,6 +1,7 @@
 -- What a script asks for, in its order.
 use Rattle.std.specs.Prelude.{ℕ, ◌+◌, Bool, true, false, not, List, [], ◌∷◌, ◌++◌, length, bytes_eq, codes, if◌then◌else◌}
 use Rattle.std.specs.List.{list_any, before_first, flat_map}
+use Rattle.printed.specs.Words.{ended}
 use Rattle.net_world.specs.Setup.{Setup, setup_of}
 use Rattle.net_script.specs.declared.command.Saving.{Saving}
 use Rattle.net_script.specs.declared.command.Saving.TheVariants.{Begin, Verify}
@@ -21,10 +22,6 @@ pub data Order : Type 0 where
 -- The line that closes a text.
 abbrev pub closes : List ℕ → Bool
 closes line = bytes_eq line (codes ".")
-
--- A line with its line feed.
-abbrev pub ended : List ℕ → List ℕ
-ended line = line ++ codes "\n"
 
 -- The text of the lines before the one that closes it.
 abbrev pub text_in : List (List ℕ) → List ℕ

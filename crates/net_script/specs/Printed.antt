@@ -1,12 +1,10 @@
 -- The lines that are printed.
-use Rattle.std.specs.Prelude.{ℕ, ◌+◌, Bool, false, nat_lt, List, [], ◌∷◌, ◌++◌, length, map, Option, Some, None, codes, decimal, slice_get}
-use Rattle.std.specs.List.{join_with_byte}
+use Rattle.std.specs.Prelude.{ℕ, ◌+◌, Bool, false, nat_lt, List, [], ◌∷◌, ◌++◌, length, Option, Some, None, codes, decimal, slice_get}
 use Rattle.std.specs.Option.{option_map}
 use Rattle.fc_base.specs.declared.fault.Fault.{Fault}
-use Rattle.fc_base.specs.Fault.{number_of, name_of}
-use Rattle.fc_base.specs.declared.report.ReportEnd.{ReportEnd}
-use Rattle.fc_base.specs.declared.report.ReportEnd.TheVariants.{Whole, AtFault, ReadFault}
-use Rattle.fc_base.specs.declared.report.ReportParts.{ReportParts}
+use Rattle.printed.specs.Words.{spaced}
+use Rattle.printed.specs.Reports.{report_words}
+use Rattle.printed.specs.Refusals as printed
 use Rattle.engine.specs.declared.issue.Issue.{Issue}
 use Rattle.engine.specs.declared.issue.Issue.TheVariants.{Write, Full, Held, Overlap, Finished, Stopped}
 use Rattle.messages.specs.declared.node.Node.{Node}
@@ -26,27 +24,6 @@ use Rattle.net_world.specs.Changes.{Change, Met, Landed, Rotted, steps}
 use Rattle.net_world.specs.Outcomes.{Outcome, Does, Refuses, Drops, outcome}
 use Rattle.net_world.specs.World.{answer, act}
 use Rattle.fc_base.specs.declared.fault.Fault.TheVariants.{FrameBadField}
-
--- Words separated by blanks.
-abbrev pub spaced : List (List ℕ) → List ℕ
-spaced words = join_with_byte 32 words
-
--- The blocks of a report, or `-`.
-abbrev pub block_words : List ℕ → List (List ℕ)
-block_words [] = codes "-" ∷ []
-block_words blocks = map decimal blocks
-
--- How a check ended.
-abbrev pub end_words : ReportEnd → List (List ℕ)
-end_words Whole = codes "whole" ∷ []
-end_words AtFault = codes "fault" ∷ []
-end_words (ReadFault block) = codes "read" ∷ decimal block ∷ []
-
--- The words of a report.
-abbrev pub report_words : ReportParts → List (List ℕ)
-report_words report =
-    (codes "checked" ∷ decimal report.checked ∷ codes "faults" ∷ decimal report.faults ∷ codes "end" ∷ [])
-    ++ (end_words report.end ++ (codes "first" ∷ block_words report.first))
 
 -- What a worker is told that asks for a write.
 abbrev pub issue_words : Issue → List (List ℕ)
@@ -79,7 +56,7 @@ has_faults (Issued issue) = false
 
 -- The line of a refusal.
 abbrev pub refusal_line : Fault → List ℕ
-refusal_line fault = spaced (codes "refused" ∷ decimal (number_of fault) ∷ name_of fault ∷ [])
+refusal_line fault = printed.refusal_line (printed.plain fault)
 
 -- The line of a bad line.
 abbrev pub bad_line : ℕ → List ℕ

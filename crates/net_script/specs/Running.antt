@@ -12,7 +12,7 @@ use Rattle.net_world.specs.Stands.{StandsFor}
 use Rattle.net_world.specs.World.{world}
 use Rattle.net_script.specs.declared.running.commands.Ran.{Ran}
 use Rattle.net_script.specs.declared.running.commands.Ran.TheVariants.{Answered, Lacked}
-use Rattle.net_script.specs.Orders.{ended}
+use Rattle.printed.specs.Words.{ended}
 use Rattle.net_script.specs.Printed.{lines_at, refusal_line}
 use Rattle.net_script.specs.Script.{finds_fault}
 

@@ -1,19 +1,16 @@
 -- How a run of a script ends.
 use Rattle.std.specs.Prelude.{◌≡◌, ◌⊎◌, ℕ, Bool, false, IsTrue, List, [], ◌∷◌, ◌++◌, ⊤, Option, Result, Ok, Err}
 use Rattle.std.specs.List.{flat_map}
-use Rattle.std.specs.Io.KnownBytes.{Appends, Keeps}
+use Rattle.std.specs.Io.KnownBytes.{Keeps}
 use Rattle.fc_base.specs.declared.fault.Fault.TheVariants.{NoMemory}
 use Rattle.bounded_input.specs.declared.input.InputFault.{InputFault as Unread}
 use Rattle.bounded_input.specs.declared.input.InputFault.TheVariants as unread
 use Rattle.net_script.specs.declared.script_fault.ScriptFault.{ScriptFault}
 use Rattle.net_script.specs.declared.script_fault.ScriptFault.TheVariants as faults
-use Rattle.net_script.specs.Orders.{Order, ended, orders_of}
+use Rattle.printed.specs.Words.{ended, Finishes}
+use Rattle.net_script.specs.Orders.{Order, orders_of}
 use Rattle.net_script.specs.Printed.{refusal_line}
 use Rattle.net_script.specs.Script.{lines_of_orders, reads_well, text_of, status_of, is_too_long}
-
--- This text is written and nothing else, and this is the status.
-abbrev pub Finishes : List ℕ → ℕ → Option (List ℕ) → Option (List ℕ) → ℕ → Type 0
-Finishes text wanted old new status = Appends old new text × (status ≡ wanted)
 
 -- Memory ran out at an order, up to which none is bad: behind the lines of those before it one says so, and
 -- it is the last.

@@ -7,7 +7,8 @@ use Rattle.net_world.specs.Happenings.{Happening}
 use Rattle.net_world.specs.Outcomes.{Outcome, Does, Refuses, Drops, outcome}
 use Rattle.net_world.specs.World.{world, answer}
 use Rattle.net_script.specs.Commands.{happens}
-use Rattle.net_script.specs.Orders.{Order, Opens, Asks, Fails, ended, orders_of}
+use Rattle.printed.specs.Words.{ended}
+use Rattle.net_script.specs.Orders.{Order, Opens, Asks, Fails, orders_of}
 use Rattle.net_script.specs.Printed.{lines_at, bad_line, has_faults}
 
 -- The lines of orders behind these happenings, the newest first: each command answered in the world

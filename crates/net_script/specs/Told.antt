@@ -1,12 +1,8 @@
 -- The frames whose lines are written.
-use Rattle.std.specs.Prelude.{◌≡◌, ℕ, List, ◌++◌, length, map, take, drop, codes, Contains}
+use Rattle.std.specs.Prelude.{◌≡◌, ℕ, List, length, map, take, drop, Contains}
 use Rattle.messages.specs.declared.frame.Frame.{Frame}
 use Rattle.messages.specs.FrameBytes.{frame_spelling}
 use Rattle.messages.specs.FrameLaws.{IsFrame}
-
--- A word with a blank before it.
-abbrev pub blank_before : List ℕ → List ℕ
-blank_before word = codes " " ++ word
 
 -- So many of the kept bytes, from one on, are these frames'.
 pub record AreBytesOf (frames : List Frame) (first count : ℕ) (kept : List (List ℕ)) : Type 0 where

@@ -7,8 +7,7 @@ mod happening;
 mod line;
 mod order;
 mod orders;
-mod printed;
-mod report;
+mod output;
 mod running;
 mod script_fault;
 mod table;
@@ -17,7 +16,6 @@ mod words;
 
 pub use command::{Command, Saving};
 pub use line::Line;
-pub use report::write_report_words;
 pub use running::{MAX_SCRIPT, run_script};
 pub use script_fault::ScriptFault;
 pub use table::line_of;

@@ -4,7 +4,8 @@ ghost use Rattle.std.specs.Prelude.{◌≡◌, ◌≤◌, ◌+◌, ◌∷◌, �
 ghost use Rattle.std.specs.Io.KnownBytes.{Appends};
 ghost use Rattle.net_world.specs.Setup.{setup_of};
 ghost use Rattle.net_script.specs.Left.{orders_left};
-ghost use Rattle.net_script.specs.Orders.{Opens, ended, orders_of};
+ghost use Rattle.printed.specs.Words.{ended};
+ghost use Rattle.net_script.specs.Orders.{Opens, orders_of};
 ghost use Rattle.net_script.specs.Printed.{bad_line, refusal_line};
 ghost use Rattle.net_script.specs.Script.{lines_of_orders, reads_well, status_of_orders};
 ghost use Rattle.net_script.specs.Runs.{Runs, HasRun, RunOrders};
@@ -13,12 +14,13 @@ mod commands;
 
 use crate::order::Order;
 use crate::orders::Orders;
-use crate::printed::{BadLine, RefusalLine};
+use crate::output::BadLine;
 use crate::running::commands::run_opened;
 use crate::script_fault::ScriptFault;
 use bounded_input::read_input;
 use fc_base::Fault;
 use net_world::{Config, World};
+use printed::Refusal;
 use std::alloc::Global;
 use std::io;
 use std::io::{Read, Write};
@@ -113,7 +115,7 @@ fn refuse_world<W: Write>(writer: &mut W) -> io::Result<u8>
         (ended (refusal_line Fault.NoMemory))) }
     ensures status { IfOk result (λ status. status ≡ 2) }
 {
-    writeln!(writer, "{}", RefusalLine(Fault::NoMemory))?;
+    writeln!(writer, "{}", Refusal::from(Fault::NoMemory))?;
     Ok(REFUSED)
 }
 

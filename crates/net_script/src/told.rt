@@ -7,16 +7,18 @@ ghost use Rattle.std.specs.Io.KnownBytes.{Appends};
 ghost use Rattle.messages.specs.declared.frame.Frame.{Frame};
 ghost use Rattle.messages.specs.Looks.{LooksAtFrames};
 ghost use Rattle.net_world.specs.Sending.{sent_in};
-ghost use Rattle.net_script.specs.Orders.{ended};
-ghost use Rattle.net_script.specs.Printed.{answer_line, answer_words, issue_words, end_words, has_faults, act_lines, block_words, sent_lines};
-ghost use Rattle.net_script.specs.Told.{blank_before, AreBytesOf};
+ghost use Rattle.printed.specs.Words.{ended};
+ghost use Rattle.printed.specs.Reports.{end_words, block_words};
+ghost use Rattle.net_script.specs.Printed.{answer_line, answer_words, issue_words, has_faults, act_lines, sent_lines};
+ghost use Rattle.printed.specs.Words.{blank_before};
+ghost use Rattle.net_script.specs.Told.{AreBytesOf};
 
-use crate::printed::{CutLine, FrameLine};
-use crate::report::write_report_words;
+use crate::output::{CutLine, FrameLine};
 use engine::Issue;
 use fc_base::CheckReport;
 use messages::{Act, Node, look_at};
 use net_world::{Answer, Sent, Told};
+use printed::write_report_words;
 use std::io;
 use std::io::{ErrorKind, Write};
 

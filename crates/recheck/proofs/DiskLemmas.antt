@@ -24,7 +24,7 @@ skipped check block file open_check out next = record {
   file = refl;
 }
 
-range_append : (a m n : ℕ) → range_with_len a (m + n) ≡ range_with_len a m ++ range_with_len (a + m) n
+pub range_append : (a m n : ℕ) → range_with_len a (m + n) ≡ range_with_len a m ++ range_with_len (a + m) n
 range_append a zero n = rw (zero-add n, add-zero a) refl
 range_append a (suc m) n =
     let at : suc m + n ≡ suc (m + n) = omega arith in

@@ -1,4 +1,5 @@
 mod DiskLemmas
+mod EndLemmas
 mod ExpectedLemmas
 mod FitLemmas
 mod LossLemmas

@@ -1,11 +1,13 @@
 -- What a check finds, in the words of the writes of a job and of what its blocks hold.
 use Rattle.std.specs.Prelude.{◌≡◌, ◌⊎◌, ◌↔◌, ◌<◌, ◌≤◌, ℕ, Bool, false, List, Option, Some, IsTrue}
+use Rattle.std.specs.List.{range_with_len}
 use Rattle.fc_base.specs.declared.numbers.Key.{Key}
 use Rattle.fc_base.specs.declared.record.JobParts.{JobParts}
+use Rattle.fc_base.specs.declared.report.ReportEnd.TheVariants.{AtFault}
 use Rattle.write_order.specs.Blocks.{block_of}
 use Rattle.write_order.specs.Stamps.{written_bytes}
 use Rattle.verify_state.specs.State.{State, IsSame}
-use Rattle.recheck.specs.Expected.{issued_in, counts, expected_by}
+use Rattle.recheck.specs.Expected.{Expected, issued_in, counts, expected_by}
 use Rattle.recheck.specs.Faults.{is_fault}
 use Rattle.recheck.specs.Report.{report}
 
@@ -56,3 +58,10 @@ abbrev pub SameStatesCheckAlike : Type 0
 SameStatesCheckAlike =
     (a b : State) → IsSame a b → (fatal : Bool) (key : Key) (job : JobParts) (held : ℕ → List ℕ) (blocks : List ℕ) →
     report fatal (expected_by key job (Some a)) held blocks ≡ report fatal (expected_by key job (Some b)) held blocks
+
+-- A check that ends at a fault tells of the blocks up to it what it tells of all.
+abbrev pub FaultsEndChecks : Type 0
+FaultsEndChecks =
+    (fatal : Bool) (e : Expected) (held : ℕ → List ℕ) (n m : ℕ) → n ≤ m →
+    (report fatal e held (range_with_len 0 n)).end ≡ AtFault →
+    report fatal e held (range_with_len 0 m) ≡ report fatal e held (range_with_len 0 n)

@@ -1,7 +1,7 @@
 //! Laws of the check, over all jobs, states and contents, and an example. The functions have
 //! nothing to run.
 
-ghost use Rattle.recheck.specs.Laws.{FaultsAreLosses, HoldersAreNoFaults, SameStatesCheckAlike};
+ghost use Rattle.recheck.specs.Laws.{FaultsAreLosses, FaultsEndChecks, HoldersAreNoFaults, SameStatesCheckAlike};
 ghost use Rattle.std.specs.Prelude.{◌≡◌, false, [], ◌∷◌, Some, None};
 ghost use Rattle.recheck.specs.Expected.{expected_by};
 ghost use Rattle.recheck.specs.Report.{report};
@@ -20,6 +20,11 @@ pub fn faults_are_losses()
 /// Checks by two states that are the same tell the same, of any blocks with any content.
 pub fn same_states_check_alike()
     ensures { SameStatesCheckAlike }
+{}
+
+/// A check that ends at a fatal fault has the report of the whole, however many blocks stand behind.
+pub fn faults_end_checks()
+    ensures { FaultsEndChecks }
 {}
 
 /// Two blocks, of which the second never got its write: in a full pass that is a fault, and by a

@@ -20,7 +20,7 @@ mod verdict;
 mod whole_disk;
 
 pub use fit_law::reports_fit;
-pub use law::{examples, faults_are_losses, same_states_check_alike};
+pub use law::{examples, faults_are_losses, faults_end_checks, same_states_check_alike};
 pub use recheck::Recheck;
 pub use verdict::Verdict;
 pub use whole_disk::check_disk;

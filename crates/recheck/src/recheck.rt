@@ -121,8 +121,8 @@ impl Recheck {
         tally.into_report(end)
     }
 
-    /// The report of the blocks that came, where this one could not be read.
-    pub(crate) fn finish_at(self, block: u32) -> CheckReport
+    /// The report of the blocks that came, where this one could not be read. It takes no memory.
+    pub fn finish_at(self, block: u32) -> CheckReport
         requires { block < MAX_BLOCKS }
         ensures { result ≡ told self.found (ReportEnd.ReadFault block) }
     {

@@ -97,6 +97,9 @@ fault_word base.TurnsSpent = refl
 fault_word base.ReadError = refl
 fault_word base.WriteError = refl
 fault_word base.WrongSeat = refl
+fault_word base.BadNotice = refl
+fault_word base.EndOfInput = refl
+fault_word base.NoJob = refl
 
 abbrev pub TextFits : Result (List Job) ℕ → Type 0
 TextFits (Ok js) = IsSet js

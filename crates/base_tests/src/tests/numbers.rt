@@ -77,6 +77,9 @@ fn names_and_numbers_of_faults(rt: HostRuntime) -> Result<(), Fail> {
         (Fault::NoJobs, 62, "NoJobs", FaultSort::Refusal),
         (Fault::NoMirror, 89, "NoMirror", FaultSort::Refusal),
         (Fault::WrongSeat, 93, "WrongSeat", FaultSort::Refusal),
+        (Fault::BadNotice, 94, "BadNotice", FaultSort::Refusal),
+        (Fault::EndOfInput, 95, "EndOfInput", FaultSort::Refusal),
+        (Fault::NoJob, 96, "NoJob", FaultSort::Refusal),
     ];
     for (fault, number, name, sort) in table {
         assert!(rt; fault.number() == number && fault.name() == name && fault.sort() == sort);

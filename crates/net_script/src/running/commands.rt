@@ -11,7 +11,8 @@ ghost use Rattle.net_world.specs.Happenings.{Happening};
 ghost use Rattle.net_world.specs.World.{world as changes};
 ghost use Rattle.net_world.specs.Stands.{StandsFor};
 ghost use Rattle.net_world.specs.Ends.{Ends};
-ghost use Rattle.net_script.specs.Orders.{Opens, ended};
+ghost use Rattle.printed.specs.Words.{ended};
+ghost use Rattle.net_script.specs.Orders.{Opens};
 ghost use Rattle.net_script.specs.Commands.{happens};
 ghost use Rattle.net_script.specs.Printed.{addressee, refusal_line};
 ghost use Rattle.net_script.specs.Script.{are_commands, lines_in, lines_of_orders, reads_well, status_in, status_of_orders};
@@ -23,12 +24,12 @@ use crate::command::{Command, Saving};
 use crate::happening::event_of;
 use crate::order::Order;
 use crate::orders::Orders;
-use crate::printed::RefusalLine;
 use crate::running::{FAULTS, NO_FAULTS, REFUSED, refuse_line};
 use crate::told::{has_faults, write_told};
 use fc_base::{Fault, FaultSort};
 use messages::{Node, look_at};
 use net_world::{Told, World, sent_are_frames};
+use printed::Refusal;
 use std::alloc::Global;
 use std::io;
 use std::io::Write;
@@ -115,7 +116,7 @@ fn refuse<W: Write>(writer: &mut W, fault: Fault) -> io::Result<Ran>
     ensures text { OnOk result (Appends (W.contents writer.old) (W.contents writer.new) (ended (refusal_line fault))) }
     ensures ran { IfOk result (λ ran. ran ≡ refused_by (sort_of fault)) }
 {
-    writeln!(writer, "{}", RefusalLine(fault))?;
+    writeln!(writer, "{}", Refusal::from(fault))?;
     Ok(match fault.sort() {
         FaultSort::Memory => Ran::Lacked,
         _ => Ran::Answered { faults: false },

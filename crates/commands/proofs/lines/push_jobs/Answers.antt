@@ -1,6 +1,7 @@
 use Rattle.std.proofs.Common.{◌≡◌, ℕ, List, ◌++◌, rules, ap, ◌∙◌, string_bytes}
 use Rattle.job_file.specs.declared.job.Job.{Job}
-use Rattle.commands.specs.Lines.{ended, job_line}
+use Rattle.printed.specs.Words.{ended}
+use Rattle.commands.specs.Lines.{job_line}
 use Rattle.commands.proofs.Numbered.{texts_more, texts_all}
 use Rattle.commands.proofs.lines.push_jobs.Goals as goal
 

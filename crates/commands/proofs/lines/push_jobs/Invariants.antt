@@ -1,6 +1,7 @@
 use Rattle.std.proofs.Common.{◌≡◌, ◌++◌, take, string_bytes}
 use Rattle.std.specs.List.{flat_map, enumerate_from}
-use Rattle.commands.specs.Lines.{ended, job_line}
+use Rattle.printed.specs.Words.{ended}
+use Rattle.commands.specs.Lines.{job_line}
 use Rattle.commands.proofs.lines.push_jobs.Given as goal
 
 abbrev pub invariant-loop-number : goal.invariant-loop-number

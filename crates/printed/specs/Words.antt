@@ -1,0 +1,20 @@
+-- Words of a line, and what is written.
+use Rattle.std.specs.Prelude.{◌≡◌, ℕ, List, ◌++◌, Option, codes}
+use Rattle.std.specs.List.{join_with_byte}
+use Rattle.std.specs.Io.KnownBytes.{Appends}
+
+-- Words separated by blanks.
+abbrev pub spaced : List (List ℕ) → List ℕ
+spaced words = join_with_byte 32 words
+
+-- A word with a blank before it.
+abbrev pub blank_before : List ℕ → List ℕ
+blank_before word = codes " " ++ word
+
+-- A line with its line feed.
+abbrev pub ended : List ℕ → List ℕ
+ended line = line ++ codes "\n"
+
+-- This text is written and nothing else, and this is the status.
+abbrev pub Finishes : List ℕ → ℕ → Option (List ℕ) → Option (List ℕ) → ℕ → Type 0
+Finishes text wanted old new status = Appends old new text × (status ≡ wanted)

@@ -1,0 +1,97 @@
+//! A refusal as it is printed.
+
+ghost use Rattle.std.specs.Prelude.{◌≡◌, OnOk, Some};
+ghost use Rattle.std.specs.Io.KnownBytes.{Appends};
+ghost use Rattle.fc_base.specs.declared.fault.Fault.TheVariants.{JobNoMemory};
+ghost use Rattle.printed.specs.Words.{ended};
+ghost use Rattle.printed.specs.Refusals.{refusal_line};
+
+use bounded_input::InputFault;
+use fc_base::Fault;
+use job_file::JobFault;
+use std::alloc::AllocError;
+use std::io::Write;
+use std::{fmt, io};
+
+/// A fault, and the line or the job where it is found, if it has one. It prints as
+/// `refused CODE NAME` or `refused CODE NAME NUMBER`, and takes no memory for that.
+#[derive(Clone, Copy)]
+pub struct Refusal {
+    pub fault: Fault,
+    /// The line, counted from 1, or the job, counted from 0.
+    pub line_or_job: Option<u32>,
+}
+
+impl fmt::Display for Refusal {
+    ghost use Rattle.printed.specs.Refusals.{refusal_line};
+
+    ghost output = { λ refusal. Some (refusal_line refusal) };
+
+    fn fmt<W: fmt::Write>(&self, f: &mut fmt::Formatter<W>) -> fmt::Result {
+        let fault = self.fault;
+        match self.line_or_job {
+            Some(line_or_job) => write!(f, "refused {} {fault} {line_or_job}", fault.number()),
+            None => write!(f, "refused {} {fault}", fault.number()),
+        }
+    }
+}
+
+impl From<InputFault> for Refusal {
+    ghost use Rattle.printed.specs.Refusals.{of_input};
+
+    ghost from_gives = { λ fault refusal. refusal ≡ of_input fault };
+
+    fn from(fault: InputFault) -> Refusal {
+        match fault {
+            InputFault::ReadError => Refusal::from(Fault::ReadError),
+            InputFault::NoMemory => Refusal::from(Fault::JobNoMemory),
+        }
+    }
+}
+
+impl From<Fault> for Refusal {
+    ghost use Rattle.printed.specs.Refusals.{plain};
+
+    ghost from_gives = { λ fault refusal. refusal ≡ plain fault };
+
+    fn from(fault: Fault) -> Refusal {
+        Refusal {
+            fault,
+            line_or_job: None,
+        }
+    }
+}
+
+impl From<JobFault> for Refusal {
+    ghost use Rattle.printed.specs.Refusals.{refusal_for};
+
+    ghost from_gives = { λ fault refusal. refusal ≡ refusal_for fault };
+
+    fn from(found: JobFault) -> Refusal {
+        // A fault is passed on whole, so the second call gets a copy.
+        let again = found;
+        Refusal {
+            fault: found.fault(),
+            line_or_job: again.line_or_job(),
+        }
+    }
+}
+
+impl From<AllocError> for Refusal {
+    ghost use Rattle.printed.specs.Refusals.{plain};
+
+    ghost from_gives = { λ _ refusal. refusal ≡ plain JobNoMemory };
+
+    fn from(_error: AllocError) -> Refusal {
+        Refusal::from(Fault::JobNoMemory)
+    }
+}
+
+/// Writes the one line of a refusal, and flushes. An error is that of a write.
+pub fn write_refusal<W: Write>(writer: &mut W, refusal: Refusal) -> io::Result<()>
+    ensures { OnOk result (Appends (W.contents writer.old) (W.contents writer.new)
+        (ended (refusal_line refusal))) }
+{
+    writeln!(writer, "{refusal}")?;
+    writer.flush()
+}
