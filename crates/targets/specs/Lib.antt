@@ -1,0 +1,9 @@
+pub mod Notices
+pub mod Orders
+pub mod Runs
+pub mod Writing
+pub mod Checks
+pub mod Texts
+pub mod Jobs
+pub mod Reports
+pub mod Command

@@ -1,0 +1,28 @@
+-- What is told of the writes of a job that are carried out elsewhere, and its bytes.
+use Rattle.std.specs.Prelude.{◌≡◌, ℕ, ◌==◌, ◌&&◌, List, [], ◌∷◌, ◌++◌, Option, Some, None, if◌then◌else◌}
+use Rattle.std.specs.Int.{w64}
+use Rattle.fc_base.specs.Layouts.{bytes_of}
+use Rattle.targets.specs.declared.notice.Notice.{Notice}
+use Rattle.targets.specs.declared.notice.Notice.TheVariants.{Done, Failed, Take}
+
+-- The 16 bytes of a notice: 1, 2 or 3 in eight bytes, and in eight the number of the write, which is 0 for a take.
+abbrev pub notice_bytes : Notice → List ℕ
+notice_bytes (Done k) = bytes_of w64 1 ++ bytes_of w64 k
+notice_bytes (Failed k) = bytes_of w64 2 ++ bytes_of w64 k
+notice_bytes Take = bytes_of w64 3 ++ bytes_of w64 0
+
+-- The bytes of notices, of which the last one stands first in the list.
+abbrev pub told_bytes : List Notice → List ℕ
+told_bytes [] = []
+told_bytes (n ∷ ns) = told_bytes ns ++ notice_bytes n
+
+-- The notice of these two numbers, if they are one's.
+abbrev pub notice_of : ℕ → ℕ → Option Notice
+notice_of kind write =
+    if kind == 1 then Some (Done write) else if kind == 2 then Some (Failed write)
+    else if (kind == 3) && (write == 0) then Some Take else None
+
+-- The notice that 16 bytes are, or none where no notice has them.
+abbrev pub IsNoticeIn : List ℕ → Option Notice → Type 0
+IsNoticeIn bytes (Some n) = bytes ≡ notice_bytes n
+IsNoticeIn bytes None = (n : Notice) → bytes ≡ notice_bytes n → ⊥

@@ -1,0 +1,95 @@
+//! The command line of `drive`.
+
+ghost use Rattle.std.specs.Prelude.{◌≡◌, ◌≤◌, ◌<◌, IfOk, IfSome, OnOk, codes};
+ghost use Rattle.std.specs.Io.KnownBytes.{Appends};
+ghost use Rattle.targets.specs.Command.{IsRequest};
+
+use crate::drive_write::REFUSED;
+use clap::{Arg, ArgMatches, Command, Error};
+use fc_base::{JobNo, MAX_JOBS, RunNo};
+use std::alloc::{AllocError, Global};
+use std::convert::AsStr;
+use std::io;
+use std::io::Write;
+
+/// What a command line asks for.
+#[derive(Clone, Copy, PartialEq, Eq)]
+pub enum Request {
+    /// `drive write RUN JOB`: write the job of this number.
+    Write { run: RunNo, job: JobNo },
+    /// `drive check RUN JOB`: check its target.
+    Check { run: RunNo, job: JobNo },
+}
+
+/// Reads the words of a command line, of which the first is the program's own name. `None` is a bad command: no
+/// command or an unknown one, a word too few or too many, a run that isn't 1 to 18,446,744,073,709,551,615, a job that
+/// isn't 0 to 15, or no memory to read the words with. There are no options.
+pub fn read_words<S: AsStr>(alloc: Global, words: &[S]) -> Option<Request>
+    ensures { IfSome result IsRequest }
+{
+    if words.iter().any(|word| word.as_str() == "--") {
+        return None;
+    }
+    let matches = matches_of(alloc, words).ok()?;
+    match matches.subcommand()? {
+        ("write", words) => {
+            let (run, job) = numbers_of(words)?;
+            Some(Request::Write { run, job })
+        }
+        ("check", words) => {
+            let (run, job) = numbers_of(words)?;
+            Some(Request::Check { run, job })
+        }
+        _ => None,
+    }
+}
+
+fn matches_of<'a, S: AsStr>(alloc: Global, words: &'a [S]) -> Result<ArgMatches<'a>, Error> {
+    let command = command_of(alloc)?;
+    command.try_get_matches_from(words)
+}
+
+/// What a command line may have: one of two subcommands, and no options.
+fn command_of<'a>(alloc: Global) -> Result<Command<'a>, AllocError> {
+    let mut command = Command::new(alloc, "drive")
+        .disable_help_flag(true)
+        .disable_help_subcommand(true)
+        .subcommand_required(true);
+    for name in ["write", "check"] {
+        let words = subcommand(alloc, name)?;
+        command = command.subcommand(words)?;
+    }
+    Ok(command)
+}
+
+fn subcommand<'a>(alloc: Global, name: &'a str) -> Result<Command<'a>, AllocError> {
+    let mut command = Command::new(alloc, name).disable_help_flag(true);
+    for number in ["run", "job"] {
+        command = command.arg(Arg::new(alloc, number).required(true))?;
+    }
+    Ok(command)
+}
+
+/// The numbers of the run and of the job.
+fn numbers_of(words: &ArgMatches<'_>) -> Option<(RunNo, JobNo)>
+    ensures { IfSome result (λ numbers. (1 ≤ numbers.0) × (numbers.1 < MAX_JOBS)) }
+{
+    let run = words.get_one::<u64>("run")?;
+    let job = words.get_one::<u32>("job")?;
+    if run == 0 || job >= MAX_JOBS {
+        return None;
+    }
+    Some((RunNo(run), JobNo(job)))
+}
+
+/// Answers a bad command line: it prints `bad command`, and the exit status is that of a refusal.
+/// An error is that of a write.
+pub fn refuse_words<W: Write>(writer: &mut W) -> io::Result<u8>
+    ensures status { IfOk result (λ status. status ≡ 2) }
+    ensures printed { OnOk result
+        (Appends (W.contents writer.old) (W.contents writer.new) (codes "bad command\n")) }
+{
+    writer.write_all(b"bad command\n")?;
+    writer.flush()?;
+    Ok(REFUSED)
+}

@@ -1,0 +1,30 @@
+//! A job whose target is outside, by way of a reader and a writer: the blocks of its writes go out as orders and their
+//! ends come in as notices; and after a cut the target's bytes come in, and the check's report goes out.
+//!
+//! ```text
+//! match write_blocks(alloc, key, &rec, &mut reader, &mut writer)? {
+//!     RunEnd::Taken(state) => keep(&state),
+//!     RunEnd::Refused(fault) => ..
+//! }
+//! let report = check_blocks(alloc, key, &rec, Some(&state), false, &mut reader)?;
+//! ```
+//!
+//! Begin with `writing` and `specs/Runs.antt`; `checking` and `specs/Checks.antt` have the check.
+#![tactic(auto)]
+
+mod asked;
+mod checking;
+mod command;
+mod drive_check;
+mod drive_write;
+mod notice;
+mod order;
+mod texts;
+mod writing;
+
+pub use checking::check_blocks;
+pub use command::{Request, read_words, refuse_words};
+pub use drive_check::{MAX_STATE, check_job};
+pub use drive_write::{REFUSED, refuse, write_job};
+pub use notice::Notice;
+pub use writing::{RunEnd, write_blocks};

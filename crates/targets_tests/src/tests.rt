@@ -1,0 +1,7 @@
+//! What no clause shows of `targets`.
+
+mod checks;
+mod inputs;
+mod runs;
+mod stamps;
+mod words;
