@@ -4,12 +4,12 @@
  *     drive-target write JOBFILE TARGET STATE [--job N] [--after N] [--trigger FILE] [--keep COMMAND] [--cut COMMAND]
  *     drive-target check JOBFILE TARGET STATE|- [--job N] [--run N]
  *
- * TARGET is a file or a block device, of which job N (0 where nothing says otherwise) has its region from the first byte
- * on. The state is taken at SIGTERM or SIGINT, once FILE is there, after so many completions, or when all writes are done.
- * It goes to STATE (written, synced, renamed) and to the input of COMMAND; only then is the cut's command run. The last
- * run's number is in STATE.run, so that none is used twice. `-` is a full pass. More options: --yes writes a device that
- * isn't empty; --torn takes blocks larger than what the device writes whole; --cached opens without O_DIRECT and O_DSYNC.
- * DRIVE and FIOCUT name the two programs. The status is that of `drive`: 0, 1 where a check found faults, 2 for the rest. */
+ * TARGET is a file or a block device, of which job N (0 where nothing says otherwise) has its region from the first byte on.
+ * The state is taken at SIGTERM or SIGINT, once FILE is there, after so many completions, or when all writes are done. It goes
+ * to STATE (written, synced, renamed) and to the input of COMMAND; only then is the cut's command run. STATE.run has the last
+ * run's number, so that none is used twice. `-` is a full pass. More options: --yes writes a device that isn't empty; --torn
+ * takes blocks larger than what the device writes whole; --cached opens without O_DIRECT and O_DSYNC. DRIVE and FIOCUT name
+ * the two programs. The status is that of `drive`: 0, 1 where a check found faults, 2 for the rest. */
 #define _GNU_SOURCE
 #include <dirent.h>
 #include <endian.h>
@@ -18,7 +18,6 @@
 #include <libgen.h>
 #include <pthread.h>
 #include <signal.h>
-#include <spawn.h>
 #include <stdatomic.h>
 #include <stdint.h>
 #include <stdio.h>
@@ -29,13 +28,13 @@
 #include <sys/wait.h>
 #include <unistd.h>
 
-enum { DONE = 1, FAILED = 2, TAKE = 3, NOTICE = 16, MAX_TEXT = 65536, STATE = 136, PIPE = 1 << 20 };
+enum { DONE = 1, FAILED = 2, TAKE = 3, ORDER = 16, MAX_TEXT = 65536, STATE = 136, PIPE = 1 << 20 };
 typedef unsigned long long number; /* As printf and sscanf want it. */
-extern char **environ;
 
 static struct { number blocks, total, bs, depth; } job;
 static struct { const char *file, *target, *state, *trigger, *keep, *cut; number job, after, run; int yes, torn, cached; } want;
-static int target, to_drive, from_drive;
+static FILE *to_drive;
+static int target, from_drive;
 static atomic_ullong completed;
 static atomic_int taken, ended;
 static pthread_mutex_t reading = PTHREAD_MUTEX_INITIALIZER;
@@ -48,32 +47,19 @@ static _Noreturn void give_up(const char *what, const char *why) {
     exit(2);
 }
 
-static void put64(uint8_t *at, uint64_t n) {
-    memcpy(at, &(uint64_t){htobe64(n)}, sizeof n);
-}
-
-static uint64_t get64(const uint8_t *at) {
-    uint64_t n;
-    memcpy(&n, at, sizeof n);
-    return be64toh(n);
-}
-
+/* No signal has a handler here, so no call is interrupted. */
 static int write_all(int fd, const void *bytes, size_t length) {
     for (const char *at = bytes; length > 0;) {
         ssize_t n = write(fd, at, length);
-        if (n < 0 && errno != EINTR) return -1;
-        if (n > 0) at += n, length -= (size_t)n;
+        if (n < 0) return -1;
+        at += n, length -= (size_t)n;
     }
     return 0;
 }
 
 static size_t read_all(int fd, void *bytes, size_t length) {
     size_t have = 0;
-    while (have < length) {
-        ssize_t n = read(fd, (char *)bytes + have, length - have);
-        if (n == 0 || (n < 0 && errno != EINTR)) break;
-        if (n > 0) have += (size_t)n;
-    }
+    for (ssize_t n; have < length && (n = read(fd, (char *)bytes + have, length - have)) > 0;) have += (size_t)n;
     return have;
 }
 
@@ -105,30 +91,16 @@ static number next_run(void) {
     return run;
 }
 
-/* A pipe that holds many blocks. */
-static void make_pipe(int ends[2]) {
-    if (pipe2(ends, O_CLOEXEC)) give_up("pipe", strerror(errno));
-    fcntl(ends[1], F_SETPIPE_SZ, PIPE);
-}
-
-static int status_of(pid_t process) {
-    int status;
-    while (waitpid(process, &status, 0) < 0)
-        if (errno != EINTR) return 2;
-    return WIFEXITED(status) ? WEXITSTATUS(status) : 2;
-}
-
 /* What the job is, as `fiocut jobs` says. */
 static void read_job(void) {
     char text[MAX_TEXT] = "\n", row[64];
-    number seed;
     setenv("DRIVE_JOBFILE", want.file, 1);
     FILE *said = popen("\"${FIOCUT:-fiocut}\" jobs <\"$DRIVE_JOBFILE\"", "r");
     if (!said || fread(text + 1, 1, sizeof text - 2, said) == 0 || pclose(said)) give_up(want.file, text + 1);
     snprintf(row, sizeof row, "\njob %llu ", want.job);
     char *at = strstr(text, row), *fields = at ? strstr(at, " blocks=") : NULL;
-    const char *form = " blocks=%llu total=%llu bs=%llu seed=%llu depth=%llu";
-    if (!fields || sscanf(fields, form, &job.blocks, &job.total, &job.bs, &seed, &job.depth) != 5) give_up(want.file, "no such job");
+    const char *form = " blocks=%llu total=%llu bs=%llu seed=%*u depth=%llu";
+    if (!fields || sscanf(fields, form, &job.blocks, &job.total, &job.bs, &job.depth) != 4) give_up(want.file, "no such job");
 }
 
 /* How many bytes the device on which a file lies writes whole, or 0 where nobody tells. */
@@ -174,10 +146,8 @@ static void open_target(int writes) {
 }
 
 static void tell(uint64_t what, uint64_t write_number) {
-    uint8_t notice[NOTICE];
-    put64(notice, what);
-    put64(notice + 8, write_number);
-    write_all(to_drive, notice, NOTICE); /* One write, which a pipe keeps whole. It fails once `drive` has ended. */
+    uint64_t notice[2] = {htobe64(what), htobe64(write_number)};
+    write_all(fileno(to_drive), notice, sizeof notice); /* One write, which a pipe keeps whole. It fails once `drive` has ended. */
 }
 
 static void take(void) {
@@ -185,17 +155,14 @@ static void take(void) {
 }
 
 /* The next order into a block; false where there is none: what came is then the last that `drive` says. */
-static int next_order(uint8_t *order, uint8_t *block) {
-    int found = 0;
+static int next_order(uint64_t order[2], void *block) {
     pthread_mutex_lock(&reading);
-    if (!ended) {
-        size_t have = read_all(from_drive, order, NOTICE);
-        found = have == NOTICE && order[0] == 0 && read_all(from_drive, block, job.bs) == job.bs;
-        if (!found) {
-            memcpy(last, order, have);
-            last_length = have + read_all(from_drive, last + have, sizeof last - have);
-            ended = 1;
-        }
+    size_t have = ended ? 0 : read_all(from_drive, order, ORDER);
+    int found = have == ORDER && *(uint8_t *)order == 0 && read_all(from_drive, block, job.bs) == job.bs;
+    if (!found && !ended) {
+        memcpy(last, order, have);
+        last_length = have + read_all(from_drive, last + have, sizeof last - have);
+        ended = 1;
     }
     pthread_mutex_unlock(&reading);
     return found;
@@ -203,15 +170,13 @@ static int next_order(uint8_t *order, uint8_t *block) {
 
 /* Carries out orders. A write is told as done only once the target has said that it is there. */
 static void *work(void *none) {
-    uint8_t order[NOTICE];
+    uint64_t order[2];
     void *block;
     if (posix_memalign(&block, 4096, job.bs)) give_up("memory", strerror(ENOMEM));
     while (next_order(order, block)) {
-        number write_number = get64(order), at = get64(order + 8);
+        number write_number = be64toh(order[0]), at = be64toh(order[1]);
         if (at >= job.blocks) give_up("drive", "a block that the job hasn't");
-        ssize_t n;
-        do n = pwrite(target, block, job.bs, (off_t)(at * job.bs));
-        while (n < 0 && errno == EINTR);
+        ssize_t n = pwrite(target, block, job.bs, (off_t)(at * job.bs));
         int is_done = n == (ssize_t)job.bs;
         tell(is_done ? DONE : FAILED, write_number);
         if (!is_done) fprintf(stderr, "drive-target: write %llu: %s\n", write_number, n < 0 ? strerror(errno) : "short");
@@ -237,38 +202,29 @@ static void *watch(void *none) {
 }
 
 static void feed(const void *text, size_t length) {
-    uint8_t bytes[8];
-    put64(bytes, length);
-    if (write_all(to_drive, bytes + 4, 4) || write_all(to_drive, text, length)) give_up("drive", "it reads no more");
+    uint32_t bytes = htobe32((uint32_t)length);
+    if (write_all(fileno(to_drive), &bytes, sizeof bytes) || write_all(fileno(to_drive), text, length)) give_up("drive", "it reads no more");
 }
 
-/* Starts `drive`, with a pipe to it, whose output is this. */
-static pid_t start_drive(const char *command, int output) {
-    char run[32], job_number[32];
-    char *words[] = {getenv("DRIVE") ? getenv("DRIVE") : "drive", (char *)command, run, job_number, NULL};
-    posix_spawn_file_actions_t files;
-    pid_t process;
-    int input[2];
-    snprintf(run, sizeof run, "%llu", want.run);
-    snprintf(job_number, sizeof job_number, "%llu", want.job);
-    make_pipe(input);
-    posix_spawn_file_actions_init(&files);
-    posix_spawn_file_actions_adddup2(&files, input[0], 0);
-    posix_spawn_file_actions_adddup2(&files, output, 1);
-    int error = posix_spawnp(&process, words[0], &files, NULL, words, environ);
-    if (error) give_up(words[0], strerror(error));
-    close(input[0]);
-    to_drive = input[1];
-    return process;
+/* Starts `drive`, with a pipe to it that holds many blocks. */
+static void start_drive(const char *command, const char *output) {
+    char line[128];
+    snprintf(line, sizeof line, "exec \"${DRIVE:-drive}\" %s %llu %llu%s", command, want.run, want.job, output);
+    to_drive = popen(line, "w");
+    if (!to_drive) give_up("drive", strerror(errno));
+    fcntl(fileno(to_drive), F_SETPIPE_SZ, PIPE);
 }
 
 static int run_write(const void *text, size_t length) {
     pthread_t workers[64], watcher;
+    char redirection[32];
     int output[2];
     open_target(1);
     want.run = next_run();
-    make_pipe(output);
-    pid_t process = start_drive("write", output[1]);
+    if (pipe2(output, O_CLOEXEC) || fcntl(output[1], F_SETFD, 0)) give_up("pipe", strerror(errno));
+    fcntl(output[1], F_SETPIPE_SZ, PIPE);
+    snprintf(redirection, sizeof redirection, " >/dev/fd/%d", output[1]);
+    start_drive("write", redirection);
     close(output[1]);
     from_drive = output[0];
     feed(text, length);
@@ -277,7 +233,7 @@ static int run_write(const void *text, size_t length) {
     if (error) give_up("threads", strerror(EAGAIN));
     for (number i = 0; i < job.depth; i++) pthread_join(workers[i], NULL);
     pthread_join(watcher, NULL);
-    if (status_of(process) || last_length != STATE) give_up("no state", (char *)last);
+    if (pclose(to_drive) || last_length != STATE) give_up("no state", (char *)last);
     keep_file(want.state, last, last_length);
     pthread_sigmask(SIG_UNBLOCK, &triggers, NULL);
     FILE *keeper = want.keep ? popen(want.keep, "w") : NULL;
@@ -288,24 +244,25 @@ static int run_write(const void *text, size_t length) {
 }
 
 static int run_check(const void *text, size_t length) {
-    uint8_t state[4096], *bytes;
+    uint8_t state[4096] = "", *bytes;
+    uint64_t run;
     ssize_t state_length = strcmp(want.state, "-") ? read_file(want.state, state, sizeof state) : 0;
     if (strcmp(want.state, "-") && state_length < 12) give_up(want.state, "there is no state");
-    if (want.run == 0) want.run = state_length ? get64(state + 4) : 1;
+    memcpy(&run, state + 4, sizeof run);
+    if (want.run == 0) want.run = state_length ? be64toh(run) : 1;
     open_target(0);
-    pid_t process = start_drive("check", 1);
+    start_drive("check", "");
     feed(text, length);
     feed(state, (size_t)state_length);
     if (posix_memalign((void **)&bytes, 4096, PIPE)) give_up("memory", strerror(ENOMEM));
     for (number left = job.blocks * job.bs; left > 0;) { /* `drive` says where the bytes end. */
         ssize_t n = read(target, bytes, left < PIPE ? left : PIPE);
-        if (n < 0 && errno == EINTR) continue;
         if (n < 0) fprintf(stderr, "drive-target: %s: %s\n", want.target, strerror(errno));
-        if (n <= 0 || write_all(to_drive, bytes, (size_t)n)) break;
+        if (n <= 0 || write_all(fileno(to_drive), bytes, (size_t)n)) break;
         left -= (number)n;
     }
-    close(to_drive);
-    return status_of(process);
+    int status = pclose(to_drive);
+    return WIFEXITED(status) && WEXITSTATUS(status) < 2 ? WEXITSTATUS(status) : 2;
 }
 
 static void read_options(int count, char **words) {
@@ -329,9 +286,7 @@ int main(int count, char **words) {
     if (count < 5 || (!writes && strcmp(words[1], "check"))) give_up("usage", "drive-target write|check JOBFILE TARGET STATE [OPTIONS]");
     want.file = words[2], want.target = words[3], want.state = words[4];
     read_options(count, words);
-    sigemptyset(&triggers);
-    sigaddset(&triggers, SIGTERM);
-    sigaddset(&triggers, SIGINT);
+    sigemptyset(&triggers), sigaddset(&triggers, SIGTERM), sigaddset(&triggers, SIGINT);
     pthread_sigmask(SIG_BLOCK, &triggers, NULL);
     signal(SIGPIPE, SIG_IGN);
     read_job();
