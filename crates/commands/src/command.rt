@@ -1,15 +1,11 @@
 //! The command line.
 
-ghost use Rattle.std.specs.Prelude.{◌≡◌, ◌≤◌, IfOk, IfSome, OnOk, codes};
-ghost use Rattle.std.specs.Io.KnownBytes.{Appends};
+ghost use Rattle.std.specs.Prelude.{◌≡◌, ◌≤◌, IfSome};
 ghost use Rattle.commands.specs.Command.{IsRequest, IsLive};
 
-use crate::jobs::REFUSED;
 use clap::{Arg, ArgMatches, Command, Error};
 use std::alloc::{AllocError, Global};
 use std::convert::AsStr;
-use std::io;
-use std::io::Write;
 
 /// How many servers there are, 1 to 8, and how many workers each has, 1 to 16.
 #[derive(Clone, Copy, PartialEq, Eq)]
@@ -106,16 +102,4 @@ fn number_among(words: &ArgMatches<'_>, name: &str, most: u32) -> Option<u32>
 {
     let number = words.get_one::<u32>(name)?;
     (1..=most).contains(&number).then_some(number)
-}
-
-/// Answers a bad command line: it prints `bad command`, and the exit status is that of a refusal.
-/// An error is that of a write.
-pub fn refuse_words<W: Write>(writer: &mut W) -> io::Result<u8>
-    ensures status { IfOk result (λ status. status ≡ 2) }
-    ensures printed { OnOk result
-        (Appends (W.contents writer.old) (W.contents writer.new) (codes "bad command\n")) }
-{
-    writer.write_all(b"bad command\n")?;
-    writer.flush()?;
-    Ok(REFUSED)
 }

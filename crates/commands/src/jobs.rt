@@ -11,17 +11,13 @@ use crate::lines::lines_of_set;
 use bounded_input::{read_input, read_law};
 use fc_base::MAX_TEXT;
 use job_file::parse;
-use printed::{Refusal, write_refusal};
+use printed::{REFUSED, Refusal, write_refusal};
 use std::alloc::Global;
 use std::io;
 use std::io::{Read, Write};
 
 /// The exit status where the jobs were printed.
 const PRINTED: u8 = 0;
-
-/// The exit status where a text or a command line was refused, or where a read, a write or memory
-/// failed.
-pub const REFUSED: u8 = 2;
 
 /// The most bytes that are read: one more than a job file may have, so that a longer one shows.
 const MAX_BYTES: usize = MAX_TEXT + 1;

@@ -6,7 +6,7 @@
 //!     Some(Request::Jobs) => run_jobs(alloc, &mut reader, &mut writer),
 //!     Some(Request::World) => run_world(alloc, &mut reader, &mut writer),
 //!     Some(Request::Live { size, path }) => ..
-//!     None => refuse_words(&mut writer),
+//!     None => printed::refuse_words(&mut writer),
 //! }
 //! ```
 //!
@@ -18,6 +18,6 @@ mod jobs;
 mod lines;
 mod world;
 
-pub use command::{FleetSize, Request, read_words, refuse_words};
-pub use jobs::{REFUSED, run_jobs};
+pub use command::{FleetSize, Request, read_words};
+pub use jobs::run_jobs;
 pub use world::{refuse_script, run_in_blocks, run_world};

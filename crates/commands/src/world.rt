@@ -7,10 +7,9 @@ ghost use Rattle.printed.specs.Words.{ended};
 ghost use Rattle.printed.specs.Refusals.{plain, refusal_line};
 ghost use Rattle.commands.specs.World.{AnswersScript, RefusesScript};
 
-use crate::jobs::REFUSED;
 use fc_base::Fault;
 use net_script::{ScriptFault, run_script};
-use printed::{Refusal, write_refusal};
+use printed::{REFUSED, Refusal, write_refusal};
 use std::alloc::Global;
 use std::io;
 use std::io::{BufWriter, ErrorKind, Read, Write};

@@ -5,12 +5,12 @@
 ghost use Rattle.targets.specs.Command.{IsRequest};
 
 use fc_base::Fault;
-use printed::Refusal;
+use printed::{REFUSED, Refusal, refuse_words};
 use std::io;
 use std::io::{BufReader, BufWriter, Write};
 use std::process::ExitCode;
 use std::rt::Env;
-use targets::{REFUSED, Request, check_job, read_words, refuse, refuse_words, write_job};
+use targets::{Request, check_job, read_words, refuse, write_job};
 
 /// How many bytes of input are read, and of output written, at once.
 const CAPACITY: usize = 262_144;

@@ -4,11 +4,10 @@
 
 ghost use Rattle.commands.specs.Command.{IsFleetSize};
 
-use commands::{
-    FleetSize, REFUSED, Request, read_words, refuse_script, refuse_words, run_in_blocks, run_jobs,
-};
+use commands::{FleetSize, Request, read_words, refuse_script, run_in_blocks, run_jobs};
 use fc_base::Fault;
 use live::{FileTrigger, run_live};
+use printed::{REFUSED, refuse_words};
 use std::fs::Files;
 use std::io;
 use std::io::BufWriter;

@@ -6,10 +6,9 @@ ghost use Rattle.printed.specs.Words.{spaced, ended};
 ghost use Rattle.live.specs.Live.{end_words, end_line, end_lines, ends_text, ends_status, has_misfit, is_faulty, counts_faults};
 
 use crate::run::{FAULTY, PRINTED};
-use commands::REFUSED;
 use fc_base::{CheckReport, Fault};
 use fleet::End;
-use printed::write_report_words;
+use printed::{REFUSED, write_report_words};
 use std::io;
 use std::io::Write;
 

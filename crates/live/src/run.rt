@@ -9,11 +9,11 @@ ghost use Rattle.live.specs.Live.{IsSound, IsUnfit, IsRefusedFor, IsLiveRefusal,
 use crate::ends::{status_of, write_ends};
 use crate::texts::texts_of;
 use bounded_input::{read_input, read_law};
-use commands::{FleetSize, REFUSED};
+use commands::FleetSize;
 use fc_base::{Fault, MAX_TEXT};
 use fleet::{End, FleetFault, Trigger, run_fleet};
 use job_file::{Phase, parse};
-use printed::{Refusal, write_refusal};
+use printed::{REFUSED, Refusal, write_refusal};
 use std::alloc::Global;
 use std::io;
 use std::io::{Read, Write};

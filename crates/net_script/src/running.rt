@@ -20,7 +20,7 @@ use crate::script_fault::ScriptFault;
 use bounded_input::read_input;
 use fc_base::Fault;
 use net_world::{Config, World};
-use printed::Refusal;
+use printed::{REFUSED, Refusal};
 use std::alloc::Global;
 use std::io;
 use std::io::{Read, Write};
@@ -35,9 +35,6 @@ const MAX_READS: u32 = 2_000_000;
 const NO_FAULTS: u8 = 0;
 
 const FAULTS: u8 = 1;
-
-/// The exit status where a line is bad, a script too long, or memory ran out.
-const REFUSED: u8 = 2;
 
 /// Runs the script on a reader, and writes its lines.
 ///

@@ -1,4 +1,4 @@
-//! What is printed of a refusal and of a report, by each program and each command.
+//! What is printed of a refusal, of a report and of a bad command line, by each program and each command.
 //!
 //! ```text
 //! write_refusal(&mut writer, Refusal::from(fault))?;     // refused 91 ReadError
@@ -10,6 +10,8 @@
 
 mod refusal;
 mod report;
+mod words;
 
 pub use refusal::{Refusal, write_refusal};
 pub use report::write_report_words;
+pub use words::{REFUSED, refuse_words};

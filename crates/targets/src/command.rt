@@ -1,16 +1,12 @@
 //! The command line of `drive`.
 
-ghost use Rattle.std.specs.Prelude.{◌≡◌, ◌≤◌, ◌<◌, IfOk, IfSome, OnOk, codes};
-ghost use Rattle.std.specs.Io.KnownBytes.{Appends};
+ghost use Rattle.std.specs.Prelude.{◌≡◌, ◌≤◌, ◌<◌, IfSome};
 ghost use Rattle.targets.specs.Command.{IsRequest};
 
-use crate::drive_write::REFUSED;
 use clap::{Arg, ArgMatches, Command, Error};
 use fc_base::{JobNo, MAX_JOBS, RunNo};
 use std::alloc::{AllocError, Global};
 use std::convert::AsStr;
-use std::io;
-use std::io::Write;
 
 /// What a command line asks for.
 #[derive(Clone, Copy, PartialEq, Eq)]
@@ -80,16 +76,4 @@ fn numbers_of(words: &ArgMatches<'_>) -> Option<(RunNo, JobNo)>
         return None;
     }
     Some((RunNo(run), JobNo(job)))
-}
-
-/// Answers a bad command line: it prints `bad command`, and the exit status is that of a refusal.
-/// An error is that of a write.
-pub fn refuse_words<W: Write>(writer: &mut W) -> io::Result<u8>
-    ensures status { IfOk result (λ status. status ≡ 2) }
-    ensures printed { OnOk result
-        (Appends (W.contents writer.old) (W.contents writer.new) (codes "bad command\n")) }
-{
-    writer.write_all(b"bad command\n")?;
-    writer.flush()?;
-    Ok(REFUSED)
 }

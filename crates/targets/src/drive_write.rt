@@ -10,7 +10,7 @@ use crate::asked::{key_of, read_job};
 use crate::writing::{RunEnd, write_blocks};
 use fc_base::{Fault, JobNo, JobRecord, Key, RunNo};
 use job_file::Phase;
-use printed::{Refusal, write_refusal};
+use printed::{REFUSED, Refusal, write_refusal};
 use std::alloc::Global;
 use std::io;
 use std::io::{BufReader, Read, Write};
@@ -18,9 +18,6 @@ use verify_state::VerifyState;
 
 /// The exit status where a state was taken.
 const TAKEN: u8 = 0;
-
-/// The exit status of a refusal.
-pub const REFUSED: u8 = 2;
 
 /// How many bytes a state has.
 const STATE: usize = 136;

@@ -23,8 +23,8 @@ mod texts;
 mod writing;
 
 pub use checking::check_blocks;
-pub use command::{Request, read_words, refuse_words};
+pub use command::{Request, read_words};
 pub use drive_check::{MAX_STATE, check_job};
-pub use drive_write::{REFUSED, refuse, write_job};
+pub use drive_write::{refuse, write_job};
 pub use notice::Notice;
 pub use writing::{RunEnd, write_blocks};

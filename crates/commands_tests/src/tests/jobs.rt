@@ -1,8 +1,9 @@
 //! What `fiocut jobs` prints.
 
 use super::text_of_length;
-use commands::{refuse_words, run_jobs};
+use commands::run_jobs;
 use fake_io::{Held, Source, held_output, in_steps, page_with, source_of};
+use printed::refuse_words;
 use std::alloc::{AllocError, Global};
 use std::io;
 use std::test::Fail;
