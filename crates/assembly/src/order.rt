@@ -11,7 +11,7 @@ use crate::fault::AssembleFault;
 use crate::marks::{is_marked, is_told_by};
 use hub::{Hub, Line};
 use messages::Node;
-use node_history::{Logged, is_left_out};
+use node_history::{History, Logged, is_left_out};
 use node_traces::{Place, histories_rise};
 use std::alloc::Global;
 use std::marker::Model;
@@ -58,18 +58,19 @@ impl Order {
 
     /// Adds the events of a node that stand, from where it is to be followed to before this place. An
     /// event among them that took or sent a frame is `Unlike`.
-    pub fn pass(&mut self, node: &Node, history: &[Logged], to: u64) -> Result<(), AssembleFault>
+    pub fn pass(&mut self, node: &Node, history: &History, to: u64) -> Result<(), AssembleFault>
         requires rises { next_of self.old.next node.now ≤ to }
-        requires within { to ≤ length history.now }
-        ensures passed { (h : List Event) → history.now ≡ reverse h →
+        requires within { to ≤ length history.now.items }
+        ensures passed { (h : List Event) → history.now.items ≡ reverse h →
             OnOk result (IsPassed node.now h (next_of self.old.next node.now) to self.old.places self.new.places) }
         ensures next { self.new.next ≡ self.old.next }
-        ensures stopped { (h : List Event) → history.now ≡ reverse h →
+        ensures stopped { (h : List Event) → history.now.items ≡ reverse h →
             IfErr result (IsStopped node.now h (next_of self.old.next node.now) to) }
     {
         histories_rise();
         for at in self.next_of(node)..to {
-            let event = &history[at as usize];
+            let lent = history.at(at as usize);
+            let event = lent.as_logged();
             if is_marked(event) {
                 return Err(AssembleFault::Unlike { node: *node, at });
             }
@@ -85,14 +86,14 @@ impl Order {
         hub: &Hub,
         before: u64,
         line: &Line,
-        history: &[Logged],
+        history: &History,
     ) -> Result<(), AssembleFault>
-        requires within { next_of self.old.next line.now.node ≤ length history.now }
+        requires within { next_of self.old.next line.now.node ≤ length history.now.items }
         requires there { before + line.now.sent ≤ length hub.now.net.frames }
         requires fits { length hub.now.net.frames < 2 ^ 64 }
-        ensures told { (h : List Event) → history.now ≡ reverse h →
+        ensures told { (h : List Event) → history.now.items ≡ reverse h →
             OnOk result (IsTold line.now.node h (mark_of_line hub.now.net.frames before line.now) self.old self.new) }
-        ensures untold { (h : List Event) → history.now ≡ reverse h →
+        ensures untold { (h : List Event) → history.now.items ≡ reverse h →
             IfErr result (IsUntold line.now.node h (next_of self.old.next line.now.node) (mark_of_line hub.now.net.frames before line.now)) }
     {
         histories_rise();
@@ -104,10 +105,10 @@ impl Order {
         if let Err(fault) = self.pass(&line.node, history, end) {
             return Err(fault);
         }
-        let Some(event) = history.get(at as usize) else {
+        let Some(lent) = history.get(at as usize) else {
             return Err(unlike(line));
         };
-        if !is_told_by(hub, before, line, event) {
+        if !is_told_by(hub, before, line, lent.as_logged()) {
             return Err(unlike(line));
         }
         self.add(line.node, at)?;

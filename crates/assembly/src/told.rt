@@ -1,6 +1,6 @@
 //! All events, told in the order of the journal.
 
-ghost use Rattle.std.specs.Prelude.{◌≡◌, ◌≤◌, length, reverse, IfOk, IfErr, OnOk};
+ghost use Rattle.std.specs.Prelude.{◌≡◌, ◌≤◌, [], length, reverse, IfOk, IfErr, OnOk};
 ghost use Rattle.hub.specs.Journal.{IsLegal};
 ghost use Rattle.node_traces.specs.Laws.{Agree};
 ghost use Rattle.node_traces.specs.Orders.{merged};
@@ -16,7 +16,7 @@ use disk_model::Notes;
 use fc_base::ServerNo;
 use hub::Hub;
 use messages::Node;
-use node_history::Logged;
+use node_history::History;
 use node_traces::{Place, histories_rise};
 use server_cell::ServerCell;
 use std::alloc::Global;
@@ -35,18 +35,21 @@ pub(crate) fn told<N: Notes + Drop>(
     ensures differs { IfErr result (Differs (ran client.now servers.now) hub.now.net) }
 {
     let mut order = Order::new(alloc);
-    follow_journal(&mut order, hub, client, servers)?;
+    let none = History::new(alloc);
+    follow_journal(&mut order, hub, client, servers, &none)?;
     follow_rest(&mut order, hub, client, servers)?;
     Ok(order.into_places())
 }
 
-/// Follows each node up to its last entry in the journal.
+/// Follows each node up to its last entry in the journal. One that has no cell has no history.
 fn follow_journal<N: Notes + Drop>(
     order: &mut Order,
     hub: &Hub,
     client: &ClientCell<N>,
     servers: &[ServerCell<N>],
+    none: &History,
 ) -> Result<(), AssembleFault>
+    requires none { none.now.items ≡ [] }
     requires few { length servers.now ≤ 8 }
     requires new { order.old ≡ nothing_followed }
     ensures legal { IsLegal hub.now.net }
@@ -57,7 +60,8 @@ fn follow_journal<N: Notes + Drop>(
     let _frames = hub.len();
     let mut sent = 0;
     for line in hub.journal() {
-        order.tell(hub, sent, line, history_of(client, servers, line.node))?;
+        let history = history_of(client, servers, line.node, none);
+        order.tell(hub, sent, line, history)?;
         sent += line.sent;
     }
     Ok(())
@@ -89,20 +93,22 @@ fn follow_rest<N: Notes + Drop>(
     order.pass(&Node::Client, history, history.len() as u64)
 }
 
-/// The history of a node, the oldest event first; empty where it has no cell.
+/// The history of a node, the oldest event first; the empty one where it has no cell.
 fn history_of<'a, N: Notes + Drop>(
     client: &'a ClientCell<N>,
     servers: &'a [ServerCell<N>],
     node: Node,
-) -> &'a [Logged]
-    ensures { result.now ≡ reverse (history_of (ran client.now servers.now) node) }
+    none: &'a History,
+) -> &'a History
+    requires { none.now.items ≡ [] }
+    ensures { result.now.items ≡ reverse (history_of (ran client.now servers.now) node) }
 {
     match node {
         Node::Client => client.history(),
-        Node::Mirror => &[],
+        Node::Mirror => none,
         Node::Server(number) => match servers.get(number.0 as usize) {
             Some(cell) => cell.history(),
-            None => &[],
+            None => none,
         },
     }
 }

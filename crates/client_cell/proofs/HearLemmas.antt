@@ -1,5 +1,5 @@
 -- What comes to the client at the hub is entered, or left out.
-use Rattle.std.proofs.Common.{◌≡◌, refl, sym, ◌∙◌, ap, subst, inl, inr, ℕ, ◌+◌, ◌<◌, ◌≤◌, arith, Bool, true, false, List, [], ◌∷◌, ◌++◌, length, take, Option, Some, None, Result, Ok, Err}
+use Rattle.std.proofs.Common.{◌≡◌, refl, sym, ◌∙◌, ap, subst, inl, inr, ℕ, ◌+◌, ◌≤◌, arith, Bool, true, false, List, [], ◌∷◌, ◌++◌, length, take, Option, Some, None, Result, Ok, Err}
 use Rattle.std.specs.Prelude.{◌⊎◌, map, not, ◌||◌, if◌then◌else◌, slice_get, is_ok, is_some, All, IfErr, IfSome, OnOk}
 use Rattle.std.specs.Borrow.{Bor}
 use Rattle.std.specs.List.{AllByRecursion, flat_map, sum_by}
@@ -16,7 +16,6 @@ use Rattle.disk_model.specs.Notes.{Note}
 use Rattle.messages.specs.declared.node.Node.TheVariants as nodes
 use Rattle.messages.specs.declared.packet.PacketParts.{PacketParts}
 use Rattle.messages.specs.Laws.{IsPacket}
-use Rattle.messages.specs.declared.frame.Frame.{Frame}
 use Rattle.messages.specs.FrameBytes.{frame_spelling}
 use Rattle.messages.specs.FramesOf.{spelled_frames}
 use Rattle.messages.specs.Pieces.{frames_of}
@@ -37,13 +36,12 @@ use Rattle.client_core.specs.FrameEnds.{StandsFor, most_packets}
 use Rattle.node_history.specs.declared.answer.Said.{Said}
 use Rattle.node_history.specs.declared.answer.Told.{Told}
 use Rattle.node_history.specs.declared.came.Came.{Came}
-use Rattle.node_history.specs.declared.came.Came.TheVariants as came
 use Rattle.node_history.specs.declared.logged.Logged.{Logged}
 use Rattle.node_history.specs.Rules.{Meets}
 use Rattle.node_history.specs.Replay.{Ends, Stops, Passes}
 use Rattle.node_history.specs.ClientRules.{asked, rules, is_up}
 use Rattle.node_history.specs.Failures.{Counts}
-use Rattle.node_history.specs.AtHub.{is_save, is_drop, is_left_out, told_at, IsWhy, IsWhyBy, Hears, Posts, Comes}
+use Rattle.node_history.specs.AtHub.{is_save, is_drop, is_left_out, told_at, IsWhyBy, Hears, Posts, Comes}
 use Rattle.client_cell.specs.declared.outs.Outs.{Outs}
 use Rattle.client_cell.specs.declared.power.Power.{Power}
 use Rattle.client_cell.specs.declared.request.Request.{Request}

@@ -13,7 +13,7 @@ use crate::power::Power;
 use client_core::Client;
 use disk_model::Notes;
 use fc_base::Fault;
-use node_history::Logged;
+use node_history::History;
 use std::alloc::Global;
 use std::marker::Model;
 use std::snapshot::Snapshot;
@@ -27,7 +27,7 @@ pub struct ClientCell<N: Notes + Drop> {
     /// It was opened over a blank note.
     is_blank: bool,
     power: Power<N>,
-    history: Vec<Logged>,
+    history: History,
 }
 
 /// By hand, so that the crates above need no proof of it.
@@ -82,7 +82,7 @@ impl<N: Notes + Drop> ClientCell<N> {
             opened: Snapshot::of(&client),
             is_blank,
             power: Power::On(client),
-            history: Vec::new(alloc),
+            history: History::new(alloc),
         })
     }
 
@@ -101,11 +101,11 @@ impl<N: Notes + Drop> ClientCell<N> {
     }
 
     /// All that came to it, the oldest first.
-    pub fn history(&self) -> &[Logged]
-        ensures entries { result.now ≡ reverse self.now.history }
+    pub fn history(&self) -> &History
+        ensures entries { result.now.items ≡ reverse self.now.history }
         ensures replay { (past : List FrameEntry) × IsReplay self.now past }
     {
-        self.history.as_slice()
+        &self.history
     }
 
     /// The client, where it is on: not off, and not down.

@@ -6,7 +6,7 @@ ghost use Rattle.fleet.specs.Asked.{IsAsked, is_frame, asked, errand};
 use fc_base::RunNo;
 use fleet_threads::{Client, FleetFault};
 use messages::Act;
-use node_history::{Came, Logged};
+use node_history::{Came, History};
 
 /// How many requests an errand has.
 const REQUESTS: usize = 3;
@@ -29,15 +29,17 @@ pub(crate) fn look_for_errand(
 }
 
 /// Whether this is the history of a client that was asked for just that.
-fn is_errand(history: &[Logged], run: RunNo, write: &[u8], read: &[u8]) -> bool
-    ensures { IsTrue result → asked history.now ≡ errand run write.now read.now }
+fn is_errand(history: &History, run: RunNo, write: &[u8], read: &[u8]) -> bool
+    ensures { IsTrue result → asked history.now.items ≡ errand run write.now read.now }
 {
     let mut done = 0;
-    for logged in history {
-        if is_frame(&logged.came) {
+    for at in 0..history.len() {
+        let entry = history.at(at);
+        let came = &entry.as_logged().came;
+        if is_frame(came) {
             continue;
         }
-        if !is_next(done, &logged.came, run, write, read) {
+        if !is_next(done, came, run, write, read) {
             return false;
         }
         done += 1;

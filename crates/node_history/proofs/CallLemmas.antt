@@ -1,19 +1,17 @@
 -- How a call of a node ends that was left out, and why, whichever node it is.
-use Rattle.std.proofs.Common.{◌≡◌, refl, sym, ◌∙◌, ap, subst, ℕ, ◌<◌, true, false, List, [], length, Option, Some, None, Result, Ok, Err}
-use Rattle.std.specs.Prelude.{if◌then◌else◌, slice_get, IfErr}
+use Rattle.std.proofs.Common.{◌≡◌, refl, sym, subst, ℕ, ◌<◌, true, false, List, [], length, Option, Some, None, Ok, Err}
+use Rattle.std.specs.Prelude.{if◌then◌else◌, slice_get}
 use Rattle.std.proofs.lemmas.Option.{slice_get_within}
 use Rattle.fc_base.specs.declared.fault.Fault.{Fault}
 use Rattle.fc_base.specs.declared.fault.Fault.TheVariants.{NoMemory, NoFrame, NodeOff}
 use Rattle.messages.specs.declared.node.Node.{Node}
 use Rattle.messages.specs.declared.frame.Frame.{Frame}
 use Rattle.hub.specs.Network.{Network}
-use Rattle.node_history.specs.declared.answer.Told.{Told}
 use Rattle.node_history.specs.declared.came.Came.{Came}
 use Rattle.node_history.specs.declared.came.Came.TheVariants as came
 use Rattle.node_history.specs.declared.logged.Logged.{Logged}
 use Rattle.node_history.specs.AtHub.{is_left_out, Comes, Hears, IsWhy, Posts}
 use Rattle.node_history.specs.Calls.{is_off, Delivers, HasWhy, IsWhyNot, IsWhyWhere}
-use Rattle.node_history.specs.Failures.{Counts}
 use Rattle.node_history.specs.Replay.{Makes}
 use Rattle.node_history.specs.Rules.{Ask, Rules}
 

@@ -2,7 +2,9 @@ pub mod AtHub
 pub mod Calls
 pub mod ClientRules
 pub mod Failures
+pub mod Histories
 pub mod Replay
 pub mod Rules
 pub mod Seats
 pub mod ServerRules
+pub mod Shorts

@@ -5,11 +5,14 @@
 mod answer;
 mod at_hub;
 mod came;
+mod history;
 mod logged;
 mod node;
+mod short;
 
 pub use answer::{Answer, Said, Told};
 pub use at_hub::{frame_came, is_left_out, told_at};
 pub use came::{Came, FrameBytes};
+pub use history::{History, Lent};
 pub use logged::{Logged, Turn};
 pub use node::Node;

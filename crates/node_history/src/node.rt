@@ -8,7 +8,7 @@ ghost use Rattle.node_history.specs.Failures.{Counts};
 ghost use Rattle.node_history.specs.Rules.{Ask, Rules};
 
 use crate::answer::Told;
-use crate::logged::Logged;
+use crate::history::History;
 use fc_base::Fault;
 use hub::Hub;
 use messages::Node as NodeName;
@@ -51,8 +51,8 @@ pub trait Node {
         ensures { result ≡ name (opening self.now) };
 
     /// All that came to it, the oldest first.
-    fn history(&self) -> &[Logged]
-        ensures entries { result.now ≡ reverse (log self.now) }
+    fn history(&self) -> &History
+        ensures entries { result.now.items ≡ reverse (log self.now) }
         ensures replay { Replays (rules (opening self.now)) (log self.now) };
 
     /// Takes the frame at this position of the hub.

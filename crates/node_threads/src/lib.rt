@@ -25,7 +25,7 @@ pub use calls::{deliver, pick, post};
 pub use client_cell::{ClientCell, Command as ClientCommand, Request, Task as ClientTask};
 pub use fleet::{End, FleetFault, Left, Trigger, run_and_leave, run_fleet, run_post};
 pub use hub::{Hub, Line};
-pub use node_history::{Answer, Came, FrameBytes, Logged, Node, Said, Told, Turn};
+pub use node_history::{Answer, Came, FrameBytes, History, Lent, Logged, Node, Said, Told, Turn};
 pub use parallel_checks::{Task as CheckTask, check_jobs};
 pub use server_cell::{Report, Seat, ServerCell, Task as ServerTask};
 pub use workers::{Gate, OpenGate, TURNS, run_worker};

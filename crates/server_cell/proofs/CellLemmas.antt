@@ -1,7 +1,7 @@
 -- What a server's cell keeps.
 use Rattle.std.proofs.Common.{◌≡◌, refl, sym, ◌∙◌, ap, subst, ℕ, zero, suc, ◌+◌, ◌-◌, ◌^◌, ◌<◌, ◌≤◌, arith, Bool, true, false, List, [], ◌∷◌, ◌++◌, Option, Some, None}
 use Rattle.std.specs.Prelude.{reverse, length, slice_index_or, slice_set, if◌then◌else◌, ◌==◌, ◌≢◌, Result, Ok, Err}
-use Rattle.std.proofs.lemmas.List.{get_or-set_same, get_or-set_other, length-set, reverse-append, length-reverse}
+use Rattle.std.proofs.lemmas.List.{get_or-set_same, get_or-set_other, length-append, length-set, reverse-append, length-reverse}
 use Rattle.std.proofs.lemmas.Bool.{eqb-true, eq-eqb, and_parts}
 use Rattle.disk_model.specs.declared.left.Left.TheVariants.{Saved}
 use Rattle.disk_model.specs.Notes.{Note}
@@ -203,3 +203,7 @@ applied old seat task answer new after result right kept opening history counted
 -- The newest entry is the last of the items.
 pub pushed : (items : List Logged) (l : Logged) → reverse (items ++ l ∷ []) ≡ l ∷ reverse items
 pushed items l = reverse-append items (l ∷ [])
+
+-- One entry more is a number of eight bytes, where they are counted behind it.
+pub few_before : (items new : List Logged) (l : Logged) → new ≡ items ++ l ∷ [] → length new < 2 ^ 64 → length items + 1 < 2 ^ 64
+few_before items new l is few = omega (arith, few, ap length is, length-append items (l ∷ []))

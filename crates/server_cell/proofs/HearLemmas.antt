@@ -1,6 +1,6 @@
 -- What comes to a server at the hub is entered, or left out.
 use Rattle.std.proofs.Common.{◌≡◌, refl, sym, ◌∙◌, ap, subst, inl, inr, ℕ, ◌≤◌, arith, Bool, true, false, List, [], ◌∷◌, ◌++◌, length, Option, Some, None, Result, Ok, Err}
-use Rattle.std.specs.Prelude.{◌⊎◌, map, not, ◌||◌, if◌then◌else◌, slice_get, All, IfErr, OnOk, is_ok}
+use Rattle.std.specs.Prelude.{◌⊎◌, map, not, ◌||◌, if◌then◌else◌, All, IfErr, OnOk, is_ok}
 use Rattle.std.specs.List.{AllByRecursion, flat_map, sum_by}
 use Rattle.std.proofs.lemmas.List.{map-append}
 use Rattle.std.proofs.lemmas.List.Elements.{All-nil, All-append}
@@ -39,7 +39,7 @@ use Rattle.node_history.specs.declared.logged.Logged.{Logged}
 use Rattle.node_history.specs.Rules.{Ask, Meets}
 use Rattle.node_history.specs.Replay.{Ends, Stops}
 use Rattle.node_history.specs.ServerRules.{asked, rules, is_up}
-use Rattle.node_history.specs.AtHub.{is_save, is_drop, is_left_out, told_at, Hears, Posts, IsWhyBy, Comes}
+use Rattle.node_history.specs.AtHub.{is_save, is_drop, is_left_out, told_at, Hears, Posts, IsWhyBy}
 use Rattle.node_history.specs.Failures.{Counts}
 use Rattle.server_cell.specs.declared.power.Power.{Power}
 use Rattle.server_cell.specs.Stands.{Stands, Moves, Faults, StepEnds}

@@ -14,7 +14,7 @@ use crate::seat::Seat;
 use crate::seats::{SEATS, new_seats};
 use disk_model::Notes;
 use fc_base::{Fault, RunNo, ServerNo};
-use node_history::Logged;
+use node_history::History;
 use server_core::{Server, Status};
 use std::alloc::Global;
 use std::marker::Model;
@@ -26,7 +26,7 @@ pub struct ServerCell<N: Notes + Drop> {
     boot: u64,
     last_run: RunNo,
     power: Power<N>,
-    history: Vec<Logged>,
+    history: History,
     /// How many events of each seat the history has.
     applied: [u64; SEATS],
 }
@@ -95,7 +95,7 @@ impl<N: Notes + Drop> ServerCell<N> {
             boot: boot - 1,
             last_run,
             power: Power::On(server),
-            history: Vec::new(alloc),
+            history: History::new(alloc),
             applied: [0; SEATS],
         };
         Ok((cell, seats))
@@ -116,11 +116,11 @@ impl<N: Notes + Drop> ServerCell<N> {
     }
 
     /// All that came to it, the oldest first.
-    pub fn history(&self) -> &[Logged]
-        ensures entries { result.now ≡ reverse self.now.history }
+    pub fn history(&self) -> &History
+        ensures entries { result.now.items ≡ reverse self.now.history }
         ensures replay { (past : List FrameEntry) × IsReplay self.now past }
     {
-        self.history.as_slice()
+        &self.history
     }
 
     /// The server, where it is on: not off, and not down.

@@ -9,13 +9,16 @@ ghost use Rattle.node_history.specs.ServerRules.{is_up};
 ghost use Rattle.server_cell.specs.Stands.{plain, said_by};
 ghost use Rattle.server_cell.specs.Tasks.{loads_note};
 ghost use Rattle.server_cell.specs.declared.task.Task.TheVariants as tasks;
+ghost use Rattle.server_core.specs.declared.input.Input.TheVariants as inputs;
+ghost use Rattle.server_core.specs.Handles.{issued, ended};
 
 use crate::task::Task;
 use disk_model::Notes;
-use fc_base::{Fault, ServerNo};
+use engine::{Issue, Ticket};
+use fc_base::{Fault, JobNo, ServerNo};
 use messages::Act;
 use node_history::{Answer, Said};
-use server_core::{Input, Outs, Server, one_note};
+use server_core::{Input, Outs, Server, WriteEnd, one_note};
 use std::alloc::Global;
 use std::mem;
 
@@ -62,7 +65,48 @@ impl<N: Notes + Drop> Power<N> {
         }
     }
 
+    /// Asks for the next write of a job, as `step` does.
+    #[inline(always)]
+    fn issue(&mut self, job: JobNo) -> Result<Issue, Fault>
+        ensures ends { (o : Opening) (past : List FrameEntry) → Stands N.note o past self.old →
+            StepEnds N.note o past (inputs.Issue job) self.new (issued result) }
+        ensures count { (o : Opening) (past : List FrameEntry) → Stands N.note o past self.old →
+            Counts false (failures_of N.note self.old) (failures_of N.note self.new) (issued result) }
+    {
+        match self {
+            Power::On(server) => {
+                if server.on() {
+                    server.issue(job)
+                } else {
+                    Err(Fault::NodeOff)
+                }
+            }
+            _ => Err(Fault::NodeOff),
+        }
+    }
+
+    /// Tells how a write has ended, as `step` does.
+    #[inline(always)]
+    fn end_write(&mut self, ticket: Ticket, end: WriteEnd) -> Result<(), Fault>
+        ensures ends { (o : Opening) (past : List FrameEntry) → Stands N.note o past self.old →
+            StepEnds N.note o past (inputs.WriteDone ticket end) self.new (ended result) }
+        ensures count { (o : Opening) (past : List FrameEntry) → Stands N.note o past self.old →
+            Counts false (failures_of N.note self.old) (failures_of N.note self.new) (ended result) }
+    {
+        match self {
+            Power::On(server) => {
+                if server.on() {
+                    server.end_write(ticket, end)
+                } else {
+                    Err(Fault::NodeOff)
+                }
+            }
+            _ => Err(Fault::NodeOff),
+        }
+    }
+
     /// Does what is asked from a seat, which sends nothing.
+    #[inline(always)]
     pub(crate) fn perform(
         &mut self,
         alloc: Global,
@@ -76,8 +120,8 @@ impl<N: Notes + Drop> Power<N> {
             Counts (loads_note task.now) (failures_of N.note self.old) (failures_of N.note self.new) result }
     {
         match task {
-            Task::Issue(job) => said(self.step(Input::Issue(*job))),
-            Task::WriteDone(ticket, end) => said(self.step(Input::WriteDone(*ticket, *end))),
+            Task::Issue(job) => issued(self.issue(*job)),
+            Task::WriteDone(ticket, end) => heard(self.end_write(*ticket, *end)),
             Task::Cut => self.cut(),
             Task::Restart => self.restart(alloc, me),
         }
@@ -168,12 +212,27 @@ fn plain() -> Said
     }
 }
 
-/// What is answered of a request for a write, or of the end of one.
-fn said(outs: Result<Outs, Fault>) -> Result<Said, Fault>
-    ensures { result ≡ said_by outs }
+/// What is answered of a request for a write.
+#[inline(always)]
+fn issued(answer: Result<Issue, Fault>) -> Result<Said, Fault>
+    ensures { result ≡ said_by (issued answer) }
 {
-    match outs {
-        Ok(outs) => Ok(Said::of(outs.issue, outs.act)),
+    match answer {
+        Ok(issue) => Ok(Said {
+            answer: Answer::Issued(issue),
+            act: Act::None,
+        }),
+        Err(fault) => Err(fault),
+    }
+}
+
+/// What is answered of the end of a write.
+#[inline(always)]
+fn heard(answer: Result<(), Fault>) -> Result<Said, Fault>
+    ensures { result ≡ said_by (ended answer) }
+{
+    match answer {
+        Ok(()) => Ok(plain()),
         Err(fault) => Err(fault),
     }
 }

@@ -1,7 +1,8 @@
 -- How a machine handles one event.
-use Rattle.std.specs.Prelude.{◌≡◌, ◌⊎◌, ℕ, true, List, Some, None, Result, Ok, Err}
+use Rattle.std.specs.Prelude.{◌≡◌, ◌⊎◌, ℕ, true, List, [], Some, None, Result, Ok, Err}
 use Rattle.fc_base.specs.declared.fault.Fault.{Fault}
 use Rattle.fc_base.specs.declared.fault.Fault.TheVariants.{NoMemory}
+use Rattle.engine.specs.declared.issue.Issue.{Issue}
 use Rattle.messages.specs.declared.refusal.Act.TheVariants as acts
 use Rattle.server_core.specs.declared.machine.Machine.{Machine}
 use Rattle.server_core.specs.declared.outs.Outs.{Outs}
@@ -39,6 +40,16 @@ EachUndue machine x P =
 -- These frames, and nothing else.
 abbrev pub sent_alone : List (List ℕ) → Outs
 sent_alone frames = record { frames = frames; issue = None; act = acts.None }
+
+-- What a request for a write is answered, and nothing else.
+abbrev pub issued : Result Issue Fault → Result Outs Fault
+issued (Ok issue) = Ok (record { frames = []; issue = Some issue; act = acts.None })
+issued (Err fault) = Err fault
+
+-- The end of a write was heard, and nothing is handed out.
+abbrev pub ended : Result (Unit {0}) Fault → Result Outs Fault
+ended (Ok heard) = Ok (sent_alone [])
+ended (Err fault) = Err fault
 
 -- A request that is refused leaves what is kept of the words behind it, too.
 abbrev pub RefusedStays : Type 0

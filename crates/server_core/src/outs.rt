@@ -1,10 +1,12 @@
 //! What a step hands out.
 
 ghost use Rattle.std.specs.Prelude.{◌≡◌};
-ghost use Rattle.server_core.specs.Handles.{sent_alone};
+ghost use Rattle.server_core.specs.Handles.{sent_alone, issued, ended};
 
 use engine::Issue;
+use fc_base::Fault;
 use messages::{Act, Frames};
+use std::alloc::Global;
 
 /// What a step hands out.
 #[derive(Debug, Drop)]
@@ -26,6 +28,31 @@ impl Outs {
             frames,
             issue: None,
             act: Act::None,
+        }
+    }
+    /// What a request for a write is answered, and nothing else.
+    #[inline(always)]
+    pub(crate) fn issued(alloc: Global, answer: Result<Issue, Fault>) -> Result<Outs, Fault>
+        ensures { result ≡ issued answer }
+    {
+        match answer {
+            Ok(issue) => Ok(Outs {
+                frames: Frames::new(alloc),
+                issue: Some(issue),
+                act: Act::None,
+            }),
+            Err(fault) => Err(fault),
+        }
+    }
+
+    /// That the end of a write was heard, and nothing else.
+    #[inline(always)]
+    pub(crate) fn ended(alloc: Global, answer: Result<(), Fault>) -> Result<Outs, Fault>
+        ensures { result ≡ ended answer }
+    {
+        match answer {
+            Ok(()) => Ok(Outs::sent(Frames::new(alloc))),
+            Err(fault) => Err(fault),
         }
     }
 }

@@ -2,7 +2,7 @@
 
 ghost use Rattle.std.specs.Prelude.{◌≡◌, ◌<◌, IsTrue, List, is_some};
 ghost use Rattle.std.specs.Option.{option_copied, option_map};
-ghost use Rattle.server_core.specs.declared.event.Event.TheVariants.{Deliver, Issue, WriteDone};
+ghost use Rattle.server_core.specs.declared.event.Event.TheVariants.{Deliver, Issue as ToIssue, WriteDone as ToEnd};
 ghost use Rattle.server_core.specs.Serves.{IsRead};
 ghost use Rattle.messages.specs.Ranges.{is_run};
 
@@ -14,7 +14,7 @@ use crate::outs::Outs;
 use crate::progress::Progress;
 use crate::status::Status;
 use disk_model::Notes;
-use engine::Ticket;
+use engine::{Issue, Ticket};
 use fc_base::{Fault, JobNo, RunNo, Seq, ServerNo};
 use job_file::Job;
 use messages::Packet;
@@ -39,6 +39,7 @@ impl<N: Notes> PacketServer<N> {
     ghost use Rattle.server_core.specs.Taken.{taken};
     ghost use Rattle.server_core.specs.OpenWrites.{open_write};
     ghost use Rattle.server_core.specs.Memory.{TakesNone};
+    ghost use Rattle.server_core.specs.Handles.{issued, ended};
     ghost use Rattle.server_core.specs.Serves.{StandsFor, Starts, Ends, Opens};
 
     /// Opens the server with this number over its note, where it saves the next boot before it answers;
@@ -184,9 +185,9 @@ impl<N: Notes> PacketServer<N> {
 
     /// Takes a request for a write of a job, as `step` does.
     #[inline(always)]
-    pub(crate) fn issue(&mut self, job: JobNo) -> Result<Outs, Fault>
+    pub(crate) fn issue(&mut self, job: JobNo) -> Result<Issue, Fault>
         ensures ends { (o : Opening) (past : List Entry) → StandsFor N.note self.old o past →
-            Ends N.note o past (Issue job) self.old self.new result }
+            Ends N.note o past (ToIssue job) self.old self.new (issued result) }
         ensures memory { TakesNone result }
     {
         if self.down {
@@ -194,14 +195,14 @@ impl<N: Notes> PacketServer<N> {
         }
         frames_are_short();
         packets_are_in_range();
-        self.machine.handle_issue(job)
+        Ok(self.machine.hand_out(job))
     }
 
     /// Takes the end of a write, as `step` does.
     #[inline(always)]
-    pub(crate) fn end_write(&mut self, ticket: Ticket, end: WriteEnd) -> Result<Outs, Fault>
+    pub(crate) fn end_write(&mut self, ticket: Ticket, end: WriteEnd) -> Result<(), Fault>
         ensures ends { (o : Opening) (past : List Entry) → StandsFor N.note self.old o past →
-            Ends N.note o past (WriteDone ticket end) self.old self.new result }
+            Ends N.note o past (ToEnd ticket end) self.old self.new (ended result) }
         ensures memory { TakesNone result }
     {
         if self.down {
@@ -209,7 +210,7 @@ impl<N: Notes> PacketServer<N> {
         }
         frames_are_short();
         packets_are_in_range();
-        self.machine.handle_end(ticket, end)
+        self.machine.hear_end(ticket, end)
     }
 
     /// Records the staged run, which then begins.

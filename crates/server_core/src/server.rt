@@ -3,17 +3,17 @@
 ghost use Rattle.std.specs.Prelude.{◌≡◌, ◌<◌, false, List, Some, None, OnErr};
 ghost use Rattle.std.specs.Option.{option_copied, option_map};
 ghost use Rattle.messages.specs.declared.frame.Frame.TheVariants.{Piece as OfPiece};
-ghost use Rattle.server_core.specs.declared.input.Input.TheVariants.{Deliver};
+ghost use Rattle.server_core.specs.declared.input.Input.TheVariants.{Deliver, Issue as ToIssue, WriteDone as ToEnd};
 ghost use Rattle.server_core.specs.Hearing.{is_piece_for};
 
-use crate::event::Event;
+use crate::event::{Event, WriteEnd};
 use crate::input::Input;
 use crate::outs::Outs;
 use crate::packet_server::PacketServer;
 use crate::progress::Progress;
 use crate::status::Status;
 use disk_model::Notes;
-use engine::Ticket;
+use engine::{Issue, Ticket};
 use fc_base::{Fault, JobNo, Seq, ServerNo};
 use job_file::Job;
 use messages::{Assembly, Frame, Frames, Piece};
@@ -40,7 +40,8 @@ impl<N: Notes> Server<N> {
     ghost use Rattle.server_core.specs.Hearing.{FrameEntry, packets_heard};
     ghost use Rattle.server_core.specs.FrameAnswers.{would_save};
     ghost use Rattle.server_core.specs.FrameEnds.{StandsFor, Ends, Opens};
-    ghost use Rattle.server_core.specs.Memory.{WritesTakeNone};
+    ghost use Rattle.server_core.specs.Memory.{TakesNone, WritesTakeNone};
+    ghost use Rattle.server_core.specs.Handles.{issued, ended};
     ghost use Rattle.server_core.specs.HeardRange.{HearsInRange};
 
     /// Opens the server with this number over its note, where it saves the next boot before it answers;
@@ -175,10 +176,34 @@ impl<N: Notes> Server<N> {
     {
         // A function pays for the room of all its values, so the two that come most take a way of their own.
         match &input {
-            Input::Issue(job) => self.core.issue(*job),
-            Input::WriteDone(ticket, end) => self.core.end_write(*ticket, *end),
+            Input::Issue(job) => Outs::issued(self.alloc, self.issue(*job)),
+            Input::WriteDone(ticket, end) => Outs::ended(self.alloc, self.end_write(*ticket, *end)),
             _ => self.take(input),
         }
+    }
+
+    /// Takes a request for a write of a job, as `step` does.
+    #[inline(always)]
+    pub fn issue(&mut self, job: JobNo) -> Result<Issue, Fault>
+        ensures ends { (o : Opening) (past : List FrameEntry) → StandsFor N.note self.old o past →
+            Ends N.note o past (ToIssue job) self.old self.new (issued result) }
+        ensures ranges { (o : Opening) (past : List FrameEntry) → StandsFor N.note self.old o past →
+            HearsInRange o past (ToIssue job) (issued result) }
+        ensures memory { TakesNone result }
+    {
+        self.core.issue(job)
+    }
+
+    /// Takes the end of a write, as `step` does.
+    #[inline(always)]
+    pub fn end_write(&mut self, ticket: Ticket, end: WriteEnd) -> Result<(), Fault>
+        ensures ends { (o : Opening) (past : List FrameEntry) → StandsFor N.note self.old o past →
+            Ends N.note o past (ToEnd ticket end) self.old self.new (ended result) }
+        ensures ranges { (o : Opening) (past : List FrameEntry) → StandsFor N.note self.old o past →
+            HearsInRange o past (ToEnd ticket end) (ended result) }
+        ensures memory { TakesNone result }
+    {
+        self.core.end_write(ticket, end)
     }
 
     /// Takes what comes.

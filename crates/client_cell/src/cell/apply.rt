@@ -23,7 +23,7 @@ impl<N: Notes + Drop> ClientCell<N> {
         ensures ends { Applies self.old task self.new result }
         ensures replay { (past : List FrameEntry) × IsReplay self.new past }
     {
-        if self.history.reserve(1).is_err() {
+        if self.history.reserve().is_err() {
             return Err(Fault::NoMemory);
         }
         let (alloc, servers) = (self.alloc, self.servers);
@@ -32,7 +32,7 @@ impl<N: Notes + Drop> ClientCell<N> {
         if lacks_memory(&answer) {
             return Err(Fault::NoMemory);
         }
-        self.history.push_reserved(entry(alloc, came, &answer));
+        self.history.push(entry(alloc, came, &answer));
         told(&answer)
     }
 }

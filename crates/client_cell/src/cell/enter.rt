@@ -1,6 +1,6 @@
 //! What came to the client at the hub is entered.
 
-ghost use Rattle.std.specs.Prelude.{◌≡◌, ◌+◌, ◌<◌, ◌≤◌, length, sum_by, reverse, vec_len, vec_capacity, All, IfSome, OnOk};
+ghost use Rattle.std.specs.Prelude.{◌≡◌, ◌+◌, ◌<◌, ◌≤◌, length, sum_by, reverse, All, IfSome, OnOk};
 ghost use Rattle.std.specs.Option.{ForSome};
 ghost use Rattle.messages.specs.declared.node.Node.TheVariants.{Client};
 ghost use Rattle.hub.specs.Network.{HasRoom, IsSpelled};
@@ -11,36 +11,36 @@ use crate::outs::Outs;
 use fc_base::Fault;
 use hub::Hub;
 use messages::{Act, Frames, Node};
-use node_history::{Came, Logged, Said, Told, is_left_out, told_at};
+use node_history::{Came, History, Logged, Said, Told, is_left_out, told_at};
 use std::alloc::{AllocError, Global};
 
 /// Makes room for one more entry of a history, and at the hub for so many frames of so many bytes
 /// together. Where memory runs out nothing changes.
 pub(super) fn make_room(
-    history: &mut Vec<Logged>,
+    history: &mut History,
     hub: &mut Hub,
     frames: usize,
     bytes: usize,
 ) -> Result<(), AllocError>
-    ensures place { OnOk result (vec_len history.new + 1 ≤ vec_capacity history.new) }
+    ensures place { OnOk result (1 ≤ history.new.room) }
     ensures room { OnOk result (HasRoom hub.new.room frames bytes) }
     ensures items { history.new.items ≡ history.old.items }
     ensures net { hub.new.net ≡ hub.old.net }
 {
-    history.reserve(1)?;
+    history.reserve()?;
     hub.reserve(frames, bytes)
 }
 
 /// Enters what came in the client's history, with its answer and the frames that were sent, and at the
 /// hub; or leaves it out where it was refused and nothing has changed.
 pub(super) fn enter(
-    history: &mut Vec<Logged>,
+    history: &mut History,
     hub: &mut Hub,
     came: Came,
     taken: Option<u64>,
     outcome: (Result<Said, Fault>, Frames),
 ) -> Result<Told, Fault>
-    requires place { vec_len history.old + 1 ≤ vec_capacity history.old }
+    requires place { 1 ≤ history.old.room }
     requires room { HasRoom hub.old.room (length outcome.1) (sum_by (λ frame. length frame) outcome.1) }
     requires taken { ForSome taken (λ i. i < length hub.old.net.frames) }
     requires spelled { All IsSpelled outcome.1 }
@@ -53,7 +53,7 @@ pub(super) fn enter(
     }
     let told = told_at(hub.len() as u64, sent.len() as u64, &answer);
     hub.note(Node::Client, history.len() as u64, taken, &sent);
-    history.push_reserved(Logged {
+    history.push(Logged {
         by: None,
         came,
         answer,

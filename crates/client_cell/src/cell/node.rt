@@ -13,7 +13,7 @@ use disk_model::Notes;
 use fc_base::Fault;
 use hub::Hub;
 use messages::Node as NodeName;
-use node_history::{Logged, Node, Told, frame_came};
+use node_history::{History, Node, Told, frame_came};
 
 impl<N: Notes + Drop> Node for ClientCell<N> {
     type Command = Command;
@@ -40,7 +40,7 @@ impl<N: Notes + Drop> Node for ClientCell<N> {
         NodeName::Client
     }
 
-    fn history(&self) -> &[Logged] {
+    fn history(&self) -> &History {
         ClientCell::history(self)
     }
 

@@ -5,7 +5,7 @@ use disk_model::{FaultNotes, MemNotes};
 use fc_base::{Fault, RunNo};
 use hub::Hub;
 use messages::{Act, Text};
-use node_history::{Answer, Came, Logged, Node, Told};
+use node_history::{Answer, Came, History, Logged, Node, Told};
 use std::alloc::{AllocGlobal, Global};
 use std::test::Fail;
 
@@ -220,9 +220,11 @@ fn begin(alloc: Global) -> Result<Request, Fault> {
 }
 
 /// If the step is a task, it is the one entry behind so many.
-fn is_entered(step: Step, history: &[Logged], entries: usize) -> bool {
-    match (step, history.split_last()) {
-        (Step::Apply(task), Some((entry, before))) => before.len() == entries && is_of(entry, task),
+fn is_entered(step: Step, history: &History, entries: usize) -> bool {
+    match (step, history.get(entries)) {
+        (Step::Apply(task), Some(entry)) => {
+            history.len() == entries.saturating_add(1) && is_of(entry.as_logged(), task)
+        }
         (Step::Apply(_), None) => false,
         _ => true,
     }

@@ -169,8 +169,9 @@ fn has_counts(left: &Left) -> bool {
 fn turns(left: &Left) -> u64 {
     let mut turns: u64 = 0;
     for server in &left.servers {
-        for entry in server.history() {
-            if entry.by.is_some() {
+        let history = server.history();
+        for at in 0..history.len() {
+            if history.at(at).as_logged().by.is_some() {
                 turns = turns.saturating_add(1);
             }
         }

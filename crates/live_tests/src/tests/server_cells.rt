@@ -3,7 +3,7 @@
 use disk_model::{FaultNotes, MemNotes, Notes};
 use engine::Issue;
 use fc_base::{Fault, JobNo, ServerNo};
-use node_history::{Answer, Logged, Told};
+use node_history::{Answer, History, Logged, Told};
 use server_cell::{Seat, ServerCell, Task};
 use std::alloc::Global;
 
@@ -78,21 +78,32 @@ fn first_unlike<N: Notes + Drop>(
 
 /// Whether the entries are those of the rows: each of its row's seat, numbered from 0 on, and none sent a
 /// frame.
-fn are_entered(history: &[Logged], rows: &[Row]) -> bool {
+fn are_entered(history: &History, rows: &[Row]) -> bool {
     let mut applied = [0u64; 2];
     if history.len() != rows.len() {
         return false;
     }
-    for (entry, (seat, _, _)) in history.iter().zip(rows) {
-        let (Some(turn), Some(number)) = (entry.by, applied.get_mut(*seat)) else {
+    for (at, (seat, _, _)) in rows.iter().enumerate() {
+        let Some(number) = applied.get_mut(*seat) else {
             return false;
         };
-        if turn.seat as usize != *seat || turn.number != *number || entry.sent.len() > 0 {
-            return false;
+        match history.get(at) {
+            Some(entry) if is_turn(entry.as_logged(), *seat, *number) => {}
+            _ => return false,
         }
         *number = number.saturating_add(1);
     }
     true
+}
+
+/// Whether an entry is this seat's turn of this number, which sent no frame.
+fn is_turn(entry: &Logged, seat: usize, number: u64) -> bool {
+    match entry.by {
+        Some(turn) => {
+            turn.seat as usize == seat && turn.number == number && entry.sent.len() == 0
+        }
+        None => false,
+    }
 }
 
 /// Whether a new cell answers the rows, and its history has them.

@@ -1,18 +1,16 @@
 //! What is asked of a server from its seats.
 
-ghost use Rattle.std.specs.Prelude.{◌≡◌, List};
+ghost use Rattle.std.specs.Prelude.{◌≡◌, ◌≤◌, ◌<◌, ◌^◌, ◌++◌, ◌∷◌, [], List, length};
 ghost use Rattle.server_core.specs.Hearing.{FrameEntry};
 ghost use Rattle.server_cell.specs.Cells.{IsReplay};
-ghost use Rattle.server_cell.specs.Calls.{is_right, lacks_memory, logged_by, told_by, Applies};
+ghost use Rattle.server_cell.specs.Calls.{is_right, lacks_memory, entry_of, told_by, Applies};
 
 use super::ServerCell;
 use crate::seat::Seat;
 use crate::task::Task;
 use disk_model::Notes;
 use fc_base::{Fault, FaultSort};
-use messages::Frames;
-use node_history::{Came, Logged, Said, Told, Turn};
-use std::alloc::Global;
+use node_history::{History, Said, Told, Turn};
 
 impl<N: Notes + Drop> ServerCell<N> {
     /// Does what is asked from a seat. Each answer but two is entered in the history, as this seat's next.
@@ -28,17 +26,15 @@ impl<N: Notes + Drop> ServerCell<N> {
         if !self.is_right(seat) {
             return Err(Fault::WrongSeat);
         }
-        if self.history.reserve(1).is_err() {
+        if self.history.reserve().is_err() {
             return Err(Fault::NoMemory);
         }
         let (alloc, me) = (self.alloc, self.me);
-        let came = task.came();
         let answer = self.power.perform(alloc, me, &task);
         if lacks_memory(&answer) {
             return Err(Fault::NoMemory);
         }
-        self.history
-            .push_reserved(entry(alloc, seat, came, &answer));
+        enter(&mut self.history, seat, &task, &answer);
         self.applied[seat.number() as usize] += 1;
         seat.advance(&answer);
         told(&answer)
@@ -52,18 +48,21 @@ impl<N: Notes + Drop> ServerCell<N> {
     }
 }
 
-/// The entry of what came from a seat and was answered so, as the seat's next.
-fn entry(alloc: Global, seat: &Seat, came: Came, answer: &Result<Said, Fault>) -> Logged
-    ensures { result ≡ logged_by seat.now came answer.now }
+/// Enters what came from a seat and was answered so, as the seat's next.
+#[inline(always)]
+fn enter(history: &mut History, seat: &Seat, task: &Task, answer: &Result<Said, Fault>)
+    requires { 1 ≤ history.old.room }
+    ensures items { history.new.items ≡ history.old.items ++ entry_of seat.now task.now answer.now ∷ [] }
+    ensures few { length history.new.items < 2 ^ 64 }
 {
-    Logged {
-        by: Some(Turn {
-            seat: seat.number(),
-            number: seat.applied(),
-        }),
-        came,
-        answer: *answer,
-        sent: Frames::new(alloc),
+    let by = Turn {
+        seat: seat.number(),
+        number: seat.applied(),
+    };
+    match task {
+        Task::Issue(job) => history.push_issue(by, *job, answer),
+        Task::WriteDone(ticket, end) => history.push_end(by, ticket, *end, answer),
+        Task::Cut | Task::Restart => history.push_turn(by, task.came(), answer),
     }
 }
 

@@ -55,7 +55,7 @@ impl<N: Notes + Drop> ServerCell<N> {
         if self.power.server().is_none() {
             return Err(Fault::NodeOff);
         }
-        if self.history.reserve(1).is_err() {
+        if self.history.reserve().is_err() {
             return Err(Fault::NoMemory);
         }
         if hub.reserve(FRAMES, FRAMES * FRAME_BYTES).is_err() {
@@ -69,7 +69,7 @@ impl<N: Notes + Drop> ServerCell<N> {
         let told = told_at(hub.len() as u64, sent.len() as u64, &answer);
         let at = self.history.len() as u64;
         hub.note(Node::Server(self.me), at, taken, &sent);
-        self.history.push_reserved(Logged {
+        self.history.push(Logged {
             by: None,
             came,
             answer,

@@ -15,7 +15,7 @@ use disk_model::Notes;
 use fc_base::Fault;
 use hub::Hub;
 use messages::Node as NodeName;
-use node_history::{Came, Logged, Node, Told, frame_came};
+use node_history::{Came, History, Node, Told, frame_came};
 use server_core::Input;
 
 impl<N: Notes + Drop> Node for ServerCell<N> {
@@ -43,7 +43,7 @@ impl<N: Notes + Drop> Node for ServerCell<N> {
         NodeName::Server(self.me())
     }
 
-    fn history(&self) -> &[Logged] {
+    fn history(&self) -> &History {
         ServerCell::history(self)
     }
 

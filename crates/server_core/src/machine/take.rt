@@ -1,15 +1,15 @@
 //! What the client asks, and what the workers tell.
 
-ghost use Rattle.std.specs.Prelude.{◌≡◌, IsTrue};
+ghost use Rattle.std.specs.Prelude.{◌≡◌, IsTrue, Ok};
 ghost use Rattle.messages.specs.Ranges.{is_attempt as in_range, is_run};
 ghost use Rattle.server_core.specs.Request.{ToStage, ToStart, ToTrigger, ToMark, ToStop, ToVerify, ToHold, ToPassFully, ToIssue, ToEnd, ToReport};
-ghost use Rattle.server_core.specs.Handles.{Handled, EachUndue};
+ghost use Rattle.server_core.specs.Handles.{Handled, EachUndue, issued, ended};
 ghost use Rattle.server_core.specs.Memory.{TakesNone};
 
 use super::Machine;
 use crate::event::WriteEnd;
 use crate::outs::Outs;
-use engine::Ticket;
+use engine::{Issue, Ticket};
 use fc_base::{Attempt, CheckReport, Fault, JobNo, RunNo};
 use messages::{Act, Frames, Text};
 use verify_state::VerifyState;
@@ -107,30 +107,24 @@ impl Machine {
         Ok(Outs::sent(Frames::new(self.alloc)))
     }
 
-    /// A worker asks for a write.
+    /// A worker asks for a write. What it is answered.
     #[inline(always)]
-    pub(crate) fn handle_issue(&mut self, job: JobNo) -> Result<Outs, Fault>
-        ensures handled { EachUndue self.old (ToIssue job)
-            (λ now. Handled now (ToIssue job) self.old self.new result) }
-        ensures memory { TakesNone result }
+    pub(crate) fn hand_out(&mut self, job: JobNo) -> Issue
+        ensures { EachUndue self.old (ToIssue job)
+            (λ now. Handled now (ToIssue job) self.old self.new (issued (Ok result))) }
     {
-        let issue = self.issue(job);
-        Ok(Outs {
-            frames: Frames::new(self.alloc),
-            issue: Some(issue),
-            act: Act::None,
-        })
+        self.issue(job)
     }
 
     /// A worker tells how a write ended.
     #[inline(always)]
-    pub(crate) fn handle_end(&mut self, ticket: Ticket, end: WriteEnd) -> Result<Outs, Fault>
+    pub(crate) fn hear_end(&mut self, ticket: Ticket, end: WriteEnd) -> Result<(), Fault>
         ensures handled { EachUndue self.old (ToEnd ticket end)
-            (λ now. Handled now (ToEnd ticket end) self.old self.new result) }
+            (λ now. Handled now (ToEnd ticket end) self.old self.new (ended result)) }
         ensures memory { TakesNone result }
     {
         match self.end_write(ticket, end) {
-            Ok(()) => Ok(Outs::sent(Frames::new(self.alloc))),
+            Ok(()) => Ok(()),
             Err(fault) => Err(fault),
         }
     }

@@ -10,8 +10,8 @@ loop-line-init g c = rw c.requires.new (followed_none c.histories_rise.ensures (
 
 pub tell-requires-clause-within : goal.tell-requires-clause-within
 tell-requires-clause-within g c =
-    next_within (ran c.args.client.now c.args.servers.now) c.args.hub.now.net (told_of (reverse c.args.hub.now.net.journal) c.loop-line.line-index) c.loop-line.order c.line-item.result.node c.history_of.result.now
-    c.loop-line.invariant.0 c.history_of.ensures
+    next_within (ran c.args.client.now c.args.servers.now) c.args.hub.now.net (told_of (reverse c.args.hub.now.net.journal) c.loop-line.line-index) c.loop-line.order c.line-item.result.node c.history_of-history.result.now.items
+    c.loop-line.invariant.0 c.history_of-history.ensures
 
 pub tell-requires-clause-there : goal.tell-requires-clause-there
 tell-requires-clause-there g c =
@@ -23,7 +23,7 @@ returns-in_err-tell-clause-differs g c =
     let p = err_from_is_err_and c.from_residual.result c.from_residual.ensures.1 in
     let is = line_there c.journal-line-items.result.now c.args.hub.now.net.journal c.loop-line.line-index c.line-item.result c.journal-line-items.ensures.entries c.loop-line-test.true c.line-item.is in
     rw (p.1, p.2) (differs_there (ran c.args.client.now c.args.servers.now) c.args.hub.now.net (reverse c.args.hub.now.net.journal) c.loop-line.line-index c.line-item.result c.loop-line.sent c.loop-line.order c.in_err-tell.field-0.0
-    refl is c.loop-line.invariant.1 c.loop-line.invariant.0 (c.in_err-tell.ensures.untold (history_of (ran c.args.client.now c.args.servers.now) c.line-item.result.node) c.history_of.ensures))
+    refl is c.loop-line.invariant.1 c.loop-line.invariant.0 (c.in_err-tell.ensures.untold (history_of (ran c.args.client.now c.args.servers.now) c.line-item.result.node) c.history_of-history.ensures))
 
 pub overflow_add-sent : goal.overflow_add-sent
 overflow_add-sent g c =
@@ -34,4 +34,4 @@ pub loop-line-preserved : goal.loop-line-preserved
 loop-line-preserved g c =
     let is = line_there c.journal-line-items.result.now c.args.hub.now.net.journal c.loop-line.line-index c.line-item.result c.journal-line-items.ensures.entries c.loop-line-test.true c.line-item.is in
     followed_line (ran c.args.client.now c.args.servers.now) c.args.hub.now.net c.loop-line.line-index c.line-item.result c.loop-line.sent c.loop-line.order c.tell.new.self
-    c.requires.few is c.loop-line.invariant.0 c.loop-line.invariant.1 (c.in_ok-tell.ensures.told (history_of (ran c.args.client.now c.args.servers.now) c.line-item.result.node) c.history_of.ensures)
+    c.requires.few is c.loop-line.invariant.0 c.loop-line.invariant.1 (c.in_ok-tell.ensures.told (history_of (ran c.args.client.now c.args.servers.now) c.line-item.result.node) c.history_of-history.ensures)

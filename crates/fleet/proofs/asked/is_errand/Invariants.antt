@@ -2,5 +2,5 @@ use Rattle.std.proofs.Common.{◌≡◌, take}
 use Rattle.fleet.specs.Asked.{asked, errand}
 use Rattle.fleet.proofs.asked.is_errand.Given as goal
 
-abbrev pub invariant-loop-logged : goal.invariant-loop-logged
-invariant-loop-logged l = asked (take l.logged-index l.history) ≡ take l.done (errand l.run l.write l.read)
+abbrev pub invariant-loop-at : goal.invariant-loop-at
+invariant-loop-at l = asked (take l.at l.history.items) ≡ take l.done (errand l.run l.write l.read)

@@ -11,7 +11,7 @@ use disk_model::{FaultDisk, MemDisk, MemNotes};
 use fc_base::{Fault, JobNo, MAX_TEXT, RunNo, ServerNo};
 use hub::Hub;
 use messages::{Act, Text};
-use node_history::{Came, Logged, Node, Told};
+use node_history::{Came, History, Logged, Node, Told};
 use server_cell::{Seat, ServerCell, Task};
 use server_core::WriteEnd;
 use std::alloc::Global;
@@ -196,14 +196,18 @@ fn end(seats: &mut Vec<Seat>, hand: &mut Hand) -> Result<(Ended, u64), Fault> {
 }
 
 /// How many writes of this history are done.
-fn count_done(history: &[Logged]) -> usize {
+fn count_done(history: &History) -> usize {
     let mut count: usize = 0;
-    for entry in history {
-        if matches!(entry.came, Came::WriteDone(_, WriteEnd::Done)) && entry.answer.is_ok() {
+    for at in 0..history.len() {
+        if is_done(history.at(at).as_logged()) {
             count = count.saturating_add(1);
         }
     }
     count
+}
+
+fn is_done(entry: &Logged) -> bool {
+    matches!(entry.came, Came::WriteDone(_, WriteEnd::Done)) && entry.answer.is_ok()
 }
 
 /// A client of one server, over a blank note.

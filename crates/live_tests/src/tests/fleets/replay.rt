@@ -5,7 +5,7 @@ use fleet::{Left, Place};
 use hub::Hub;
 use messages::{Node, Text};
 use net_world::{Config, Event, PlainEvent, World};
-use node_history::{Came, Logged};
+use node_history::{Came, Lent};
 use server_core::WriteEnd;
 use std::alloc::Global;
 
@@ -41,10 +41,11 @@ fn happen_at(alloc: Global, world: &mut World, left: &Left, place: &Place) -> Re
         return Err(Fault::NoFrame);
     };
     let server = server_of(place.node);
-    if let Some(landing) = landing(server, &entry.came) {
+    let came = &entry.as_logged().came;
+    if let Some(landing) = landing(server, came) {
         happen(world, landing)?;
     }
-    let event = match &entry.came {
+    let event = match came {
         Came::Frame(_) => PlainEvent::Deliver {
             frame: taken_at(&left.hub, place)?,
         },
@@ -61,7 +62,7 @@ fn happen(world: &mut World, event: PlainEvent) -> Result<(), Fault> {
 }
 
 /// The entry of the node's history at its place.
-fn entry<'a>(left: &'a Left, place: &Place) -> Option<&'a Logged> {
+fn entry<'a>(left: &'a Left, place: &Place) -> Option<Lent<'a>> {
     let history = if place.node == Node::Client {
         left.client.history()
     } else {

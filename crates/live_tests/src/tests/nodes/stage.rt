@@ -200,8 +200,9 @@ fn done(seq: u32) -> ServerTask {
 /// How many entries of a node's history came from this seat, each with the next number, from 0 on.
 fn turns_of<C: Node>(node: &C, seat: u32) -> u64 {
     let mut turns: u64 = 0;
-    for entry in node.history() {
-        if entry.by
+    let history = node.history();
+    for at in 0..history.len() {
+        if history.at(at).as_logged().by
             == Some(Turn {
                 seat,
                 number: turns,

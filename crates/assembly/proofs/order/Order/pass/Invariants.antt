@@ -5,5 +5,5 @@ use Rattle.assembly.proofs.order.Order.pass.Given as goal
 
 abbrev pub invariant-loop-at : goal.invariant-loop-at
 invariant-loop-at l =
-    ((h : List Logged) → l.history ≡ reverse h → IsPassed l.node h (next_of l.fn.self.next l.node) l.at l.fn.self.places l.self.places)
+    ((h : List Logged) → l.history.items ≡ reverse h → IsPassed l.node h (next_of l.fn.self.next l.node) l.at l.fn.self.places l.self.places)
     × (l.self.next ≡ l.fn.self.next) × (next_of l.fn.self.next l.node ≤ l.at)

@@ -8,14 +8,14 @@ use Rattle.client_cell.proofs.CellLemmas.{is_lack, lack_counts, lacks, applied, 
 use Rattle.client_cell.proofs.cell.ClientCell.apply.Goals as goal
 
 pub returns-then-is_err-clause-ends : goal.returns-then-is_err-clause-ends
-returns-then-is_err-clause-ends g c = lacks c.args.self.now _ c.args.task (rw c.reserve.ensures.items c.self.view_is)
+returns-then-is_err-clause-ends g c = lacks c.args.self.now _ c.args.task (rw c.reserve.ensures.same c.self.view_is)
 
 pub invariant_of-self-then-lacks_memory : goal.invariant_of-self-then-lacks_memory
 invariant_of-self-then-lacks_memory g c =
     let note = g.N.Notes.note in
     let cell = c.self.invariant.0 in
     let o = opening_of c.self.inside.servers c.self.inside.opened.value in (
-      rw c.reserve.ensures.items
+      rw c.reserve.ensures.same
           (same_cell note _ c.self.inside.power c.perform-answer.new.self (failures_of note c.perform-answer.new.self) cell
           (stays note o cell.past c.args.task c.perform-answer.new.self c.perform-answer.result (sym c.lacks_memory.ensures ∙ c.if-lacks_memory.true) (c.perform-answer.ensures.ends o cell.past refl cell.stands))),
       c.self.invariant.1,
@@ -29,7 +29,7 @@ returns-then-lacks_memory-clause-ends g c =
     let ends = c.perform-answer.ensures.ends o cell.past refl cell.stands in
     let lack = is_lack note o cell.past c.args.task c.perform-answer.new.self c.perform-answer.result (sym c.lacks_memory.ensures ∙ c.if-lacks_memory.true) ends in
     let same = lack_counts (loads_note c.args.task) (failures_of note c.self.inside.power) (failures_of note c.perform-answer.new.self) c.perform-answer.result lack (c.perform-answer.ensures.count o cell.past refl cell.stands) in
-    lacks c.args.self.now _ c.args.task (rw (c.reserve.ensures.items, same) c.self.view_is)
+    lacks c.args.self.now _ c.args.task (rw (c.reserve.ensures.same, same) c.self.view_is)
 
 pub invariant_of-self-2 : goal.invariant_of-self-2
 invariant_of-self-2 g c =
@@ -37,7 +37,7 @@ invariant_of-self-2 g c =
     let cell = c.self.invariant.0 in
     let o = opening_of c.self.inside.servers c.self.inside.opened.value in
     let m = moved note o cell.past c.args.task c.perform-answer.new.self c.perform-answer.result (sym c.lacks_memory.ensures ∙ c.if-lacks_memory.false) (c.perform-answer.ensures.ends o cell.past refl cell.stands) in (
-      rw (c.push_reserved.ensures.items, c.reserve.ensures.items, pushed c.self.inside.history.items c.entry.result, c.entry.ensures, c.came-came.ensures)
+      rw (c.push.ensures.items, c.reserve.ensures.same, pushed c.self.inside.history.items c.entry.result, c.entry.ensures, c.came-came.ensures)
           (entered note _ c.self.inside.power c.perform-answer.new.self (failures_of note c.perform-answer.new.self) (came_by c.args.task) c.perform-answer.result cell m),
       c.self.invariant.1,
     )
@@ -48,7 +48,7 @@ returns-clause-replay g c =
     let cell = c.self.invariant.0 in
     let o = opening_of c.self.inside.servers c.self.inside.opened.value in
     let m = moved note o cell.past c.args.task c.perform-answer.new.self c.perform-answer.result (sym c.lacks_memory.ensures ∙ c.if-lacks_memory.false) (c.perform-answer.ensures.ends o cell.past refl cell.stands) in
-    rw (c.push_reserved.ensures.items, c.reserve.ensures.items, pushed c.self.inside.history.items c.entry.result, c.entry.ensures, c.came-came.ensures)
+    rw (c.push.ensures.items, c.reserve.ensures.same, pushed c.self.inside.history.items c.entry.result, c.entry.ensures, c.came-came.ensures)
     (replayed note _ c.self.inside.power c.perform-answer.new.self (failures_of note c.perform-answer.new.self) (came_by c.args.task) c.perform-answer.result cell m)
 
 pub returns-clause-ends : goal.returns-clause-ends
@@ -60,6 +60,6 @@ returns-clause-ends g c =
     let answer = c.perform-answer.result in
     applied c.args.self.now c.args.task answer _ c.told.result (sym c.lacks_memory.ensures ∙ c.if-lacks_memory.false)
     (ap (λ (log : ClientLog). log.opening) c.self.view_is)
-    (rw (c.push_reserved.ensures.items, c.reserve.ensures.items, pushed c.self.inside.history.items c.entry.result, c.entry.ensures, c.came-came.ensures) (ap (λ (log : ClientLog). logged_by (came_by c.args.task) answer ∷ log.history) c.self.view_is))
+    (rw (c.push.ensures.items, c.reserve.ensures.same, pushed c.self.inside.history.items c.entry.result, c.entry.ensures, c.came-came.ensures) (ap (λ (log : ClientLog). logged_by (came_by c.args.task) answer ∷ log.history) c.self.view_is))
     (subst (λ n. Counts (loads_note c.args.task) n (failures_of note new) answer) (ap (λ (log : ClientLog). log.failures) c.self.view_is) (c.perform-answer.ensures.count o cell.past refl cell.stands))
     c.told.ensures

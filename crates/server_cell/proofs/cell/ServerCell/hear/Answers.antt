@@ -6,7 +6,7 @@ use Rattle.hub.specs.Network.{Network, IsSpelled}
 use Rattle.server_core.specs.Bounds.{AreShort}
 use Rattle.node_history.specs.declared.answer.Said.{Said}
 use Rattle.node_history.specs.Rules.{Meets}
-use Rattle.node_history.specs.AtHub.{is_left_out, told_at}
+use Rattle.node_history.specs.AtHub.{is_left_out}
 use Rattle.server_cell.specs.Stands.{failures_of, Moves}
 use Rattle.messages.specs.declared.node.Node.TheVariants.{Server as ServerNode}
 use Rattle.server_cell.specs.Cells.{ServerLog}
@@ -20,12 +20,12 @@ use Rattle.server_cell.proofs.cell.ServerCell.hear.Goals as goal
 pub returns-then-is_err-clause-ends : goal.returns-then-is_err-clause-ends
 returns-then-is_err-clause-ends g c =
     lacking (ServerNode c.args.self.now.opening.me) c.args.came c.args.taken c.args.hub.now.net c.args.hub.now.net c.args.self.now.history _ refl
-    (rw c.reserve.ensures.items (ap (λ (log : ServerLog). log.history) c.self.view_is))
+    (rw c.reserve.ensures.same (ap (λ (log : ServerLog). log.history) c.self.view_is))
 
 pub returns-then-is_err-2-clause-ends : goal.returns-then-is_err-2-clause-ends
 returns-then-is_err-2-clause-ends g c =
     lacking (ServerNode c.args.self.now.opening.me) c.args.came c.args.taken c.args.hub.now.net c.reserve-2.new.self.net c.args.self.now.history _ c.reserve-2.ensures.same
-    (rw c.reserve.ensures.items (ap (λ (log : ServerLog). log.history) c.self.view_is))
+    (rw c.reserve.ensures.same (ap (λ (log : ServerLog). log.history) c.self.view_is))
 
 pub invariant_of-self-then-is_left_out : goal.invariant_of-self-then-is_left_out
 invariant_of-self-then-is_left_out g c =
@@ -34,14 +34,14 @@ invariant_of-self-then-is_left_out g c =
     let o = opening_with c.self.inside.me c.self.inside.boot c.self.inside.last_run in
     let ends = c.step.ensures.ends o cell.past cell.stands in
     let out = ap (λ (r : Result Said Fault × List (List ℕ)). is_left_out r.0) (sym c.outcome-answer.ensures) ∙ sym c.is_left_out.ensures ∙ c.if-is_left_out.true in
-    rw c.reserve.ensures.items
+    rw c.reserve.ensures.same
     (same_cell note o c.self.inside.power c.step.new.self (reverse c.self.inside.history.items) c.self.inside.applied cell
     (unmoved note o cell.past c.args.input c.step.new.self c.step.result out ends))
 
 pub returns-then-is_left_out-clause-ends : goal.returns-then-is_left_out-clause-ends
 returns-then-is_left_out-clause-ends g c =
     left_out (ServerNode c.args.self.now.opening.me) c.args.came c.args.taken c.args.hub.now.net c.reserve-2.new.self.net c.args.self.now.history _ c.outcome-answer.result.0 c.told_at.result (sym c.is_left_out.ensures ∙ c.if-is_left_out.true) c.told_at.ensures c.reserve-2.ensures.same
-    (rw c.reserve.ensures.items (ap (λ (log : ServerLog). log.history) c.self.view_is))
+    (rw c.reserve.ensures.same (ap (λ (log : ServerLog). log.history) c.self.view_is))
 
 pub note-requires-clause-room : goal.note-requires-clause-room
 note-requires-clause-room g c =
@@ -69,7 +69,7 @@ invariant_of-self-2 g c =
     let ends = c.step.ensures.ends o cell.past cell.stands in
     let out = ap (λ (r : Result Said Fault × List (List ℕ)). is_left_out r.0) (sym c.outcome-answer.ensures) ∙ sym c.is_left_out.ensures ∙ c.if-is_left_out.false in
     let m = subst (λ (r : Result Said Fault × List (List ℕ)). Moves note o cell.past (Meets c.args.input) r.0 r.1 c.step.new.self) (sym c.outcome-answer.ensures) (moved note o cell.past c.args.input c.step.new.self c.step.result out ends) in
-    rw (c.push_reserved.ensures.items, c.reserve.ensures.items, pushed c.self.inside.history.items (heard_as c.args.came c.outcome-answer.result.0 c.outcome-answer.result.1))
+    rw (c.push.ensures.items, c.reserve.ensures.same, pushed c.self.inside.history.items (heard_as c.args.came c.outcome-answer.result.0 c.outcome-answer.result.1))
     (entered note o c.step.new.self c.args.came c.args.input c.outcome-answer.result.0 c.outcome-answer.result.1 cell c.requires.asks m)
 
 pub returns-clause-replay : goal.returns-clause-replay
@@ -80,7 +80,7 @@ returns-clause-replay g c =
     let ends = c.step.ensures.ends o cell.past cell.stands in
     let out = ap (λ (r : Result Said Fault × List (List ℕ)). is_left_out r.0) (sym c.outcome-answer.ensures) ∙ sym c.is_left_out.ensures ∙ c.if-is_left_out.false in
     let m = subst (λ (r : Result Said Fault × List (List ℕ)). Moves note o cell.past (Meets c.args.input) r.0 r.1 c.step.new.self) (sym c.outcome-answer.ensures) (moved note o cell.past c.args.input c.step.new.self c.step.result out ends) in
-    rw (c.push_reserved.ensures.items, c.reserve.ensures.items, pushed c.self.inside.history.items (heard_as c.args.came c.outcome-answer.result.0 c.outcome-answer.result.1))
+    rw (c.push.ensures.items, c.reserve.ensures.same, pushed c.self.inside.history.items (heard_as c.args.came c.outcome-answer.result.0 c.outcome-answer.result.1))
     (replayed note o c.step.new.self _ c.self.inside.applied (entered note o c.step.new.self c.args.came c.args.input c.outcome-answer.result.0 c.outcome-answer.result.1 cell c.requires.asks m))
 
 pub returns-clause-ends : goal.returns-clause-ends
@@ -88,10 +88,10 @@ returns-clause-ends g c =
     let history = ap (λ (log : ServerLog). log.history) c.self.view_is in
     told_all (ServerNode c.args.self.now.opening.me) c.args.came c.args.taken c.args.hub.now.net c.note.new.self.net c.args.self.now.history _ c.outcome-answer.result.0 c.outcome-answer.result.1 c.told_at-told.result (sym c.is_left_out.ensures ∙ c.if-is_left_out.false)
     (rw (← c.reserve-2.ensures.same) (rw (← c.len.ensures, ← c.len-2.ensures) c.told_at-told.ensures))
-    (rw (c.push_reserved.ensures.items, c.reserve.ensures.items, pushed c.self.inside.history.items (heard_as c.args.came c.outcome-answer.result.0 c.outcome-answer.result.1)) (ap (λ xs. heard_as c.args.came c.outcome-answer.result.0 c.outcome-answer.result.1 ∷ xs) history))
+    (rw (c.push.ensures.items, c.reserve.ensures.same, pushed c.self.inside.history.items (heard_as c.args.came c.outcome-answer.result.0 c.outcome-answer.result.1)) (ap (λ xs. heard_as c.args.came c.outcome-answer.result.0 c.outcome-answer.result.1 ∷ xs) history))
     (c.note.ensures.frames ∙ ap (λ (net : Network). net.frames ++ c.outcome-answer.result.1) c.reserve-2.ensures.same)
     (journal_by c.self.inside.me c.args.self.now.opening.me c.len-at.result (length c.args.self.now.history) c.args.taken (length c.outcome-answer.result.1) c.args.hub.now.net.journal c.reserve-2.new.self.net.journal c.note.new.self.net.journal
-    (ap (λ (log : ServerLog). log.opening.me) c.self.view_is) (c.len-at.ensures ∙ c.reserve.new.self.ok.0 ∙ ap length c.reserve.ensures.items ∙ sym (length-reverse c.self.inside.history.items) ∙ ap length history) (ap (λ (net : Network). net.journal) c.reserve-2.ensures.same) c.note.ensures.journal)
+    (ap (λ (log : ServerLog). log.opening.me) c.self.view_is) (c.len-at.ensures ∙ ap length c.reserve.ensures.same ∙ sym (length-reverse c.self.inside.history.items) ∙ ap length history) (ap (λ (net : Network). net.journal) c.reserve-2.ensures.same) c.note.ensures.journal)
 
 pub returns-then-is_none-clause-ends : goal.returns-then-is_none-clause-ends
 returns-then-is_none-clause-ends g c =

@@ -14,7 +14,7 @@ invariant_of-cell g c =
     let o = opening_by c.args.me h.said in
     let shown = c.status-boot.ensures o first (opened_once g.N.Notes.note c.args.me c.args.notes c.in_ok-server.server h) in
     new_cell g.N.Notes.note c.args.me c.args.notes c.in_ok-server.server h (c.status-boot.result.boot - 1) c.status-boot.result.last_run c.new.result.items c.requires.server
-    (before c.status-boot.result.boot o.boot (boot_is o c.status-boot.result shown)) (sym (last_is o c.status-boot.result shown)) c.new.ensures.items
+    (before c.status-boot.result.boot o.boot (boot_is o c.status-boot.result shown)) (sym (last_is o c.status-boot.result shown)) c.new.ensures
 
 pub returns-clause-opened : goal.returns-clause-opened
 returns-clause-opened g c =
@@ -23,5 +23,5 @@ returns-clause-opened g c =
     let shown = c.status-boot.ensures o first (opened_once g.N.Notes.note c.args.me c.args.notes c.in_ok-server.server h) in (
       refl,
       rw (← before c.status-boot.result.boot o.boot (boot_is o c.status-boot.result shown), last_is o c.status-boot.result shown) h.says,
-      rw c.new.ensures.items refl,
+      rw c.new.ensures refl,
     )

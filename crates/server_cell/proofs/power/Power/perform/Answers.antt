@@ -1,4 +1,5 @@
 use Rattle.std.proofs.Common.{sym, subst}
+use Rattle.server_core.specs.Handles.{issued, ended}
 use Rattle.server_cell.specs.declared.task.Task.TheVariants.{Issue, WriteDone}
 use Rattle.server_cell.specs.Stands.{TaskEnds}
 use Rattle.server_cell.proofs.PowerLemmas.{issue_task, end_task, said_counts}
@@ -10,19 +11,19 @@ use Rattle.server_cell.proofs.power.Power.perform.Goals as goal
 pub returns-in-Issue-clause-ends : goal.returns-in-Issue-clause-ends
 returns-in-Issue-clause-ends g c o past me s =
     let note = g.N.Notes.note in
-    let new = c.step.new.self in
+    let new = c.issue.new.self in
     let job = c.in-Issue.job in
-    subst (λ task. TaskEnds note o past task new c.said.result) (sym c.in-Issue.is)
-    (subst (λ answer. TaskEnds note o past (Issue job) new answer) (sym c.said.ensures) (issue_task note o past job new c.step.result (c.step.ensures.ends o past s)))
+    subst (λ task. TaskEnds note o past task new c.issued.result) (sym c.in-Issue.is)
+    (subst (λ answer. TaskEnds note o past (Issue job) new answer) (sym c.issued.ensures) (issue_task note o past job new (issued c.issue.result) (c.issue.ensures.ends o past s)))
 
 pub returns-in-WriteDone-clause-ends : goal.returns-in-WriteDone-clause-ends
 returns-in-WriteDone-clause-ends g c o past me s =
     let note = g.N.Notes.note in
-    let new = c.step-in-WriteDone.new.self in
+    let new = c.end_write.new.self in
     let ticket = c.in-WriteDone.ticket in
     let end = c.in-WriteDone.end in
-    subst (λ task. TaskEnds note o past task new c.said-in-WriteDone.result) (sym c.in-WriteDone.is)
-    (subst (λ answer. TaskEnds note o past (WriteDone ticket end) new answer) (sym c.said-in-WriteDone.ensures) (end_task note o past ticket end new c.step-in-WriteDone.result (c.step-in-WriteDone.ensures.ends o past s)))
+    subst (λ task. TaskEnds note o past task new c.heard.result) (sym c.in-WriteDone.is)
+    (subst (λ answer. TaskEnds note o past (WriteDone ticket end) new answer) (sym c.heard.ensures) (end_task note o past ticket end new (ended c.end_write.result) (c.end_write.ensures.ends o past s)))
 
 pub returns-in-Cut-clause-ends : goal.returns-in-Cut-clause-ends
 returns-in-Cut-clause-ends g c o past me s =
@@ -35,14 +36,14 @@ returns-in-Restart-clause-ends g c o past me s =
 pub returns-in-Issue-clause-count : goal.returns-in-Issue-clause-count
 returns-in-Issue-clause-count g c o past me s =
     let note = g.N.Notes.note in
-    subst (λ task. Counts (loads_note task) (failures_of note c.args.self.now) (failures_of note c.step.new.self) c.said.result) (sym c.in-Issue.is)
-    (said_counts (failures_of note c.args.self.now) (failures_of note c.step.new.self) c.said.result c.step.result c.said.ensures (c.step.ensures.count o past s))
+    subst (λ task. Counts (loads_note task) (failures_of note c.args.self.now) (failures_of note c.issue.new.self) c.issued.result) (sym c.in-Issue.is)
+    (said_counts (failures_of note c.args.self.now) (failures_of note c.issue.new.self) c.issued.result (issued c.issue.result) c.issued.ensures (c.issue.ensures.count o past s))
 
 pub returns-in-WriteDone-clause-count : goal.returns-in-WriteDone-clause-count
 returns-in-WriteDone-clause-count g c o past me s =
     let note = g.N.Notes.note in
-    subst (λ task. Counts (loads_note task) (failures_of note c.args.self.now) (failures_of note c.step-in-WriteDone.new.self) c.said-in-WriteDone.result) (sym c.in-WriteDone.is)
-    (said_counts (failures_of note c.args.self.now) (failures_of note c.step-in-WriteDone.new.self) c.said-in-WriteDone.result c.step-in-WriteDone.result c.said-in-WriteDone.ensures (c.step-in-WriteDone.ensures.count o past s))
+    subst (λ task. Counts (loads_note task) (failures_of note c.args.self.now) (failures_of note c.end_write.new.self) c.heard.result) (sym c.in-WriteDone.is)
+    (said_counts (failures_of note c.args.self.now) (failures_of note c.end_write.new.self) c.heard.result (ended c.end_write.result) c.heard.ensures (c.end_write.ensures.count o past s))
 
 pub returns-in-Cut-clause-count : goal.returns-in-Cut-clause-count
 returns-in-Cut-clause-count g c o past me s =

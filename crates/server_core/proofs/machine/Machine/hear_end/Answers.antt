@@ -2,7 +2,7 @@ use Rattle.std.proofs.Common.{inr}
 use Rattle.server_core.specs.Request.{ToEnd}
 use Rattle.server_core.specs.Answers.{refusal_of}
 use Rattle.server_core.proofs.UndueLemmas.{reason_told}
-use Rattle.server_core.proofs.machine.Machine.handle_end.Goals as goal
+use Rattle.server_core.proofs.machine.Machine.hear_end.Goals as goal
 
 pub returns-in-Err-clause-handled : goal.returns-in-Err-clause-handled
 returns-in-Err-clause-handled c now h d =
