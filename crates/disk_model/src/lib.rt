@@ -19,6 +19,7 @@ mod fault_disk;
 mod fault_notes;
 mod law;
 mod left;
+mod lent;
 mod mem_disk;
 mod mem_notes;
 mod notes;
