@@ -6,7 +6,7 @@ ghost use Rattle.node_history.specs.declared.answer.Told.{Told};
 ghost use Rattle.server_cell.specs.declared.task.Task.TheVariants.{Issue as IssueTask, WriteDone};
 ghost use Rattle.server_cell.specs.Calls.{Applies};
 ghost use Rattle.workers.specs.Seats.{says_final};
-ghost use Rattle.workers.specs.Turns.{is_last_asked, IsIssued, HasAsked, HasTold};
+ghost use Rattle.workers.specs.Turns.{is_last_asked, IsIssued, WorkedIf, HasAsked, HasTold};
 
 use crate::gate::TURNS;
 use disk_model::Notes;
@@ -15,7 +15,8 @@ use fc_base::{Fault, JobNo, JobRecord};
 use node_history::{Answer, Told};
 use server_cell::{Seat, ServerCell, Task};
 use server_core::WriteEnd;
-use std::sync::{Mutex, Wait};
+use std::hint::spin_loop;
+use std::sync::{Mutex, MutexGuard, Wait};
 use std::thread;
 
 /// What a worker is told that asks for the next write of a job.
@@ -29,34 +30,85 @@ pub(crate) enum Asked {
     Never,
     /// The server is off.
     Off,
+    /// It is refused so.
+    Refused(Fault),
 }
 
-/// Asks for the next write of a job, under the server's lock.
-pub(crate) fn ask<R: Wait, N: Notes + Drop>(
+/// How a write has ended that a worker carried out.
+#[derive(Clone, Copy, Debug, PartialEq, Eq)]
+pub(crate) struct Ended {
+    pub ticket: Ticket,
+    pub end: WriteEnd,
+}
+
+/// How often a worker looks whether the server's lock is free before it sleeps there. One that holds the lock
+/// gives it back sooner than a thread can be put to sleep and woken.
+const LOOKS: u32 = 200;
+
+/// Takes the lock of a server.
+fn lock<'c, R: Wait, N: Notes + Drop>(
+    rt: &R,
+    cell: &'c Mutex<ServerCell<N>>,
+) -> MutexGuard<'c, ServerCell<N>> {
+    for _ in 0..LOOKS {
+        if let Some(server) = cell.try_lock() {
+            return server;
+        }
+        spin_loop();
+    }
+    cell.lock(rt)
+}
+
+/// Tells how the worker's last write has ended, if it has one, and asks for the next of a job, both under
+/// one lock of the server. It fails where the end can't be told, as [`tell`] does; then nothing is asked.
+pub(crate) fn tell_and_ask<R: Wait, N: Notes + Drop>(
     rt: &R,
     cell: &Mutex<ServerCell<N>>,
     seat: &mut Seat,
+    last: Option<Ended>,
     job: JobNo,
 ) -> Result<Asked, Fault>
     ensures { HasAsked seat.old seat.new result }
 {
-    let mut server = cell.lock(rt);
-    issue(&mut server, seat, job)
+    let Some(ended) = last else {
+        return Ok(issue(&mut lock(rt, cell), seat, job));
+    };
+    match end_and_issue(&mut lock(rt, cell), seat, &ended, job) {
+        Err(Fault::NoMemory) => {}
+        heard => return heard,
+    }
+    if tell(rt, cell, seat, &ended)? {
+        Ok(issue(&mut lock(rt, cell), seat, job))
+    } else {
+        Ok(Asked::Off)
+    }
+}
+
+/// Tells a server how a write has ended, and asks it for the next of a job.
+fn end_and_issue<N: Notes + Drop>(
+    server: &mut ServerCell<N>,
+    seat: &mut Seat,
+    ended: &Ended,
+    job: JobNo,
+) -> Result<Asked, Fault>
+    ensures { HasAsked seat.old seat.new result }
+{
+    if end_write(server, seat, ended)? {
+        Ok(issue(server, seat, job))
+    } else {
+        Ok(Asked::Off)
+    }
 }
 
 /// Asks a server for the next write of a job.
-fn issue<N: Notes + Drop>(
-    server: &mut ServerCell<N>,
-    seat: &mut Seat,
-    job: JobNo,
-) -> Result<Asked, Fault>
+fn issue<N: Notes + Drop>(server: &mut ServerCell<N>, seat: &mut Seat, job: JobNo) -> Asked
     ensures asks { (answer : Result Told Fault) × Applies server.old seat.old (IssueTask job) server.new seat.new answer }
-    ensures seat { HasAsked seat.old seat.new result }
+    ensures seat { WorkedIf (is_last_asked result) seat.old seat.new }
 {
     match server.apply(seat, Task::Issue(job)) {
-        Ok(told) => Ok(said(told, server, job)),
-        Err(Fault::NodeOff) => Ok(Asked::Off),
-        Err(fault) => Err(fault),
+        Ok(told) => said(told, server, job),
+        Err(Fault::NodeOff) => Asked::Off,
+        Err(fault) => Asked::Refused(fault),
     }
 }
 
@@ -88,13 +140,12 @@ pub(crate) fn tell<R: Wait, N: Notes + Drop>(
     rt: &R,
     cell: &Mutex<ServerCell<N>>,
     seat: &mut Seat,
-    ticket: &Ticket,
-    end: WriteEnd,
+    ended: &Ended,
 ) -> Result<bool, Fault>
     ensures { HasTold seat.old seat.new result }
 {
     for _ in 0..TURNS {
-        match tell_once(rt, cell, seat, ticket, end) {
+        match end_write(&mut lock(rt, cell), seat, ended) {
             Err(Fault::NoMemory) => thread::yield_now(),
             told => return told,
         }
@@ -102,32 +153,16 @@ pub(crate) fn tell<R: Wait, N: Notes + Drop>(
     Err(Fault::NoMemory)
 }
 
-/// Tells how a write has ended, under the server's lock. Whether the server is on: the write of an earlier
-/// boot is nothing to it.
-fn tell_once<R: Wait, N: Notes + Drop>(
-    rt: &R,
-    cell: &Mutex<ServerCell<N>>,
-    seat: &mut Seat,
-    ticket: &Ticket,
-    end: WriteEnd,
-) -> Result<bool, Fault>
-    ensures { HasTold seat.old seat.new result }
-{
-    let mut server = cell.lock(rt);
-    end_write(&mut server, seat, ticket, end)
-}
-
-/// Tells a server how a write has ended.
+/// Tells a server how a write has ended. Whether it is on: the write of an earlier boot is nothing to it.
 fn end_write<N: Notes + Drop>(
     server: &mut ServerCell<N>,
     seat: &mut Seat,
-    ticket: &Ticket,
-    end: WriteEnd,
+    ended: &Ended,
 ) -> Result<bool, Fault>
-    ensures tells { (answer : Result Told Fault) × Applies server.old seat.old (WriteDone ticket.now end) server.new seat.new answer }
+    ensures tells { (answer : Result Told Fault) × Applies server.old seat.old (WriteDone ended.now.ticket ended.now.end) server.new seat.new answer }
     ensures seat { HasTold seat.old seat.new result }
 {
-    match server.apply(seat, Task::WriteDone(*ticket, end)) {
+    match server.apply(seat, Task::WriteDone(ended.ticket, ended.end)) {
         Ok(_) | Err(Fault::OldBoot) => Ok(true),
         Err(Fault::NodeOff) => Ok(false),
         Err(fault) => Err(fault),

@@ -1,18 +1,27 @@
-//! A job's turn: a worker asks for one write, and carries it out.
+//! A job's turn: a worker tells of its last write, asks for one, and carries it out.
 
 ghost use Rattle.std.specs.Prelude.{◌≡◌, length};
 ghost use Rattle.fc_base.specs.declared.limits.TheConstants.{MAX_BLOCK_SIZE as BLOCK_SIZE};
 ghost use Rattle.workers.specs.Turns.{HasTaken};
 
-use crate::block::land;
+use crate::block::carry_out;
 use crate::gate::{Gate, lets_through};
-use crate::server::{Asked, ask, tell};
+use crate::server::{Asked, Ended, tell, tell_and_ask};
 use disk_model::{Disk, Notes};
-use engine::Ticket;
-use fc_base::{Fault, JobNo, JobRecord};
+use fc_base::{Fault, JobNo, MAX_BLOCK_SIZE};
 use server_cell::{Seat, ServerCell};
 use server_core::WriteEnd;
+use std::alloc::{AllocError, Global};
 use std::sync::{Mutex, Wait};
+
+/// What a worker has between its turns: the memory for a block, and the write that it carried out last, as
+/// long as its server isn't told of it.
+#[derive(Debug, Drop)]
+pub(crate) struct Hand {
+    memory: Vec<u8>,
+    last: Option<Ended>,
+    ghost whole: { length memory.items ≡ BLOCK_SIZE },
+}
 
 /// What came of a job's turn.
 #[derive(Clone, Copy, Debug, PartialEq, Eq)]
@@ -27,6 +36,16 @@ pub(crate) enum Turn {
     Off,
 }
 
+impl Hand {
+    /// That of a worker which has written nothing yet.
+    pub(crate) fn new(alloc: Global) -> Result<Hand, AllocError> {
+        Ok(Hand {
+            memory: vec![in alloc; 0; MAX_BLOCK_SIZE as usize]?,
+            last: None,
+        })
+    }
+}
+
 /// Takes the turn of a job with this file. `TurnsSpent` where the gate never lets its write through.
 pub(crate) fn take<R: Wait, N: Notes + Drop, D: Disk, G: Gate>(
     rt: &R,
@@ -35,41 +54,27 @@ pub(crate) fn take<R: Wait, N: Notes + Drop, D: Disk, G: Gate>(
     job: JobNo,
     file: &Mutex<D>,
     gate: &G,
-    memory: &mut [u8],
+    hand: &mut Hand,
 ) -> Result<Turn, Fault>
-    requires { length memory.old ≡ BLOCK_SIZE }
-    ensures seat { HasTaken seat.old seat.new result }
-    ensures room { length memory.new ≡ BLOCK_SIZE }
+    ensures { HasTaken seat.old seat.new result }
 {
-    let (ticket, rec) = match ask(rt, cell, seat, job)? {
+    let asked = tell_and_ask(rt, cell, seat, hand.last, job)?;
+    if let (Some(ended), false) = (hand.last.take(), asked == Asked::Off) {
+        gate.written(&ended.ticket);
+    }
+    let (ticket, rec) = match asked {
         Asked::Write(ticket, rec) => (ticket, rec),
         Asked::Later => return Ok(Turn::Later),
         Asked::Never => return Ok(Turn::Never),
         Asked::Off => return Ok(Turn::Off),
+        Asked::Refused(fault) => return Err(fault),
     };
     if !lets_through(gate, &ticket) {
-        tell(rt, cell, seat, &ticket, WriteEnd::Failed)?;
+        let end = WriteEnd::Failed;
+        tell(rt, cell, seat, &Ended { ticket, end })?;
         return Err(Fault::TurnsSpent);
     }
-    let end = carry_out(rt, file, &ticket, rec, memory);
-    if !tell(rt, cell, seat, &ticket, end)? {
-        return Ok(Turn::Off);
-    }
-    gate.written(&ticket);
+    let end = carry_out(rt, file, &ticket, rec, &mut hand.memory);
+    hand.last = Some(Ended { ticket, end });
     Ok(Turn::Wrote)
-}
-
-/// Carries out a write under its file's lock.
-fn carry_out<R: Wait, D: Disk>(
-    rt: &R,
-    file: &Mutex<D>,
-    ticket: &Ticket,
-    rec: Option<JobRecord>,
-    memory: &mut [u8],
-) -> WriteEnd
-    requires { length memory.old ≡ BLOCK_SIZE }
-    ensures { length memory.new ≡ BLOCK_SIZE }
-{
-    let mut disk = file.lock(rt);
-    land(&mut *disk, ticket, rec, memory)
 }

@@ -1,18 +1,21 @@
 //! A worker, which goes round the jobs of a server and carries out their writes.
 
 ghost use Rattle.std.specs.Prelude.{◌≡◌, ◌≤◌, false, length, IfOk, IfErr};
-ghost use Rattle.fc_base.specs.declared.limits.TheConstants.{MAX_BLOCK_SIZE as BLOCK_SIZE};
 ghost use Rattle.workers.specs.Seats.{HasWorked, IsSeatOf};
-ghost use Rattle.workers.specs.Turns.{is_over, HasGone};
+ghost use Rattle.workers.specs.Turns.{is_over, HasGone, HasTaken};
 
 use crate::gate::Gate;
-use crate::turn::{Turn, take};
+use crate::turn::{Hand, Turn, take};
 use disk_model::{Disk, Notes};
-use fc_base::{Fault, JobNo, MAX_BLOCK_SIZE};
+use fc_base::{Fault, JobNo};
 use server_cell::{Seat, ServerCell};
-use std::alloc::{AllocError, Global};
+use std::alloc::Global;
 use std::sync::{Mutex, Wait};
 use std::thread;
+
+/// How many writes of a job a worker carries out before it goes to the next. What it touches of a job and its
+/// file is then mostly in its processor's memory, which passes between workers less often.
+const STAY: u32 = 16;
 
 /// What came of a round.
 #[derive(Clone, Copy, Debug, PartialEq, Eq)]
@@ -26,9 +29,9 @@ pub(crate) enum Round {
 }
 
 /// Works at a server until no job has a write any more, or the server is off. Job `i` writes to file `i`:
-/// the worker goes round the jobs of the files, asks for the next write of each, and where there is
-/// one waits for the gate and carries it out; it tells the server how the write has ended, and then
-/// the gate. A write that its disk refuses has failed.
+/// the worker goes round the jobs of the files, tells the server how its last write has ended and asks
+/// for the next of each, both under one lock, and then tells the gate of the one, waits for it with the other, and carries
+/// that out. A write that its disk refuses has failed.
 ///
 /// `NoMemory`, also where the server found none for the end of a write, [`TURNS`](crate::TURNS) times;
 /// `WrongSeat`, the seat isn't one of this server, or is stale; `TurnsSpent`, the gate has
@@ -65,11 +68,11 @@ fn work<R: Wait, N: Notes + Drop, D: Disk, G: Gate>(
     ensures worked { IfOk result (λ _. HasWorked seat.old seat.new) }
     ensures refused { IfErr result (λ _. IsSeatOf seat.old seat.new) }
 {
-    let Ok(mut memory) = zero_bytes(alloc, MAX_BLOCK_SIZE as usize) else {
+    let Ok(mut hand) = Hand::new(alloc) else {
         return Err(Fault::NoMemory);
     };
     for _ in rt.forever() {
-        match go_round(rt, cell, seat, files, gate, &mut memory)? {
+        match go_round(rt, cell, seat, files, gate, &mut hand)? {
             Round::Over => return Ok(()),
             Round::Idle => thread::yield_now(),
             Round::Busy => {}
@@ -78,30 +81,23 @@ fn work<R: Wait, N: Notes + Drop, D: Disk, G: Gate>(
     unreachable!()
 }
 
-/// So many bytes.
-fn zero_bytes(alloc: Global, len: usize) -> Result<Vec<u8>, AllocError>
-    ensures { IfOk result (λ bytes. length bytes.items ≡ len) }
-{
-    vec![in alloc; 0; len]
-}
-
-/// Takes the turn of each job.
+/// Stays with each job for a while, first with that of the seat's number.
 fn go_round<R: Wait, N: Notes + Drop, D: Disk, G: Gate>(
     rt: &R,
     cell: &Mutex<ServerCell<N>>,
     seat: &mut Seat,
     files: &[Mutex<D>],
     gate: &G,
-    memory: &mut [u8],
+    hand: &mut Hand,
 ) -> Result<Round, Fault>
-    requires files { 1 ≤ length files.now }
-    requires room { length memory.old ≡ BLOCK_SIZE }
-    ensures seat { HasGone seat.old seat.new result }
-    ensures room { length memory.new ≡ BLOCK_SIZE }
+    requires { 1 ≤ length files.now }
+    ensures { HasGone seat.old seat.new result }
 {
     let mut round = Round::Over;
-    for (place, file) in files.iter().enumerate() {
-        match take(rt, cell, seat, job_at(place), file, gate, memory)? {
+    let first = seat.number() as usize;
+    for step in 0..files.len() {
+        let place = (first + step) % files.len();
+        match stay(rt, cell, seat, job_at(place), &files[place], gate, hand)? {
             Turn::Wrote => round = Round::Busy,
             Turn::Later => round = round.or_idle(),
             Turn::Never => {}
@@ -109,6 +105,28 @@ fn go_round<R: Wait, N: Notes + Drop, D: Disk, G: Gate>(
         }
     }
     Ok(round)
+}
+
+/// Takes turns of a job with this file, until it has no write for now, or [`STAY`] were carried out.
+fn stay<R: Wait, N: Notes + Drop, D: Disk, G: Gate>(
+    rt: &R,
+    cell: &Mutex<ServerCell<N>>,
+    seat: &mut Seat,
+    job: JobNo,
+    file: &Mutex<D>,
+    gate: &G,
+    hand: &mut Hand,
+) -> Result<Turn, Fault>
+    ensures { HasTaken seat.old seat.new result }
+{
+    for turn in 0..STAY {
+        match take(rt, cell, seat, job, file, gate, hand)? {
+            Turn::Wrote => {}
+            Turn::Later if turn > 0 => return Ok(Turn::Wrote),
+            other => return Ok(other),
+        }
+    }
+    Ok(Turn::Wrote)
 }
 
 impl Round {
