@@ -7,7 +7,7 @@ use client_cell::ClientCell;
 use disk_model::{MemDisk, Notes};
 use fc_base::Fault;
 use hub::Hub;
-use messages::Act;
+use messages::{Act, Node as NodeName};
 use node_history::{Node, Told};
 use rand_xoshiro::Xoshiro256PlusPlus;
 use rand_xoshiro::rand_core::SeedableRng;
@@ -64,7 +64,7 @@ fn go_round<R: Wait, N: Notes + Drop>(
     requires files { length files.now ≡ length servers.now }
     ensures { length posts.new ≡ length posts.old }
 {
-    let asked = deliver(rt, hub, client, words.next_word())?;
+    let asked = deliver(rt, hub, client, NodeName::Client, words.next_word())?;
     let some = serve_all(rt, hub, servers, posts, files, words)?;
     Ok(asked.is_some() || some)
 }
@@ -106,21 +106,27 @@ fn serve<R: Wait, N: Notes + Drop>(
     files: &[Mutex<MemDisk>],
     word: u64,
 ) -> Result<bool, Fault> {
-    let asked = deliver(rt, hub, server, word)?;
+    let name = NodeName::Server(post.server());
+    let asked = deliver(rt, hub, server, name, word)?;
     if let Some(Act::Cut) = asked {
         cut(rt, server, post, files)?;
     }
     Ok(asked.is_some())
 }
 
-/// Delivers a frame to a node: of those that it hasn't taken, the oldest first, the one at `word` mod
-/// their number. What the node then asks of its caller; `None` where there is no such frame.
+/// Delivers a frame to the node of this name: of those that it hasn't taken, the oldest first, the one at
+/// `word` mod their number. What the node then asks of its caller; `None` where there is no such frame: that is
+/// seen at the hub, and the node's lock is left to those who work there.
 fn deliver<R: Wait, C: Node>(
     rt: &R,
     hub: &Mutex<Hub>,
     node: &Mutex<C>,
+    name: NodeName,
     word: u64,
 ) -> Result<Option<Act>, Fault> {
+    if hub.lock(rt).pick(name, word).is_none() {
+        return Ok(None);
+    }
     let mut node = node.lock(rt);
     let mut hub = hub.lock(rt);
     let Some(position) = hub.pick(node.number(), word) else {
