@@ -1,8 +1,57 @@
 //! Copies between two buffers, which are measured beside what others do with as many bytes.
 
+use crate::disks::{BYTES, DISKS};
 use crate::trouble::Trouble;
 use crate::watch::Watch;
+use std::alloc::Global;
+use std::thread;
+use std::thread::Threads;
 use std::time::{Clock, CpuClock};
+
+/// Two buffers, and whether the last copy between them ended alike.
+#[derive(Drop)]
+struct Pair {
+    source: Vec<u8>,
+    target: Vec<u8>,
+    are_alike: bool,
+}
+
+/// Copies as many bytes as the disks have that threads check, by as many threads. How many MiB they are.
+pub fn copy_by<R: AllocGlobal + Clock + CpuClock + Threads + Sync>(
+    rt: &R,
+    watch: &mut Watch,
+    threads: u32,
+) -> Result<u64, Trouble> {
+    let mut pairs = pairs(rt.alloc())?;
+    let threads = threads.max(1) as usize;
+    watch.start(rt);
+    thread::for_each_mut(rt, pairs.as_mut_slice(), threads, &|_, pair| pair.copy());
+    watch.stop(rt);
+    if pairs.iter().all(|pair| pair.are_alike) {
+        Ok(DISKS * (BYTES >> 20))
+    } else {
+        Err(Trouble::Differs)
+    }
+}
+
+/// A pair of buffers for each disk.
+fn pairs(alloc: Global) -> Result<Vec<Pair>, Trouble> {
+    let mut pairs = Vec::new(alloc);
+    for _ in 0..DISKS {
+        pairs.push(Pair {
+            source: vec![in alloc; 1u8; BYTES as usize]?,
+            target: vec![in alloc; 2u8; BYTES as usize]?,
+            are_alike: false,
+        })?;
+    }
+    Ok(pairs)
+}
+
+impl Pair {
+    fn copy(&mut self) {
+        self.are_alike = copy(1, &mut self.source, &mut self.target);
+    }
+}
 
 /// Copies so many bytes, so often.
 pub fn round<R: AllocGlobal + Clock + CpuClock>(

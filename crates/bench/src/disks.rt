@@ -17,7 +17,7 @@ use write_order::fill_block;
 pub const BYTES: u64 = 64 << 20;
 
 /// How many disks threads check.
-const DISKS: u64 = 8;
+pub const DISKS: u64 = 8;
 
 /// How many sectors are rotted.
 const SECTORS: u64 = 60_000;
@@ -51,19 +51,33 @@ fn check_one<R: Clock + CpuClock>(
     count_sound(&[report], job)
 }
 
-/// Checks eight disks by so many threads. How many MiB they have.
+/// Checks eight disks by so many threads. They are lent, so that it isn't measured what their drop takes. How many
+/// MiB they have.
 pub fn check_by<R: AllocGlobal + Clock + CpuClock + Threads + Sync>(
     rt: &R,
     watch: &mut Watch,
     threads: u32,
 ) -> Result<u64, Trouble> {
     let job = job_of(Verify::Stamp, 4096)?;
-    let tasks = tasks(rt.alloc(), &job)?;
-    watch.start(rt);
-    let reports = check_jobs(rt, rt.alloc(), tasks, threads.clamp(1, 16))?;
-    watch.stop(rt);
-    count_sound(&reports, &job)?;
+    let mut disks = disks(rt.alloc(), &job)?;
+    check_lent(rt, rt.alloc(), watch, &job, &mut disks, threads)?;
     Ok(DISKS * (BYTES >> 20))
+}
+
+/// Checks these disks by so many threads.
+fn check_lent<R: Clock + CpuClock + Threads + Sync>(
+    rt: &R,
+    alloc: Global,
+    watch: &mut Watch,
+    job: &JobRecord,
+    disks: &mut [MemDisk],
+    threads: u32,
+) -> Result<u64, Trouble> {
+    let tasks = tasks(alloc, job, disks)?;
+    watch.start(rt);
+    let reports = check_jobs(rt, alloc, tasks, threads.clamp(1, 16))?;
+    watch.stop(rt);
+    count_sound(&reports, job)
 }
 
 /// How many reports there are, if each is of all blocks, and has no fault.
@@ -76,23 +90,36 @@ fn count_sound(reports: &[CheckReport], job: &JobRecord) -> Result<u64, Trouble>
     Ok(reports.len() as u64)
 }
 
-/// A task for each disk.
-fn tasks(alloc: Global, job: &JobRecord) -> Result<Vec<Task<MemDisk>>, Trouble> {
-    let mut tasks = Vec::new(alloc);
+/// Eight disks, to each of which each write of the job was written.
+fn disks(alloc: Global, job: &JobRecord) -> Result<Vec<MemDisk>, Trouble> {
+    let mut disks = Vec::new(alloc);
     for _ in 0..DISKS {
-        tasks.push(task(alloc, job)?)?;
+        disks.push(written(alloc, job)?)?;
+    }
+    Ok(disks)
+}
+
+/// A task for each disk.
+fn tasks<'d>(
+    alloc: Global,
+    job: &JobRecord,
+    disks: &'d mut [MemDisk],
+) -> Result<Vec<Task<&'d mut MemDisk>>, Trouble> {
+    let mut tasks = Vec::new(alloc);
+    for disk in disks {
+        tasks.push(task(job, disk))?;
     }
     Ok(tasks)
 }
 
-fn task(alloc: Global, job: &JobRecord) -> Result<Task<MemDisk>, Trouble> {
-    Ok(Task {
+fn task<'d>(job: &JobRecord, disk: &'d mut MemDisk) -> Task<&'d mut MemDisk> {
+    Task {
         rec: *job,
         key: KEY,
         state: None,
         fatal: false,
-        disk: written(alloc, job)?,
-    })
+        disk,
+    }
 }
 
 /// A job that writes each block of a disk once.

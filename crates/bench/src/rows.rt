@@ -12,7 +12,7 @@ use fc_base::{MAX_TEXT, Verify};
 pub type Row = (&'static str, &'static str, Work);
 
 /// All lines, those of each word in their order.
-pub static ROWS: [Row; 44] = [
+pub static ROWS: [Row; 47] = [
     (
         "assemblies",
         "events of 50,000 writes",
@@ -86,8 +86,11 @@ pub static ROWS: [Row; 44] = [
         Work::Client(Delivery::Requests),
     ),
     ("parallel", "MiB of 8 disks by 1 thread", Work::Threads(1)),
+    ("parallel", "MiB copied by 1 thread", Work::CopiesBy(1)),
     ("parallel", "MiB of 8 disks by 2 threads", Work::Threads(2)),
+    ("parallel", "MiB copied by 2 threads", Work::CopiesBy(2)),
     ("parallel", "MiB of 8 disks by 4 threads", Work::Threads(4)),
+    ("parallel", "MiB copied by 4 threads", Work::CopiesBy(4)),
     ("pieces", "texts cut", Work::Pieces(Part::Cut)),
     ("pieces", "texts read", Work::Pieces(Part::Read)),
     ("pieces", "texts joined", Work::Pieces(Part::Join)),

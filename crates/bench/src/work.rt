@@ -29,6 +29,8 @@ pub enum Work {
     Client(Delivery),
     /// Checks of eight disks by so many threads.
     Threads(u32),
+    /// Copies of as many bytes by so many threads.
+    CopiesBy(u32),
     /// A part of what is done with the longest text.
     Pieces(Part),
     /// The steps of a server.
@@ -44,7 +46,10 @@ pub enum Work {
 impl Work {
     /// Whether the clock measures it, since it has threads, in place of the processor's time.
     pub fn is_by_clock(self) -> bool {
-        matches!(self, Work::Threads(_) | Work::Workers(..))
+        matches!(
+            self,
+            Work::Threads(_) | Work::CopiesBy(_) | Work::Workers(..)
+        )
     }
 
     /// Does it once, of which the watch measures what counts. How many there were.
@@ -61,6 +66,7 @@ impl Work {
             Work::Copies(bytes, times) => copies::round(rt, watch, bytes, times),
             Work::Client(delivery) => clients::round(rt, watch, delivery),
             Work::Threads(threads) => disks::check_by(rt, watch, threads),
+            Work::CopiesBy(threads) => copies::copy_by(rt, watch, threads),
             Work::Pieces(part) => pieces::round(rt, watch, part),
             Work::Server(deed) => servers::round(rt, watch, deed),
             Work::Workers(servers, workers) => hands::round(rt, watch, servers, workers),
