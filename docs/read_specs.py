@@ -1,0 +1,129 @@
+"""Reads crates/*/specs/*.antt: the comment above each definition, and which definitions each one names. docs/make-definitions uses it."""
+import re
+
+USE = re.compile(r"use Rattle\.(\w+)\.specs\.(\w+)(?:\.\{(.*)\}| as (\w+))?$")
+WORD = re.compile(r"[A-Za-z_][\w'-]*(?:\.[A-Za-z_][\w'-]*)*")
+DEFINITION = re.compile(r"(abbrev |unfoldable )*(pub )?(record |data )?([^\s:(){}]+)(?= )")
+VARIANT = re.compile(r"  (?:pub )?([^\s:(){}]+) : ")
+
+
+class Row:
+    """Definitions that share a comment: their names, what it says, and the variants and fields that have words of their own."""
+
+    def __init__(self, says):
+        self.names, self.says, self.parts = [], says, []
+
+
+class File:
+    """A file of specs/: its sentence, and its rows under the words of each of its parts. By name also the text of each definition,
+    which definition a name or a variant is of, and what the file takes from others."""
+
+    def __init__(self, path):
+        self.sentence, self.parts = "", [("", [])]
+        self.texts, self.own, self.uses = {}, {}, []
+        with open(path, encoding="utf-8") as it:
+            self.read(it.read().splitlines())
+
+    def rows(self):
+        return [row for _, rows in self.parts for row in rows]
+
+    def names(self):
+        return [name for row in self.rows() for name in row.names]
+
+    def note(self, line, name, is_data):
+        """Notes a line of code of a definition."""
+        if name:
+            self.texts.setdefault(name, []).append(line.partition("  -- ")[0])
+            self.own[name] = name
+            if is_data and VARIANT.match(line) and not line.startswith("  pub "):
+                self.own[VARIANT.match(line).group(1)] = name
+
+    def read(self, lines):
+        comment, row, in_mutual, in_data, name = [], None, False, False, ""
+        for line in lines:
+            text = line.strip()
+            if USE.match(text):
+                self.uses.append(USE.match(text).groups())
+            if text.startswith("-- ----"):
+                self.parts.append((text[len("-- ----") :].strip(), []))
+                comment, row = [], None
+            elif text.startswith("--") and (not line.startswith(" ") or in_mutual):
+                comment.append(text[2:].strip())
+            elif not text or line.startswith("use "):
+                if comment and not self.sentence:
+                    self.sentence = " ".join(comment)
+                comment = []
+            elif not line.startswith(" ") or (in_mutual and line.startswith("  pub ")):
+                in_mutual = text == "abbrev mutual" or (in_mutual and line.startswith(" "))
+                found = DEFINITION.match(text)
+                if found and found.group(2):
+                    if comment or row is None:
+                        row = Row(" ".join(comment))
+                        self.parts[-1][1].append(row)
+                    name = found.group(4)
+                    row.names.append(name)
+                elif comment:
+                    row = None
+                in_data = bool(found and found.group(2) and found.group(3))
+                comment = []
+                self.note(line, name, in_data)
+            elif in_data and VARIANT.match(line) and row:
+                words = line.partition("  -- ")[2]
+                if words or not line.startswith("  pub "):
+                    row.parts.append((VARIANT.match(line).group(1), words.strip()))
+                self.note(line, name, in_data)
+            else:
+                self.note(line, name, in_data)
+
+
+class Names:
+    """What each definition names, over all crates. A definition is its crate, its file and its name."""
+
+    def __init__(self, crates):
+        self.files = {(crate.name, file): it for crate in crates for file, it in crate.files.items()}
+        self.scopes = {place: self.scope_of(place) for place in self.files}
+
+    def scope_of(self, place):
+        """What the words in a file stand for: definitions, and files under a name of their own."""
+        names = {word: (*place, name) for word, name in self.files[place].own.items()}
+        folders = {}
+        for crate, file, listed, other in self.files[place].uses:
+            there = self.files.get((crate, file))
+            if there and listed is None:
+                folders[other or file] = (crate, file)
+            for each in (listed or "").split(",") if there else []:
+                word, _, as_word = each.strip().partition(" as ")
+                if word in there.own:
+                    names[as_word or word] = (crate, file, there.own[word])
+        return names, folders
+
+    def named_by(self, definition):
+        crate, file, name = definition
+        names, folders = self.scopes[crate, file]
+        for word in WORD.findall("\n".join(self.files[crate, file].texts[name])):
+            first, *more = word.split(".")
+            if first in folders and more and more[0] in self.files[folders[first]].own:
+                yield (*folders[first], self.files[folders[first]].own[more[0]])
+            elif first in names:
+                yield names[first]
+
+    def made_of(self, roots):
+        """These definitions, and all that they are made of."""
+        found, left = set(roots), list(roots)
+        while left:
+            for each in self.named_by(left.pop()):
+                if each not in found:
+                    found.add(each)
+                    left.append(each)
+        return found
+
+    def headline(self):
+        claims = [("net_world", "Headline", name) for name in self.files["net_world", "Headline"].names()]
+        return claims + [("net_world", "Claims", name) for name in ("AtEachMoment", "OfItsTrace", "OfItsFrames")]
+
+    def lines(self, definitions):
+        return sum(bool(line.strip()) for crate, file, name in definitions for line in self.files[crate, file].texts[name])
+
+
+def places(definitions):
+    return {definition[:2] for definition in definitions}
