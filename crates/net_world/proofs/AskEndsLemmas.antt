@@ -1,5 +1,5 @@
 -- How a call of the client ends, as an event of a world.
-use Rattle.std.proofs.Common.{◌≡◌, refl, sym, ◌∙◌, ap, subst, inl, inr, ◌⊎◌, ℕ, ◌+◌, false, List, length, Option, Some, None, Ok, Err}
+use Rattle.std.proofs.Common.{◌≡◌, refl, sym, ◌∙◌, ap, subst, inl, inr, ◌⊎◌, ℕ, ◌+◌, false, List, length, Option, Some, None, Result, Ok, Err}
 use Rattle.std.specs.Option.{option_map}
 use Rattle.fc_base.specs.declared.fault.Fault.{Fault}
 use Rattle.fc_base.specs.declared.fault.FaultSort.{FaultSort}
@@ -90,7 +90,7 @@ told_is w past e i t new h is =
     ∙ ap (λ a. record { answer = answer w past e; first = length (frames_sent w (steps past)); sent = length (frames_of_step w (steps past) (step_by w past i)); act = a })
     (sym (client_act w past (coming (answered (client_opening w) (entries w past) i))))))
 
-pub answered_ends : (w : Setup) (past : List Change) (e : Happening) (i : Input) (t : Told) (new : World) → ComesToClient w past e i → ClientEnds w past i new (Ok t) → Ends w past e new (Ok t)
+answered_ends : (w : Setup) (past : List Change) (e : Happening) (i : Input) (t : Told) (new : World) → ComesToClient w past e i → ClientEnds w past i new (Ok t) → Ends w past e new (Ok t)
 answered_ends w past e i t new c h =
     does w past e (Met (step_by w past i)) t new (goes w past e (c.bar ∙ h.on) ∙ c.ok h.free) (told_is w past e i t new h c.answers) h.stands
 
@@ -104,8 +104,13 @@ by_sort w past e i fault new c sorts.Memory h = h
 by_sort w past e i fault new c sorts.Save h = h
 by_sort w past e i fault new c sorts.Refusal h = refused_ends w past e i fault new c h
 
-pub unanswered_ends : (w : Setup) (past : List Change) (e : Happening) (i : Input) (fault : Fault) (new : World) → ComesToClient w past e i → ClientEnds w past i new (Err fault) → Ends w past e new (Err fault)
+unanswered_ends : (w : Setup) (past : List Change) (e : Happening) (i : Input) (fault : Fault) (new : World) → ComesToClient w past e i → ClientEnds w past i new (Err fault) → Ends w past e new (Err fault)
 unanswered_ends w past e i fault new c h = by_sort w past e i fault new c (sort_of fault) h
+
+-- A call of the client ends as the event that it comes from.
+pub asked_ends : (w : Setup) (past : List Change) (e : Happening) (i : Input) (result : Result Told Fault) (new : World) → ComesToClient w past e i → ClientEnds w past i new result → Ends w past e new result
+asked_ends w past e i (Ok t) new c h = answered_ends w past e i t new c h
+asked_ends w past e i (Err fault) new c h = unanswered_ends w past e i fault new c h
 
 -- ---- the five calls
 

@@ -1,5 +1,5 @@
 -- What comes of a frame that comes to the client.
-use Rattle.std.proofs.Common.{◌≡◌, refl, sym, ◌∙◌, ap, subst, inl, inr, ◌⊎◌, ℕ, Bool, true, false, List, Some, None, Ok, Err}
+use Rattle.std.proofs.Common.{◌≡◌, refl, sym, ◌∙◌, ap, subst, inl, inr, ◌⊎◌, ℕ, Bool, true, false, List, Some, None, Result, Ok, Err}
 use Rattle.std.specs.Prelude.{if◌then◌else◌, slice_get}
 use Rattle.fc_base.specs.declared.fault.Fault.{Fault}
 use Rattle.fc_base.specs.declared.fault.Fault.TheVariants.{Misdirected, Down, FrameBadField, NodeOff}
@@ -138,7 +138,7 @@ frame_bar w past number f g = ap (unsent w (trace w past)) g.is_sent ∙ ap (off
 frame_comes : (w : Setup) (past : List Change) (number : ℕ) (f : Frame) → GoesTo w past number f → brings w past (happenings.Deliver number) ≡ comes_to_client w (trace w past) f (said_to_client w (steps past) f)
 frame_comes w past number f g = ap (delivered w past) g.is_sent ∙ ap (λ node. comes_to w past node f) g.goes_to
 
-pub delivery_ends : (w : Setup) (past : List Change) (number : ℕ) (f : Frame) (t : Told) (new : World) → GoesTo w past number f → ClientEnds w past (inputs.Deliver f) new (Ok t) → Ends w past (happenings.Deliver number) new (Ok t)
+delivery_ends : (w : Setup) (past : List Change) (number : ℕ) (f : Frame) (t : Told) (new : World) → GoesTo w past number f → ClientEnds w past (inputs.Deliver f) new (Ok t) → Ends w past (happenings.Deliver number) new (Ok t)
 delivery_ends w past number f t new g h =
     let e = happenings.Deliver number in
     does w past e (Met (step_by w past (inputs.Deliver f))) t new
@@ -170,6 +170,11 @@ delivery_sort w past number f fault new g sorts.Memory h = h
 delivery_sort w past number f fault new g sorts.Save h = h
 delivery_sort w past number f fault new g sorts.Refusal h = unanswered w past number f fault new g h
 
-pub delivery_fails : (w : Setup) (past : List Change) (number : ℕ) (f : Frame) (fault : Fault) (new : World) → GoesTo w past number f → ClientEnds w past (inputs.Deliver f) new (Err fault)
+delivery_fails : (w : Setup) (past : List Change) (number : ℕ) (f : Frame) (fault : Fault) (new : World) → GoesTo w past number f → ClientEnds w past (inputs.Deliver f) new (Err fault)
     → Ends w past (happenings.Deliver number) new (Err fault)
 delivery_fails w past number f fault new g h = delivery_sort w past number f fault new g (sort_of fault) h
+
+-- A delivery to the client ends as the event that it is.
+pub comes_as : (w : Setup) (past : List Change) (number : ℕ) (f : Frame) (result : Result Told Fault) (new : World) → GoesTo w past number f → ClientEnds w past (inputs.Deliver f) new result → Ends w past (happenings.Deliver number) new result
+comes_as w past number f (Ok t) new g h = delivery_ends w past number f t new g h
+comes_as w past number f (Err fault) new g h = delivery_fails w past number f fault new g h

@@ -29,6 +29,7 @@ pub mod Serving
 pub mod Opened
 pub mod Delivering
 pub mod Asking
+pub mod Asks
 pub mod Finding
 pub mod Telling
 pub mod Events

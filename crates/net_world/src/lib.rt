@@ -3,6 +3,7 @@
 //! them and to their files, and what each check tells.
 #![tactic(auto)]
 
+mod ask;
 mod asked;
 mod client_node;
 mod config;

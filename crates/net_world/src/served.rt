@@ -20,6 +20,7 @@ pub(crate) struct Served {
 
 impl Served {
     /// It is told with this answer.
+    #[inline(always)]
     pub(crate) fn told(self, answer: Answer) -> Told
         ensures { result ≡ told_of self answer }
     {
@@ -32,6 +33,7 @@ impl Served {
     }
 
     /// It is told with what a worker is answered that asks for a write.
+    #[inline(always)]
     pub(crate) fn issued(self) -> Told
         ensures { result ≡ issue_told self }
     {

@@ -61,6 +61,7 @@ impl ServerNode {
     }
 
     /// Takes what comes. `NodeOff`: it doesn't run. Any other fault is the server's.
+    #[inline(always)]
     pub(crate) fn step(&mut self, input: Input) -> Result<Outs, Fault>
         ensures { (o : Opening) (past : List FrameEntry) → Stands o past self.old →
             Steps o past input self.new result }

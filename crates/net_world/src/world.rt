@@ -13,7 +13,6 @@ mod ask;
 mod bar;
 mod check;
 mod client_cut;
-mod client_frame;
 mod client_power;
 mod cut_in;
 mod deliver;
@@ -24,6 +23,7 @@ mod renewal;
 mod serve;
 mod write;
 
+use crate::ask::Ask;
 use crate::client_node::ClientNode;
 use crate::config::Config;
 use crate::event::{Event, PlainEvent};
@@ -135,11 +135,11 @@ impl World {
             Ends w (world w events) (plainly event.now) self.new result }
     {
         match event {
-            PlainEvent::Begin { text } => self.begin(text),
-            PlainEvent::Trigger { run, act } => self.trigger(*run, *act),
-            PlainEvent::StopRun { run } => self.stop_run(*run),
-            PlainEvent::Verify { run, text } => self.verify(*run, text),
-            PlainEvent::Tick => self.tick(),
+            PlainEvent::Begin { text } => self.ask(Ask::Begin(text)),
+            PlainEvent::Trigger { run, act } => self.ask(Ask::Trigger(*run, *act)),
+            PlainEvent::StopRun { run } => self.ask(Ask::Stop(*run)),
+            PlainEvent::Verify { run, text } => self.ask(Ask::Verify(*run, text)),
+            PlainEvent::Tick => self.ask(Ask::Tick),
             PlainEvent::Deliver { frame } => self.deliver(*frame),
             PlainEvent::Issue { server, job } => self.issue(*server, *job),
             PlainEvent::Land {

@@ -1,118 +1,40 @@
-//! What the client of a world is asked, and the frames that come to it.
+//! What comes to the client of a world that runs.
 
 ghost use Rattle.std.specs.Prelude.{List};
-ghost use Rattle.client_core.specs.declared.input.Input.TheVariants as inputs;
 ghost use Rattle.client_core.specs.History.{Opening};
 ghost use Rattle.client_core.specs.Hearing.{FrameEntry};
+ghost use Rattle.net_world.specs.Asks.{input_of};
 ghost use Rattle.net_world.specs.ClientNodes.{Stands, Asks};
 
 use super::ClientNode;
+use crate::ask::Ask;
 use crate::asked::Asked;
 use crate::told::Answer;
-use fc_base::{Fault, RunNo};
-use messages::{Act, Frame};
+use fc_base::Fault;
 
-/// `NodeOff`: the client doesn't run. Any other fault is the client's own.
 impl ClientNode {
-    /// It begins a run.
-    pub(crate) fn begin(&mut self, text: &[u8]) -> Result<Asked, Fault>
+    /// It is asked this, or a frame comes to it. `NodeOff`: it doesn't run. Any other fault is the client's
+    /// own.
+    pub(crate) fn ask(&mut self, ask: Ask<'_>) -> Result<Asked, Fault>
         ensures { (o : Opening) (past : List FrameEntry) → Stands o past self.old →
-            Asks o past (inputs.Begin text.now) self.new result }
+            Asks o past (input_of ask.entry) self.new result }
     {
-        match self {
-            ClientNode::On(client) => match client.begin(text) {
-                Ok((run, frames)) => Ok(Asked {
-                    answer: Answer::Run(run),
-                    frames,
-                }),
-                Err(fault) => Err(fault),
-            },
-            ClientNode::Off(_) => Err(Fault::NodeOff),
-        }
-    }
-
-    /// It triggers the states of a run.
-    pub(crate) fn trigger(&mut self, run: RunNo, act: Act) -> Result<Asked, Fault>
-        ensures { (o : Opening) (past : List FrameEntry) → Stands o past self.old →
-            Asks o past (inputs.Trigger run act) self.new result }
-    {
-        match self {
-            ClientNode::On(client) => match client.trigger(run, act) {
-                Ok(frames) => Ok(Asked {
-                    answer: Answer::Plain,
-                    frames,
-                }),
-                Err(fault) => Err(fault),
-            },
-            ClientNode::Off(_) => Err(Fault::NodeOff),
-        }
-    }
-
-    /// It stops a run.
-    pub(crate) fn stop(&mut self, run: RunNo) -> Result<Asked, Fault>
-        ensures { (o : Opening) (past : List FrameEntry) → Stands o past self.old →
-            Asks o past (inputs.Stop run) self.new result }
-    {
-        match self {
-            ClientNode::On(client) => match client.stop(run) {
-                Ok(frames) => Ok(Asked {
-                    answer: Answer::Plain,
-                    frames,
-                }),
-                Err(fault) => Err(fault),
-            },
-            ClientNode::Off(_) => Err(Fault::NodeOff),
-        }
-    }
-
-    /// It has the files of a run checked.
-    pub(crate) fn verify(&mut self, run: RunNo, text: &[u8]) -> Result<Asked, Fault>
-        ensures { (o : Opening) (past : List FrameEntry) → Stands o past self.old →
-            Asks o past (inputs.Verify run text.now) self.new result }
-    {
-        match self {
-            ClientNode::On(client) => match client.verify(run, text) {
-                Ok((attempt, frames)) => Ok(Asked {
-                    answer: Answer::Attempt(attempt),
-                    frames,
-                }),
-                Err(fault) => Err(fault),
-            },
-            ClientNode::Off(_) => Err(Fault::NodeOff),
-        }
-    }
-
-    /// It asks again for all that isn't answered.
-    pub(crate) fn tick(&mut self) -> Result<Asked, Fault>
-        ensures { (o : Opening) (past : List FrameEntry) → Stands o past self.old →
-            Asks o past inputs.Tick self.new result }
-    {
-        match self {
-            ClientNode::On(client) => match client.tick() {
-                Ok(frames) => Ok(Asked {
-                    answer: Answer::Plain,
-                    frames,
-                }),
-                Err(fault) => Err(fault),
-            },
-            ClientNode::Off(_) => Err(Fault::NodeOff),
-        }
-    }
-
-    /// A frame comes to it.
-    pub(crate) fn deliver(&mut self, frame: Frame) -> Result<Asked, Fault>
-        ensures { (o : Opening) (past : List FrameEntry) → Stands o past self.old →
-            Asks o past (inputs.Deliver frame) self.new result }
-    {
-        match self {
-            ClientNode::On(client) => match client.deliver(frame) {
-                Ok(frames) => Ok(Asked {
-                    answer: Answer::Plain,
-                    frames,
-                }),
-                Err(fault) => Err(fault),
-            },
-            ClientNode::Off(_) => Err(Fault::NodeOff),
+        let ClientNode::On(client) = self else {
+            return Err(Fault::NodeOff);
+        };
+        match ask {
+            Ask::Begin(text) => {
+                let (run, frames) = client.begin(text)?;
+                Ok(Asked::of(Answer::Run(run), frames))
+            }
+            Ask::Verify(run, text) => {
+                let (attempt, frames) = client.verify(run, text)?;
+                Ok(Asked::of(Answer::Attempt(attempt), frames))
+            }
+            Ask::Trigger(run, act) => Ok(Asked::of(Answer::Plain, client.trigger(run, act)?)),
+            Ask::Stop(run) => Ok(Asked::of(Answer::Plain, client.stop(run)?)),
+            Ask::Tick => Ok(Asked::of(Answer::Plain, client.tick()?)),
+            Ask::Deliver(frame) => Ok(Asked::of(Answer::Plain, client.deliver(frame)?)),
         }
     }
 }

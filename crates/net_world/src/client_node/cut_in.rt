@@ -8,6 +8,7 @@ ghost use Rattle.client_core.specs.FrameAnswers.{due};
 ghost use Rattle.net_world.specs.ClientNodes.{Stands, CutsIn};
 
 use super::ClientNode;
+use crate::ask::Ask;
 use fc_base::{Fault, RunNo};
 use messages::Frame;
 use std::alloc::Global;
@@ -104,7 +105,7 @@ impl ClientNode {
             is_some (due o past (inputs.Begin text.now)) ≡ true →
             CutsIn o past true (inputs.Begin text.now) self.new result }
     {
-        if let Err(fault) = self.begin(text) {
+        if let Err(fault) = self.ask(Ask::Begin(text)) {
             return Err(fault);
         }
         self.cut(alloc);
@@ -117,7 +118,7 @@ impl ClientNode {
             is_some (due o past (inputs.Verify run text.now)) ≡ true →
             CutsIn o past true (inputs.Verify run text.now) self.new result }
     {
-        if let Err(fault) = self.verify(run, text) {
+        if let Err(fault) = self.ask(Ask::Verify(run, text)) {
             return Err(fault);
         }
         self.cut(alloc);
@@ -130,7 +131,7 @@ impl ClientNode {
             is_some (due o past (inputs.Deliver frame)) ≡ true →
             CutsIn o past true (inputs.Deliver frame) self.new result }
     {
-        if let Err(fault) = self.deliver(frame) {
+        if let Err(fault) = self.ask(Ask::Deliver(frame)) {
             return Err(fault);
         }
         self.cut(alloc);

@@ -12,6 +12,7 @@ ghost use Rattle.net_world.specs.Stands.{StandsFor};
 ghost use Rattle.net_world.specs.World.{world};
 
 use super::World;
+use crate::ask::Ask;
 use crate::told::{Answer, Told};
 use crate::world_law::sent_frames_are_read;
 use fc_base::{Fault, ServerNo};
@@ -30,7 +31,7 @@ impl World {
         };
         match to_of(&frame) {
             Node::Server(server) => self.deliver_to_server(server, frame),
-            Node::Client => self.deliver_to_client(frame),
+            Node::Client => self.ask(Ask::Deliver(frame)),
             Node::Mirror => self.deliver_to_mirror(&frame),
         }
     }

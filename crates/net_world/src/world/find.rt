@@ -21,6 +21,7 @@ impl World {
     /// The ticket of a write that is open, and what its job does.
     ///
     /// `NoServer`, `NodeOff`, `NoWrite`.
+    #[inline(always)]
     pub(super) fn open_write(
         &self,
         server: ServerNo,

@@ -15,6 +15,8 @@ impl World {
     /// Something comes to a server, whose frames are sent.
     ///
     /// `NoServer`, `NodeOff`, `NoMemory`, or the server's own refusal.
+    // Inlined with the way of writes, so that their caller makes no room for packets and frames.
+    #[inline(always)]
     pub(super) fn serve(&mut self, server: ServerNo, input: Input) -> Result<Served, Fault>
         ensures { (w : Setup) (past : List Change) → StandsFor w past self.old →
             ServerEnds w past server input self.new result }

@@ -5,9 +5,9 @@ use Rattle.net_world.proofs.ClientCutLemmas.{behind_ok, behind_err}
 use Rattle.net_world.proofs.client_node.ClientNode.cut_behind_verify.Goals as goal
 
 pub returns-in-Err : goal.returns-in-Err
-returns-in-Err c o past stands d = behind_err o past (inputs.Verify c.args.run c.args.text.now) c.in-Err.fault c.verify.new.self d (c.in-Err.ensures o past stands)
+returns-in-Err c o past stands d = behind_err o past (inputs.Verify c.args.run c.args.text.now) c.in-Err.fault c.ask.new.self d (c.in-Err.ensures o past stands)
 
 pub returns : goal.returns
 returns c o past stands d =
     let e = inputs.Verify c.args.run c.args.text.now in
-    behind_ok o past e c.in_default.field-0 c.verify.new.self c.cut.new.self d (c.in_default.ensures o past stands) (λ s. c.cut.ensures o (answered o past e ∷ past) s)
+    behind_ok o past e c.in_default.field-0 c.ask.new.self c.cut.new.self d (c.in_default.ensures o past stands) (λ s. c.cut.ensures o (answered o past e ∷ past) s)
