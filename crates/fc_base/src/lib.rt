@@ -28,8 +28,8 @@ pub use counted::is_counted;
 pub use fault::{Fault, FaultSort};
 pub use law::{examples, numbers_law};
 pub use limits::{
-    MAX_BLOCK_SIZE, MAX_BLOCKS, MAX_DEPTH, MAX_GENERATION, MAX_JOBS, MAX_LISTED, MAX_SERVERS,
-    MAX_TEXT, MAX_WINDOW, MAX_WRITES,
+    MAX_BLOCK_SIZE, MAX_BLOCKS, MAX_DEPTH, MAX_GENERATION, MAX_JOBS, MAX_LISTED, MAX_SEATS,
+    MAX_SERVERS, MAX_TEXT, MAX_WINDOW, MAX_WORKERS, MAX_WRITES,
 };
 pub use marks::Marks;
 pub use numbers::{Attempt, Generation, JobNo, Key, RunNo, Seq, ServerNo};

@@ -4,12 +4,18 @@
 pub const MAX_TEXT: usize = 16_384;
 
 /// How many jobs a job file has at the most, copies counted; also one past the greatest
-/// [`JobNo`](crate::JobNo).
+/// [`JobNo`](crate::JobNo), and how many files a server has.
 pub const MAX_JOBS: u32 = 16;
 
 /// How many servers there are at the most; also one past the greatest
 /// [`ServerNo`](crate::ServerNo).
 pub const MAX_SERVERS: u32 = 8;
+
+/// How many workers a server has at the most.
+pub const MAX_WORKERS: u32 = 16;
+
+/// How many seats a server has at the most: one for each worker, and the post's.
+pub const MAX_SEATS: u32 = MAX_WORKERS + 1;
 
 /// How many bytes a block has at the most.
 pub const MAX_BLOCK_SIZE: u32 = 65_536;
