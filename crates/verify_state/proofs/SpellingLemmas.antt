@@ -8,7 +8,7 @@ use Rattle.std.proofs.lemmas.Bool.{and_parts, leb-true, ltb-true}
 use Rattle.std.proofs.lemmas.Nat.{from_be_bytes-to_be_bytes_4, from_be_bytes-to_be_bytes_8}
 use Rattle.std.proofs.lemmas.List.{drop-drop, drop_at, append-nil, length-append}
 use Rattle.std.proofs.lemmas.List.FromFn.{fill_by_all}
-use Rattle.fc_base.specs.declared.limits.TheConstants.{MAX_WRITES}
+use Rattle.fc_base.specs.declared.limits.TheConstants.{MAX_JOBS, MAX_SERVERS, MAX_WRITES}
 use Rattle.fc_base.specs.declared.numbers.Key.{Key}
 use Rattle.fc_base.specs.declared.record.JobParts.{JobParts}
 use Rattle.fc_base.specs.declared.record.Kind.{Kind}
@@ -60,9 +60,9 @@ key_of key run server job a b c = rw (a, b, c) refl
 pub key_back : (s : State) → IsState s → key_in (spelling s) ≡ s.key
 unfolding field spelling key_bytes job_bytes number_in bytes_of
 key_back s is =
-    let front = and_parts (nat_le 1 s.key.run && nat_lt s.key.server 8) (nat_lt s.key.job 16) is.key in
-    let server = ltb-true s.key.server 8 (and_parts (nat_le 1 s.key.run) (nat_lt s.key.server 8) front.0).1 in
-    let job = ltb-true s.key.job 16 front.1 in
+    let front = and_parts (nat_le 1 s.key.run && nat_lt s.key.server MAX_SERVERS) (nat_lt s.key.job MAX_JOBS) is.key in
+    let server = ltb-true s.key.server MAX_SERVERS (and_parts (nat_le 1 s.key.run) (nat_lt s.key.server MAX_SERVERS) front.0).1 in
+    let job = ltb-true s.key.job MAX_JOBS front.1 in
     key_of s.key _ _ _ (from_be_bytes-to_be_bytes_8 s.key.run is.run) (from_be_bytes-to_be_bytes_4 s.key.server (omega arith)) (from_be_bytes-to_be_bytes_4 s.key.job (omega arith))
 
 pub kind_back : (kind : Kind) → kind_of (kind_code kind) ≡ kind
