@@ -4,6 +4,7 @@ use Rattle.std.specs.Prelude.{if◌then◌else◌, Contains}
 use Rattle.std.proofs.lemmas.Bool.{eqb-true, cases_Bool}
 use Rattle.std.proofs.lemmas.List.{length-append}
 use Rattle.std.proofs.lemmas.List.Elements.{Contains-append_left, Contains-append_right}
+use Rattle.messages.specs.declared.limits.TheConstants.{MAX_TAGS}
 use Rattle.messages.specs.declared.packet.PacketParts.{PacketParts}
 use Rattle.messages.specs.Bodies.{length_of, spelled_body}
 use Rattle.verify_state.specs.Laws.{ReadsBack}
@@ -57,7 +58,7 @@ put_found : (tag : Tag) (fs : List Filled) (rows : List Row) (t : Bool) → has_
 put_found tag fs rows true h = replaced_found tag fs rows h
 put_found tag fs rows false h =
     let row : Row = record { tag = tag; filled = fs } in
-    let n : ℕ = length (rows ++ row ∷ []) - 128 in
+    let n : ℕ = length (rows ++ row ∷ []) - MAX_TAGS in
     let small : n ≤ length rows = omega (arith, length-append rows (row ∷ [])) in
     ap (filled_of tag) (drop_before_last n rows row small) ∙ last_found tag fs (drop n rows) (drop_absent tag n rows h)
 

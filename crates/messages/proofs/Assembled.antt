@@ -3,6 +3,7 @@ use Rattle.std.proofs.Common.{◌≡◌, refl, sym, ◌∙◌, ap, subst, ◌⊎
 use Rattle.std.specs.Prelude.{if◌then◌else◌, Contains, map}
 use Rattle.std.proofs.lemmas.Bool.{eqb-true}
 use Rattle.std.proofs.lemmas.List.Elements.{Contains-append_cases, Contains-push_cases}
+use Rattle.messages.specs.declared.limits.TheConstants.{MAX_TAGS}
 use Rattle.messages.specs.declared.body.Body.{Body}
 use Rattle.messages.specs.declared.packet.PacketParts.{PacketParts}
 use Rattle.messages.specs.Ranges.{is_body, KeepsState}
@@ -100,7 +101,7 @@ put_sent : (sent : List PacketParts) (t : Bool) (tag : Tag) (fs : List Filled) (
 put_sent sent true tag fs rows a w = replaced_sent sent tag fs rows a w
 put_sent sent false tag fs rows a w =
     let row : Row = record { tag = tag; filled = fs } in
-    dropped_sent sent (length (rows ++ row ∷ []) - 128) (rows ++ row ∷ []) (row_more sent row rows a w)
+    dropped_sent sent (length (rows ++ row ∷ []) - MAX_TAGS) (rows ++ row ∷ []) (row_more sent row rows a w)
 
 taken_at_sent : (sent : List PacketParts) (o : Option (List ℕ)) (q : PieceParts) (fs : List Filled) (rows : List Row) → AreCut sent q.tag fs → WasSent sent rows → WasSent sent (taken_at o q fs rows)
 taken_at_sent sent None q fs rows a w = put_sent sent (has_tag q.tag rows) q.tag fs rows a w

@@ -4,6 +4,7 @@ use Rattle.std.proofs.lemmas.Bool.Decides.{nat_tests}
 use Rattle.std.specs.Prelude.{IsTrue}
 use Rattle.std.specs.Int.{w8, w32, w64}
 use Rattle.std.proofs.lemmas.List.{length-append}
+use Rattle.fc_base.specs.declared.limits.TheConstants.{MAX_LISTED, MAX_TEXT}
 use Rattle.fc_base.specs.declared.report.ReportParts.{ReportParts}
 use Rattle.fc_base.specs.Report.{is_report}
 use Rattle.messages.specs.declared.body.Body.{Body}
@@ -11,6 +12,7 @@ use Rattle.messages.specs.declared.body.Body.TheVariants.{Jobs, JobsOk, Start, S
 use Rattle.messages.specs.declared.kind.PacketKind.{PacketKind}
 use Rattle.messages.specs.declared.kind.PacketKind.TheVariants as kinds
 use Rattle.fc_base.specs.Layouts.{number_in, size, spelled, numbers}
+use Rattle.messages.specs.declared.limits.TheConstants.{MAX_BODY}
 use Rattle.messages.specs.Ranges.{is_run, is_attempt, is_job_of, is_text, is_body, KeepsState}
 use Rattle.messages.specs.Bodies.{kind_of, layout, numbers_of, tail_of, spelled_body, length_of, length_limit, takes_all, body_of, is_whole, whole, body_at}
 use Rattle.messages.specs.Choices.{asked_numbered, reason_numbered}
@@ -70,7 +72,7 @@ length-spelled_body b =
     omega (arith, length-append (spelled (layout (kind_of b)) (numbers_of b)) (tail_of b), length-spelled (layout (kind_of b)) (numbers_of b) (length-numbers_of b))
 
 -- Nor than any body may have.
-pub within_limit : (k : PacketKind) → length_limit k ≤ 16400
+pub within_limit : (k : PacketKind) → length_limit k ≤ MAX_BODY
 within_limit kinds.Jobs = omega arith
 within_limit kinds.JobsOk = omega arith
 within_limit kinds.Start = omega arith
@@ -92,12 +94,12 @@ within_limit kinds.CopyOk = omega arith
 within_limit kinds.Fetch = omega arith
 within_limit kinds.Granted = omega arith
 
-report_length : (r : ReportParts) → IsTrue (is_report r) → length r.first ≤ 32
+report_length : (r : ReportParts) → IsTrue (is_report r) → length r.first ≤ MAX_LISTED
 report_length r h = grind (arith, nat_tests)
 
 -- No body has more bytes than its kind allows.
 pub length_of-limit : ReadsBack → (b : Body) → is_body b ≡ true → KeepsState b → length_of b ≤ length_limit (kind_of b)
-length_of-limit law (Jobs run text) h keeps = omega (arith, le_of (length text) 16384 (both (is_run run) (is_text text) h).1)
+length_of-limit law (Jobs run text) h keeps = omega (arith, le_of (length text) MAX_TEXT (both (is_run run) (is_text text) h).1)
 length_of-limit law (JobsOk run jobs) h keeps = omega arith
 length_of-limit law (Start run) h keeps = omega arith
 length_of-limit law (Started run) h keeps = omega arith
@@ -107,7 +109,7 @@ length_of-limit law (NoState run job jobs) h keeps = omega arith
 length_of-limit law (StateAck run job) h keeps = omega arith
 length_of-limit law (Stop run) h keeps = omega arith
 length_of-limit law (Stopped run) h keeps = omega arith
-length_of-limit law (Verify run attempt text) h keeps = omega (arith, le_of (length text) 16384 (both (is_run run && is_attempt attempt) (is_text text) h).1)
+length_of-limit law (Verify run attempt text) h keeps = omega (arith, le_of (length text) MAX_TEXT (both (is_run run && is_attempt attempt) (is_text text) h).1)
 length_of-limit law (WantState run attempt job) h keeps = omega arith
 length_of-limit law (Saved attempt state) h keeps = omega (arith, length-spelled_state law state keeps)
 length_of-limit law (NoSaved run attempt job) h keeps = omega arith

@@ -3,8 +3,10 @@ use Rattle.std.proofs.Common.{◌≡◌, ℕ, zero, suc, ◌<◌, Bool, true, fa
 use Rattle.std.specs.Prelude.{◌==◌, nat_lt, find}
 use Rattle.std.proofs.lemmas.Bool.{eqb-true}
 use Rattle.std.proofs.lemmas.Bool.Decides.{nat_tests}
+use Rattle.fc_base.specs.declared.limits.TheConstants.{MAX_SERVERS}
 use Rattle.fc_base.specs.declared.report.ReportEnd.{ReportEnd}
 use Rattle.fc_base.specs.declared.report.ReportEnd.TheVariants as ends
+use Rattle.messages.specs.declared.limits.TheConstants.{CLIENT_NUMBER, MIRROR_NUMBER}
 use Rattle.messages.specs.declared.kind.PacketKind.{PacketKind}
 use Rattle.messages.specs.declared.kind.PacketKind.TheVariants as kinds
 use Rattle.messages.specs.declared.node.Node.{Node}
@@ -165,12 +167,12 @@ node_again Client h = refl
 node_again Mirror h = refl
 
 pub node_is : (n : ℕ) (node : Node) → node_numbered n ≡ Some node → node_number node ≡ n
-node_is n node e = pick (nat_lt n 8) (n == 8) refl (n == 9) refl e
+node_is n node e = pick (nat_lt n MAX_SERVERS) (n == CLIENT_NUMBER) refl (n == MIRROR_NUMBER) refl e
   where
-    pick : (below client : Bool) → (n == 8) ≡ client → (last : Bool) → (n == 9) ≡ last → (if below then Some (Server n) else if client then Some Client else if last then Some Mirror else None) ≡ Some node → node_number node ≡ n
+    pick : (below client : Bool) → (n == CLIENT_NUMBER) ≡ client → (last : Bool) → (n == MIRROR_NUMBER) ≡ last → (if below then Some (Server n) else if client then Some Client else if last then Some Mirror else None) ≡ Some node → node_number node ≡ n
     pick true client l last m same = let here : Server n ≡ node = cc in rw (← here) refl
-    pick false true l last m same = let here : Client ≡ node = cc in rw (← here) (sym (eqb-true n 8 l))
-    pick false false l true m same = let here : Mirror ≡ node = cc in rw (← here) (sym (eqb-true n 9 m))
+    pick false true l last m same = let here : Client ≡ node = cc in rw (← here) (sym (eqb-true n CLIENT_NUMBER l))
+    pick false false l true m same = let here : Mirror ≡ node = cc in rw (← here) (sym (eqb-true n MIRROR_NUMBER m))
     pick false false l false m same = absurd cc
 
 pub node_fits : (node : Node) → is_node node ≡ true → node_number node < 4294967296

@@ -3,6 +3,7 @@ use Rattle.std.proofs.Common.{◌≡◌, refl, sym, ◌∙◌, ap, ℕ, zero, su
 use Rattle.std.specs.Prelude.{if◌then◌else◌, nat_lt}
 use Rattle.std.proofs.lemmas.Bool.Decides.{nat_tests}
 use Rattle.std.proofs.lemmas.List.{drop_all, drop-drop, take-append-drop}
+use Rattle.messages.specs.declared.limits.TheConstants.{CHUNK_LIMIT}
 use Rattle.messages.specs.Pieces.{places_from, places, bytes_at}
 use Rattle.messages.specs.declared.places.Filled.{Filled}
 use Rattle.messages.specs.Assemblies.{filled_at, after_these, joined}
@@ -13,15 +14,15 @@ slices b [] = []
 slices b (at ∷ ats) = bytes_at b at ++ slices b ats
 
 from_here : (n at : ℕ) (b : List ℕ) (t : Bool) → nat_lt at (length b) ≡ t → length b ≤ at + suc n
-    → (length b ≤ (at + 1024) + n → slices b (places_from n (at + 1024) (length b)) ≡ drop (at + 1024) b)
-    → slices b (if t then at ∷ places_from n (at + 1024) (length b) else []) ≡ drop at b
+    → (length b ≤ (at + CHUNK_LIMIT) + n → slices b (places_from n (at + CHUNK_LIMIT) (length b)) ≡ drop (at + CHUNK_LIMIT) b)
+    → slices b (if t then at ∷ places_from n (at + CHUNK_LIMIT) (length b) else []) ≡ drop at b
 from_here n at b true is h more =
-    ap (λ (l : List ℕ). take 1024 (drop at b) ++ l) (more (omega arith) ∙ sym (drop-drop 1024 at b)) ∙ take-append-drop 1024 (drop at b)
+    ap (λ (l : List ℕ). take CHUNK_LIMIT (drop at b) ++ l) (more (omega arith) ∙ sym (drop-drop CHUNK_LIMIT at b)) ∙ take-append-drop CHUNK_LIMIT (drop at b)
 from_here n at b false is h more = let end : length b ≤ at = grind (arith, nat_tests) in sym (drop_all at b end)
 
 pub slices_from : (n at : ℕ) (b : List ℕ) → length b ≤ at + n → slices b (places_from n at (length b)) ≡ drop at b
 slices_from zero at b h = sym (drop_all at b (omega arith))
-slices_from (suc n) at b h = from_here n at b (nat_lt at (length b)) refl h (slices_from n (at + 1024) b)
+slices_from (suc n) at b h = from_here n at b (nat_lt at (length b)) refl h (slices_from n (at + CHUNK_LIMIT) b)
 
 pub slices_all : (b : List ℕ) → slices b (places (length b)) ≡ b
 slices_all b = slices_from (length b) 0 b (omega arith)

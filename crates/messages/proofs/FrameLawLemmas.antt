@@ -5,6 +5,7 @@ use Rattle.std.specs.Option.{option_map, option_and_then}
 use Rattle.std.proofs.lemmas.Bool.{eqb-true}
 use Rattle.std.proofs.lemmas.Bool.Decides.{nat_tests}
 use Rattle.std.proofs.lemmas.List.{length-append, append-nil, nil_from_length}
+use Rattle.fc_base.specs.declared.limits.TheConstants.{MAX_JOBS, MAX_SERVERS}
 use Rattle.fc_base.specs.declared.fault.Fault.TheVariants.{FrameBadField}
 use Rattle.fc_base.specs.Faults.{when}
 use Rattle.messages.specs.declared.kind.PacketKind.{PacketKind}
@@ -20,6 +21,7 @@ use Rattle.messages.specs.Kinds.{number_of, kind_numbered}
 use Rattle.messages.specs.Nodes.{node_numbered, is_node}
 use Rattle.messages.specs.Ranges.{is_run, is_attempt, is_job}
 use Rattle.fc_base.specs.Layouts.{spelled, numbers}
+use Rattle.messages.specs.declared.limits.TheConstants.{CHUNK_LIMIT, FRAME_LIMIT, MAX_BODY}
 use Rattle.messages.specs.Bodies.{kind_of, length_of, spelled_body}
 use Rattle.messages.specs.Packets.{header, header_faults, spelling}
 use Rattle.messages.specs.Laws.{IsPacket}
@@ -39,7 +41,7 @@ use Rattle.messages.proofs.FramesOfLemmas.{length-piece_spelling}
 pub layout_wide : AreWide piece_layout
 layout_wide = (wide8, (wide64, (wide64, (wide32, (wide32, (wide32, (wide32, tt)))))))
 
-headed_read : (bytes : List ℕ) (kind : ℕ) (from to : Node) (len : ℕ) (sort : FrameKind) (f : Frame) → Headed bytes kind from to len → len ≤ 1057 → sort_numbered kind ≡ Some sort → is_node from ≡ true → is_node to ≡ true
+headed_read : (bytes : List ℕ) (kind : ℕ) (from to : Node) (len : ℕ) (sort : FrameKind) (f : Frame) → Headed bytes kind from to len → len ≤ FRAME_LIMIT → sort_numbered kind ≡ Some sort → is_node from ≡ true → is_node to ≡ true
     → frame_said from to (drop 16 bytes) sort ≡ Some f → (frame_faults bytes ≡ []) × (frame_at bytes ≡ Some f)
 headed_read bytes kind from to len sort f told most sort_is hf ht said =
     let number = λ (i : ℕ). ap (λ (ns : List ℕ). slice_index ns i) told.numbers in
@@ -73,12 +75,12 @@ sort_of_kind kinds.CopyOk = ap (λ (o : Option PacketKind). option_map sorts.Pac
 sort_of_kind kinds.Fetch = ap (λ (o : Option PacketKind). option_map sorts.Packet o) (kind_again kinds.Fetch)
 sort_of_kind kinds.Granted = ap (λ (o : Option PacketKind). option_map sorts.Packet o) (kind_again kinds.Granted)
 
-whole_read : ReadsBack → (p : PacketParts) → IsPacket p → length_of p.body ≤ 1024 → (frame_faults (spelling p) ≡ []) × (frame_at (spelling p) ≡ Some (Whole p))
+whole_read : ReadsBack → (p : PacketParts) → IsPacket p → length_of p.body ≤ CHUNK_LIMIT → (frame_faults (spelling p) ≡ []) × (frame_at (spelling p) ≡ Some (Whole p))
 whole_read law p h short =
     let parts = parts_of p h in
     let behind : drop 16 (spelling p) ≡ spelled_body p.body = drop-spelled header (numbers_of_header p) (spelled_body p.body) refl in
     let len = length-spelled_body p.body in
-    let enough : nat_le (length (spelled_body p.body)) 1024 ≡ true = grind (arith, nat_tests) in
+    let enough : nat_le (length (spelled_body p.body)) CHUNK_LIMIT ≡ true = grind (arith, nat_tests) in
     let said : frame_said p.from p.to (drop 16 (spelling p)) (sorts.Packet (kind_of p.body)) ≡ Some (Whole p) =
     ap (λ (bs : List ℕ). frame_said p.from p.to bs (sorts.Packet (kind_of p.body))) behind ∙ rw (enough, body_at-spelled law p.body parts.body parts.keeps) refl in
     headed_read (spelling p) (number_of (kind_of p.body)) p.from p.to (length_of p.body) (sorts.Packet (kind_of p.body)) (Whole p) (spelling_headed law p parts) (omega (arith, short)) (sort_of_kind (kind_of p.body)) parts.from parts.to said
@@ -113,11 +115,11 @@ number_fits kinds.CopyOk n l h = absurd cc
 number_fits kinds.Fetch n l h = absurd cc
 number_fits kinds.Granted n l h = absurd cc
 
-small_owner : (s j : ℕ) → (nat_lt s 8 && is_job j) ≡ true → (s < 4294967296) × (j < 4294967296)
+small_owner : (s j : ℕ) → (nat_lt s MAX_SERVERS && is_job j) ≡ true → (s < 4294967296) × (j < 4294967296)
 small_owner s j h =
-    let parts = both (nat_lt s 8) (is_job j) h in
-    let one = lt_of s 8 parts.0 in
-    let two = lt_of j 16 parts.1 in
+    let parts = both (nat_lt s MAX_SERVERS) (is_job j) h in
+    let one = lt_of s MAX_SERVERS parts.0 in
+    let two = lt_of j MAX_JOBS parts.1 in
     (omega (arith, one), omega (arith, two))
 
 no_owner : (s j : ℕ) → ((s == 0) && (j == 0)) ≡ true → (s < 4294967296) × (j < 4294967296)
@@ -153,7 +155,7 @@ pub record Ranged (q : PieceParts) : Type 0 where
   pub from : is_node q.from ≡ true
   pub to : is_node q.to ≡ true
   pub numbers : Fit piece_layout (piece_numbers q)
-  pub short : length q.bytes ≤ 1024
+  pub short : length q.bytes ≤ CHUNK_LIMIT
 
 pub ranged : (q : PieceParts) → is_piece q ≡ true → Ranged q
 ranged q h =
@@ -165,10 +167,10 @@ ranged q h =
     let owner = both (is_long_kind t.whole && is_run t.run && is_number t.whole t.number) (is_owner t.whole t.server t.job) len.0 in
     let number = both (is_long_kind t.whole && is_run t.run) (is_number t.whole t.number) owner.0 in
     let run = both (is_long_kind t.whole) (is_run t.run) number.0 in
-    let most = le_of t.length 16400 (both (nat_le 1025 t.length) (nat_le t.length 16400) len.1).1 in
-    let count = both ((q.at % 1024 == 0) && nat_lt q.at t.length) (length q.bytes == min 1024 (t.length - q.at)) place.1 in
-    let before = lt_of q.at t.length (both (q.at % 1024 == 0) (nat_lt q.at t.length) count.0).1 in
-    let part = eqb-true (length q.bytes) (min 1024 (t.length - q.at)) count.1 in
+    let most = le_of t.length MAX_BODY (both (nat_le (CHUNK_LIMIT + 1) t.length) (nat_le t.length MAX_BODY) len.1).1 in
+    let count = both ((q.at % CHUNK_LIMIT == 0) && nat_lt q.at t.length) (length q.bytes == min CHUNK_LIMIT (t.length - q.at)) place.1 in
+    let before = lt_of q.at t.length (both (q.at % CHUNK_LIMIT == 0) (nat_lt q.at t.length) count.0).1 in
+    let part = eqb-true (length q.bytes) (min CHUNK_LIMIT (t.length - q.at)) count.1 in
     let owners = owner_fits t.whole t.server t.job run.0 owner.1 in
     record {
       from = nodes.0;

@@ -8,6 +8,7 @@ use Rattle.messages.specs.declared.body.Body.{Body}
 use Rattle.messages.specs.declared.node.Node.{Node}
 use Rattle.messages.specs.Nodes.{is_node}
 use Rattle.fc_base.specs.Layouts.{bytes_of}
+use Rattle.messages.specs.declared.limits.TheConstants.{MAX_BODY}
 use Rattle.messages.specs.Ranges.{is_body}
 use Rattle.messages.specs.Packets.{header_of}
 use Rattle.messages.specs.Bodies.{kind_of, length_of}
@@ -25,7 +26,7 @@ pub header_of-len : (from to : Node) (body : Body) (len : ℕ) (rest : List ℕ)
 unfolding bytes_of
 header_of-len from to body len rest = refl
 
-pub length_fits : ReadsBack → (p : PacketParts) → IsPacket p → length_of p.body ≤ 16400
+pub length_fits : ReadsBack → (p : PacketParts) → IsPacket p → length_of p.body ≤ MAX_BODY
 length_fits law p h =
     omega (arith, length_of-limit law p.body (both (is_node p.from && is_node p.to) (is_body p.body) h.in_range).1 h.state, within_limit (kind_of p.body))
 

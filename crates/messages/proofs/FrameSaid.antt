@@ -20,6 +20,7 @@ use Rattle.messages.specs.declared.frame.FrameKind.TheVariants as sorts
 use Rattle.messages.specs.Kinds.{kind_numbered}
 use Rattle.messages.specs.Nodes.{node_numbered}
 use Rattle.fc_base.specs.Layouts.{spelled, numbers}
+use Rattle.messages.specs.declared.limits.TheConstants.{CHUNK_LIMIT}
 use Rattle.messages.specs.Bodies.{length_of, length_limit, body_at}
 use Rattle.messages.specs.Packets.{header, header_at, header_faults, is_packet_kind, body_limit, packet_at, faults_of}
 use Rattle.messages.specs.Laws.{IsBytes, Says, OnlyPacketsAreRead}
@@ -37,7 +38,7 @@ use Rattle.messages.proofs.FrameLawLemmas.{layout_wide}
 
 -- A body in so many bytes is no longer, once it is written: a state in layout 1 is written in fewer.
 
-old_limit : (k : PacketKind) (bytes : List ℕ) → is_old k bytes ≡ true → length_limit k ≤ 1024
+old_limit : (k : PacketKind) (bytes : List ℕ) → is_old k bytes ≡ true → length_limit k ≤ CHUNK_LIMIT
 old_limit kinds.Jobs bytes e = absurd cc
 old_limit kinds.JobsOk bytes e = absurd cc
 old_limit kinds.Start bytes e = absurd cc
@@ -59,7 +60,7 @@ old_limit kinds.CopyOk bytes e = absurd cc
 old_limit kinds.Fetch bytes e = absurd cc
 old_limit kinds.Granted bytes e = absurd cc
 
-short_body : ReadsBack → IsSpelled → SaysAState → (k : PacketKind) (bytes : List ℕ) (b : Body) → IsBytes bytes → body_at k bytes ≡ Some b → length bytes ≤ 1024 → length_of b ≤ 1024
+short_body : ReadsBack → IsSpelled → SaysAState → (k : PacketKind) (bytes : List ℕ) (b : Body) → IsBytes bytes → body_at k bytes ≡ Some b → length bytes ≤ CHUNK_LIMIT → length_of b ≤ CHUNK_LIMIT
 short_body law spell says k bytes b fits e short =
     let read = read_body spell says k bytes b fits e in
     elim (cases_Bool (is_old k bytes)) [
@@ -134,12 +135,12 @@ whole_says : ReadsBack → IsSpelled → SaysAState → OnlyPacketsAreRead → (
     → frame_said from to (drop 16 bytes) (sorts.Packet k) ≡ Some f → SaysFrame bytes f
 whole_says law spell says only bytes fits none k from to f sort_is from_is to_is said =
     let kind = kind_of_sort (header_at 3 bytes == 17) (kind_numbered (header_at 3 bytes)) k sort_is in
-    let part = where_true (nat_le (length (drop 16 bytes)) 1024) (option_map (λ (b : Body). Whole (record { from = from; to = to; body = b })) (body_at k (drop 16 bytes))) f said in
+    let part = where_true (nat_le (length (drop 16 bytes)) CHUNK_LIMIT) (option_map (λ (b : Body). Whole (record { from = from; to = to; body = b })) (body_at k (drop 16 bytes))) f said in
     let body = some_of (λ (b : Body). Whole (record { from = from; to = to; body = b })) (body_at k (drop 16 bytes)) f part.1 in
     let p : PacketParts = record { from = from; to = to; body = body.0 } in
     let is : packet_at bytes ≡ Some p = packet_is bytes k from to body.0 kind from_is to_is body.1 in
     let found = only bytes fits (whole_faults bytes k p none kind is) in
-    let short = short_body law spell says k (drop 16 bytes) body.0 (IsBytes-drop 16 bytes fits) body.1 (le_of (length (drop 16 bytes)) 1024 part.0) in
+    let short = short_body law spell says k (drop 16 bytes) body.0 (IsBytes-drop 16 bytes fits) body.1 (le_of (length (drop 16 bytes)) CHUNK_LIMIT part.0) in
     subst (SaysFrame bytes) body.2 (subst (Says bytes) (same_packet found.0 p (sym found.1 ∙ is)) found.2, short)
 
 -- A piece is spelled by the bytes.

@@ -14,6 +14,7 @@ use Rattle.messages.specs.Bodies.{length_of, spelled_body}
 use Rattle.messages.specs.Packets.{header, header_of, spelling}
 use Rattle.messages.specs.Nodes.{node_number}
 use Rattle.fc_base.specs.Layouts.{spelled}
+use Rattle.messages.specs.declared.limits.TheConstants.{CHUNK_LIMIT, MAX_BODY, MAX_FRAME, PIECE_HEAD}
 use Rattle.messages.specs.Pieces.{is_cut, tag_in, tag_of, places_from, places, cut_at, piece_at, pieces_of}
 use Rattle.messages.specs.FrameBytes.{piece_layout, piece_numbers, piece_header, piece_spelling, frame_spelling}
 use Rattle.messages.specs.FramesOf.{parted, RiseTo, spelled_piece, spelled_frames, AreFew}
@@ -21,7 +22,7 @@ use Rattle.messages.proofs.LayoutLemmas.{length-spelled}
 use Rattle.messages.proofs.BodyLemmas.{length-spelled_body}
 use Rattle.messages.proofs.FrameLemmas.{length-header_of}
 
-pub length-piece_spelling : (q : PieceParts) → length (piece_spelling q) ≡ 49 + length q.bytes
+pub length-piece_spelling : (q : PieceParts) → length (piece_spelling q) ≡ PIECE_HEAD + length q.bytes
 length-piece_spelling q =
     omega (
       arith,
@@ -101,21 +102,21 @@ rise_both ends others b c h m =
     rise_append 0 ends (length b) (map (λ end. length b + end) others) (length (b ++ c)) h (rise_behind (length b) 0 others (length c) (length b) (length (b ++ c)) m at (length-append b c))
 
 -- The places from one on.
-pub one_place : (n at len : ℕ) → at < len → places_from (suc n) at len ≡ at ∷ places_from n (at + 1024) len
+pub one_place : (n at len : ℕ) → at < len → places_from (suc n) at len ≡ at ∷ places_from n (at + CHUNK_LIMIT) len
 one_place n at len h = let t : nat_lt at len ≡ true = grind (arith, nat_tests) in rw t refl
 
 pub no_place : (n at len : ℕ) → len ≤ at → places_from n at len ≡ []
 no_place zero at len h = refl
 no_place (suc n) at len h = let t : nat_lt at len ≡ false = grind (arith, nat_tests) in rw t refl
 
-few_from : (n at len : ℕ) (t : Bool) → nat_lt at len ≡ t → (at + 1024 < len + 1024 → 1024 * length (places_from n (at + 1024) len) ≤ len + 1023 - (at + 1024))
-    → 1024 * length (if t then at ∷ places_from n (at + 1024) len else []) ≤ len + 1023 - at
+few_from : (n at len : ℕ) (t : Bool) → nat_lt at len ≡ t → (at + CHUNK_LIMIT < len + CHUNK_LIMIT → CHUNK_LIMIT * length (places_from n (at + CHUNK_LIMIT) len) ≤ len + 1023 - (at + CHUNK_LIMIT))
+    → CHUNK_LIMIT * length (if t then at ∷ places_from n (at + CHUNK_LIMIT) len else []) ≤ len + 1023 - at
 few_from n at len true e h = let lt : at < len = grind (arith, nat_tests) in omega (arith, h)
 few_from n at len false e h = omega arith
 
-pub places_few : (n at len : ℕ) → 1024 * length (places_from n at len) ≤ len + 1023 - at
+pub places_few : (n at len : ℕ) → CHUNK_LIMIT * length (places_from n at len) ≤ len + 1023 - at
 places_few zero at len = omega arith
-places_few (suc n) at len = few_from n at len (nat_lt at len) refl (λ lt. places_few n (at + 1024) len)
+places_few (suc n) at len = few_from n at len (nat_lt at len) refl (λ lt. places_few n (at + CHUNK_LIMIT) len)
 
 spelled_each : (xs : List PieceParts) → map frame_spelling (map Piece xs) ≡ map piece_spelling xs
 spelled_each [] = refl
@@ -130,62 +131,62 @@ frames_by p true e = rw e (spelled_each (pieces_of p) ∙ spelled_places p (plac
 frames_by p false e = rw e refl
 
 -- The frames of a packet that isn't cut, and of one that is.
-pub frames_whole : (p : PacketParts) → length_of p.body ≤ 1024 → spelled_frames p ≡ spelling p ∷ []
+pub frames_whole : (p : PacketParts) → length_of p.body ≤ CHUNK_LIMIT → spelled_frames p ≡ spelling p ∷ []
 frames_whole p h = let t : is_cut p.body ≡ false = grind (arith, nat_tests) in frames_by p false t
 
-pub frames_cut : (p : PacketParts) → 1024 < length_of p.body → spelled_frames p ≡ map (spelled_piece p.from p.to (tag_of p.body) (spelled_body p.body)) (places (length_of p.body))
+pub frames_cut : (p : PacketParts) → CHUNK_LIMIT < length_of p.body → spelled_frames p ≡ map (spelled_piece p.from p.to (tag_of p.body) (spelled_body p.body)) (places (length_of p.body))
 frames_cut p h = let t : is_cut p.body ≡ true = grind (arith, nat_tests) in frames_by p true t
 
 -- What pieces have together.
 
-one_short : (from to : Node) (tag : Tag) (b : List ℕ) (at : ℕ) → length (spelled_piece from to tag b at) ≤ 1073
-one_short from to tag b at = omega (arith, length-piece_spelling (cut_at from to tag b at), length-take 1024 (drop at b))
+one_short : (from to : Node) (tag : Tag) (b : List ℕ) (at : ℕ) → length (spelled_piece from to tag b at) ≤ MAX_FRAME
+one_short from to tag b at = omega (arith, length-piece_spelling (cut_at from to tag b at), length-take CHUNK_LIMIT (drop at b))
 
-all_short : (from to : Node) (tag : Tag) (b ats : List ℕ) → All (λ frame. length frame ≤ 1073) (map (spelled_piece from to tag b) ats)
-all_short from to tag b [] = All-nil (λ (frame : List ℕ). length frame ≤ 1073)
-all_short from to tag b (at ∷ ats) = All-cons (λ (frame : List ℕ). length frame ≤ 1073) (spelled_piece from to tag b at) (map (spelled_piece from to tag b) ats) (one_short from to tag b at) (all_short from to tag b ats)
+all_short : (from to : Node) (tag : Tag) (b ats : List ℕ) → All (λ frame. length frame ≤ MAX_FRAME) (map (spelled_piece from to tag b) ats)
+all_short from to tag b [] = All-nil (λ (frame : List ℕ). length frame ≤ MAX_FRAME)
+all_short from to tag b (at ∷ ats) = All-cons (λ (frame : List ℕ). length frame ≤ MAX_FRAME) (spelled_piece from to tag b at) (map (spelled_piece from to tag b) ats) (one_short from to tag b at) (all_short from to tag b ats)
 
 sum_from : (from to : Node) (tag : Tag) (b : List ℕ) (n at : ℕ) (t : Bool) → nat_lt at (length b) ≡ t
-    → (sum_by (λ (frame : List ℕ). length frame) (map (spelled_piece from to tag b) (places_from n (at + 1024) (length b))) ≤ (length b - (at + 1024)) + 49 * length (places_from n (at + 1024) (length b)))
-    → sum_by (λ (frame : List ℕ). length frame) (map (spelled_piece from to tag b) (if t then at ∷ places_from n (at + 1024) (length b) else [])) ≤ (length b - at) + 49 * length (if t then at ∷ places_from n (at + 1024) (length b) else [])
+    → (sum_by (λ (frame : List ℕ). length frame) (map (spelled_piece from to tag b) (places_from n (at + CHUNK_LIMIT) (length b))) ≤ (length b - (at + CHUNK_LIMIT)) + PIECE_HEAD * length (places_from n (at + CHUNK_LIMIT) (length b)))
+    → sum_by (λ (frame : List ℕ). length frame) (map (spelled_piece from to tag b) (if t then at ∷ places_from n (at + CHUNK_LIMIT) (length b) else [])) ≤ (length b - at) + PIECE_HEAD * length (if t then at ∷ places_from n (at + CHUNK_LIMIT) (length b) else [])
 sum_from from to tag b n at true e h =
     let lt : at < length b = grind (arith, nat_tests) in
-    let rest = places_from n (at + 1024) (length b) in
-    omega (arith, h, sum_by-cons (λ (frame : List ℕ). length frame) (spelled_piece from to tag b at) (map (spelled_piece from to tag b) rest), length-piece_spelling (cut_at from to tag b at), length-take 1024 (drop at b), length-drop at b)
+    let rest = places_from n (at + CHUNK_LIMIT) (length b) in
+    omega (arith, h, sum_by-cons (λ (frame : List ℕ). length frame) (spelled_piece from to tag b at) (map (spelled_piece from to tag b) rest), length-piece_spelling (cut_at from to tag b at), length-take CHUNK_LIMIT (drop at b), length-drop at b)
 sum_from from to tag b n at false e h = omega arith
 
 sum_places : (from to : Node) (tag : Tag) (b : List ℕ) (n at : ℕ)
-    → sum_by (λ (frame : List ℕ). length frame) (map (spelled_piece from to tag b) (places_from n at (length b))) ≤ (length b - at) + 49 * length (places_from n at (length b))
+    → sum_by (λ (frame : List ℕ). length frame) (map (spelled_piece from to tag b) (places_from n at (length b))) ≤ (length b - at) + PIECE_HEAD * length (places_from n at (length b))
 sum_places from to tag b zero at = omega arith
-sum_places from to tag b (suc n) at = sum_from from to tag b n at (nat_lt at (length b)) refl (sum_places from to tag b n (at + 1024))
+sum_places from to tag b (suc n) at = sum_from from to tag b n at (nat_lt at (length b)) refl (sum_places from to tag b n (at + CHUNK_LIMIT))
 
 pub length-spelling : (p : PacketParts) → length (spelling p) ≡ 16 + length_of p.body
 length-spelling p = omega (arith, length-append (header_of p.from p.to p.body (length_of p.body)) (spelled_body p.body), length-header_of p.from p.to p.body (length_of p.body), length-spelled_body p.body)
 
-few_whole : (p : PacketParts) → length_of p.body ≤ 1024 → AreFew p (spelling p ∷ [])
+few_whole : (p : PacketParts) → length_of p.body ≤ CHUNK_LIMIT → AreFew p (spelling p ∷ [])
 few_whole p h = record {
   few = omega arith;
-  short = All-cons (λ (frame : List ℕ). length frame ≤ 1073) (spelling p) [] (omega (arith, length-spelling p)) (All-nil (λ (frame : List ℕ). length frame ≤ 1073));
+  short = All-cons (λ (frame : List ℕ). length frame ≤ MAX_FRAME) (spelling p) [] (omega (arith, length-spelling p)) (All-nil (λ (frame : List ℕ). length frame ≤ MAX_FRAME));
   total = omega (arith, length-spelling p, sum_by-cons (λ (frame : List ℕ). length frame) (spelling p) []);
 }
 
-few_cut : (p : PacketParts) → length_of p.body ≤ 16400 → AreFew p (map (spelled_piece p.from p.to (tag_of p.body) (spelled_body p.body)) (places (length_of p.body)))
+few_cut : (p : PacketParts) → length_of p.body ≤ MAX_BODY → AreFew p (map (spelled_piece p.from p.to (tag_of p.body) (spelled_body p.body)) (places (length_of p.body)))
 few_cut p h =
     let pieces = spelled_piece p.from p.to (tag_of p.body) (spelled_body p.body) in
     let many = length-map (places (length_of p.body)) pieces in
     let len = length-spelled_body p.body in
-    let total = subst (λ (n : ℕ). sum_by (λ (frame : List ℕ). length frame) (map pieces (places_from n 0 n)) ≤ (n - 0) + 49 * length (places_from n 0 n)) len (sum_places p.from p.to (tag_of p.body) (spelled_body p.body) (length (spelled_body p.body)) 0) in
+    let total = subst (λ (n : ℕ). sum_by (λ (frame : List ℕ). length frame) (map pieces (places_from n 0 n)) ≤ (n - 0) + PIECE_HEAD * length (places_from n 0 n)) len (sum_places p.from p.to (tag_of p.body) (spelled_body p.body) (length (spelled_body p.body)) 0) in
     record {
       few = omega (arith, many, places_few (length_of p.body) 0 (length_of p.body));
       short = all_short p.from p.to (tag_of p.body) (spelled_body p.body) (places (length_of p.body));
       total = omega (arith, many, total);
     }
 
-by_length : (p : PacketParts) (t : Bool) → is_cut p.body ≡ t → length_of p.body ≤ 16400 → AreFew p (spelled_frames p)
-by_length p true e h = let lt : 1024 < length_of p.body = grind (arith, nat_tests) in rw (frames_cut p lt) (few_cut p h)
-by_length p false e h = let le : length_of p.body ≤ 1024 = grind (arith, nat_tests) in rw (frames_whole p le) (few_whole p le)
+by_length : (p : PacketParts) (t : Bool) → is_cut p.body ≡ t → length_of p.body ≤ MAX_BODY → AreFew p (spelled_frames p)
+by_length p true e h = let lt : CHUNK_LIMIT < length_of p.body = grind (arith, nat_tests) in rw (frames_cut p lt) (few_cut p h)
+by_length p false e h = let le : length_of p.body ≤ CHUNK_LIMIT = grind (arith, nat_tests) in rw (frames_whole p le) (few_whole p le)
 
-pub frames_few : (p : PacketParts) → length_of p.body ≤ 16400 → AreFew p (spelled_frames p)
+pub frames_few : (p : PacketParts) → length_of p.body ≤ MAX_BODY → AreFew p (spelled_frames p)
 frames_few p h = by_length p (is_cut p.body) refl h
 
 -- What the code shows.
@@ -205,7 +206,7 @@ pub appended : (ends others b c new_ends new_bytes : List ℕ) (old other : List
     → parted 0 ends b ≡ old → parted 0 others c ≡ other → parted 0 new_ends new_bytes ≡ old ++ other
 appended ends others b c new_ends new_bytes old other ends_are bytes_are rise old_is other_is = rw (ends_are, bytes_are, ← old_is, ← other_is) (parted_append ends others b c rise)
 
-pub piece_short : (out before : List ℕ) (q : PieceParts) → before ≡ [] → out ≡ before ++ piece_spelling q → length q.bytes ≤ 1024 → length out ≤ 1073
+pub piece_short : (out before : List ℕ) (q : PieceParts) → before ≡ [] → out ≡ before ++ piece_spelling q → length q.bytes ≤ CHUNK_LIMIT → length out ≤ MAX_FRAME
 piece_short out before q none e h = omega (arith, ap length e, length-append before (piece_spelling q), ap length none, length-piece_spelling q)
 
 -- The pieces so far, and those that are still to come.
@@ -219,22 +220,22 @@ pub cut_none : (piece : ℕ → List ℕ) (len : ℕ) (ends bytes : List ℕ) �
 cut_none piece len ends bytes no_ends no_bytes = rw (no_ends, no_bytes) (record { rise = refl; left = len; enough = omega arith; rest = refl })
 
 cut_step : (piece : ℕ → List ℕ) (len at left : ℕ) (ends bytes : List ℕ) → RiseTo 0 ends (length bytes) → at < len → len ≤ at + left
-    → parted 0 ends bytes ++ map piece (places_from left at len) ≡ map piece (places len) → IsCutting piece len (at + 1024) (ends ++ (length bytes + length (piece at)) ∷ []) (bytes ++ piece at)
+    → parted 0 ends bytes ++ map piece (places_from left at len) ≡ map piece (places len) → IsCutting piece len (at + CHUNK_LIMIT) (ends ++ (length bytes + length (piece at)) ∷ []) (bytes ++ piece at)
 cut_step piece len at zero ends bytes rise lt enough rest = absurd (omega (arith, lt, enough))
 cut_step piece len at (suc left) ends bytes rise lt enough rest = record {
   rise = rise_both ends (length (piece at) ∷ []) bytes (piece at) rise (omega arith, refl);
   left = left;
   enough = omega (arith, enough);
   rest =
-      ap (λ (xs : List (List ℕ)). xs ++ map piece (places_from left (at + 1024) len)) (parted_append ends (length (piece at) ∷ []) bytes (piece at) rise)
-      ∙ ap (λ (x : List ℕ). parted 0 ends bytes ++ x ∷ [] ++ map piece (places_from left (at + 1024) len)) (whole (piece at))
-      ∙ append_assoc (parted 0 ends bytes) (piece at ∷ []) (map piece (places_from left (at + 1024) len))
+      ap (λ (xs : List (List ℕ)). xs ++ map piece (places_from left (at + CHUNK_LIMIT) len)) (parted_append ends (length (piece at) ∷ []) bytes (piece at) rise)
+      ∙ ap (λ (x : List ℕ). parted 0 ends bytes ++ x ∷ [] ++ map piece (places_from left (at + CHUNK_LIMIT) len)) (whole (piece at))
+      ∙ append_assoc (parted 0 ends bytes) (piece at ∷ []) (map piece (places_from left (at + CHUNK_LIMIT) len))
       ∙ ap (λ (ats : List ℕ). parted 0 ends bytes ++ map piece ats) (sym (one_place left at len lt))
       ∙ rest;
 }
 
 pub cut_one : (piece : ℕ → List ℕ) (len at end : ℕ) (ends bytes new_ends new_bytes : List ℕ) → IsCutting piece len at ends bytes → at < len
-    → end ≡ length new_bytes → new_ends ≡ ends ++ end ∷ [] → new_bytes ≡ bytes ++ piece at → IsCutting piece len (at + 1024) new_ends new_bytes
+    → end ≡ length new_bytes → new_ends ≡ ends ++ end ∷ [] → new_bytes ≡ bytes ++ piece at → IsCutting piece len (at + CHUNK_LIMIT) new_ends new_bytes
 cut_one piece len at end ends bytes new_ends new_bytes so_far lt end_is ends_are bytes_are =
     let to : end ≡ length bytes + length (piece at) = end_is ∙ ap length bytes_are ∙ length-append bytes (piece at) in
     rw (ends_are, bytes_are, to) (cut_step piece len at so_far.left ends bytes so_far.rise lt so_far.enough so_far.rest)
@@ -248,13 +249,13 @@ body_in p bytes body spelled is =
     is ∙ ap (λ (bs : List ℕ). drop 16 bs) spelled
     ∙ drop_at (header_of p.from p.to p.body (length_of p.body)) (spelled_body p.body) 16 (length-header_of p.from p.to p.body (length_of p.body))
 
-pub cut_frames : (p : PacketParts) (body : List ℕ) → body ≡ spelled_body p.body → 1024 < length_of p.body
+pub cut_frames : (p : PacketParts) (body : List ℕ) → body ≡ spelled_body p.body → CHUNK_LIMIT < length_of p.body
     → map (spelled_piece p.from p.to (tag_in p.body (length body)) body) (places (length body)) ≡ spelled_frames p
 cut_frames p body is h =
     ap (λ (bs : List ℕ). map (spelled_piece p.from p.to (tag_in p.body (length bs)) bs) (places (length bs))) is
     ∙ ap (λ (n : ℕ). map (spelled_piece p.from p.to (tag_in p.body n) (spelled_body p.body)) (places n)) (length-spelled_body p.body)
     ∙ sym (frames_cut p h)
 
-pub ok_few : {E : Type 0} (p : PacketParts) (r : Result (List (List ℕ)) E) → IfOk r (λ frames. frames ≡ spelled_frames p) → length_of p.body ≤ 16400 → IfOk r (AreFew p)
+pub ok_few : {E : Type 0} (p : PacketParts) (r : Result (List (List ℕ)) E) → IfOk r (λ frames. frames ≡ spelled_frames p) → length_of p.body ≤ MAX_BODY → IfOk r (AreFew p)
 ok_few p (Ok frames) e h = rw e (frames_few p h)
 ok_few p (Err x) e h = tt

@@ -3,6 +3,7 @@ use Rattle.std.proofs.Common.{◌≡◌, refl, sym, ◌∙◌, ap, inl, inr, ℕ
 use Rattle.std.specs.Prelude.{if◌then◌else◌, is_some, nat_le, ◌&&◌, Err}
 use Rattle.fc_base.specs.declared.fault.Fault.TheVariants.{NoMemory}
 use Rattle.std.proofs.lemmas.Bool.{eqb-true, cases_Bool}
+use Rattle.messages.specs.declared.limits.TheConstants.{CHUNK_LIMIT, MAX_BODY}
 use Rattle.messages.specs.declared.piece.PieceParts.{PieceParts}
 use Rattle.messages.specs.declared.places.Filled.{Filled}
 use Rattle.messages.specs.Pieces.{tag_in, places_from, places}
@@ -69,25 +70,25 @@ behind_one x None = refl
 behind_one x (Some y) = refl
 
 look_step : (fs : List Filled) (len at left : ℕ) (x : List ℕ) → at < len → len ≤ at + left → is_some (joined fs (places_from left at len)) ≡ is_some (joined fs (places len))
-    → filled_at fs at ≡ Some x → IsLooking fs len (at + 1024)
+    → filled_at fs at ≡ Some x → IsLooking fs len (at + CHUNK_LIMIT)
 look_step fs len at zero x lt enough same e = absurd (omega (arith, lt, enough))
 look_step fs len at (suc left) x lt enough same e = record {
   left = left;
   enough = omega (arith, enough);
   same =
-      sym (behind_one x (joined fs (places_from left (at + 1024) len)))
-      ∙ ap (λ (o : Option (List ℕ)). is_some (after_these o (joined fs (places_from left (at + 1024) len)))) (sym e)
+      sym (behind_one x (joined fs (places_from left (at + CHUNK_LIMIT) len)))
+      ∙ ap (λ (o : Option (List ℕ)). is_some (after_these o (joined fs (places_from left (at + CHUNK_LIMIT) len)))) (sym e)
       ∙ ap (λ (ats : List ℕ). is_some (joined fs ats)) (sym (one_place left at len lt))
       ∙ same;
 }
 
-pub look_one : (fs : List Filled) (len at : ℕ) (x : List ℕ) → IsLooking fs len at → at < len → filled_at fs at ≡ Some x → IsLooking fs len (at + 1024)
+pub look_one : (fs : List Filled) (len at : ℕ) (x : List ℕ) → IsLooking fs len at → at < len → filled_at fs at ≡ Some x → IsLooking fs len (at + CHUNK_LIMIT)
 look_one fs len at x so_far lt e = look_step fs len at so_far.left x lt so_far.enough so_far.same e
 
 lacks_here : (fs : List Filled) (len at left : ℕ) → at < len → len ≤ at + left → filled_at fs at ≡ None → joined fs (places_from left at len) ≡ None
 lacks_here fs len at zero lt enough e = absurd (omega (arith, lt, enough))
 lacks_here fs len at (suc left) lt enough e =
-    ap (joined fs) (one_place left at len lt) ∙ ap (λ (o : Option (List ℕ)). after_these o (joined fs (places_from left (at + 1024) len))) e
+    ap (joined fs) (one_place left at len lt) ∙ ap (λ (o : Option (List ℕ)). after_these o (joined fs (places_from left (at + CHUNK_LIMIT) len))) e
 
 -- The bytes so far, and those that are still to come.
 pub record IsJoining (fs : List Filled) (len at : ℕ) (out : List ℕ) : Type 0 where
@@ -104,29 +105,29 @@ after_both out x None = refl
 after_both out x (Some y) = ap (λ (z : List ℕ). Some z) (append_assoc out x y)
 
 join_step : (fs : List Filled) (len at left : ℕ) (out x : List ℕ) → at < len → len ≤ at + left → after_these (Some out) (joined fs (places_from left at len)) ≡ joined fs (places len)
-    → filled_at fs at ≡ Some x → IsJoining fs len (at + 1024) (out ++ x)
+    → filled_at fs at ≡ Some x → IsJoining fs len (at + CHUNK_LIMIT) (out ++ x)
 join_step fs len at zero out x lt enough same e = absurd (omega (arith, lt, enough))
 join_step fs len at (suc left) out x lt enough same e = record {
   left = left;
   enough = omega (arith, enough);
   same =
-      after_both out x (joined fs (places_from left (at + 1024) len))
-      ∙ ap (λ (o : Option (List ℕ)). after_these (Some out) (after_these o (joined fs (places_from left (at + 1024) len)))) (sym e)
+      after_both out x (joined fs (places_from left (at + CHUNK_LIMIT) len))
+      ∙ ap (λ (o : Option (List ℕ)). after_these (Some out) (after_these o (joined fs (places_from left (at + CHUNK_LIMIT) len)))) (sym e)
       ∙ ap (λ (ats : List ℕ). after_these (Some out) (joined fs ats)) (sym (one_place left at len lt))
       ∙ same;
 }
 
-pub join_one : (fs : List Filled) (len at : ℕ) (out x new : List ℕ) → IsJoining fs len at out → at < len → filled_at fs at ≡ Some x → new ≡ out ++ x → IsJoining fs len (at + 1024) new
+pub join_one : (fs : List Filled) (len at : ℕ) (out x new : List ℕ) → IsJoining fs len at out → at < len → filled_at fs at ≡ Some x → new ≡ out ++ x → IsJoining fs len (at + CHUNK_LIMIT) new
 join_one fs len at out x new so_far lt e is = rw is (join_step fs len at so_far.left out x lt so_far.enough so_far.same e)
 
 -- What a piece keeps.
 
-pub piece_length : (q : PieceParts) → is_piece q ≡ true → q.tag.length ≤ 16400
+pub piece_length : (q : PieceParts) → is_piece q ≡ true → q.tag.length ≤ MAX_BODY
 piece_length q h =
     let place = both (is_node q.from && is_node q.to && is_tag_in_range q.tag) (is_place q.tag.length q.at (length q.bytes)) h in
     let tag = both (is_node q.from && is_node q.to) (is_tag_in_range q.tag) place.0 in
     let len = both (is_long_kind q.tag.whole && is_run q.tag.run && is_number q.tag.whole q.tag.number && is_owner q.tag.whole q.tag.server q.tag.job) (is_cut_length q.tag.length) tag.1 in
-    le_of q.tag.length 16400 (both (nat_le 1025 q.tag.length) (nat_le q.tag.length 16400) len.1).1
+    le_of q.tag.length MAX_BODY (both (nat_le (CHUNK_LIMIT + 1) q.tag.length) (nat_le q.tag.length MAX_BODY) len.1).1
 
 pub piece_ends : (q : PieceParts) → is_piece q ≡ true → (is_node q.from ≡ true) × (is_node q.to ≡ true)
 piece_ends q h =

@@ -14,6 +14,7 @@ use Rattle.messages.specs.Kinds.{number_of, kind_numbered}
 use Rattle.messages.specs.Nodes.{node_numbered, is_node}
 use Rattle.messages.specs.Ranges.{is_body, KeepsState}
 use Rattle.fc_base.specs.Layouts.{spelled, numbers}
+use Rattle.messages.specs.declared.limits.TheConstants.{MAX_BODY}
 use Rattle.messages.specs.Bodies.{kind_of, length_of, spelled_body, body_at}
 use Rattle.messages.specs.Packets.{is_packet, header, header_of, spelling, header_at, header_faults, is_packet_kind, body_limit, packet_at}
 use Rattle.messages.specs.Laws.{IsPacket, holds_layout_1, SpellingsAreRead, OnlyPacketsAreRead, NoneBeginsAnother, LengthsAreBounded}
@@ -45,7 +46,7 @@ parts_of p h =
     let nodes = both (is_node p.from) (is_node p.to) last.0 in
     record { from = nodes.0; to = nodes.1; body = last.1; keeps = h.state }
 
-most : ReadsBack → (p : PacketParts) → Parts p → length_of p.body ≤ 16400
+most : ReadsBack → (p : PacketParts) → Parts p → length_of p.body ≤ MAX_BODY
 most law p h = omega (arith, length_of-limit law p.body h.body h.keeps, within_limit (kind_of p.body))
 
 header_fits : ReadsBack → (p : PacketParts) → Parts p → Fit header (numbers_of_header p)

@@ -2,6 +2,7 @@
 use Rattle.std.specs.Prelude.{◌≡◌, ◌⊎◌, ℕ, ◌-◌, Bool, true, false, ◌==◌, if◌then◌else◌, List, [], ◌∷◌, ◌++◌, length, drop, Option, Some, None, Result, Ok, Err}
 use Rattle.fc_base.specs.declared.fault.Fault.{Fault}
 use Rattle.fc_base.specs.declared.fault.Fault.TheVariants.{FrameBadField, NoMemory}
+use Rattle.messages.specs.declared.limits.TheConstants.{MAX_TAGS}
 use Rattle.messages.specs.declared.body.Body.{Body}
 use Rattle.messages.specs.declared.packet.PacketParts.{PacketParts}
 use Rattle.messages.specs.declared.piece.Tag.{Tag}
@@ -92,7 +93,7 @@ replaced tag fs (row ∷ rows) = if is_tag row.tag tag then record { tag = row.t
 
 -- The newest 128 rows, and no older ones.
 abbrev pub newest : List Row → List Row
-newest rows = drop (length rows - 128) rows
+newest rows = drop (length rows - MAX_TAGS) rows
 
 abbrev pub put : Bool → Tag → List Filled → List Row → List Row
 put true tag fs rows = replaced tag fs rows

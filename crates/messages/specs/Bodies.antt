@@ -2,6 +2,7 @@
 use Rattle.std.specs.Prelude.{◌≡◌, ℕ, zero, suc, ◌+◌, Bool, true, ◌&&◌, ◌==◌, nat_le, if◌then◌else◌, List, [], ◌∷◌, ◌++◌, length, drop, slice_index, Option, Some, None, Result, Ok, Err}
 use Rattle.std.specs.Option.{option_map, option_and_then}
 use Rattle.std.specs.Int.{Width, w8, w32, w64}
+use Rattle.fc_base.specs.declared.limits.TheConstants.{MAX_TEXT}
 use Rattle.fc_base.specs.declared.fault.Fault.{Fault}
 use Rattle.fc_base.specs.declared.fault.Fault.TheVariants.{FrameBadField, FrameNoMemory}
 use Rattle.fc_base.specs.declared.report.ReportEnd.{ReportEnd}
@@ -15,6 +16,7 @@ use Rattle.messages.specs.declared.kind.PacketKind.{PacketKind}
 use Rattle.messages.specs.declared.kind.PacketKind.TheVariants as kinds
 use Rattle.messages.specs.Choices.{act_number, act_numbered, asked_number, asked_numbered, reason_number, reason_numbered}
 use Rattle.fc_base.specs.Layouts.{size, spelled, numbers, spelled_blocks, blocks_in}
+use Rattle.messages.specs.declared.limits.TheConstants.{MAX_BODY, MAX_REPORT}
 use Rattle.messages.specs.Ranges.{is_body}
 
 -- The kind of a body.
@@ -201,7 +203,7 @@ Reads (Err f) (Some x) = f ≡ FrameNoMemory
 
 -- The most bytes that a body of each kind has.
 abbrev pub length_limit : PacketKind → ℕ
-length_limit kinds.Jobs = 16392
+length_limit kinds.Jobs = 8 + MAX_TEXT
 length_limit kinds.JobsOk = 12
 length_limit kinds.Start = 8
 length_limit kinds.Started = 8
@@ -211,11 +213,11 @@ length_limit kinds.NoState = 16
 length_limit kinds.StateAck = 12
 length_limit kinds.Stop = 8
 length_limit kinds.Stopped = 8
-length_limit kinds.Verify = 16400
+length_limit kinds.Verify = MAX_BODY
 length_limit kinds.WantState = 20
 length_limit kinds.Saved = 144
 length_limit kinds.NoSaved = 20
-length_limit kinds.Report = 169
+length_limit kinds.Report = MAX_REPORT
 length_limit kinds.Refused = 34
 length_limit kinds.Copy = 136
 length_limit kinds.CopyOk = 16

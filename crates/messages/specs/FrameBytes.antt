@@ -15,6 +15,7 @@ use Rattle.messages.specs.declared.frame.FrameKind.TheVariants as sorts
 use Rattle.messages.specs.Kinds.{number_of, kind_numbered}
 use Rattle.messages.specs.Nodes.{node_number, node_numbered}
 use Rattle.fc_base.specs.Layouts.{spelled, numbers}
+use Rattle.messages.specs.declared.limits.TheConstants.{CHUNK_LIMIT, FRAME_LIMIT}
 use Rattle.messages.specs.Bodies.{body_at, length_of}
 use Rattle.messages.specs.Packets.{header, header_at, header_faults, spelling}
 use Rattle.messages.specs.PieceRanges.{is_piece}
@@ -42,7 +43,7 @@ frame_spelling (Piece q) = piece_spelling q
 
 -- A packet that goes whole has a body of at most 1,024 bytes.
 abbrev pub IsShort : Frame → Type 0
-IsShort (Whole p) = length_of p.body ≤ 1024
+IsShort (Whole p) = length_of p.body ≤ CHUNK_LIMIT
 IsShort (Piece q) = Unit {0}
 
 -- The number of a piece is 17.
@@ -55,7 +56,7 @@ is_frame_kind n = is_some (sort_numbered n)
 
 -- The most bytes behind a frame's header.
 abbrev pub frame_limit : ℕ
-frame_limit = 1057
+frame_limit = FRAME_LIMIT
 
 -- A piece, where its ranges hold.
 abbrev pub in_ranges : PieceParts → Option PieceParts
@@ -81,7 +82,7 @@ piece_said from to bytes =
 -- What the bytes behind a header say: a piece, or a packet in at most 1,024 bytes.
 abbrev pub frame_said : Node → Node → List ℕ → FrameKind → Option Frame
 frame_said from to body (sorts.Packet kind) =
-    if nat_le (length body) 1024 then option_map (λ b. Whole (record { from = from; to = to; body = b })) (body_at kind body) else None
+    if nat_le (length body) CHUNK_LIMIT then option_map (λ b. Whole (record { from = from; to = to; body = b })) (body_at kind body) else None
 frame_said from to body sorts.Piece = option_map Piece (piece_said from to body)
 
 -- The frame that the bytes say.

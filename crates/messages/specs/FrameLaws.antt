@@ -1,5 +1,6 @@
 -- What the bytes of frames promise.
 use Rattle.std.specs.Prelude.{◌≡◌, ◌≤◌, ℕ, List, [], ◌++◌, Some, IsTrue}
+use Rattle.messages.specs.declared.limits.TheConstants.{CHUNK_LIMIT}
 use Rattle.messages.specs.declared.frame.Frame.{Frame}
 use Rattle.messages.specs.declared.frame.Frame.TheVariants.{Whole, Piece}
 use Rattle.messages.specs.declared.packet.PacketParts.{PacketParts}
@@ -20,7 +21,7 @@ FramesAreRead = (f : Frame) → IsFrame f → IsShort f → (frame_faults (frame
 
 -- The bytes say this frame: as they say a packet that goes whole, or as the spelling of a piece in its ranges.
 abbrev pub SaysFrame : List ℕ → Frame → Type 0
-SaysFrame bytes (Whole p) = Says bytes p × (length_of p.body ≤ 1024)
+SaysFrame bytes (Whole p) = Says bytes p × (length_of p.body ≤ CHUNK_LIMIT)
 SaysFrame bytes (Piece q) = IsTrue (is_piece q) × (piece_spelling q ≡ bytes)
 
 -- Bytes without a fault say a frame.

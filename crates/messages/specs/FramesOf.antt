@@ -1,5 +1,6 @@
 -- The bytes of the frames of a packet, and how many they are.
 use Rattle.std.specs.Prelude.{◌≡◌, ℕ, ◌+◌, ◌*◌, ◌≤◌, List, [], ◌∷◌, length, map, slice_range, All, sum_by}
+use Rattle.messages.specs.declared.limits.TheConstants.{MAX_FRAME, MAX_FRAMES, PIECE_HEAD}
 use Rattle.messages.specs.declared.packet.PacketParts.{PacketParts}
 use Rattle.messages.specs.declared.node.Node.{Node}
 use Rattle.messages.specs.declared.piece.Tag.{Tag}
@@ -27,6 +28,6 @@ spelled_frames p = map frame_spelling (frames_of p)
 
 -- At most 17 frames, of at most 1,073 bytes each, which together have at most 49 bytes each beyond the body.
 pub record AreFew (p : PacketParts) (frames : List (List ℕ)) : Type 0 where
-  pub few : length frames ≤ 17
-  pub short : All (λ frame. length frame ≤ 1073) frames
-  pub total : sum_by (λ frame. length frame) frames ≤ length_of p.body + 49 * length frames
+  pub few : length frames ≤ MAX_FRAMES
+  pub short : All (λ frame. length frame ≤ MAX_FRAME) frames
+  pub total : sum_by (λ frame. length frame) frames ≤ length_of p.body + PIECE_HEAD * length frames

@@ -11,6 +11,7 @@ use Rattle.messages.specs.declared.node.Node.{Node}
 use Rattle.messages.specs.Kinds.{number_of, kind_numbered}
 use Rattle.messages.specs.Nodes.{node_number, node_numbered, is_node}
 use Rattle.fc_base.specs.Layouts.{spelled, numbers}
+use Rattle.messages.specs.declared.limits.TheConstants.{MAX_BODY}
 use Rattle.messages.specs.Ranges.{is_body}
 use Rattle.messages.specs.Bodies.{kind_of, length_of, spelled_body, body_at}
 
@@ -58,7 +59,7 @@ is_packet_kind n = is_some (kind_numbered n)
 
 -- The most bytes that a packet's body has.
 abbrev pub body_limit : ℕ
-body_limit = 16400
+body_limit = MAX_BODY
 
 -- The packet that the fields of a frame say.
 abbrev pub packet_at : List ℕ → Option PacketParts

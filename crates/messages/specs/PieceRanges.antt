@@ -1,5 +1,7 @@
 -- The ranges of a piece.
-use Rattle.std.specs.Prelude.{ℕ, ◌-◌, ◌%◌, Bool, true, false, ◌&&◌, ◌==◌, nat_lt, nat_le, length, min}
+use Rattle.std.specs.Prelude.{ℕ, ◌+◌, ◌-◌, ◌%◌, Bool, true, false, ◌&&◌, ◌==◌, nat_lt, nat_le, length, min}
+use Rattle.fc_base.specs.declared.limits.TheConstants.{MAX_SERVERS}
+use Rattle.messages.specs.declared.limits.TheConstants.{CHUNK_LIMIT, MAX_BODY}
 use Rattle.messages.specs.declared.kind.PacketKind.{PacketKind}
 use Rattle.messages.specs.declared.kind.PacketKind.TheVariants as kinds
 use Rattle.messages.specs.declared.piece.Tag.{Tag}
@@ -23,13 +25,13 @@ is_number _ number = number == 0
 
 -- The server and the job of a tag are those of the state, else 0.
 abbrev pub is_owner : PacketKind → ℕ → ℕ → Bool
-is_owner kinds.State server job = nat_lt server 8 && is_job job
-is_owner kinds.Saved server job = nat_lt server 8 && is_job job
+is_owner kinds.State server job = nat_lt server MAX_SERVERS && is_job job
+is_owner kinds.Saved server job = nat_lt server MAX_SERVERS && is_job job
 is_owner _ server job = (server == 0) && (job == 0)
 
 -- A body that is cut has 1,025 to 16,400 bytes.
 abbrev pub is_cut_length : ℕ → Bool
-is_cut_length len = nat_le 1025 len && nat_le len 16400
+is_cut_length len = nat_le (CHUNK_LIMIT + 1) len && nat_le len MAX_BODY
 
 -- The ranges of a tag.
 abbrev pub is_tag_in_range : Tag → Bool
@@ -39,7 +41,7 @@ is_tag_in_range t =
 
 -- A place is a multiple of 1,024 below the length, and what stands there goes to the next place or to the end.
 abbrev pub is_place : ℕ → ℕ → ℕ → Bool
-is_place len at count = (at % 1024 == 0) && nat_lt at len && (count == min 1024 (len - at))
+is_place len at count = (at % CHUNK_LIMIT == 0) && nat_lt at len && (count == min CHUNK_LIMIT (len - at))
 
 -- The ranges of a piece.
 abbrev pub is_piece : PieceParts → Bool

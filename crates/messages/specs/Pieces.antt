@@ -1,5 +1,6 @@
 -- The pieces of a packet's body, and the frames of a packet.
 use Rattle.std.specs.Prelude.{ℕ, zero, suc, ◌+◌, Bool, nat_lt, if◌then◌else◌, List, [], ◌∷◌, take, drop, map}
+use Rattle.messages.specs.declared.limits.TheConstants.{CHUNK_LIMIT}
 use Rattle.messages.specs.declared.body.Body.{Body}
 use Rattle.messages.specs.declared.body.Body.TheVariants.{Jobs, State, Verify, Saved}
 use Rattle.messages.specs.declared.node.Node.{Node}
@@ -12,7 +13,7 @@ use Rattle.messages.specs.Bodies.{kind_of, length_of, spelled_body}
 
 -- A body of more than 1,024 bytes is cut.
 abbrev pub is_cut : Body → Bool
-is_cut b = nat_lt 1024 (length_of b)
+is_cut b = nat_lt CHUNK_LIMIT (length_of b)
 
 -- The run, the attempt, the server and the job that the pieces of a body name: a body that is never
 -- long enough to be cut names none.
@@ -49,14 +50,14 @@ tag_of b = tag_in b (length_of b)
 -- The places of a body of this length: the multiples of 1,024 below it.
 abbrev pub places_from : ℕ → ℕ → ℕ → List ℕ
 places_from zero at len = []
-places_from (suc n) at len = if nat_lt at len then at ∷ places_from n (at + 1024) len else []
+places_from (suc n) at len = if nat_lt at len then at ∷ places_from n (at + CHUNK_LIMIT) len else []
 
 abbrev pub places : ℕ → List ℕ
 places len = places_from len 0 len
 
 -- The bytes of a body at a place.
 abbrev pub bytes_at : List ℕ → ℕ → List ℕ
-bytes_at bytes at = take 1024 (drop at bytes)
+bytes_at bytes at = take CHUNK_LIMIT (drop at bytes)
 
 -- The piece at a place of these bytes.
 abbrev pub cut_at : Node → Node → Tag → List ℕ → ℕ → PieceParts

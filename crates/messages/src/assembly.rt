@@ -6,6 +6,7 @@ ghost use Rattle.messages.specs.Bodies.{body_at};
 ghost use Rattle.messages.specs.Tags.{is_tag};
 ghost use Rattle.messages.specs.Assemblies.{filled_of, look, of_tag, taken, without, newest, IsKept, LookAnswers};
 
+use crate::limits::MAX_TAGS;
 use crate::packet::{Packet, PacketParts};
 use crate::piece::{Piece, Tag};
 use crate::places::{Filled, Places, is_completed, join};
@@ -13,9 +14,6 @@ use crate::reading::body_of;
 use fc_base::Fault;
 use std::alloc::{AllocError, Global};
 use std::marker::Model;
-
-/// How many tags are kept.
-const TAGS: usize = 128;
 
 /// A tag, and what has come of its body.
 #[derive(Debug, Drop)]
@@ -41,13 +39,14 @@ pub struct Assembly {
 
 impl Model for Assembly {
     ghost use Rattle.std.specs.Prelude.{List, length, ◌≤◌};
+    ghost use Rattle.messages.specs.declared.limits.TheConstants.{MAX_TAGS};
     ghost use Rattle.messages.specs.Assemblies.{Row};
 
     ghost Value = { List Row };
 
     ghost view = { λ a. a.rows.items };
 
-    ghost invariant = { λ a. length a.rows.items ≤ 128 };
+    ghost invariant = { λ a. length a.rows.items ≤ MAX_TAGS };
 }
 
 impl Assembly {
@@ -130,7 +129,7 @@ impl Assembly {
             tag: piece.tag(),
             places,
         })?;
-        if self.rows.len() > TAGS {
+        if self.rows.len() > MAX_TAGS {
             let _ = self.rows.remove(0);
         }
         Ok(())

@@ -1,12 +1,10 @@
 //! A part of a body's bytes.
 
 ghost use Rattle.std.specs.Prelude.{◌≡◌, ◌≤◌, length, IfOk};
+ghost use Rattle.messages.specs.declared.limits.TheConstants.{CHUNK_LIMIT};
 
 use std::alloc::{AllocError, Global};
 use std::marker::Model;
-
-/// How many bytes of a body go into one frame.
-pub const CHUNK_LIMIT: usize = 1_024;
 
 /// Bytes of a body that go into one frame: at most 1,024 of them.
 #[derive(Debug, Drop)]
@@ -16,18 +14,19 @@ pub struct Chunk {
 
 impl Model for Chunk {
     ghost use Rattle.std.specs.Prelude.{List, ℕ, ◌≤◌, length};
+    ghost use Rattle.messages.specs.declared.limits.TheConstants.{CHUNK_LIMIT};
 
     ghost Value = { List ℕ };
 
     ghost view = { λ c. c.bytes.items };
 
-    ghost invariant = { λ c. length c.bytes.items ≤ 1024 };
+    ghost invariant = { λ c. length c.bytes.items ≤ CHUNK_LIMIT };
 }
 
 impl Chunk {
     /// A copy of these bytes.
     pub fn copied(alloc: Global, bytes: &[u8]) -> Result<Chunk, AllocError>
-        requires { length bytes.now ≤ 1024 }
+        requires { length bytes.now ≤ CHUNK_LIMIT }
         ensures { IfOk result (λ chunk. chunk ≡ bytes.now) }
     {
         Ok(Chunk {
@@ -38,7 +37,7 @@ impl Chunk {
     /// The bytes.
     pub fn as_slice(&self) -> &[u8]
         ensures value { result.now ≡ self.now }
-        ensures range { length result.now ≤ 1024 }
+        ensures range { length result.now ≤ CHUNK_LIMIT }
     {
         &self.bytes
     }

@@ -4,9 +4,9 @@ ghost use Rattle.std.specs.Prelude.{◌≡◌, ℕ, ◌+◌, ◌≤◌, ◌∷�
 ghost use Rattle.messages.specs.Pieces.{bytes_at, tag_in, places};
 ghost use Rattle.messages.specs.FramesOf.{spelled_piece, spelled_frames, AreFew};
 
-use crate::chunk::CHUNK_LIMIT;
+use crate::limits::{CHUNK_LIMIT, MAX_BODY, PIECE_HEAD};
 use crate::packet::Packet;
-use crate::writing::{HEADER, PIECE_HEAD, encode, put_piece};
+use crate::writing::{HEADER, encode, put_piece};
 use std::alloc::{AllocError, Global};
 use std::marker::Model;
 
@@ -123,7 +123,7 @@ fn one(alloc: Global, bytes: Vec<u8>) -> Result<Frames, AllocError>
 
 /// The pieces of a packet whose body has these bytes.
 fn cut(alloc: Global, packet: &Packet, body: &[u8]) -> Result<Frames, AllocError>
-    requires { length body.now ≤ 16400 }
+    requires { length body.now ≤ MAX_BODY }
     ensures { IfOk result (λ frames. frames ≡ map (spelled_piece packet.now.from packet.now.to (tag_in packet.now.body (length body.now)) body.now) (places (length body.now))) }
 {
     let count = body.len().div_ceil(CHUNK_LIMIT);
@@ -141,7 +141,7 @@ fn cut(alloc: Global, packet: &Packet, body: &[u8]) -> Result<Frames, AllocError
 /// Appends the piece at a place.
 fn put_chunk(out: &mut Vec<u8>, packet: &Packet, body: &[u8], at: usize) -> Result<(), AllocError>
     requires place { at ≤ length body.now }
-    requires long { length body.now ≤ 16400 }
+    requires long { length body.now ≤ MAX_BODY }
     ensures { OnOk result (out.new.items ≡ out.old.items ++ spelled_piece packet.now.from packet.now.to (tag_in packet.now.body (length body.now)) body.now at) }
 {
     let tag = packet.body().tag(body.len() as u32);
@@ -153,7 +153,7 @@ fn put_chunk(out: &mut Vec<u8>, packet: &Packet, body: &[u8], at: usize) -> Resu
 fn chunk_at(body: &[u8], at: usize) -> &[u8]
     requires { at ≤ length body.now }
     ensures value { result.now ≡ bytes_at body.now at }
-    ensures len { length result.now ≤ 1024 }
+    ensures len { length result.now ≤ CHUNK_LIMIT }
 {
     let (_, rest) = body.split_at(at);
     &rest[..CHUNK_LIMIT.min(rest.len())]

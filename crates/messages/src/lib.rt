@@ -8,6 +8,7 @@ mod frame;
 mod frames;
 mod kind;
 mod law;
+mod limits;
 mod node;
 mod packet;
 mod piece;
@@ -21,11 +22,15 @@ mod writing;
 
 pub use assembly::Assembly;
 pub use body::Body;
-pub use chunk::{CHUNK_LIMIT, Chunk};
+pub use chunk::Chunk;
 pub use frame::{Frame, FrameKind};
 pub use frames::{Frames, frames_of};
 pub use kind::PacketKind;
 pub use law::{lengths_are_bounded, no_spelling_begins_another, one_spelling};
+pub use limits::{
+    CHUNK_LIMIT, CLIENT_NUMBER, MAX_BODY, MAX_FRAME, MAX_FRAMED, MAX_FRAMES, MAX_NODES,
+    MIRROR_NUMBER,
+};
 pub use node::Node;
 pub use packet::{Packet, PacketParts};
 pub use piece::{Piece, PieceParts, Tag};

@@ -3,7 +3,8 @@
 ghost use Rattle.std.specs.Prelude.{◌≡◌};
 ghost use Rattle.messages.specs.Nodes.{node_number, node_numbered, is_node, is_client, is_mirror, is_server};
 
-use fc_base::ServerNo;
+use crate::limits::{CLIENT_NUMBER, MIRROR_NUMBER};
+use fc_base::{MAX_SERVERS, ServerNo};
 
 /// One end of a packet's way. Frames name a server by its number, 0 to 7, the client by 8, and the
 /// mirror by 9.
@@ -14,12 +15,6 @@ pub enum Node {
     Mirror,
 }
 
-/// The client's number.
-const CLIENT: u32 = 8;
-
-/// The mirror's number.
-const MIRROR: u32 = 9;
-
 impl Node {
     /// The node's number in a frame.
     pub fn number(self) -> u32
@@ -27,8 +22,8 @@ impl Node {
     {
         match self {
             Node::Server(server) => server.0,
-            Node::Client => CLIENT,
-            Node::Mirror => MIRROR,
+            Node::Client => CLIENT_NUMBER,
+            Node::Mirror => MIRROR_NUMBER,
         }
     }
 
@@ -36,11 +31,11 @@ impl Node {
     pub fn numbered(number: u32) -> Option<Node>
         ensures { result ≡ node_numbered number }
     {
-        if number < CLIENT {
+        if number < MAX_SERVERS {
             Some(Node::Server(ServerNo(number)))
-        } else if number == CLIENT {
+        } else if number == CLIENT_NUMBER {
             Some(Node::Client)
-        } else if number == MIRROR {
+        } else if number == MIRROR_NUMBER {
             Some(Node::Mirror)
         } else {
             None
@@ -52,7 +47,7 @@ impl Node {
         ensures { result ≡ is_node self }
     {
         match self {
-            Node::Server(server) => server.0 < CLIENT,
+            Node::Server(server) => server.0 < MAX_SERVERS,
             Node::Client | Node::Mirror => true,
         }
     }

@@ -3,18 +3,13 @@
 ghost use Rattle.std.specs.Prelude.{◌≡◌, ◌≤◌, length, IsTrue, Ok, Err, if◌then◌else◌};
 ghost use Rattle.messages.specs.PieceRanges.{is_long_kind, is_number, is_owner, is_cut_length, is_place};
 
-use crate::chunk::{CHUNK_LIMIT, Chunk};
+use crate::chunk::Chunk;
 use crate::kind::PacketKind;
+use crate::limits::{CHUNK_LIMIT, MAX_BODY};
 use crate::node::Node;
 use crate::ranges::{is_attempt, is_job, is_run};
-use fc_base::{Attempt, JobNo, RunNo, ServerNo};
+use fc_base::{Attempt, JobNo, MAX_SERVERS, RunNo, ServerNo};
 use std::marker::Model;
-
-/// How many servers there may be.
-const SERVERS_LIMIT: u32 = 8;
-
-/// How many bytes a body may have.
-const BODY_LIMIT: u32 = 16_400;
 
 /// What the pieces of one body have in common. The number is the attempt of a Verify or a Saved, else
 /// 0; server and job are those of the state in a State or a Saved, else 0; the length is that of the
@@ -81,7 +76,7 @@ fn is_owner(whole: PacketKind, server: ServerNo, job: JobNo) -> bool
     ensures { result ≡ is_owner whole server job }
 {
     match whole {
-        PacketKind::State | PacketKind::Saved => server.0 < SERVERS_LIMIT && is_job(job),
+        PacketKind::State | PacketKind::Saved => server.0 < MAX_SERVERS && is_job(job),
         _ => server.0 == 0 && job.0 == 0,
     }
 }
@@ -89,7 +84,7 @@ fn is_owner(whole: PacketKind, server: ServerNo, job: JobNo) -> bool
 fn is_cut_length(length: u32) -> bool
     ensures { result ≡ is_cut_length length }
 {
-    CHUNK_LIMIT as u32 + 1 <= length && length <= BODY_LIMIT
+    CHUNK_LIMIT as u32 + 1 <= length && length <= MAX_BODY
 }
 
 /// Whether so many bytes may stand at this place of a body of this length.
@@ -174,7 +169,7 @@ impl Piece {
     /// How many bytes the whole body has.
     pub fn length(&self) -> u32
         ensures value { result ≡ self.now.tag.length }
-        ensures range { result ≤ 16400 }
+        ensures range { result ≤ MAX_BODY }
     {
         self.parts.tag.length
     }
@@ -189,7 +184,7 @@ impl Piece {
     /// Its bytes of the body.
     pub fn bytes(&self) -> &[u8]
         ensures value { result.now ≡ self.now.bytes }
-        ensures range { length result.now ≤ 1024 }
+        ensures range { length result.now ≤ CHUNK_LIMIT }
     {
         self.parts.bytes.as_slice()
     }

@@ -4,7 +4,8 @@ ghost use Rattle.std.specs.Prelude.{◌≡◌, ◌∷◌, [], None, Some, IfOk, 
 ghost use Rattle.messages.specs.Pieces.{places};
 ghost use Rattle.messages.specs.Assemblies.{filled_at, fill, joined};
 
-use crate::chunk::{CHUNK_LIMIT, Chunk};
+use crate::chunk::Chunk;
+use crate::limits::CHUNK_LIMIT;
 use crate::piece::Piece;
 use std::alloc::{AllocError, Global};
 use std::marker::Model;

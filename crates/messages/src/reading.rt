@@ -19,6 +19,7 @@ mod texts;
 use crate::body::Body;
 use crate::kind::PacketKind;
 use crate::law::one_spelling;
+use crate::limits::MAX_BODY;
 use crate::node::Node;
 use crate::packet::{Packet, PacketParts};
 use crate::writing::{HEADER, VERSION};
@@ -26,9 +27,6 @@ use fc_base::{Fault, split_u8, split_u32};
 pub use frames::decode_frame;
 pub use look::{FrameLook, look_at};
 use std::alloc::Global;
-
-/// How many bytes a body may have.
-const BODY_LIMIT: u32 = 16_400;
 
 /// The packet that a frame says, all of the bytes.
 ///
@@ -140,7 +138,7 @@ fn header_of(bytes: &[u8]) -> Result<Header<PacketKind>, Fault>
 {
     let fields = fields_of(bytes)?;
     let kind = PacketKind::numbered(fields.kind).ok_or(Fault::BadKind)?;
-    let ends = ends_of(fields, BODY_LIMIT, bytes.len())?;
+    let ends = ends_of(fields, MAX_BODY, bytes.len())?;
     Ok(Header { kind, ends })
 }
 

@@ -5,6 +5,7 @@ ghost use Rattle.std.specs.Int.{w8, w32};
 ghost use Rattle.fc_base.specs.Report.{is_report};
 ghost use Rattle.messages.specs.declared.body.Body.TheVariants.{Jobs, State, Verify, Saved, Report, Refused, Copy};
 ghost use Rattle.fc_base.specs.Layouts.{bytes_of, spelled, spelled_blocks};
+ghost use Rattle.messages.specs.declared.limits.TheConstants.{MAX_BODY};
 ghost use Rattle.messages.specs.Kinds.{number_of};
 ghost use Rattle.messages.specs.Nodes.{node_number};
 ghost use Rattle.messages.specs.Bodies.{spelled_body, length_of, end_number, end_at};
@@ -20,7 +21,7 @@ use crate::refusal::Refusal;
 use crate::text::Text;
 use fc_base::{Attempt, JobNo, ReportEnd, ReportParts, RunNo, put_u8, put_u32, put_u64};
 pub use pieces::encode_frame;
-pub(crate) use pieces::{PIECE_HEAD, put_piece};
+pub(crate) use pieces::put_piece;
 use std::alloc::{AllocError, Global};
 use verify_state::VerifyState;
 
@@ -48,7 +49,7 @@ pub fn encode(alloc: Global, packet: &Packet) -> Result<Vec<u8>, AllocError>
 /// The frame of a packet, but for the length, which is 0.
 fn framed(alloc: Global, packet: &Packet) -> Result<Vec<u8>, AllocError>
     ensures bytes { IfOk result (λ bytes. bytes.items ≡ header_of packet.now.from packet.now.to packet.now.body 0 ++ spelled_body packet.now.body) }
-    ensures len { IfOk result (λ bytes. (length bytes.items ≡ 16 + length_of packet.now.body) × (length_of packet.now.body ≤ 16400)) }
+    ensures len { IfOk result (λ bytes. (length bytes.items ≡ 16 + length_of packet.now.body) × (length_of packet.now.body ≤ MAX_BODY)) }
 {
     verify_state::one_spelling();
     packet.keeps_its_ranges();

@@ -9,9 +9,10 @@ ghost use Rattle.messages.specs.FrameLaws.{SaysFrame};
 ghost use Rattle.messages.specs.Headers.{HeaderIs, are_nodes};
 ghost use Rattle.messages.specs.PieceNumbers.{fields_numbers, tag_said};
 
-use crate::chunk::{CHUNK_LIMIT, Chunk};
+use crate::chunk::Chunk;
 use crate::frame::{Frame, FrameKind};
 use crate::kind::PacketKind;
+use crate::limits::{CHUNK_LIMIT, FRAME_LIMIT};
 use crate::packet::{Packet, PacketParts};
 use crate::piece::{Piece, PieceParts, Tag, is_place};
 use crate::piece_law::only_frames_are_read;
@@ -19,9 +20,6 @@ use crate::reading::{Ends, Header, body_of, ends_of, fields_of};
 use crate::writing::HEADER;
 use fc_base::{Fault, JobNo, RunNo, ServerNo, split_u8, split_u32, split_u64};
 use std::alloc::Global;
-
-/// How many bytes a frame may have behind its header.
-const FRAME_LIMIT: u32 = 1_057;
 
 /// How many bytes the numbers of a piece take.
 const NUMBERS: usize = 33;

@@ -103,7 +103,7 @@ fn end_numbered(number: u8, at: u32) -> Option<ReportEnd>
 
 /// So many blocks, from the front of the bytes.
 fn blocks_of(count: u32, bytes: &[u8]) -> Blocks
-    requires few { count ≤ 32 }
+    requires few { count ≤ MAX_LISTED }
     requires there { 4 * count ≤ length bytes.now }
     ensures { result ≡ blocks_in count bytes.now }
 {

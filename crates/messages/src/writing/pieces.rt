@@ -3,6 +3,7 @@
 ghost use Rattle.std.specs.Prelude.{◌≡◌, ℕ, ◌+◌, ◌≤◌, ◌∷◌, [], ◌++◌, length, OnOk, IfOk};
 ghost use Rattle.std.specs.Int.{w32};
 ghost use Rattle.fc_base.specs.Layouts.{spelled};
+ghost use Rattle.messages.specs.declared.limits.TheConstants.{CHUNK_LIMIT, MAX_FRAME};
 ghost use Rattle.messages.specs.Nodes.{node_number};
 ghost use Rattle.messages.specs.Packets.{header};
 ghost use Rattle.messages.specs.FrameBytes.{piece_layout, piece_spelling, frame_spelling, IsShort};
@@ -15,9 +16,6 @@ use crate::writing::{VERSION, encode};
 use fc_base::{put_u8, put_u32, put_u64};
 use std::alloc::{AllocError, Global};
 
-/// How many bytes a piece has before its part of the body: a header of 16, and 33 of its numbers.
-pub(crate) const PIECE_HEAD: usize = 49;
-
 /// How many bytes the numbers of a piece take.
 const NUMBERS: u32 = 33;
 
@@ -26,7 +24,7 @@ const NUMBERS: u32 = 33;
 pub fn encode_frame(alloc: Global, frame: &Frame) -> Result<Vec<u8>, AllocError>
     requires { IsShort frame.now }
     ensures spelling { IfOk result (λ bytes. bytes.items ≡ frame_spelling frame.now) }
-    ensures len { IfOk result (λ bytes. length bytes.items ≤ 1073) }
+    ensures len { IfOk result (λ bytes. length bytes.items ≤ MAX_FRAME) }
 {
     match frame {
         Frame::Whole(packet) => encode(alloc, packet),
@@ -54,7 +52,7 @@ pub(crate) fn put_piece(
     at: u32,
     bytes: &[u8],
 ) -> Result<(), AllocError>
-    requires { length bytes.now ≤ 1024 }
+    requires { length bytes.now ≤ CHUNK_LIMIT }
     ensures { OnOk result (out.new.items ≡ out.old.items ++ piece_spelling (record { from = from; to = to; tag = tag; at = at; bytes = bytes.now })) }
 {
     put_head(out, from, to, NUMBERS + bytes.len() as u32)?;

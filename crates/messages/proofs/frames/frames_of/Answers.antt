@@ -1,4 +1,5 @@
 use Rattle.std.proofs.Common.{◌≡◌, ◌<◌, List, ℕ, length, ap, subst, arith, ◌∙◌, IfOk}
+use Rattle.messages.specs.declared.limits.TheConstants.{CHUNK_LIMIT}
 use Rattle.messages.specs.Bodies.{length_of}
 use Rattle.messages.proofs.BodyLemmas.{length-spelled_body}
 use Rattle.messages.proofs.FrameLemmas.{length_fits}
@@ -15,7 +16,7 @@ pub returns-else-as_slice-clause-spelling : goal.returns-else-as_slice-clause-sp
 returns-else-as_slice-clause-spelling c =
     let p = c.args.packet.now in
     let is = body_in p c.deref.result.now c.split_at.result.1.now (c.deref.ensures.value ∙ c.in_ok-bytes.ensures.spelling) c.split_at.ensures.back in
-    let long : 1024 < length_of p.body = omega (arith, c.if-as_slice.false, c.in_ok-bytes.ensures.len, ap (λ (bs : List ℕ). length bs) c.as_slice.ensures.value) in
+    let long : CHUNK_LIMIT < length_of p.body = omega (arith, c.if-as_slice.false, c.in_ok-bytes.ensures.len, ap (λ (bs : List ℕ). length bs) c.as_slice.ensures.value) in
     subst (λ (fs : List (List ℕ)). IfOk c.cut.result (λ frames. frames ≡ fs)) (cut_frames p c.split_at.result.1.now is long) c.cut.ensures
 
 pub returns-else-as_slice-clause-few : goal.returns-else-as_slice-clause-few
