@@ -5,6 +5,7 @@ use Rattle.std.specs.Option.{option_map}
 use Rattle.std.proofs.lemmas.Bool.{and_parts}
 use Rattle.fc_base.specs.declared.numbers.Key.{Key}
 use Rattle.fc_base.specs.Keys.{is_same_key}
+use Rattle.state_table.specs.declared.kept.TheConstants.{KEPT_LIMIT}
 use Rattle.verify_state.specs.State.{State}
 use Rattle.state_table.specs.Kept.{kept_of, has_distinct_keys}
 use Rattle.state_table.specs.Table.{place_of, IsTable}
@@ -94,7 +95,7 @@ last_alone (k ∷ ss) s h =
     rw other (last_alone ss s p.1)
 
 -- A table with one more state, and the one before it.
-pub table_push : (ss : List State) (s : State) (index new : Key → Option ℕ) → IsTable ss index → kept_of s.key ss ≡ None → length ss < 1024
+pub table_push : (ss : List State) (s : State) (index new : Key → Option ℕ) → IsTable ss index → kept_of s.key ss ≡ None → length ss < KEPT_LIMIT
     → ((q : Key) → new q ≡ cond (is_same_key s.key q) (Some (length ss)) (index q)) → IsTable (ss ++ s ∷ []) new
 table_push ss s index new t none room put = record {
   placed = λ q. put q ∙ ap (cond (is_same_key s.key q) (Some (length ss))) (t.placed q) ∙ sym (placed_last q ss s none);
@@ -113,5 +114,5 @@ table_pop ss s index new t out =
     record {
       placed = λ q. out q ∙ ap (cond (is_same_key s.key q) None) (t.placed q ∙ placed_last q ss s none) ∙ taken_out q ss s none (is_same_key s.key q) refl;
       distinct = distinct_front ss (s ∷ []) t.distinct;
-      few = let e : length (ss ++ s ∷ []) ≡ length ss + 1 = length-append ss (s ∷ []) in let f : length (ss ++ s ∷ []) ≤ 1024 = t.few in omega (arith, e, f);
+      few = let e : length (ss ++ s ∷ []) ≡ length ss + 1 = length-append ss (s ∷ []) in let f : length (ss ++ s ∷ []) ≤ KEPT_LIMIT = t.few in omega (arith, e, f);
     }

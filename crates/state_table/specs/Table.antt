@@ -3,6 +3,7 @@ use Rattle.std.specs.Prelude.{◌≡◌, ◌≤◌, ℕ, suc, List, [], ◌∷�
 use Rattle.std.specs.Option.{option_map}
 use Rattle.fc_base.specs.declared.numbers.Key.{Key}
 use Rattle.fc_base.specs.Keys.{is_same_key}
+use Rattle.state_table.specs.declared.kept.TheConstants.{KEPT_LIMIT}
 use Rattle.verify_state.specs.State.{State}
 use Rattle.state_table.specs.Kept.{has_distinct_keys}
 
@@ -16,4 +17,4 @@ place_of key (state ∷ states) = if is_same_key key state.key then Some 0 else 
 pub record IsTable (states : List State) (index : Key → Option ℕ) : Type 0 where
   pub placed : (key : Key) → index key ≡ place_of key states
   pub distinct : IsTrue (has_distinct_keys states)
-  pub few : length states ≤ 1024
+  pub few : length states ≤ KEPT_LIMIT

@@ -3,6 +3,7 @@
 ghost use Rattle.std.specs.Prelude.{◌≡◌, ◌≤◌, ◌++◌, OnErr, OnOk, IfOk};
 ghost use Rattle.std.specs.List.{flat_map};
 ghost use Rattle.std.specs.Option.{option_map};
+ghost use Rattle.state_table.specs.declared.kept.TheConstants.{KEPT_LIMIT};
 ghost use Rattle.verify_state.specs.Spelling.{spelling as state_bytes};
 ghost use Rattle.state_table.specs.Counted.{counted_bytes};
 ghost use Rattle.state_table.specs.Reading.{first_state, HasFirst, ReadsStates};
@@ -38,7 +39,7 @@ fn put_state(out: &mut Vec<u8>, state: &VerifyState) -> Result<(), AllocError>
 /// So many states and nothing behind them, `None` where the bytes aren't that, or two states are of one
 /// key. Memory is asked for behind a first sound state alone, and not by their number.
 pub fn states_in(alloc: Global, count: u32, bytes: &[u8]) -> Result<Option<Kept>, AllocError>
-    requires { count ≤ 1024 }
+    requires { count ≤ KEPT_LIMIT }
     ensures states { IfOk result (ReadsStates count bytes.now) }
     ensures memory { OnErr result (HasFirst count bytes.now) }
 {

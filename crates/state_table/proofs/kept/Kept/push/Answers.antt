@@ -2,6 +2,7 @@ use Rattle.std.proofs.Common.{rules, ◌≡◌, ◌∙◌, ◌<◌, ap, sym, sub
 use Rattle.std.specs.HashMap.{get}
 use Rattle.fc_base.specs.declared.numbers.Key.{Key}
 use Rattle.fc_base.specs.Keys.{is_same_key}
+use Rattle.state_table.specs.declared.kept.TheConstants.{KEPT_LIMIT}
 use Rattle.state_table.specs.Kept.{kept_of}
 use Rattle.state_table.specs.Table.{IsTable}
 use Rattle.state_table.proofs.PlaceLemmas.{table_push}
@@ -15,7 +16,7 @@ invariant_of-self-in-Ok c =
     subst (λ states. IsTable states new) (sym c.in_ok-push.ensures.items)
     (table_push c.self.inside.states.items c.args.state index new c.self.invariant
     (ap (kept_of c.args.state.key) c.self.view_is ∙ c.requires.new)
-    (subst (λ states. length states < 1024) (sym c.self.view_is) c.requires.room)
+    (subst (λ states. length states < KEPT_LIMIT) (sym c.self.view_is) c.requires.room)
     (λ q.
     c.in-Ok.ensures.updates.0 q
     ∙ ap (λ (key : Key). cond (is_same_key key q) (Some c.len-place.result) (index q)) c.key.ensures.value
