@@ -5,6 +5,7 @@ use Rattle.std.specs.Option.{ForSome}
 use Rattle.std.proofs.lemmas.Bool.{and_right}
 use Rattle.std.proofs.lemmas.List.{length_push, length-set, get_or-set_same, get_or-set_other, get_or-replicate}
 use Rattle.std.proofs.lemmas.List.Elements.{All-nil, All-cons, All-push, All-weaker}
+use Rattle.messages.specs.declared.limits.TheConstants.{MAX_NODES}
 use Rattle.messages.specs.declared.node.Node.{Node}
 use Rattle.messages.specs.Nodes.{node_number, is_node}
 use Rattle.hub.specs.declared.line.Line.{Line}
@@ -23,7 +24,7 @@ long_with lists node list = elim (is_node node) as (λ b. length (if b then slic
 ]
 
 -- The list that was put there.
-list_same : (lists : List (List ℕ)) (node : Node) (list : List ℕ) → length lists ≡ 10 → is_node node ≡ true → list_of (with_list lists node list) node ≡ list
+list_same : (lists : List (List ℕ)) (node : Node) (list : List ℕ) → length lists ≡ MAX_NODES → is_node node ≡ true → list_of (with_list lists node list) node ≡ list
 list_same lists node list long e =
     let below : node_number node < length lists = omega (arith, long, number_below node e) in
     rw e (get_or-set_same lists (node_number node) list [] below)
@@ -87,7 +88,7 @@ kept_sender frames journal lists node at sent kept = record {
   waiting = λ other. kept.waiting other ∙ sym (untouched frames (record { node = node; at = at; taken = None; sent = sent }) journal other (λ i. none_taken (is_same_node node other)));
 }
 
-list_took : (lists : List (List ℕ)) (node : Node) (n : ℕ) → length lists ≡ 10 → (valid : Bool) → is_node node ≡ valid → list_of (without lists node (Some n)) node ≡ filter (λ k. not (n == k)) (list_of lists node)
+list_took : (lists : List (List ℕ)) (node : Node) (n : ℕ) → length lists ≡ MAX_NODES → (valid : Bool) → is_node node ≡ valid → list_of (without lists node (Some n)) node ≡ filter (λ k. not (n == k)) (list_of lists node)
 list_took lists node n long true e = list_same lists node (filter (λ k. not (n == k)) (list_of lists node)) long e
 list_took lists node n long false e = rw e refl
 
@@ -115,12 +116,12 @@ kept_taker frames journal lists node at n sent below kept = record {
   waiting = λ other. taker_by frames journal lists node at n sent other (is_same_node node other) (is_node node) refl refl kept;
 }
 
-none_at : (node : Node) (b : Bool) → is_node node ≡ b → list_of (replicate 10 []) node ≡ []
-none_at node true e = rw e (get_or-replicate 10 (node_number node) [] [] (number_below node e))
+none_at : (node : Node) (b : Bool) → is_node node ≡ b → list_of (replicate MAX_NODES []) node ≡ []
+none_at node true e = rw e (get_or-replicate MAX_NODES (node_number node) [] [] (number_below node e))
 none_at node false e = rw e refl
 
 -- Nothing was sent yet.
-pub kept_none : (lists : List (List ℕ)) → lists ≡ replicate 10 [] → IsKept empty lists
+pub kept_none : (lists : List (List ℕ)) → lists ≡ replicate MAX_NODES [] → IsKept empty lists
 kept_none lists e = record {
   spelled = All-nil IsSpelled;
   taken = All-nil (IsTakenBelow 0);

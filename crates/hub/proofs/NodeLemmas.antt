@@ -2,13 +2,15 @@
 use Rattle.std.proofs.Common.{◌≡◌, refl, ap, ℕ, ◌<◌, ◌≢◌, Bool, true, false, arith, IsTrue, Some, None}
 use Rattle.std.specs.Prelude.{if◌then◌else◌}
 use Rattle.std.proofs.lemmas.Bool.Decides.{nat_tests}
+use Rattle.fc_base.specs.declared.limits.TheConstants.{MAX_SERVERS}
+use Rattle.messages.specs.declared.limits.TheConstants.{MAX_NODES}
 use Rattle.messages.specs.declared.node.Node.{Node}
 use Rattle.messages.specs.declared.node.Node.TheVariants.{Server, Client, Mirror}
 use Rattle.messages.specs.Nodes.{node_number, is_node}
 use Rattle.hub.specs.Waiting.{is_same_node}
 
-pub number_below : (node : Node) → IsTrue (is_node node) → node_number node < 10
-number_below (Server s) h = let lt : s < 8 = grind (arith, nat_tests) in omega arith
+pub number_below : (node : Node) → IsTrue (is_node node) → node_number node < MAX_NODES
+number_below (Server s) h = let lt : s < MAX_SERVERS = grind (arith, nat_tests) in omega arith
 number_below Client h = omega arith
 number_below Mirror h = omega arith
 
@@ -31,12 +33,12 @@ is_same_as_itself Mirror = refl
 -- Other nodes have other numbers.
 pub other_number : (a b : Node) → IsTrue (is_node a) → IsTrue (is_node b) → is_same_node a b ≡ false → node_number a ≢ node_number b
 other_number (Server s) (Server r) ha hb e = grind (arith, nat_tests)
-other_number (Server s) Client ha hb e = let lt : s < 8 = grind (arith, nat_tests) in omega arith
-other_number (Server s) Mirror ha hb e = let lt : s < 8 = grind (arith, nat_tests) in omega arith
-other_number Client (Server r) ha hb e = let lt : r < 8 = grind (arith, nat_tests) in omega arith
+other_number (Server s) Client ha hb e = let lt : s < MAX_SERVERS = grind (arith, nat_tests) in omega arith
+other_number (Server s) Mirror ha hb e = let lt : s < MAX_SERVERS = grind (arith, nat_tests) in omega arith
+other_number Client (Server r) ha hb e = let lt : r < MAX_SERVERS = grind (arith, nat_tests) in omega arith
 other_number Client Client ha hb e = cc
 other_number Client Mirror ha hb e = omega arith
-other_number Mirror (Server r) ha hb e = let lt : r < 8 = grind (arith, nat_tests) in omega arith
+other_number Mirror (Server r) ha hb e = let lt : r < MAX_SERVERS = grind (arith, nat_tests) in omega arith
 other_number Mirror Client ha hb e = omega arith
 other_number Mirror Mirror ha hb e = cc
 

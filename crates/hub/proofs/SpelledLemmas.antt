@@ -6,7 +6,9 @@ use Rattle.std.proofs.lemmas.List.Elements.{All-nil, All-cons, All-map, All-weak
 use Rattle.std.proofs.lemmas.Bool.{and_parts, eq-eqb}
 use Rattle.std.proofs.lemmas.Bool.Decides.{nat_tests}
 use Rattle.std.proofs.lemmas.List.{length-append, length-take, length-drop}
+use Rattle.fc_base.specs.declared.limits.TheConstants.{MAX_TEXT}
 use Rattle.fc_base.specs.Layouts.{bytes_of}
+use Rattle.messages.specs.declared.limits.TheConstants.{CHUNK_LIMIT, MAX_BODY}
 use Rattle.messages.specs.declared.packet.PacketParts.{PacketParts}
 use Rattle.messages.specs.declared.frame.Frame.TheVariants.{Whole, Piece}
 use Rattle.messages.specs.declared.body.Body.{Body}
@@ -24,22 +26,22 @@ use Rattle.hub.specs.Laws.{IsReadable, FramesAreReadable, FramesAreSpelled}
 -- ---- the places of a body
 
 record IsPlaceOf (len at : ℕ) : Type 0 where
-  multiple : at % 1024 ≡ 0
+  multiple : at % CHUNK_LIMIT ≡ 0
   below : at < len
 
-next_place : (at : ℕ) → at % 1024 ≡ 0 → (at + 1024) % 1024 ≡ 0
+next_place : (at : ℕ) → at % CHUNK_LIMIT ≡ 0 → (at + CHUNK_LIMIT) % CHUNK_LIMIT ≡ 0
 next_place at h = omega (arith, h)
 
 below_of : (a b : ℕ) → nat_lt a b ≡ true → a < b
 below_of a b h = grind (arith, nat_tests)
 
-places_by : (at len : ℕ) (more : List ℕ) → at % 1024 ≡ 0 → All (IsPlaceOf len) more → (b : Bool) → nat_lt at len ≡ b → All (IsPlaceOf len) (if b then at ∷ more else [])
+places_by : (at len : ℕ) (more : List ℕ) → at % CHUNK_LIMIT ≡ 0 → All (IsPlaceOf len) more → (b : Bool) → nat_lt at len ≡ b → All (IsPlaceOf len) (if b then at ∷ more else [])
 places_by at len more m rest true e = All-cons (IsPlaceOf len) at more (record { multiple = m; below = below_of at len e }) rest
 places_by at len more m rest false e = All-nil (IsPlaceOf len)
 
-places_are : (n at len : ℕ) → at % 1024 ≡ 0 → All (IsPlaceOf len) (places_from n at len)
+places_are : (n at len : ℕ) → at % CHUNK_LIMIT ≡ 0 → All (IsPlaceOf len) (places_from n at len)
 places_are zero at len m = All-nil (IsPlaceOf len)
-places_are (suc n) at len m = places_by at len (places_from n (at + 1024) len) m (places_are n (at + 1024) len (next_place at m)) (nat_lt at len) refl
+places_are (suc n) at len m = places_by at len (places_from n (at + CHUNK_LIMIT) len) m (places_are n (at + CHUNK_LIMIT) len (next_place at m)) (nat_lt at len) refl
 
 -- ---- the bytes of a job file's body
 
@@ -79,11 +81,11 @@ le_true a b h = grind (arith, nat_tests)
 lt_true : (a b : ℕ) → a < b → nat_lt a b ≡ true
 lt_true a b h = grind (arith, nat_tests)
 
-few_bytes : (text : List ℕ) → is_text text ≡ true → length text ≤ 16384
+few_bytes : (text : List ℕ) → is_text text ≡ true → length text ≤ MAX_TEXT
 few_bytes text h = grind (arith, nat_tests)
 
-cut_length : (len : ℕ) → nat_lt 1024 len ≡ true → len ≤ 16400 → (nat_le 1025 len && nat_le len 16400) ≡ true
-cut_length len h l = and_true (nat_le 1025 len) (nat_le len 16400) (le_true 1025 len (omega (arith, below_of 1024 len h))) (le_true len 16400 l)
+cut_length : (len : ℕ) → nat_lt CHUNK_LIMIT len ≡ true → len ≤ MAX_BODY → (nat_le (CHUNK_LIMIT + 1) len && nat_le len MAX_BODY) ≡ true
+cut_length len h l = and_true (nat_le (CHUNK_LIMIT + 1) len) (nat_le len MAX_BODY) (le_true (CHUNK_LIMIT + 1) len (omega (arith, below_of CHUNK_LIMIT len h))) (le_true len MAX_BODY l)
 
 -- Its tag is in its ranges, and its bytes are as many as its length says.
 record IsCutWell (b : Body) : Type 0 where
@@ -96,7 +98,7 @@ cut_jobs run text h c =
     let len = length_of (bodies.Jobs run text) in
     record {
       tag =
-          and_true (((true && is_run run) && (0 == 0)) && ((0 == 0) && (0 == 0))) (nat_le 1025 len && nat_le len 16400)
+          and_true (((true && is_run run) && (0 == 0)) && ((0 == 0) && (0 == 0))) (nat_le (CHUNK_LIMIT + 1) len && nat_le len MAX_BODY)
           (and_true ((true && is_run run) && (0 == 0)) ((0 == 0) && (0 == 0)) (and_true (true && is_run run) (0 == 0) parts.0 refl) refl)
           (cut_length len c (omega (arith, few_bytes text parts.1)));
       bytes = jobs_length run text;
@@ -109,16 +111,16 @@ cut_verify run attempt text h c =
     let len = length_of (bodies.Verify run attempt text) in
     record {
       tag =
-          and_true (((true && is_run run) && is_attempt attempt) && ((0 == 0) && (0 == 0))) (nat_le 1025 len && nat_le len 16400)
+          and_true (((true && is_run run) && is_attempt attempt) && ((0 == 0) && (0 == 0))) (nat_le (CHUNK_LIMIT + 1) len && nat_le len MAX_BODY)
           (and_true ((true && is_run run) && is_attempt attempt) ((0 == 0) && (0 == 0)) (and_true (true && is_run run) (is_attempt attempt) front.0 front.1) refl)
           (cut_length len c (omega (arith, few_bytes text parts.1)));
       bytes = verify_length run attempt text;
     }
 
-not_long : (b : Body) (limit : ℕ) → length_of b ≤ limit → limit ≤ 1024 → is_cut b ≡ true → IsCutWell b
+not_long : (b : Body) (limit : ℕ) → length_of b ≤ limit → limit ≤ CHUNK_LIMIT → is_cut b ≡ true → IsCutWell b
 not_long b limit l m c = absurd (below (length_of b) limit l m c)
   where
-    below : (a limit : ℕ) → a ≤ limit → limit ≤ 1024 → nat_lt 1024 a ≡ true → ⊥
+    below : (a limit : ℕ) → a ≤ limit → limit ≤ CHUNK_LIMIT → nat_lt CHUNK_LIMIT a ≡ true → ⊥
     below a limit l m c = grind (arith, nat_tests)
 
 -- Only a body with a job file is long enough.
@@ -131,9 +133,9 @@ cut_well law b h k c = not_long b (length_limit (kind_of b)) (law b h k) (omega 
 
 place_fits : (bytes : List ℕ) (len at : ℕ) → length bytes ≡ len → IsPlaceOf len at → is_place len at (length (bytes_at bytes at)) ≡ true
 place_fits bytes len at e p =
-    and_true ((at % 1024 == 0) && nat_lt at len) (length (bytes_at bytes at) == min 1024 (len - at))
-    (and_true (at % 1024 == 0) (nat_lt at len) (eq-eqb (at % 1024) 0 p.multiple) (lt_true at len p.below))
-    (eq-eqb (length (bytes_at bytes at)) (min 1024 (len - at)) (length-take 1024 (drop at bytes) ∙ ap (min 1024) (length-drop at bytes ∙ ap (λ k. k - at) e)))
+    and_true ((at % CHUNK_LIMIT == 0) && nat_lt at len) (length (bytes_at bytes at) == min CHUNK_LIMIT (len - at))
+    (and_true (at % CHUNK_LIMIT == 0) (nat_lt at len) (eq-eqb (at % CHUNK_LIMIT) 0 p.multiple) (lt_true at len p.below))
+    (eq-eqb (length (bytes_at bytes at)) (min CHUNK_LIMIT (len - at)) (length-take CHUNK_LIMIT (drop at bytes) ∙ ap (min CHUNK_LIMIT) (length-drop at bytes ∙ ap (λ k. k - at) e)))
 
 piece_fits : (p : PacketParts) → IsPacket p → IsCutWell p.body → (at : ℕ) → IsPlaceOf (length_of p.body) at → is_piece (piece_at p at) ≡ true
 piece_fits p h w at place =
@@ -142,7 +144,7 @@ piece_fits p h w at place =
     (and_true (is_node p.from && is_node p.to) (is_tag_in_range (tag_of p.body)) ends.0 w.tag)
     (place_fits (spelled_body p.body) (length_of p.body) at w.bytes place)
 
-not_cut : (len : ℕ) → nat_lt 1024 len ≡ false → len ≤ 1024
+not_cut : (len : ℕ) → nat_lt CHUNK_LIMIT len ≡ false → len ≤ CHUNK_LIMIT
 not_cut len h = grind (arith, nat_tests)
 
 pieces_readable : (p : PacketParts) → IsPacket p → IsCutWell p.body → All IsReadable (map Piece (pieces_of p))

@@ -1,6 +1,7 @@
 -- How a hub keeps its network.
 use Rattle.std.specs.Prelude.{◌≡◌, ◌<◌, ℕ, min, List, [], ◌∷◌, length, if◌then◌else◌, not, ◌==◌, filter, Option, Some, None, All, slice_index_or, slice_set}
 use Rattle.std.specs.Option.{ForSome}
+use Rattle.messages.specs.declared.limits.TheConstants.{MAX_NODES}
 use Rattle.messages.specs.declared.node.Node.{Node}
 use Rattle.messages.specs.Nodes.{node_number, is_node}
 use Rattle.hub.specs.declared.line.Line.{Line}
@@ -45,7 +46,7 @@ IsTakenBelow n l = ForSome l.taken (λ i. i < n)
 pub record IsKept (net : Network) (lists : List (List ℕ)) : Type 0 where
   pub spelled : All IsSpelled net.frames
   pub taken : All (IsTakenBelow (length net.frames)) net.journal
-  pub long : length lists ≡ 10
+  pub long : length lists ≡ MAX_NODES
   pub waiting : (node : Node) → list_of lists node ≡ waiting net node
 
 -- With these frames more, whatever the journal was, the network is kept as it was before.

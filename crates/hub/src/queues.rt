@@ -2,27 +2,26 @@
 
 ghost use Rattle.std.specs.Prelude.{◌≡◌, ◌+◌, ◌≤◌, ◌==◌, [], ◌∷◌, ◌++◌, length, filter, not, replicate, vec_len, vec_capacity, if◌then◌else◌, OnOk, Some, None, IsTrue};
 ghost use Rattle.std.specs.List.Sorted.{IsStrictlyIncreasing};
+ghost use Rattle.messages.specs.declared.limits.TheConstants.{MAX_NODES};
 ghost use Rattle.messages.specs.Nodes.{node_number, is_node};
 ghost use Rattle.hub.specs.Kept.{list_of, with_list, without};
 
 use crate::line::Line;
 use fc_base::MAX_SERVERS;
-use messages::Node;
+use messages::{CLIENT_NUMBER, MAX_NODES, MIRROR_NUMBER, Node};
 use std::alloc::{AllocError, Global};
 use std::array;
 use std::marker::Model;
 
-/// How many nodes there are: eight servers, the client and the mirror.
-const NODES: usize = 10;
-
 /// A list of numbers for each node.
 #[derive(Debug, Drop)]
 pub(crate) struct Queues {
-    lists: [Vec<u64>; NODES],
+    lists: [Vec<u64>; MAX_NODES],
 }
 
 impl Model for Queues {
     ghost use Rattle.std.specs.Prelude.{◌≡◌, ◌-◌, ◌^◌, length, map, vec_len, vec_capacity};
+    ghost use Rattle.messages.specs.declared.limits.TheConstants.{MAX_NODES};
     ghost use Rattle.hub.specs.Kept.{Queued, least};
 
     ghost Value = { Queued };
@@ -32,13 +31,13 @@ impl Model for Queues {
       more = least (2 ^ 64) (map (λ v. vec_capacity v - vec_len v) q.lists);
     } };
 
-    ghost invariant = { λ q. length q.lists ≡ 10 };
+    ghost invariant = { λ q. length q.lists ≡ MAX_NODES };
 }
 
 impl Queues {
     /// Empty lists.
     pub fn new(alloc: Global) -> Queues
-        ensures { result.lists ≡ replicate 10 [] }
+        ensures { result.lists ≡ replicate MAX_NODES [] }
     {
         Queues {
             lists: array::from_fn(|_| Vec::new(alloc)),
@@ -99,8 +98,8 @@ fn place_of(node: Node) -> Option<usize>
     match node {
         Node::Server(server) if server.0 < MAX_SERVERS => Some(server.0 as usize),
         Node::Server(_) => None,
-        Node::Client => Some(MAX_SERVERS as usize),
-        Node::Mirror => Some(MAX_SERVERS as usize + 1),
+        Node::Client => Some(CLIENT_NUMBER as usize),
+        Node::Mirror => Some(MIRROR_NUMBER as usize),
     }
 }
 
