@@ -3,6 +3,7 @@ use Rattle.std.proofs.Common.{◌≡◌, refl, sym, subst, ℕ, ◌^◌, ◌<◌
 use Rattle.std.specs.Prelude.{if◌then◌else◌, nat_le}
 use Rattle.std.specs.List.{AllByRecursion}
 use Rattle.std.proofs.lemmas.Bool.{and_from, le-leb, lt-ltb}
+use Rattle.fc_base.specs.declared.limits.TheConstants.{MAX_JOBS, MAX_SERVERS}
 use Rattle.job_file.specs.declared.job.Job.{Job}
 use Rattle.messages.specs.declared.body.Body.{Body}
 use Rattle.messages.specs.declared.refusal.Asked.{Asked}
@@ -30,16 +31,16 @@ pub record Below : Type 0 where
 -- A run whose numbers are in their ranges, and its jobs a set.
 pub record RunFits (w : Work) : Type 0 where
   pub run : is_run w.run ≡ true
-  pub server : w.server < 8
+  pub server : w.server < MAX_SERVERS
   pub jobs : IsSet w.jobs
 
 abbrev pub SomeRun : Option Work → Type 0
 SomeRun None = Unit {0}
 SomeRun (Some w) = RunFits w
 
-pub run_of : (me b last : ℕ) (x : Option Work) → me < 8 → SomeWork InRun x → works.Of me b last x → SomeRun x
+pub run_of : (me b last : ℕ) (x : Option Work) → me < MAX_SERVERS → SomeWork InRun x → works.Of me b last x → SomeRun x
 run_of me b last None l h k = tt
-run_of me b last (Some w) l h k = record { run = h.run; server = subst (λ n. n < 8) (sym k.server) l; jobs = h.jobs }
+run_of me b last (Some w) l h k = record { run = h.run; server = subst (λ n. n < MAX_SERVERS) (sym k.server) l; jobs = h.jobs }
 
 abbrev pub CheckInRange : Check → Type 0
 CheckInRange c = CheckFits RequestFits InRun InAttempt c
@@ -70,12 +71,12 @@ pub run_word : (r : ℕ) → is_run r ≡ true → is_word r ≡ true
 run_word r h = word r (run_below r h)
 
 pub jobs_number : (js : List Job) → IsSet js → is_jobs (length js) ≡ true
-jobs_number js s = and_from _ _ (le-leb 1 (length js) s.within.some) (le-leb (length js) 16 s.within.few)
+jobs_number js s = and_from _ _ (le-leb 1 (length js) s.within.some) (le-leb (length js) MAX_JOBS s.within.few)
 
 pub one_of : (js : List Job) (j : ℕ) → IsSet js → j < length js → is_job_of j (length js) ≡ true
 one_of js j s l = and_from _ _ (jobs_number js s) (lt-ltb j (length js) l)
 
-pub job_number : (js : List Job) (j : ℕ) → IsSet js → j < length js → j < 16
+pub job_number : (js : List Job) (j : ℕ) → IsSet js → j < length js → j < MAX_JOBS
 job_number js j s l = let m = s.within.few in omega arith
 
 -- ---- refusals

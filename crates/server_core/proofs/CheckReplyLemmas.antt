@@ -3,6 +3,7 @@ use Rattle.std.proofs.Common.{◌≡◌, refl, ℕ, zero, suc, ◌+◌, ◌<◌,
 use Rattle.std.specs.Prelude.{if◌then◌else◌, ◌||◌, nat_lt, slice_get, Result, Ok, Err}
 use Rattle.std.specs.List.{AllByRecursion}
 use Rattle.std.proofs.lemmas.Bool.{and_parts, and_from, lt-ltb}
+use Rattle.fc_base.specs.declared.limits.TheConstants.{MAX_JOBS}
 use Rattle.fc_base.specs.declared.fault.Fault.{Fault}
 use Rattle.fc_base.specs.declared.report.ReportParts.{ReportParts}
 use Rattle.fc_base.specs.Report.{is_report}
@@ -80,7 +81,7 @@ progress_fits c j job [] h = begun_fits job.load
 progress_fits c j job (x ∷ since) h = step_fits c j job x (progress_after c j job since) h.0 (progress_fits c j job since h.1)
 
 one_check : (c : Check) (j : ℕ) (p : Progress) → CheckInRange c → j < length c.jobs → ProgressFits p → Fit (progress_frame c j p)
-one_check c j Wanting k l h = ((and_from _ _ (and_from _ _ k.run k.attempt) (lt-ltb j 16 (job_number c.jobs j k.jobs l)), tt), tt)
+one_check c j Wanting k l h = ((and_from _ _ (and_from _ _ k.run k.attempt) (lt-ltb j MAX_JOBS (job_number c.jobs j k.jobs l)), tt), tt)
 one_check c j Full k l h = tt
 one_check c j (With s) k l h = tt
 one_check c j (Refused value) k l h = ((and_from _ _ (and_from _ _ (and_from _ _ k.run h) (one_of c.jobs j k.jobs l)) k.attempt, tt), tt)

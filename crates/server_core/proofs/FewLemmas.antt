@@ -19,13 +19,14 @@ use Rattle.server_core.specs.Check.{Check, Progress, Wanting, Full, With, Refuse
 use Rattle.server_core.specs.Replies.{Now, number_staged, reply_to_text, reply_to_new_jobs, present, reply_to_new_start, reply_to_start, gone_or_unknown, state_frames, reply_to_halt, reply_to_trigger, reply_to_stop, progress_frame, check_frames_from, reply_to_check_text, reply_to_new_check, reply_to_attempt, misfit_frame, reply_to_state_for, reply_to_state, reply_to_report, replies}
 use Rattle.server_core.specs.Answers.{now, refusal, to_client, sent_by, packets}
 use Rattle.std.proofs.lemmas.List.{length-append}
+use Rattle.fc_base.specs.declared.limits.TheConstants.{MAX_JOBS}
 use Rattle.server_core.specs.Replies.{check_frames}
 use Rattle.server_core.specs.Words.{work}
 use Rattle.server_core.specs.Check.{check}
 use Rattle.server_core.specs.Laws.{TextsGiveSets, RunsHaveSets, ChecksHaveSets}
 
 abbrev IsFew : List Job → Type 0
-IsFew js = length js ≤ 16
+IsFew js = length js ≤ MAX_JOBS
 
 abbrev WorkFew : Option Work → Type 0
 WorkFew None = Unit {0}
@@ -44,12 +45,12 @@ check_jobs_few checks o past None is = tt
 check_jobs_few checks o past (Some c) is = (checks o past c is).within.few
 
 abbrev Few : List Body → Type 0
-Few bs = length bs ≤ 16
+Few bs = length bs ≤ MAX_JOBS
 
-one : 1 ≤ 16
+one : 1 ≤ MAX_JOBS
 one = omega arith
 
-none : 0 ≤ 16
+none : 0 ≤ MAX_JOBS
 none = omega arith
 
 few_if : (b : Bool) (xs ys : List Body) → Few xs → Few ys → Few (if b then xs else ys)
@@ -176,10 +177,10 @@ mapped : (me : ℕ) (bs : List Body) → length (to_client me bs) ≡ length bs
 mapped me [] = refl
 mapped me (b ∷ bs) = ap suc (mapped me bs)
 
-pub packets_few : TextsGiveSets → RunsHaveSets → ChecksHaveSets → (o : Opening) (past : List Entry) (e : Entry) → length (packets o past e) ≤ 16
+pub packets_few : TextsGiveSets → RunsHaveSets → ChecksHaveSets → (o : Opening) (past : List Entry) (e : Entry) → length (packets o past e) ≤ MAX_JOBS
 packets_few texts runs checks o past (Met e left) =
     let bs = sent_by (is_lost left) (refusal o past e) (replies (now o past) (asked o.me e)) in
     let h = sent_few (is_lost left) (refusal o past e) (replies (now o past) (asked o.me e)) (replies_few texts (now o past) (asked o.me e) (run_few runs o past (work o past) refl) (check_jobs_few checks o past (check o past) refl)) in
-    subst (λ n. n ≤ 16) (sym (mapped o.me bs)) h
+    subst (λ n. n ≤ MAX_JOBS) (sym (mapped o.me bs)) h
 packets_few texts runs checks o past Cut = omega arith
 packets_few texts runs checks o past (Restart left) = omega arith

@@ -10,6 +10,7 @@ use Rattle.fc_base.specs.declared.fault.Fault.TheVariants.{NoMemory, Down, Misdi
 use Rattle.fc_base.specs.declared.fault.FaultSort.{FaultSort}
 use Rattle.fc_base.specs.declared.fault.FaultSort.TheVariants as sorts
 use Rattle.fc_base.specs.Fault.{sort_of}
+use Rattle.messages.specs.declared.limits.TheConstants.{MAX_FRAME}
 use Rattle.disk_model.specs.declared.left.Left.{Left}
 use Rattle.disk_model.specs.declared.left.Left.TheVariants.{NoSave}
 use Rattle.disk_model.specs.Left.{is_lost, bytes_left}
@@ -157,7 +158,7 @@ kept_ends note o past e q old is w =
       frames_are = ap (λ y. map frame_spelling (frames_by o list y)) (sym (entry_is o past e left ∙ ap (λ y. entry_by y left) is));
       issue_is = sym (ap (issue_in o list) is);
       act_is = sym (ap (act_in o list) is);
-      short = λ i h. record { few = omega arith; short = All-nil (λ (frame : List ℕ). length frame ≤ 1073) };
+      short = λ i h. record { few = omega arith; short = All-nil (λ (frame : List ℕ). length frame ≤ MAX_FRAME) };
       leaves = subst (λ d. LeavesNote d (words.noted o (packets_heard o (answered o past e ∷ past))) (note old.core.notes) (note old.core.notes)) (sym (ap (due_in o list) is)) refl;
       stands = silent_stands note o past e (Keeps q) left old (taken old.pieces q) is refl w (λ r. ap (λ x. taken x q) r ∙ sym (kept_rows o past e q left is));
     }

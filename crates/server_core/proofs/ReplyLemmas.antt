@@ -3,6 +3,7 @@ use Rattle.std.proofs.Common.{◌≡◌, refl, ℕ, ◌^◌, ◌<◌, Bool, true
 use Rattle.std.specs.Prelude.{if◌then◌else◌, ◌||◌, nat_lt, nat_le, max}
 use Rattle.std.specs.List.{AllByRecursion}
 use Rattle.std.proofs.lemmas.Bool.{lt-ltb}
+use Rattle.fc_base.specs.declared.limits.TheConstants.{MAX_SERVERS}
 use Rattle.fc_base.specs.declared.fault.Fault.{Fault}
 use Rattle.fc_base.specs.declared.fault.Fault.TheVariants as base
 use Rattle.job_file.specs.declared.job.Phase.TheVariants.{Write}
@@ -64,11 +65,11 @@ while_on : (on : Bool) (f : Option Fault) → (if on then f else Some base.Down)
 while_on true f h = h
 while_on false f h = cc
 
-carried : (me : ℕ) (bs : List Body) → me < 8 → Fit bs → AllByRecursion IsPacket (to_client me bs)
+carried : (me : ℕ) (bs : List Body) → me < MAX_SERVERS → Fit bs → AllByRecursion IsPacket (to_client me bs)
 carried me [] l h = tt
 carried me (b ∷ bs) l h =
     let b_is : is_body b ≡ true = h.0.0 in
-    let t : nat_lt me 8 ≡ true = lt-ltb me 8 l in
+    let t : nat_lt me MAX_SERVERS ≡ true = lt-ltb me MAX_SERVERS l in
     (record { in_range = rw (t, b_is) refl; state = h.0.1 }, carried me bs l h.1)
 
 pub packets_are_in_range : Below → PacketsAreInRange

@@ -7,6 +7,7 @@ use Rattle.std.proofs.lemmas.Bool.{leb-true, and_parts, eqb-true, eq-eqb}
 use Rattle.std.proofs.lemmas.Bool.Decides.{nat_tests}
 use Rattle.std.proofs.lemmas.List.{take_more, length-take-le}
 use Rattle.std.proofs.lemmas.Option.{slice_get_within, get_or_from_slice_get}
+use Rattle.fc_base.specs.declared.limits.TheConstants.{MAX_JOBS}
 use Rattle.job_file.specs.declared.job.Job.{Job}
 use Rattle.messages.specs.declared.body.Body.{Body}
 use Rattle.messages.specs.declared.body.Body.TheVariants as bodies
@@ -60,8 +61,8 @@ range_by w j job (Some Stopped) is r of = no_taken_range job.save w.run (length 
 range_by w j job (Some (Triggered act before)) is r of =
     range_if job.save _ w.run (length w.jobs) j (job_state (origin_of w j job) before) (job_state (origin_of w j job) w.since) (ap (λ x. saved_state w j x before) is) r of refl refl
 
-one_of : (n j : ℕ) → 1 ≤ n → n ≤ 16 → j < n → is_job_of j n ≡ true
-one_of n j some few lt = let a : nat_le 1 n ≡ true = grind (arith, nat_tests) in let b : nat_le n 16 ≡ true = grind (arith, nat_tests) in let c : nat_lt j n ≡ true = grind (arith, nat_tests) in rw (a, b, c) refl
+one_of : (n j : ℕ) → 1 ≤ n → n ≤ MAX_JOBS → j < n → is_job_of j n ≡ true
+one_of n j some few lt = let a : nat_le 1 n ≡ true = grind (arith, nat_tests) in let b : nat_le n MAX_JOBS ≡ true = grind (arith, nat_tests) in let c : nat_lt j n ≡ true = grind (arith, nat_tests) in rw (a, b, c) refl
 
 pub body_is : (kept : Kept) (w : Work) (j : ℕ) (k : JobRun) (job : Job) → RunIs kept w → slice_get kept.kept j ≡ Some k → slice_get w.jobs j ≡ Some job → said kept.number (length kept.jobs) j (state_kept k) ≡ state_frame w j job (asked_before w)
 body_is kept w j k job h at is =
@@ -118,29 +119,29 @@ job_below kept w i h lt = some_at w.jobs i (omega (arith, lt, (lengths kept w h)
 
 -- What is known of how many jobs a run has, as a test.
 abbrev is_counted : Kept → Bool
-is_counted kept = (length kept.kept == length kept.jobs) && (nat_le 1 (length kept.jobs) && nat_le (length kept.jobs) 16)
+is_counted kept = (length kept.kept == length kept.jobs) && (nat_le 1 (length kept.jobs) && nat_le (length kept.jobs) MAX_JOBS)
 
 counted_in : (kept : Kept) (w : Work) → RunIs kept w → is_counted kept ≡ true
 counted_in kept w h =
     let l = lengths kept w h in
     let same : length kept.kept ≡ length kept.jobs = l.0 ∙ sym l.1 in
     let some : 1 ≤ length kept.jobs = omega (arith, l.1, h.jobs.within.some) in
-    let few : length kept.jobs ≤ 16 = omega (arith, l.1, h.jobs.within.few) in
+    let few : length kept.jobs ≤ MAX_JOBS = omega (arith, l.1, h.jobs.within.few) in
     let a : nat_le 1 (length kept.jobs) ≡ true = grind (arith, nat_tests) in
-    let b : nat_le (length kept.jobs) 16 ≡ true = grind (arith, nat_tests) in
+    let b : nat_le (length kept.jobs) MAX_JOBS ≡ true = grind (arith, nat_tests) in
     rw (a, b) (ap (λ t. t && true) (eq-eqb (length kept.kept) (length kept.jobs) same))
 
 -- What is known of how many jobs a run has.
 pub record Counted (kept : Kept) : Type 0 where
   pub same : length kept.kept ≡ length kept.jobs
   pub some : 1 ≤ length kept.jobs
-  pub few : length kept.jobs ≤ 16
+  pub few : length kept.jobs ≤ MAX_JOBS
 
 pub counted_kept : (kept : Kept) → ∥ ((w : Work) × RunIs kept w) ∥₁ → Counted kept
 counted_kept kept known =
     let t : is_counted kept ≡ true = ∥∥₁_elim known (Coded-set coded_bool _ _) (λ p. counted_in kept p.0 p.1) in
-    let p = and_parts (length kept.kept == length kept.jobs) (nat_le 1 (length kept.jobs) && nat_le (length kept.jobs) 16) t in
-    let q = and_parts (nat_le 1 (length kept.jobs)) (nat_le (length kept.jobs) 16) p.1 in
+    let p = and_parts (length kept.kept == length kept.jobs) (nat_le 1 (length kept.jobs) && nat_le (length kept.jobs) MAX_JOBS) t in
+    let q = and_parts (nat_le 1 (length kept.jobs)) (nat_le (length kept.jobs) MAX_JOBS) p.1 in
     record { same = eqb-true _ _ p.0; some = leb-true _ _ q.0; few = leb-true _ _ q.1 }
 
 pub body_in_range : (kept : Kept) (j : ℕ) (k : JobRun) → ∥ ((w : Work) × RunIs kept w) ∥₁ → slice_get kept.kept j ≡ Some k → is_body (said kept.number (length kept.jobs) j (state_kept k)) ≡ true

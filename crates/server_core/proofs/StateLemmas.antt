@@ -3,6 +3,7 @@ use Rattle.std.proofs.Common.{◌≡◌, refl, sym, ℕ, ◌+◌, ◌^◌, ◌<�
 use Rattle.std.specs.Prelude.{nat_le}
 use Rattle.std.proofs.lemmas.Bool.{and_parts, and_from, ltb-true, le-leb, lt-ltb, leb-true}
 use Rattle.std.proofs.lemmas.List.{length-append}
+use Rattle.fc_base.specs.declared.limits.TheConstants.{MAX_JOBS, MAX_SERVERS}
 use Rattle.fc_base.specs.declared.record.JobParts.{JobParts}
 use Rattle.fc_base.specs.JobParts.{is_within_limits, has_block_size, has_region, has_queue, has_pattern}
 use Rattle.fc_base.specs.Counted.{is_possible}
@@ -51,7 +52,7 @@ run_parts r h = and_parts (nat_le 1 r) (is_word r) h
 pub run_below : (r : ℕ) → is_run r ≡ true → r < 2 ^ 64
 run_below r h = ltb-true r (2 ^ 64) (run_parts r h).1
 
-pub state_fits : HistoriesAreLegal → ComesToPossible → (w : Work) (j : ℕ) (job : Job) (before : List Request) → is_run w.run ≡ true → w.server < 8 → j < 16 → is_within_limits job.rec ≡ true → FitsItsWidths job → IsState (job_state (origin_of w j job) before)
+pub state_fits : HistoriesAreLegal → ComesToPossible → (w : Work) (j : ℕ) (job : Job) (before : List Request) → is_run w.run ≡ true → w.server < MAX_SERVERS → j < MAX_JOBS → is_within_limits job.rec ≡ true → FitsItsWidths job → IsState (job_state (origin_of w j job) before)
 unfolding job_state has_come_by
 state_fits legal_law possible_law w j job before r s i limits widths =
     let h = history (origin_of w j job) before in
@@ -61,7 +62,7 @@ state_fits legal_law possible_law w j job before r s i limits widths =
     let one = (run_parts w.run r).0 in
     let n = narrow job.rec limits in
     record {
-      key = and_from _ _ (and_from _ _ one (lt-ltb w.server 8 s)) (lt-ltb j 16 i);
+      key = and_from _ _ (and_from _ _ one (lt-ltb w.server MAX_SERVERS s)) (lt-ltb j MAX_JOBS i);
       run = run_below w.run r;
       limits = limits;
       seed = widths.seed;

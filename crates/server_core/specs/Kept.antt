@@ -1,5 +1,6 @@
 -- What a server keeps of its present run.
 use Rattle.std.specs.Prelude.{◌≡◌, ℕ, ◌+◌, ◌<◌, IsTrue, Bool, true, List, [], ◌∷◌, Option, Some, None, if◌then◌else◌, Result, Ok, Err}
+use Rattle.fc_base.specs.declared.limits.TheConstants.{MAX_SERVERS}
 use Rattle.fc_base.specs.declared.fault.Fault.{Fault}
 use Rattle.fc_base.specs.declared.fault.Fault.TheVariants.{NotInFlight}
 use Rattle.fc_base.specs.Counted.{has}
@@ -69,7 +70,7 @@ pub record RunIs (kept : Kept) (w : Work) : Type 0 where
   pub is : kept ≡ kept_of w
   pub jobs : IsSet w.jobs
   pub run : IsTrue (is_run w.run)
-  pub server : w.server < 8
+  pub server : w.server < MAX_SERVERS
 
 -- The state that was taken, else that of now, where the job saves one.
 abbrev pub state_or : Option State → Bool → State → Option State
@@ -125,7 +126,7 @@ pub record Begins (number : ℕ) (jobs : List Job) (kept : List JobRun) (w : Wor
   pub kept_is : kept ≡ jobs_kept w 0 jobs
   pub set : IsSet jobs
   pub run : IsTrue (is_run number)
-  pub server : w.server < 8
+  pub server : w.server < MAX_SERVERS
 
 -- There is a run of which nothing was asked yet, and this is kept of its jobs.
 abbrev pub IsBegun : ℕ → List Job → List JobRun → Type 0

@@ -1,6 +1,7 @@
 -- What holds of every list of what came to a server.
 use Rattle.std.specs.Prelude.{◌≡◌, ℕ, ◌<◌, ◌≤◌, Bool, true, false, List, [], ◌∷◌, ◌++◌, length, Contains, Option, Some, None, Ok, IsTrue}
 use Rattle.std.specs.List.{AllByRecursion}
+use Rattle.fc_base.specs.declared.limits.TheConstants.{MAX_JOBS}
 use Rattle.fc_base.specs.JobParts.{is_within_limits}
 use Rattle.job_file.specs.declared.job.Job.{Job}
 use Rattle.job_file.specs.declared.job.Phase.{Phase}
@@ -197,7 +198,7 @@ CutsWhenKept = (o : Opening) (past : List Entry) (e : Event) → act o past e �
 
 -- A server sends at most 16 packets in answer to one event.
 abbrev pub PacketsAreFew : Type 0
-PacketsAreFew = (o : Opening) (past : List Entry) (e : Entry) → length (packets o past e) ≤ 16
+PacketsAreFew = (o : Opening) (past : List Entry) (e : Entry) → length (packets o past e) ≤ MAX_JOBS
 
 -- The packets that a server sends are within the ranges of packets, where what came is within its.
 abbrev pub PacketsAreInRange : Type 0

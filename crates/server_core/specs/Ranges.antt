@@ -1,5 +1,6 @@
 -- What comes to a server within the ranges of packets.
 use Rattle.std.specs.Prelude.{◌<◌, ◌^◌, List, [], ◌∷◌, IsTrue}
+use Rattle.fc_base.specs.declared.limits.TheConstants.{MAX_SERVERS}
 use Rattle.fc_base.specs.Report.{is_report}
 use Rattle.messages.specs.Laws.{IsPacket}
 use Rattle.server_core.specs.declared.event.Event.{Event}
@@ -22,5 +23,5 @@ CameInRange (Restart left ∷ past) = CameInRange past
 
 -- A server's number is below 8, and its last run is a number of eight bytes.
 pub record OpensInRange (o : Opening) : Type 0 where
-  pub me : o.me < 8
+  pub me : o.me < MAX_SERVERS
   pub last : o.last < 2 ^ 64

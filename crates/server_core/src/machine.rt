@@ -1,6 +1,7 @@
 //! What a server keeps of what came to it since it was restarted, and what each request makes of it.
 
 ghost use Rattle.std.specs.Prelude.{◌≡◌, ◌<◌, IsTrue, IfOk, OnErr};
+ghost use Rattle.fc_base.specs.declared.limits.TheConstants.{MAX_SERVERS};
 ghost use Rattle.messages.specs.Ranges.{is_run};
 
 mod check;
@@ -33,7 +34,7 @@ pub(crate) struct Machine {
     pub staged: Option<StagedSet>,
     pub run: Option<Run>,
     pub check: Option<OpenCheck>,
-    ghost few: { me < 8 },
+    ghost few: { me < MAX_SERVERS },
 }
 
 impl Machine {
@@ -47,7 +48,7 @@ impl Machine {
 
     /// That of a server which was just restarted.
     pub(crate) fn new(alloc: Global, me: ServerNo, boot: u64, last_run: RunNo) -> Machine
-        requires { me < 8 }
+        requires { me < MAX_SERVERS }
         ensures { MachineIs result (blank me boot last_run) }
     {
         Machine {

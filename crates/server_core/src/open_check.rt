@@ -2,6 +2,7 @@
 
 ghost use Rattle.std.specs.Prelude.{◌≡◌, ◌<◌, ◌≤◌, ◌==◌, ◌&&◌, ◌∷◌, length, map, set, slice_get, IsTrue, IfOk};
 ghost use Rattle.std.specs.Option.{option_copied, option_map};
+ghost use Rattle.fc_base.specs.declared.limits.TheConstants.{MAX_JOBS};
 ghost use Rattle.messages.specs.Ranges.{is_attempt as in_range, is_run};
 ghost use Rattle.server_core.specs.KeptCheck.{progress_of, progress_begun};
 
@@ -51,7 +52,7 @@ impl OpenCheck {
         requires run { IsTrue (is_run run) }
         requires attempt { IsTrue (in_range attempt) }
         requires some { 1 ≤ length jobs }
-        requires few { length jobs ≤ 16 }
+        requires few { length jobs ≤ MAX_JOBS }
         requires progress { length progress.items ≡ length jobs }
         ensures { result ≡ record {
           run = run;

@@ -2,6 +2,7 @@
 
 ghost use Rattle.std.specs.Prelude.{◌≡◌, ◌<◌, IsTrue, List, is_some};
 ghost use Rattle.std.specs.Option.{option_copied, option_map};
+ghost use Rattle.fc_base.specs.declared.limits.TheConstants.{MAX_SERVERS};
 ghost use Rattle.server_core.specs.declared.event.Event.TheVariants.{Deliver, Issue as ToIssue, WriteDone as ToEnd};
 ghost use Rattle.server_core.specs.Serves.{IsRead};
 ghost use Rattle.messages.specs.Ranges.{is_run};
@@ -52,7 +53,7 @@ impl<N: Notes> PacketServer<N> {
         me: ServerNo,
         notes: N,
     ) -> Result<PacketServer<N>, (N, Fault)>
-        requires { me < 8 }
+        requires { me < MAX_SERVERS }
         ensures { Opens N.note me notes result }
     {
         one_note();

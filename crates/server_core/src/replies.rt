@@ -1,6 +1,7 @@
 //! What a server says to the client, as frames.
 
 ghost use Rattle.std.specs.Prelude.{◌≡◌, ◌<◌, ◌∷◌, [], ◌++◌, IsTrue, OnOk, IfOk, MatchOption};
+ghost use Rattle.fc_base.specs.declared.limits.TheConstants.{MAX_SERVERS};
 ghost use Rattle.messages.specs.Ranges.{is_body};
 ghost use Rattle.server_core.specs.Framed.{framed, listed};
 
@@ -15,7 +16,7 @@ pub(crate) fn say(
     body: Body,
     frames: &mut Frames,
 ) -> Result<(), AllocError>
-    requires me { me < 8 }
+    requires me { me < MAX_SERVERS }
     requires range { IsTrue (is_body body) }
     ensures { OnOk result (frames.new ≡ frames.old ++ framed me (body ∷ [])) }
 {
@@ -29,7 +30,7 @@ pub(crate) fn say(
 
 /// The frames of one packet with this body.
 pub(crate) fn only(alloc: Global, me: ServerNo, body: Body) -> Result<Frames, AllocError>
-    requires me { me < 8 }
+    requires me { me < MAX_SERVERS }
     requires range { IsTrue (is_body body) }
     ensures { IfOk result (λ frames. frames ≡ framed me (body ∷ [])) }
 {
@@ -45,7 +46,7 @@ pub(crate) fn say_if(
     body: Option<Body>,
     frames: &mut Frames,
 ) -> Result<(), AllocError>
-    requires me { me < 8 }
+    requires me { me < MAX_SERVERS }
     requires range { MatchOption body (Unit {0}) (λ b. IsTrue (is_body b)) }
     ensures { OnOk result (frames.new ≡ frames.old ++ framed me (listed body)) }
 {

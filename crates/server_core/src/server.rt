@@ -2,6 +2,7 @@
 
 ghost use Rattle.std.specs.Prelude.{◌≡◌, ◌<◌, false, List, Some, None, OnErr};
 ghost use Rattle.std.specs.Option.{option_copied, option_map};
+ghost use Rattle.fc_base.specs.declared.limits.TheConstants.{MAX_SERVERS};
 ghost use Rattle.messages.specs.declared.frame.Frame.TheVariants.{Piece as OfPiece};
 ghost use Rattle.server_core.specs.declared.input.Input.TheVariants.{Deliver, Issue as ToIssue, WriteDone as ToEnd};
 ghost use Rattle.server_core.specs.Hearing.{is_piece_for};
@@ -50,7 +51,7 @@ impl<N: Notes> Server<N> {
     /// `LoadFault`, `BadNote`, `NumbersSpent` after the last boot, `NoMemory`: the notes hold what they
     /// held. `SaveFault`: they hold that, or the next boot.
     pub fn restart(alloc: Global, me: ServerNo, notes: N) -> Result<Server<N>, (N, Fault)>
-        requires { me < 8 }
+        requires { me < MAX_SERVERS }
         ensures { Opens N.note me notes result }
     {
         let core = PacketServer::restart(alloc, me, notes)?;

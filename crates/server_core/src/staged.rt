@@ -1,6 +1,7 @@
 //! Jobs that are staged for a run.
 
 ghost use Rattle.std.specs.Prelude.{◌≡◌, ◌<◌, ◌≤◌, length, IfOk, IsTrue};
+ghost use Rattle.fc_base.specs.declared.limits.TheConstants.{MAX_JOBS, MAX_SERVERS};
 ghost use Rattle.messages.specs.Ranges.{is_run};
 ghost use Rattle.server_core.specs.Laws.{IsSet};
 ghost use Rattle.server_core.specs.Kept.{started, jobs_kept, RunIs};
@@ -55,7 +56,7 @@ impl StagedSet {
     pub(crate) fn len(&self) -> u32
         ensures value { result ≡ length self.now.jobs }
         ensures some { 1 ≤ result }
-        ensures few { result ≤ 16 }
+        ensures few { result ≤ MAX_JOBS }
     {
         self.jobs.as_slice().len() as u32
     }
@@ -68,7 +69,7 @@ impl StagedSet {
         me: ServerNo,
         boot: u64,
     ) -> Result<Vec<JobRun>, AllocError>
-        requires { me < 8 }
+        requires { me < MAX_SERVERS }
         ensures { IfOk result (λ kept. kept.items
             ≡ jobs_kept (started me boot self.now) 0 self.now.jobs) }
     {
@@ -90,7 +91,7 @@ impl StagedSet {
 
     /// The run, which begins with these engines. The jobs are moved.
     pub(crate) fn start(self, me: ServerNo, boot: u64, kept: Vec<JobRun>) -> Run
-        requires me { me < 8 }
+        requires me { me < MAX_SERVERS }
         requires kept { kept.items ≡ jobs_kept (started me boot self) 0 self.jobs }
         ensures { RunIs result (started me boot self) }
     {

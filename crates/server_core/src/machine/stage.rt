@@ -2,6 +2,7 @@
 
 ghost use Rattle.std.specs.Prelude.{◌≡◌, IsTrue, IfOk, OnErr, Some, Err, ◌<◌, ◌∷◌, [], length, max, MatchOption};
 ghost use Rattle.std.specs.Option.{option_map, option_or};
+ghost use Rattle.fc_base.specs.declared.limits.TheConstants.{MAX_SERVERS};
 ghost use Rattle.fc_base.specs.declared.fault.Fault.TheVariants.{NoMemory};
 ghost use Rattle.messages.specs.Ranges.{is_run, is_jobs};
 ghost use Rattle.server_core.specs.Words.{Staged, for_run};
@@ -122,7 +123,7 @@ fn unstaged(frames: Result<Frames, AllocError>) -> Result<Staging, Fault>
 
 /// This set is staged, and the client is told.
 fn staged(alloc: Global, me: ServerNo, set: StagedSet) -> Result<Staging, Fault>
-    requires { me < 8 }
+    requires { me < MAX_SERVERS }
     ensures ok { IfOk result (λ s.
         (s.frames ≡ framed me (JobsOk set.run (length set.jobs) ∷ [])) × (s.new ≡ Some set)) }
     ensures memory { OnErr result (result ≡ Err NoMemory) }

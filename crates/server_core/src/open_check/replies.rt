@@ -1,6 +1,7 @@
 //! What a check says of its jobs.
 
 ghost use Rattle.std.specs.Prelude.{◌≡◌, ◌<◌, IsTrue, IfOk, length, MatchOption};
+ghost use Rattle.fc_base.specs.declared.limits.TheConstants.{MAX_SERVERS};
 ghost use Rattle.messages.specs.Ranges.{is_body};
 ghost use Rattle.server_core.specs.Framed.{framed, listed};
 ghost use Rattle.server_core.specs.Replies.{progress_frame, check_frames};
@@ -17,7 +18,7 @@ use std::alloc::{AllocError, Global};
 impl OpenCheck {
     /// The frames of each job that wants its state, has its report, or whose state didn't fit.
     pub(crate) fn frames(&self, alloc: Global, me: ServerNo) -> Result<Frames, AllocError>
-        requires { me < 8 }
+        requires { me < MAX_SERVERS }
         ensures { EachCheck self.now (λ c. IfOk result
             (λ frames. frames ≡ framed me (check_frames c))) }
     {

@@ -1,6 +1,7 @@
 //! What a run says of the states of its jobs.
 
 ghost use Rattle.std.specs.Prelude.{◌≡◌, ◌<◌, ◌≤◌, IsTrue, IfOk, Some, length, slice_get};
+ghost use Rattle.fc_base.specs.declared.limits.TheConstants.{MAX_JOBS, MAX_SERVERS};
 ghost use Rattle.job_file.specs.declared.job.Job.{Job};
 ghost use Rattle.messages.specs.Ranges.{is_body};
 ghost use Rattle.server_core.specs.Kept.{EachRun, said};
@@ -18,7 +19,7 @@ use verify_state::VerifyState;
 impl Run {
     /// The frames of the state of each job: the one that was taken, else that of now.
     pub(crate) fn state_frames(&self, alloc: Global, me: ServerNo) -> Result<Frames, AllocError>
-        requires { me < 8 }
+        requires { me < MAX_SERVERS }
         ensures { EachRun self.now (λ w. IfOk result
             (λ frames. frames ≡ framed me (state_frames w (asked_before w) 0 w.jobs))) }
     {
@@ -52,7 +53,7 @@ impl Run {
         ensures value { result ≡ length self.now.jobs }
         ensures kept { result ≡ length self.now.kept }
         ensures some { 1 ≤ result }
-        ensures few { result ≤ 16 }
+        ensures few { result ≤ MAX_JOBS }
     {
         self.jobs.as_slice().len() as u32
     }
