@@ -3,6 +3,7 @@ use Rattle.std.proofs.Common.{◌≡◌, refl, sym, ap, subst, ◌∙◌, ℕ, �
 use Rattle.std.specs.Prelude.{if◌then◌else◌, nat_le, not}
 use Rattle.std.proofs.lemmas.Bool.{and_parts}
 use Rattle.std.proofs.lemmas.Bool.Decides.{nat_tests}
+use Rattle.fc_base.specs.declared.limits.TheConstants.{MAX_SERVERS}
 use Rattle.verify_state.specs.State.{State}
 use Rattle.messages.specs.declared.packet.PacketParts.{PacketParts}
 use Rattle.messages.specs.declared.body.Body.{Body}
@@ -23,31 +24,32 @@ use Rattle.client_core.specs.Saves.{Keep, unless_kept, addition_by}
 use Rattle.client_core.specs.Told.{IsNoReport}
 use Rattle.client_core.specs.Words.{granted_in, granted_by}
 use Rattle.fc_base.specs.declared.numbers.Key.{Key}
+use Rattle.state_table.specs.declared.kept.TheConstants.{KEPT_LIMIT}
 use Rattle.client_core.proofs.HeardLemmas.{taken_in, server_below, mirror_parts}
 use Rattle.client_core.proofs.NotedLemmas.{room_fault}
 
 -- A state that is added is of a key of which none is kept, and there is room for it.
 pub record IsNew (n : Noted) (body : Body) (s : State) : Type 0 where
   pub new : kept_of s.key n.kept ≡ None
-  pub room : length n.kept < 1024
+  pub room : length n.kept < KEPT_LIMIT
   pub no_report : IsNoReport body
 
 state_new : (n : Noted) (jobs : ℕ) (state s : State) (x : Option State) → kept_of state.key n.kept ≡ x → unless_kept x state ≡ Some (Keep s) → faults_of_body n (bodies.State jobs state) ≡ [] → IsNew n (bodies.State jobs state) s
 state_new n jobs state s (Some kept) is e free = cc
 state_new n jobs state s None is e free =
     let same : state ≡ s = cc in
-    subst (IsNew n (bodies.State jobs state)) same (record { new = is; room = below (room_fault false (nat_le 1024 (length n.kept)) (rw is at free)).1; no_report = tt })
+    subst (IsNew n (bodies.State jobs state)) same (record { new = is; room = below (room_fault false (nat_le KEPT_LIMIT (length n.kept)) (rw is at free)).1; no_report = tt })
   where
-    below : nat_le 1024 (length n.kept) ≡ false → length n.kept < 1024
+    below : nat_le KEPT_LIMIT (length n.kept) ≡ false → length n.kept < KEPT_LIMIT
     below h = grind (arith, nat_tests)
 
 copy_new : (n : Noted) (state s : State) (x : Option State) → kept_of state.key n.kept ≡ x → unless_kept x state ≡ Some (Keep s) → faults_of_body n (bodies.Copy state) ≡ [] → IsNew n (bodies.Copy state) s
 copy_new n state s (Some kept) is e free = cc
 copy_new n state s None is e free =
     let same : state ≡ s = cc in
-    subst (IsNew n (bodies.Copy state)) same (record { new = is; room = below (room_fault false (nat_le 1024 (length n.kept)) (rw is at free)).1; no_report = tt })
+    subst (IsNew n (bodies.Copy state)) same (record { new = is; room = below (room_fault false (nat_le KEPT_LIMIT (length n.kept)) (rw is at free)).1; no_report = tt })
   where
-    below : nat_le 1024 (length n.kept) ≡ false → length n.kept < 1024
+    below : nat_le KEPT_LIMIT (length n.kept) ≡ false → length n.kept < KEPT_LIMIT
     below h = grind (arith, nat_tests)
 
 pub adds_new : (n : Noted) (body : Body) (s : State) → addition_by n body ≡ Some (Keep s) → faults_of_body n body ≡ [] → IsNew n body s
@@ -73,10 +75,10 @@ deliver_free down peers n p r =
     is_up false e = refl
 
 -- What isn't from the mirror is from a server.
-pub from_a_server : (peers : Peers) (p : PacketParts) → peers.servers ≤ 8 → is_mirror p.from ≡ false → is_for_client peers p ≡ true → node_number p.from < 8
+pub from_a_server : (peers : Peers) (p : PacketParts) → peers.servers ≤ MAX_SERVERS → is_mirror p.from ≡ false → is_for_client peers p ≡ true → node_number p.from < MAX_SERVERS
 from_a_server peers p few other h = below_eight (node_number p.from) peers.servers (server_below peers p.from p.to p.body other h) few
   where
-    below_eight : (s servers : ℕ) → s < servers → servers ≤ 8 → s < 8
+    below_eight : (s servers : ℕ) → s < servers → servers ≤ MAX_SERVERS → s < MAX_SERVERS
     below_eight s servers l few = omega arith
 
 -- What is from the mirror comes to a client that has one, and is of its kinds.

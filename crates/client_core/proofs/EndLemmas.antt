@@ -1,6 +1,7 @@
 -- Which lists a client stands for behind a call.
 use Rattle.std.proofs.Common.{◌≡◌, ◌⊎◌, inl, inr, refl, sym, ap, subst, ◌∙◌, ◌≤◌, Bool, true, false, ◌&&◌, List, [], ◌∷◌, ◌++◌, Option, None, Some}
 use Rattle.std.specs.Prelude.{if◌then◌else◌, not, is_none, Ok}
+use Rattle.fc_base.specs.declared.limits.TheConstants.{MAX_SERVERS}
 use Rattle.fc_base.specs.declared.fault.Fault.{Fault}
 use Rattle.fc_base.specs.declared.fault.Fault.TheVariants.{NoMemory}
 use Rattle.fc_base.specs.declared.fault.FaultSort.{FaultSort}
@@ -112,7 +113,7 @@ new_noted None n = refl
 new_noted (Some a) n = refl
 
 -- An answered call is added, where what is kept and noted is what it leaves.
-pub answered_stands : {T : Type 0} (note : T → Note) (client : PacketClient T) (o : Opening) (past : List Entry) (c : Call) → refusal o past c ≡ None → is_on past ≡ true → client.down ≡ false → client.peers ≡ peers o (answered o past c ∷ past) → o.servers ≤ 8
+pub answered_stands : {T : Type 0} (note : T → Note) (client : PacketClient T) (o : Opening) (past : List Entry) (c : Call) → refusal o past c ≡ None → is_on past ≡ true → client.down ≡ false → client.peers ≡ peers o (answered o past c ∷ past) → o.servers ≤ MAX_SERVERS
     → Says (note client.notes).bytes (noted_after true (addition_of (noted o past) c) (noted o past)) → client.noted ≡ noted_after true (addition_of (noted o past) c) (noted o past) → LifeIs client.life (deeds_of (noted o past) c ++ life o past)
     → StandsFor note client o (answered o past c ∷ past)
 answered_stands note client o past c free on up with few says knows lives = record {

@@ -4,7 +4,9 @@ use Rattle.std.specs.Prelude.{if◌then◌else◌, not, nat_lt, ◌*◌, flat_ma
 use Rattle.std.specs.List.{AllByRecursion}
 use Rattle.std.proofs.lemmas.List.{length-map}
 use Rattle.std.proofs.lemmas.List.Sums.{sum_by-append}
+use Rattle.fc_base.specs.declared.limits.TheConstants.{MAX_SERVERS}
 use Rattle.fc_base.specs.Counted.{numbers_below}
+use Rattle.messages.specs.declared.limits.TheConstants.{MAX_BODY}
 use Rattle.messages.specs.declared.packet.PacketParts.{PacketParts}
 use Rattle.messages.specs.declared.body.Body.{Body}
 use Rattle.messages.specs.declared.body.Body.TheVariants as bodies
@@ -37,14 +39,14 @@ pub length_below : (n : ℕ) → length (numbers_below n) ≡ n
 length_below zero = refl
 length_below (suc n) = omega (arith, length-append (numbers_below n) (n ∷ []), length_below n)
 
-each_server : (servers : ℕ) (body : Body) → servers ≤ 8 → length (to_all servers body) ≤ 8
+each_server : (servers : ℕ) (body : Body) → servers ≤ MAX_SERVERS → length (to_all servers body) ≤ MAX_SERVERS
 each_server servers body l = omega (arith, length-map (numbers_below servers) (to_server body), length_below servers)
 
-start_one : (run s : ℕ) (b : Beginning) → length (start_for run s b) ≤ 8
+start_one : (run s : ℕ) (b : Beginning) → length (start_for run s b) ≤ MAX_SERVERS
 start_one run s begins.Staging = omega arith
 start_one run s _ = omega arith
 
-jobs_one : (run : ℕ) (text : List ℕ) (s : ℕ) (b : Beginning) → length (jobs_for run text s b) ≤ 8
+jobs_one : (run : ℕ) (text : List ℕ) (s : ℕ) (b : Beginning) → length (jobs_for run text s b) ≤ MAX_SERVERS
 jobs_one run text s begins.Starting = omega arith
 jobs_one run text s _ = omega arith
 
@@ -57,15 +59,15 @@ copy_one true state None = omega arith
 copy_one true state (Some k) = omega arith
 copy_one false state x = omega arith
 
-one_more : (p : PacketParts) (ps : List PacketParts) → length ps ≤ 1 → length (p ∷ ps) ≤ 8
+one_more : (p : PacketParts) (ps : List PacketParts) → length ps ≤ 1 → length (p ∷ ps) ≤ MAX_SERVERS
 one_more p ps h = omega arith
 
-replied : (mirror : Bool) (n : Noted) (deeds : List Deed) (s : ℕ) (body : Body) → length (replies mirror n deeds s body) ≤ 8
+replied : (mirror : Bool) (n : Noted) (deeds : List Deed) (s : ℕ) (body : Body) → length (replies mirror n deeds s body) ≤ MAX_SERVERS
 replied mirror n deeds s (bodies.JobsOk run jobs) = start_one run s (begin_at run s deeds)
 replied mirror n deeds s (bodies.State jobs state) = one_more (to_server (bodies.StateAck state.key.run state.key.job) s) (copy_for mirror state (kept_of state.key n.kept)) (copy_one mirror state (kept_of state.key n.kept))
 replied mirror n deeds s (bodies.NoState run job jobs) = omega arith
 replied mirror n deeds s (bodies.WantState run attempt job) = omega arith
-replied mirror n deeds s (bodies.Refused r) = where_so (lacks_jobs r.asked r.reason) 8 (jobs_for r.run (text_of r.run deeds) s (begin_at r.run s deeds)) (jobs_one r.run (text_of r.run deeds) s (begin_at r.run s deeds))
+replied mirror n deeds s (bodies.Refused r) = where_so (lacks_jobs r.asked r.reason) MAX_SERVERS (jobs_for r.run (text_of r.run deeds) s (begin_at r.run s deeds)) (jobs_one r.run (text_of r.run deeds) s (begin_at r.run s deeds))
 replied mirror n deeds s _ = omega arith
 
 -- what goes to the mirror is at most one packet and one for each state
@@ -85,7 +87,7 @@ mirror_few false b g states deeds = omega arith
 together : (f r c : List PacketParts) (a b : ℕ) → length r ≤ a → length f + length c ≤ b → length (f ++ (r ++ c)) ≤ a + b
 together f r c a b h k = omega (arith, length-append f (r ++ c), length-append r c)
 
-called : (o : Opening) (past : List Entry) (c : Call) → o.servers ≤ 8 → length (packets_for (peers o past) (noted o past) (life o past) c) ≤ most_packets o past c
+called : (o : Opening) (past : List Entry) (c : Call) → o.servers ≤ MAX_SERVERS → length (packets_for (peers o past) (noted o past) (life o past) c) ≤ most_packets o past c
 called o past (Begin text) l = each_server o.servers (bodies.Jobs ((noted o past).runs + 1) text) l
 called o past (Trigger run act) l = each_server o.servers (bodies.Trigger run act) l
 called o past (Stop run) l = each_server o.servers (bodies.Stop run) l
@@ -102,7 +104,7 @@ packets_are_few o past c left l = where_so (is_answered o past c left) (most_pac
 
 -- ---- the frames of packets
 
-limited : (kind : PacketKind) → length_limit kind ≤ 16400
+limited : (kind : PacketKind) → length_limit kind ≤ MAX_BODY
 limited kinds.Jobs = omega arith
 limited _ = omega arith
 
@@ -113,7 +115,7 @@ all_short few bounded (p ∷ ps) h =
     let one = few p h.0 in
     let rest = all_short few bounded ps h.1 in
     let frames = spelled_frames p in
-    let long : length_of p.body ≤ 16400 = omega (arith, bounded p.body (body_of_packet p h.0.in_range) h.0.state, limited (kind_of p.body)) in
+    let long : length_of p.body ≤ MAX_BODY = omega (arith, bounded p.body (body_of_packet p h.0.in_range) h.0.state, limited (kind_of p.body)) in
     record {
       few = omega (arith, length-append frames (framed ps), one.few, rest.few);
       short = omega (arith, sum_by-append (λ (frame : List ℕ). length frame) frames (framed ps), one.few, one.total, rest.short);

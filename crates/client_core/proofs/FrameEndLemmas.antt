@@ -4,6 +4,7 @@ use Rattle.std.specs.Prelude.{if◌then◌else◌, map, not}
 use Rattle.std.specs.List.{flat_map}
 use Rattle.std.specs.Result.{is_ok}
 use Rattle.std.proofs.lemmas.List.{map-append}
+use Rattle.fc_base.specs.declared.limits.TheConstants.{MAX_SERVERS}
 use Rattle.fc_base.specs.declared.fault.Fault.{Fault}
 use Rattle.fc_base.specs.declared.fault.Fault.TheVariants.{NoMemory, Down, Misdirected, FrameBadField}
 use Rattle.fc_base.specs.declared.fault.FaultSort.{FaultSort}
@@ -66,11 +67,11 @@ came_with calls.Tick left past b h = h
 -- How many packets at most, by what the input is.
 abbrev most_in : Opening → List history.Entry → Sense → ℕ
 most_in o past (Hears c) = bounds.most_packets o past c
-most_in o past (Keeps q) = 8
-most_in o past (Drops q) = 8
-most_in o past Misses = 8
+most_in o past (Keeps q) = MAX_SERVERS
+most_in o past (Drops q) = MAX_SERVERS
+most_in o past Misses = MAX_SERVERS
 
-piece_most : (o : Opening) (past : List history.Entry) (q : PieceParts) (m : Meaning) → most_in o past (sense_of q m) ≡ 8
+piece_most : (o : Opening) (past : List history.Entry) (q : PieceParts) (m : Meaning) → most_in o past (sense_of q m) ≡ MAX_SERVERS
 piece_most o past q (Says p) = refl
 piece_most o past q Waits = refl
 piece_most o past q Spoils = refl

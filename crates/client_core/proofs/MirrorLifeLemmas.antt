@@ -16,15 +16,17 @@ use Rattle.client_core.specs.declared.life.Life.{Life}
 use Rattle.client_core.specs.Life.{Deed, Hears}
 use Rattle.std.specs.Ordering.{nat_cmp}
 use Rattle.std.specs.BTreeMap.{get}
+use Rattle.fc_base.specs.declared.limits.TheConstants.{MAX_SERVERS}
+use Rattle.messages.specs.declared.limits.TheConstants.{MIRROR_NUMBER}
 use Rattle.client_core.specs.Lives.{LifeIs, CopiedAre, RunFor, AttemptFor}
 use Rattle.client_core.specs.Packets.{says_kept, is_copied}
 use Rattle.client_core.specs.Reports.{reports}
 use Rattle.client_core.proofs.DeedLemmas.{SameRun, SameAttempt, run_stays, attempt_stays}
 
 -- What a server says tells of no copy.
-pub server_keeps_none : (server : ℕ) (body : Body) (key : Key) (deeds : List Deed) → server < 8 → is_copied key (Hears server body ∷ deeds) ≡ is_copied key deeds
+pub server_keeps_none : (server : ℕ) (body : Body) (key : Key) (deeds : List Deed) → server < MAX_SERVERS → is_copied key (Hears server body ∷ deeds) ≡ is_copied key deeds
 server_keeps_none server body key deeds l =
-    let other : (server == 9) ≡ false = grind (arith, nat_tests) in
+    let other : (server == MIRROR_NUMBER) ≡ false = grind (arith, nat_tests) in
     ap (λ b. (b && says_kept key body) || is_copied key deeds) other
 
 either : {A : Type 0} (b : Bool) (x : A) → (if b then x else x) ≡ x
@@ -60,7 +62,7 @@ mirror_said old new server body deeds h runs attempts kept copied l = record {
 }
 
 tells_none : (key : Key) (server : ℕ) (body : Body) (deeds : List Deed) → says_kept key body ≡ false → is_copied key (Hears server body ∷ deeds) ≡ is_copied key deeds
-tells_none key server body deeds none = ap (λ b. ((server == 9) && b) || is_copied key deeds) none ∙ no_more (server == 9)
+tells_none key server body deeds none = ap (λ b. ((server == MIRROR_NUMBER) && b) || is_copied key deeds) none ∙ no_more (server == MIRROR_NUMBER)
   where
     no_more : (b : Bool) → ((b && false) || is_copied key deeds) ≡ is_copied key deeds
     no_more true = refl
@@ -71,7 +73,7 @@ pub mirror_said_nothing : (kept : Life) (server : ℕ) (body : Body) (deeds : Li
 mirror_said_nothing kept server body deeds h none l = mirror_said kept kept server body deeds h refl refl refl (λ key. l.copied key ∙ sym (tells_none key server body deeds (none key))) l
 
 -- What tells of a copy makes its key one of those that are copied.
-pub copied_more : (old new : Life) (run node job : ℕ) (deeds : List Deed) → Updates is_same_key old.copied new.copied (record { run = run; server = node; job = job }) true → LifeIs old deeds → CopiedAre new (Hears 9 (bodies.CopyOk run node job) ∷ deeds)
+pub copied_more : (old new : Life) (run node job : ℕ) (deeds : List Deed) → Updates is_same_key old.copied new.copied (record { run = run; server = node; job = job }) true → LifeIs old deeds → CopiedAre new (Hears MIRROR_NUMBER (bodies.CopyOk run node job) ∷ deeds)
 copied_more old new run node job deeds u l = λ key. u.0 key ∙ one_more (is_same_key (record { run = run; server = node; job = job }) key) (contains is_same_key old.copied key) (is_copied key deeds) (l.copied key)
   where
     one_more : (here before said : Bool) → before ≡ said → cond here true before ≡ (here || said)
@@ -89,7 +91,7 @@ says_none (bodies.CopyOk r node job) h none key = absurd (none r node job refl)
 says_none (bodies.Granted generation) h none key = refl
 says_none _ h none key = cc
 
-pub mirror_number : (node : Node) → is_mirror node ≡ true → node_number node ≡ 9
+pub mirror_number : (node : Node) → is_mirror node ≡ true → node_number node ≡ MIRROR_NUMBER
 mirror_number nodes.Mirror h = refl
 mirror_number nodes.Client h = cc
 mirror_number (nodes.Server s) h = cc

@@ -19,6 +19,7 @@ use Rattle.client_core.specs.Note.{blank, numbers_of, note_of, old_note_of, spel
 use Rattle.std.proofs.lemmas.Bool.Decides.{nat_tests}
 use Rattle.fc_base.specs.declared.limits.TheConstants.{MAX_GENERATION}
 use Rattle.std.proofs.lemmas.List.Folds.{flat_map-map}
+use Rattle.state_table.specs.declared.kept.TheConstants.{KEPT_LIMIT}
 use Rattle.verify_state.specs.Spelling.{spelling as state_bytes}
 use Rattle.verify_state.specs.Laws.{ReadsBack}
 
@@ -44,7 +45,7 @@ unfolding numbers_of bytes_of number_in
 spelled_read reads n parts k h =
     let r = reads parts n.kept h in
     let l : length parts ≡ length n.kept = r.0 in
-    let few : length n.kept ≤ 1024 = k.count in
+    let few : length n.kept ≤ KEPT_LIMIT = k.count in
     let small : length parts < 2 ^ 32 = omega arith in
     record {
       long = omega arith;
@@ -170,7 +171,7 @@ each_byte bytes h = recursion_from_All (λ byte. byte < 256) bytes (All-from_get
 -- what is read behind the generation
 pub numbers_say : SpelledAreRead → ReadWereSpelled → (bytes : List ℕ) (generation runs attempts count : ℕ) (kept : List State) → AreBytes bytes → 20 ≤ length bytes
     → generation ≤ MAX_GENERATION → runs ≡ number_in w64 bytes → attempts ≡ number_in w64 (after_runs bytes) → count ≡ number_in w32 (after_attempts bytes)
-    → runs < 2 ^ 64 → attempts < 2 ^ 64 → count ≤ 1024 → states_at count (drop 4 (after_attempts bytes)) ≡ Some kept → has_distinct_keys kept ≡ true
+    → runs < 2 ^ 64 → attempts < 2 ^ 64 → count ≤ KEPT_LIMIT → states_at count (drop 4 (after_attempts bytes)) ≡ Some kept → has_distinct_keys kept ≡ true
     → IsNoted (record { generation = generation; runs = runs; attempts = attempts; kept = kept }) × Numbers bytes (record { generation = generation; runs = runs; attempts = attempts; kept = kept })
 unfolding numbers_of bytes_of number_in
 numbers_say reads spelled bytes generation runs attempts count kept h long low r a c low_runs low_attempts few states keys =
@@ -267,10 +268,10 @@ no_magic bytes n some old new s = is_marked bytes (codes "FCC2") (is_new bytes n
 pub too_short : SpelledAreRead → (bytes : List ℕ) (n : Noted) → length bytes < 20 → IsNoted n → Numbers bytes n → ⊥
 too_short reads bytes n h k a = let l : 20 ≤ length bytes = (numbers_read reads bytes n k a).long in absurd (omega arith)
 
-pub too_many : SpelledAreRead → (bytes : List ℕ) (n : Noted) (count : ℕ) → count ≡ number_in w32 (after_attempts bytes) → 1024 < count → IsNoted n → Numbers bytes n → ⊥
+pub too_many : SpelledAreRead → (bytes : List ℕ) (n : Noted) (count : ℕ) → count ≡ number_in w32 (after_attempts bytes) → KEPT_LIMIT < count → IsNoted n → Numbers bytes n → ⊥
 too_many reads bytes n count c h k a =
     let e : count ≡ length n.kept = c ∙ (numbers_read reads bytes n k a).count in
-    let few : length n.kept ≤ 1024 = k.count in
+    let few : length n.kept ≤ KEPT_LIMIT = k.count in
     absurd (omega arith)
 
 pub no_states : SpelledAreRead → (bytes : List ℕ) (n : Noted) (count : ℕ) → count ≡ number_in w32 (after_attempts bytes) → ReadsStates count (drop 4 (after_attempts bytes)) None → IsNoted n → Numbers bytes n → ⊥

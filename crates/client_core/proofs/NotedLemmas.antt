@@ -17,6 +17,7 @@ use Rattle.disk_model.specs.Left.{has_new}
 use Rattle.client_core.specs.declared.call.Call.{Call}
 use Rattle.client_core.specs.declared.call.Call.TheVariants.{Begin, Trigger, Stop, Verify, Deliver, Tick}
 use Rattle.fc_base.specs.declared.limits.TheConstants.{MAX_GENERATION}
+use Rattle.state_table.specs.declared.kept.TheConstants.{KEPT_LIMIT}
 use Rattle.state_table.specs.Kept.{kept_of}
 use Rattle.state_table.specs.Laws.{KeysStayApart}
 use Rattle.client_core.specs.declared.noted.Noted.{Noted}
@@ -67,10 +68,10 @@ room_fault false false h = (refl, refl)
 room_fault false true h = cc
 room_fault true full h = cc
 
-more_room : (kept : List State) (s : State) → nat_le 1024 (length kept) ≡ false → length (kept ++ s ∷ []) ≤ 1024
+more_room : (kept : List State) (s : State) → nat_le KEPT_LIMIT (length kept) ≡ false → length (kept ++ s ∷ []) ≤ KEPT_LIMIT
 more_room kept s h =
     let e : length (kept ++ s ∷ []) ≡ length kept + 1 = length-append kept (s ∷ []) in
-    let l : length kept < 1024 = grind (arith, nat_tests) in
+    let l : length kept < KEPT_LIMIT = grind (arith, nat_tests) in
     omega arith
 
 pub one_run : (new : Bool) (n : Noted) → n.runs + 1 < 2 ^ 64 → IsNoted n → IsNoted (noted_after new (Some NextRun) n)

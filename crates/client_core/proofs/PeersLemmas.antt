@@ -2,6 +2,7 @@
 use Rattle.std.proofs.Common.{◌≡◌, refl, sym, ◌∙◌, ap, ℕ, ◌<◌, arith, Bool, true, false, ◌&&◌, ◌==◌, List, [], ◌∷◌, ◌++◌, Option, None, Some}
 use Rattle.std.specs.Prelude.{if◌then◌else◌}
 use Rattle.std.specs.List.{list_any}
+use Rattle.fc_base.specs.declared.limits.TheConstants.{MAX_SERVERS}
 use Rattle.fc_base.specs.declared.fault.Fault.{Fault}
 use Rattle.disk_model.specs.declared.left.Left.{Left}
 use Rattle.disk_model.specs.Left.{has_new}
@@ -83,7 +84,7 @@ refused_peers o past c left fault r = by_parts o past c left (grants_if (is_on p
 
 -- ---- what the mirror says
 
-pub no_mirror : (from : Node) (server : ℕ) → node_number from ≡ server → server < 8 → is_mirror from ≡ false
+pub no_mirror : (from : Node) (server : ℕ) → node_number from ≡ server → server < MAX_SERVERS → is_mirror from ≡ false
 no_mirror (nodes.Server s) server e l = refl
 no_mirror nodes.Client server e l = refl
 no_mirror nodes.Mirror server e l = absurd (omega arith)

@@ -18,7 +18,7 @@ use Rattle.messages.specs.Laws.{IsPacket}
 use Rattle.disk_model.specs.declared.left.Left.{Left}
 use Rattle.client_core.specs.declared.call.Call.{Call}
 use Rattle.client_core.specs.declared.call.Call.TheVariants.{Begin, Trigger, Stop, Verify, Deliver, Tick}
-use Rattle.fc_base.specs.declared.limits.TheConstants.{MAX_GENERATION}
+use Rattle.fc_base.specs.declared.limits.TheConstants.{MAX_GENERATION, MAX_JOBS, MAX_SERVERS}
 use Rattle.state_table.specs.Kept.{kept_of}
 use Rattle.client_core.specs.declared.noted.Noted.{Noted}
 use Rattle.client_core.specs.declared.peers.Peers.{Peers}
@@ -104,27 +104,27 @@ Fits body = (is_body body ≡ true) × KeepsState body
 said_fits : (c : Call) (left : Left) (s : ℕ) (body : Body) → IsSaid c s body → AllByRecursion IsPacket (packet_in (Met c left)) → Fits body
 said_fits c left s body e h =
     let k : IsPacket (from_server body s) = (subst (λ d. AllByRecursion IsPacket (packet_in (Met d left))) e h).0 in
-    ((and_parts (nat_lt s 8 && true) (is_body body) k.in_range).1, k.state)
+    ((and_parts (nat_lt s MAX_SERVERS && true) (is_body body) k.in_range).1, k.state)
 
 ack_fits : (s : State) → IsState s → is_body (bodies.StateAck s.key.run s.key.job) ≡ true
 ack_fits s k =
-    let p = and_parts (nat_le 1 s.key.run && nat_lt s.key.server 8) (nat_lt s.key.job 16) k.key in
-    let q = and_parts (nat_le 1 s.key.run) (nat_lt s.key.server 8) p.0 in
+    let p = and_parts (nat_le 1 s.key.run && nat_lt s.key.server MAX_SERVERS) (nat_lt s.key.job MAX_JOBS) k.key in
+    let q = and_parts (nat_le 1 s.key.run) (nat_lt s.key.server MAX_SERVERS) p.0 in
     let a : nat_le 1 s.key.run ≡ true = q.0 in
     let l : s.key.run < 2 ^ 64 = k.run in
     let w : nat_lt s.key.run (2 ^ 64) ≡ true = grind (arith, nat_tests) in
-    let j : nat_lt s.key.job 16 ≡ true = p.1 in
+    let j : nat_lt s.key.job MAX_JOBS ≡ true = p.1 in
     rw (a, w, j) refl
 
 no_state_fits : (run job jobs : ℕ) → is_body (bodies.NoState run job jobs) ≡ true → is_body (bodies.StateAck run job) ≡ true
 no_state_fits run job jobs h =
     let p = and_parts (is_run run) (is_job_of job jobs) h in
     let q = and_parts (is_jobs jobs) (nat_lt job jobs) p.1 in
-    let r = and_parts (nat_le 1 jobs) (nat_le jobs 16) q.0 in
+    let r = and_parts (nat_le 1 jobs) (nat_le jobs MAX_JOBS) q.0 in
     let a : is_run run ≡ true = p.0 in
     let b : nat_lt job jobs ≡ true = q.1 in
-    let c : nat_le jobs 16 ≡ true = r.1 in
-    let d : nat_lt job 16 ≡ true = grind (arith, nat_tests) in
+    let c : nat_le jobs MAX_JOBS ≡ true = r.1 in
+    let d : nat_lt job MAX_JOBS ≡ true = grind (arith, nat_tests) in
     rw (a, d) refl
 
 state_kept : (key : Key) (kept : List State) (s : State) → AllByRecursion IsState kept → kept_of key kept ≡ Some s → IsState s
@@ -186,14 +186,14 @@ fits o past c left s (bodies.Saved attempt state) k w =
 fits o past c left s (bodies.NoSaved run attempt job) k w = ((said_fits c left s (bodies.WantState run attempt job) w k.entry).0, tt)
 fits o past c left s _ k w = absurd w
 
-to_one : (p : PacketParts) (s : ℕ) → s < 8 → p ≡ to_server p.body s → Fits p.body → IsPacket p
+to_one : (p : PacketParts) (s : ℕ) → s < MAX_SERVERS → p ≡ to_server p.body s → Fits p.body → IsPacket p
 to_one p s l e f =
-    let t : nat_lt s 8 ≡ true = grind (arith, nat_tests) in
+    let t : nat_lt s MAX_SERVERS ≡ true = grind (arith, nat_tests) in
     let b : is_body p.body ≡ true = f.0 in
     let k : IsPacket (to_server p.body s) = record { in_range = rw (t, b) refl; state = f.1 } in
     subst IsPacket (sym e) k
 
-below_eight : (s servers : ℕ) → s < servers → servers ≤ 8 → s < 8
+below_eight : (s servers : ℕ) → s < servers → servers ≤ MAX_SERVERS → s < MAX_SERVERS
 below_eight s servers l few = omega arith
 
 mirror_fits : (o : Opening) (past : List Entry) (c : Call) (left : Left) (body : Body) → Known o past c left → WhyMirror (noted o past) c body → Fits body

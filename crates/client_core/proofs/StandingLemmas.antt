@@ -5,6 +5,7 @@ use Rattle.std.specs.List.{list_all, list_any}
 use Rattle.std.proofs.lemmas.Bool.{and_parts}
 use Rattle.std.proofs.lemmas.Bool.Decides.{nat_tests}
 use Rattle.std.proofs.Math.Seq.{take-suc}
+use Rattle.fc_base.specs.declared.limits.TheConstants.{MAX_JOBS}
 use Rattle.fc_base.specs.Counted.{numbers_below}
 use Rattle.messages.specs.declared.refusal.Reason.TheVariants as reasons
 use Rattle.messages.specs.Ranges.{is_jobs, is_job_of}
@@ -84,14 +85,14 @@ ends s t ts true true e f = e
 ends s t ts true false e f = e
 ends s t ts false misfit e f = f refl
 
-answers : (t : Telling) (s : Standing) (ts : List Telling) → 1 ≤ t.jobs → t.jobs ≤ 16 → length s.told ≡ 16 → IsOpen s ts → IsKept (with_answer t s) (told t (requests.Open ts))
+answers : (t : Telling) (s : Standing) (ts : List Telling) → 1 ≤ t.jobs → t.jobs ≤ MAX_JOBS → length s.told ≡ MAX_JOBS → IsOpen s ts → IsKept (with_answer t s) (told t (requests.Open ts))
 answers t s ts some few long w =
     let more = slice_set s.told t.job true in
     let m = jobs_with s.jobs t.jobs in
     let n = jobs_told (t ∷ ts) in
     let jobs : m ≡ n = told_jobs t ts s.jobs w.jobs w.any in
     let as_long : length more ≡ length s.told = same_length s.told t.job in
-    let least : m ≤ 16 = below (s.jobs == 0) t.jobs s.jobs few w.few in
+    let least : m ≤ MAX_JOBS = below (s.jobs == 0) t.jobs s.jobs few w.few in
     let fits : n ≤ length more = subst (λ k. k ≤ length more) jobs (omega arith) in
     let told_of : (job : ℕ) → job < length more → slice_index_or more job false ≡ tells_of (t ∷ ts) job =
     λ job l. set_at s.told t.job job (omega arith) ∙ ap (λ y. (t.job == job) || y) (w.told_of job (omega arith)) in
@@ -108,16 +109,16 @@ answers t s ts some few long w =
       misfit = bad;
     })
   where
-    below : (b : Bool) (x y : ℕ) → x ≤ 16 → y ≤ 16 → (if b then x else y) ≤ 16
+    below : (b : Bool) (x y : ℕ) → x ≤ MAX_JOBS → y ≤ MAX_JOBS → (if b then x else y) ≤ MAX_JOBS
     below true x y h k = h
     below false x y h k = k
 
-pub tells : (t : Telling) (s : Standing) (q : Request) → is_job_of t.job t.jobs ≡ true → length s.told ≡ 16 → s.outcome ≡ outcomes.Open → IsKept s q → IsKept (with_answer t s) (told t q)
+pub tells : (t : Telling) (s : Standing) (q : Request) → is_job_of t.job t.jobs ≡ true → length s.told ≡ MAX_JOBS → s.outcome ≡ outcomes.Open → IsKept s q → IsKept (with_answer t s) (told t q)
 tells t s (requests.Open ts) ranges long o k =
     let p = and_parts (is_jobs t.jobs) (nat_lt t.job t.jobs) ranges in
-    let q = and_parts (nat_le 1 t.jobs) (nat_le t.jobs 16) p.0 in
+    let q = and_parts (nat_le 1 t.jobs) (nat_le t.jobs MAX_JOBS) p.0 in
     let a : nat_le 1 t.jobs ≡ true = q.0 in
-    let b : nat_le t.jobs 16 ≡ true = q.1 in
+    let b : nat_le t.jobs MAX_JOBS ≡ true = q.1 in
     answers t s ts (grind (arith, nat_tests)) (grind (arith, nat_tests)) long k
 tells t s requests.Unasked ranges long o k = let e : outcomes.Open ≡ outcomes.None = sym o ∙ k in cc
 tells t s requests.Served ranges long o k = let e : outcomes.Open ≡ outcomes.Good = sym o ∙ k in cc

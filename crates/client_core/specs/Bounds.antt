@@ -1,5 +1,7 @@
 -- How much a client sends in answer to one call.
 use Rattle.std.specs.Prelude.{ℕ, ◌+◌, ◌*◌, ◌≤◌, Bool, true, false, if◌then◌else◌, List, ◌∷◌, filter, length, sum_by}
+use Rattle.fc_base.specs.declared.limits.TheConstants.{MAX_SERVERS}
+use Rattle.messages.specs.declared.limits.TheConstants.{MAX_FRAMED, MAX_FRAMES}
 use Rattle.disk_model.specs.declared.left.Left.{Left}
 use Rattle.client_core.specs.declared.call.Call.{Call}
 use Rattle.client_core.specs.declared.call.Call.TheVariants.{Tick}
@@ -27,18 +29,18 @@ most_copies o past = if has_mirror past then 1 + length (noted o past).kept else
 -- any other call at most 8 packets.
 abbrev pub most_packets : Opening → List Entry → Call → ℕ
 most_packets o past Tick = o.servers * requests o past + most_copies o past
-most_packets o past _ = 8
+most_packets o past _ = MAX_SERVERS
 
 -- A call sends no more.
 abbrev pub PacketsAreFew : Type 0
 PacketsAreFew =
     (o : Opening) (past : List Entry) (c : Call) (left : Left) →
-    o.servers ≤ 8 → length (packets o past (Met c left)) ≤ most_packets o past c
+    o.servers ≤ MAX_SERVERS → length (packets o past (Met c left)) ≤ most_packets o past c
 
 -- The frames are those of at most so many packets: 17 for each, of together 17,233 bytes.
 pub record AreShort (most : ℕ) (frames : List (List ℕ)) : Type 0 where
-  pub few : length frames ≤ 17 * most
-  pub short : sum_by (λ frame. length frame) frames ≤ 17233 * most
+  pub few : length frames ≤ MAX_FRAMES * most
+  pub short : sum_by (λ frame. length frame) frames ≤ MAX_FRAMED * most
 
 -- What a call sends is short, where what came is within its ranges.
 abbrev pub FramesAreShort : Type 0

@@ -1,5 +1,6 @@
 -- Which lists of frames a client stands for, and how its calls end.
 use Rattle.std.specs.Prelude.{◌≡◌, ◌≢◌, ℕ, ◌+◌, ◌*◌, ◌<◌, Bool, true, false, List, [], ◌∷◌, map, Some, None, Result, Ok, Err, IsTrue}
+use Rattle.fc_base.specs.declared.limits.TheConstants.{MAX_SERVERS}
 use Rattle.fc_base.specs.declared.fault.Fault.{Fault}
 use Rattle.fc_base.specs.declared.fault.Fault.TheVariants.{NoMemory}
 use Rattle.fc_base.specs.declared.fault.FaultSort.{FaultSort}
@@ -37,7 +38,7 @@ pub record StandsFor {T : Type 0} (note : T → Note) (client : Client T) (o : O
 abbrev pub most_packets : Opening → List FrameEntry → Input → ℕ
 most_packets o past Tick =
     o.servers * requests o (packets_heard o past) + most_copies o (packets_heard o past)
-most_packets o past _ = 8
+most_packets o past _ = MAX_SERVERS
 
 -- What comes isn't refused, the frames are those of the list, what is due is left in the note, and it is
 -- added; and where the packets that were heard keep their ranges, the frames are few and short.

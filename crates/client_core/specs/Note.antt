@@ -4,6 +4,7 @@ use Rattle.std.specs.List.{flat_map, AllByRecursion}
 use Rattle.std.specs.Int.{w32, w64}
 use Rattle.fc_base.specs.declared.limits.TheConstants.{MAX_GENERATION}
 use Rattle.fc_base.specs.Layouts.{bytes_of, number_in}
+use Rattle.state_table.specs.declared.kept.TheConstants.{KEPT_LIMIT}
 use Rattle.verify_state.specs.State.{IsState}
 use Rattle.verify_state.specs.Spelling.{spelling as state_bytes}
 use Rattle.state_table.specs.Counted.{counted_bytes, SayStates}
@@ -50,7 +51,7 @@ pub record IsNoted (n : Noted) : Type 0 where
   pub generation : n.generation ≤ MAX_GENERATION
   pub runs : n.runs < 2 ^ 64
   pub attempts : n.attempts < 2 ^ 64
-  pub count : length n.kept ≤ 1024
+  pub count : length n.kept ≤ KEPT_LIMIT
   pub states : AllByRecursion IsState n.kept
   pub keys : IsTrue (has_distinct_keys n.kept)
 
@@ -89,7 +90,7 @@ Reads bytes None = (n : Noted) → Says bytes n → ⊥
 
 -- What stands behind a note's generation tells of 1 to 1,024 states, and the first of them is sound.
 pub record TellsStates (bytes : List ℕ) : Type 0 where
-  pub few : number_in w32 (drop 16 bytes) ≤ 1024
+  pub few : number_in w32 (drop 16 bytes) ≤ KEPT_LIMIT
   pub first : HasFirst (number_in w32 (drop 16 bytes)) (drop 20 bytes)
 
 -- The bytes begin as a note does that has states, the first of which is sound.

@@ -1,6 +1,7 @@
 -- What comes to a client within the ranges of packets.
 use Rattle.std.specs.Prelude.{◌≤◌, List, [], ◌∷◌, ◌++◌}
 use Rattle.std.specs.List.{AllByRecursion}
+use Rattle.fc_base.specs.declared.limits.TheConstants.{MAX_SERVERS}
 use Rattle.messages.specs.declared.packet.PacketParts.{PacketParts}
 use Rattle.messages.specs.Laws.{IsPacket}
 use Rattle.client_core.specs.declared.call.Call.TheVariants.{Deliver}
@@ -23,5 +24,5 @@ CameInRange past = AllByRecursion IsPacket (came past)
 
 -- A client drives at most 8 servers, and its note keeps its ranges.
 pub record OpensInRange (o : Opening) : Type 0 where
-  pub servers : o.servers ≤ 8
+  pub servers : o.servers ≤ MAX_SERVERS
   pub note : IsNoted o.noted

@@ -1,6 +1,7 @@
 -- How a trigger, a stop or a verify at a server is kept: without a list of the answers.
 use Rattle.std.specs.Prelude.{◌≡◌, ◌⊎◌, ℕ, ◌≤◌, ◌<◌, Bool, true, false, ◌&&◌, ◌||◌, ◌==◌, nat_lt, if◌then◌else◌, List, [], length, take, slice_set, slice_index_or}
 use Rattle.std.specs.List.{list_all}
+use Rattle.fc_base.specs.declared.limits.TheConstants.{MAX_JOBS}
 use Rattle.messages.specs.declared.refusal.Reason.TheVariants as reasons
 use Rattle.client_core.specs.declared.outcome.Outcome.{Outcome}
 use Rattle.client_core.specs.declared.outcome.Outcome.TheVariants as outcomes
@@ -13,7 +14,7 @@ use Rattle.client_core.specs.Requests.{Request, Telling, jobs_told, tells_of, ha
 pub record IsOpen (s : Standing) (told : List Telling) : Type 0 where
   pub open_yet : s.outcome ≡ outcomes.Open
   pub jobs : s.jobs ≡ jobs_told told
-  pub few : s.jobs ≤ 16
+  pub few : s.jobs ≤ MAX_JOBS
   pub any : (told ≡ []) ⊎ (1 ≤ jobs_told told)
   pub told_of : (job : ℕ) → job < length s.told → slice_index_or s.told job false ≡ tells_of told job
   pub misfit : s.misfit ≡ has_misfit told

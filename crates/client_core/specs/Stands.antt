@@ -1,5 +1,6 @@
 -- Which lists a client stands for, and how its opening ends.
 use Rattle.std.specs.Prelude.{◌≡◌, ◌≢◌, ◌⊎◌, ℕ, ◌<◌, ◌≤◌, Bool, true, false, not, List, [], ◌∷◌, Result, Ok, Err, IsTrue}
+use Rattle.fc_base.specs.declared.limits.TheConstants.{MAX_SERVERS}
 use Rattle.fc_base.specs.declared.fault.Fault.{Fault}
 use Rattle.fc_base.specs.declared.fault.Fault.TheVariants.{NoMemory, LoadFault, SaveFault, BadNote, BadGeneration}
 use Rattle.disk_model.specs.Notes.{Note}
@@ -19,7 +20,7 @@ use Rattle.client_core.specs.Words.{is_on, noted, peers, looked}
 pub record StandsFor {T : Type 0} (note : T → Note) (client : PacketClient T) (o : Opening) (past : List Entry) : Type 0 where
   pub on : client.down ≡ not (is_on past)
   pub peers : client.peers ≡ peers o (looked past)
-  pub few : o.servers ≤ 8
+  pub few : o.servers ≤ MAX_SERVERS
   pub durable : Says (note client.notes).bytes (noted o past)
   pub knows : client.noted ≡ noted o (looked past)
   pub lives : LifeIs client.life (life o (looked past))

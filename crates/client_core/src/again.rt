@@ -2,6 +2,7 @@
 
 ghost use Rattle.std.specs.Prelude.{◌≡◌, ◌≤◌, ◌++◌, List, OnOk, Some, IfOk};
 ghost use Rattle.std.specs.List.{flat_map};
+ghost use Rattle.fc_base.specs.declared.limits.TheConstants.{MAX_SERVERS};
 ghost use Rattle.client_core.specs.Framed.{framed};
 ghost use Rattle.client_core.specs.Life.{Deed};
 ghost use Rattle.client_core.specs.Lives.{RunIs, AttemptFor, EachLife};
@@ -18,7 +19,7 @@ use std::alloc::{AllocError, Global};
 impl Life {
     /// Asks again, at so many servers, for all that isn't answered: by run, and then by attempt.
     pub(crate) fn requests_again(&self, alloc: Global, servers: u32) -> Result<Frames, AllocError>
-        requires { servers ≤ 8 }
+        requires { servers ≤ MAX_SERVERS }
         ensures { EachLife self.now (λ deeds. IfOk result (λ frames. frames ≡ framed (requests_again servers deeds))) }
     {
         let _runs = self.runs.len();
@@ -36,7 +37,7 @@ impl Life {
         servers: u32,
         frames: &mut Frames,
     ) -> Result<(), AllocError>
-        requires { servers ≤ 8 }
+        requires { servers ≤ MAX_SERVERS }
         ensures { EachLife self.now (λ deeds. OnOk result (frames.new ≡ frames.old
             ++ framed (flat_map (λ e. run_again servers deeds e.0) self.now.runs.entries))) }
     {
@@ -53,7 +54,7 @@ impl Life {
         servers: u32,
         frames: &mut Frames,
     ) -> Result<(), AllocError>
-        requires { servers ≤ 8 }
+        requires { servers ≤ MAX_SERVERS }
         ensures { EachLife self.now (λ deeds. OnOk result (frames.new ≡ frames.old
             ++ framed (flat_map (λ e. attempt_again servers deeds e.0) self.now.attempts.entries))) }
     {
@@ -72,7 +73,7 @@ fn run_again(
     asked: &RunAsked,
     frames: &mut Frames,
 ) -> Result<(), AllocError>
-    requires { servers ≤ 8 }
+    requires { servers ≤ MAX_SERVERS }
     ensures { (deeds : List Deed) → RunIs run deeds asked.now →
         OnOk result (frames.new ≡ frames.old ++ framed (run_again servers deeds run)) }
 {
@@ -100,7 +101,7 @@ fn attempt_again(
     place: &Option<AttemptAsked>,
     frames: &mut Frames,
 ) -> Result<(), AllocError>
-    requires { servers ≤ 8 }
+    requires { servers ≤ MAX_SERVERS }
     ensures { (deeds : List Deed) → AttemptFor attempt deeds (Some place.now) →
         OnOk result (frames.new ≡ frames.old ++ framed (attempt_again servers deeds attempt)) }
 {

@@ -1,6 +1,7 @@
 //! An attempt to verify of this life, and how it stands at each server.
 
 ghost use Rattle.std.specs.Prelude.{◌≡◌, ◌<◌, ◌∷◌, IsTrue, List};
+ghost use Rattle.fc_base.specs.declared.limits.TheConstants.{MAX_SERVERS};
 ghost use Rattle.messages.specs.Ranges.{is_attempt, is_body, is_run, is_job_of};
 
 use crate::outcome::Outcome;
@@ -43,7 +44,7 @@ impl AttemptAsked {
 
     /// How it stands at a server.
     pub fn verify_at(&self, server: u32) -> Outcome
-        requires { server < 8 }
+        requires { server < MAX_SERVERS }
         ensures { (attempt : _) (deeds : List Deed) → AttemptIs attempt deeds self.now →
             result ≡ request_outcome (verify_at attempt server deeds) }
     {
@@ -52,7 +53,7 @@ impl AttemptAsked {
 
     /// What a server says.
     pub fn hear(&mut self, attempt: Attempt, server: u32, body: &Body)
-        requires server { server < 8 }
+        requires server { server < MAX_SERVERS }
         requires body { IsTrue (is_body body.now) }
         ensures { (deeds : List Deed) → AttemptIs attempt deeds self.old →
             AttemptIs attempt (Hears server body.now ∷ deeds) self.new }
@@ -62,7 +63,7 @@ impl AttemptAsked {
 
     /// Whether a report of this run and job, which tells how many jobs there are, counts.
     pub fn counts(&self, run: RunNo, server: u32, job: u32, jobs: u32) -> bool
-        requires { server < 8 }
+        requires { server < MAX_SERVERS }
         ensures { (attempt : _) (deeds : List Deed) → AttemptIs attempt deeds self.now →
             result ≡ report_counts run attempt server job jobs deeds }
     {
@@ -71,7 +72,7 @@ impl AttemptAsked {
 
     /// What a server reports of a run and job, which tells how many jobs there are.
     pub fn hear_report(&mut self, run: RunNo, server: u32, job: u32, jobs: u32)
-        requires server { server < 8 }
+        requires server { server < MAX_SERVERS }
         requires job { IsTrue (is_job_of job jobs) }
         ensures { (attempt : _) (deeds : List Deed) (report : ReportParts) →
             AttemptIs attempt deeds self.old →

@@ -2,6 +2,7 @@
 
 ghost use Rattle.std.specs.Prelude.{◌≡◌, ◌≤◌, List};
 ghost use Rattle.std.specs.Option.{option_copied};
+ghost use Rattle.fc_base.specs.declared.limits.TheConstants.{MAX_SERVERS};
 
 mod ask;
 mod deliver;
@@ -43,7 +44,7 @@ impl<N: Notes> Client<N> {
         notes: N,
     ) -> Result<Client<N>, (N, Fault)>
         requires some { 1 ≤ servers }
-        requires few { servers ≤ 8 }
+        requires few { servers ≤ MAX_SERVERS }
         ensures { Restarts N.note servers mirror (N.note notes) result }
     {
         let core = PacketClient::restart(alloc, servers, mirror, notes)?;
@@ -66,7 +67,7 @@ impl<N: Notes> Client<N> {
         generation: Generation,
     ) -> Result<Client<N>, (N, Fault)>
         requires some { 1 ≤ servers }
-        requires few { servers ≤ 8 }
+        requires few { servers ≤ MAX_SERVERS }
         ensures { Renews N.note servers generation (N.note notes) result }
     {
         let core = PacketClient::renew(alloc, servers, notes, generation)?;

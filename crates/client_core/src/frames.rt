@@ -2,6 +2,7 @@
 
 ghost use Rattle.std.specs.Prelude.{◌≡◌, ◌<◌, ◌≤◌, ℕ, [], ◌∷◌, ◌++◌, length, if◌then◌else◌, IsTrue, OnOk, IfOk};
 ghost use Rattle.std.specs.List.{flat_map};
+ghost use Rattle.fc_base.specs.declared.limits.TheConstants.{MAX_SERVERS, MAX_TEXT};
 ghost use Rattle.fc_base.specs.Counted.{numbers_below};
 ghost use Rattle.messages.specs.Ranges.{is_body, is_run};
 ghost use Rattle.messages.specs.declared.body.Body.TheVariants.{Copy};
@@ -27,7 +28,7 @@ pub(crate) fn say(
     body: Body,
     frames: &mut Frames,
 ) -> Result<Body, AllocError>
-    requires server { server < 8 }
+    requires server { server < MAX_SERVERS }
     requires body { IsTrue (is_body body) }
     ensures said { OnOk result (frames.new ≡ frames.old ++ framed (to_server body server ∷ [])) }
     ensures back { IfOk result (λ back. back ≡ body) }
@@ -71,7 +72,7 @@ pub(crate) fn say_copy(
 
 /// The frames of one packet to a server.
 pub(crate) fn only(alloc: Global, server: u32, body: Body) -> Result<Frames, AllocError>
-    requires server { server < 8 }
+    requires server { server < MAX_SERVERS }
     requires body { IsTrue (is_body body) }
     ensures { IfOk result (λ frames. frames ≡ framed (to_server body server ∷ [])) }
 {
@@ -82,7 +83,7 @@ pub(crate) fn only(alloc: Global, server: u32, body: Body) -> Result<Frames, All
 
 /// The frames of packets to so many servers that say the same.
 pub(crate) fn to_all(alloc: Global, servers: u32, body: Body) -> Result<Frames, AllocError>
-    requires few { servers ≤ 8 }
+    requires few { servers ≤ MAX_SERVERS }
     requires body { IsTrue (is_body body) }
     ensures { IfOk result (λ frames. frames ≡ framed (to_all servers body)) }
 {
@@ -102,7 +103,7 @@ fn say_if(
     body: Body,
     frames: &mut Frames,
 ) -> Result<Body, AllocError>
-    requires server { server < 8 }
+    requires server { server < MAX_SERVERS }
     requires body { IsTrue (is_body body) }
     ensures said { OnOk result (frames.new ≡ frames.old
         ++ framed (if is_open then to_server body server ∷ [] else [])) }
@@ -123,7 +124,7 @@ pub(crate) fn say_again(
     standings: &[Standing; SERVERS],
     frames: &mut Frames,
 ) -> Result<(), AllocError>
-    requires few { servers ≤ 8 }
+    requires few { servers ≤ MAX_SERVERS }
     requires body { IsTrue (is_body body) }
     ensures { (at : ℕ → Request) → Each standings.now (λ s x. IsKept x (at s)) →
         OnOk result (frames.new ≡ frames.old
@@ -146,9 +147,9 @@ pub(crate) fn begin_again(
     begins: &[Beginning; SERVERS],
     frames: &mut Frames,
 ) -> Result<(), AllocError>
-    requires few { servers ≤ 8 }
+    requires few { servers ≤ MAX_SERVERS }
     requires run { IsTrue (is_run run) }
-    requires text { length text.now ≤ 16384 }
+    requires text { length text.now ≤ MAX_TEXT }
     ensures { (at : ℕ → Beginning) → Each begins.now (λ s b. b ≡ at s) →
         OnOk result (frames.new ≡ frames.old
         ++ framed (flat_map (λ s. begin_again run text.now s (at s)) (numbers_below servers))) }
@@ -169,9 +170,9 @@ fn begin_at_server(
     begin: Beginning,
     frames: &mut Frames,
 ) -> Result<(), AllocError>
-    requires server { server < 8 }
+    requires server { server < MAX_SERVERS }
     requires run { IsTrue (is_run run) }
-    requires text { length text.now ≤ 16384 }
+    requires text { length text.now ≤ MAX_TEXT }
     ensures { OnOk result (frames.new ≡ frames.old
         ++ framed (begin_again run text.now server begin)) }
 {

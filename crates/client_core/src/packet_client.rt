@@ -2,6 +2,7 @@
 
 ghost use Rattle.std.specs.Prelude.{◌≡◌, ◌==◌, ◌&&◌, ◌≤◌, ◌∷◌, List, Some, None, length, not};
 ghost use Rattle.std.specs.Option.{option_copied};
+ghost use Rattle.fc_base.specs.declared.limits.TheConstants.{MAX_SERVERS};
 ghost use Rattle.client_core.specs.History.{Opening, Entry};
 ghost use Rattle.client_core.specs.Note.{Says, is_blank};
 ghost use Rattle.client_core.specs.declared.call.Call.TheVariants.{Deliver};
@@ -53,7 +54,7 @@ impl<N: Notes> PacketClient<N> {
         notes: N,
     ) -> Result<PacketClient<N>, (N, Fault)>
         requires some { 1 ≤ servers }
-        requires few { servers ≤ 8 }
+        requires few { servers ≤ MAX_SERVERS }
         ensures { Restarts N.note servers mirror (N.note notes) result }
     {
         one_note();
@@ -97,7 +98,7 @@ impl<N: Notes> PacketClient<N> {
         generation: Generation,
     ) -> Result<PacketClient<N>, (N, Fault)>
         requires some { 1 ≤ servers }
-        requires few { servers ≤ 8 }
+        requires few { servers ≤ MAX_SERVERS }
         ensures { Renews N.note servers generation (N.note notes) result }
     {
         one_note();

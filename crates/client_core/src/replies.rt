@@ -1,6 +1,7 @@
 //! What a client replies to a server.
 
 ghost use Rattle.std.specs.Prelude.{◌≡◌, ◌<◌, ◌≤◌, [], ◌∷◌, length, IsTrue, IfOk};
+ghost use Rattle.fc_base.specs.declared.limits.TheConstants.{MAX_SERVERS, MAX_TEXT};
 ghost use Rattle.messages.specs.Ranges.{is_body, is_run};
 ghost use Rattle.messages.specs.declared.body.Body.TheVariants.{WantState};
 ghost use Rattle.client_core.specs.Framed.{framed};
@@ -25,7 +26,7 @@ pub(crate) fn replies(
     server: u32,
     body: &Body,
 ) -> Result<Frames, AllocError>
-    requires server { server < 8 }
+    requires server { server < MAX_SERVERS }
     requires body { IsTrue (is_body body.now) }
     ensures { EachLife life.now
         (λ deeds. IfOk result (λ frames. frames ≡ framed (replies mirror noted.now deeds server body.now))) }
@@ -61,7 +62,7 @@ pub(crate) fn replies(
 
 /// The start of a run, where its jobs were open.
 fn start_for(alloc: Global, run: RunNo, server: u32, begin: Beginning) -> Result<Frames, AllocError>
-    requires server { server < 8 }
+    requires server { server < MAX_SERVERS }
     requires run { IsTrue (is_run run) }
     ensures { IfOk result (λ frames. frames ≡ framed (start_for run server begin)) }
 {
@@ -79,9 +80,9 @@ fn jobs_for(
     server: u32,
     begin: Beginning,
 ) -> Result<Frames, AllocError>
-    requires server { server < 8 }
+    requires server { server < MAX_SERVERS }
     requires run { IsTrue (is_run run) }
-    requires text { length text.now ≤ 16384 }
+    requires text { length text.now ≤ MAX_TEXT }
     ensures { IfOk result (λ frames. frames ≡ framed (jobs_for run text.now server begin)) }
 {
     match begin {
@@ -102,7 +103,7 @@ fn state_for(
     job: JobNo,
     server: u32,
 ) -> Result<Frames, AllocError>
-    requires server { server < 8 }
+    requires server { server < MAX_SERVERS }
     requires body { IsTrue (is_body (WantState run attempt job)) }
     ensures { IfOk result (λ frames. frames ≡ framed (state_for run attempt job server
         (kept_of (record { run = run; server = server; job = job }) noted.now.kept) ∷ [])) }

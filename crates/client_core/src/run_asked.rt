@@ -1,16 +1,17 @@
 //! What was asked in this life for one run, and how it stands at each server.
 
 ghost use Rattle.std.specs.Prelude.{◌≡◌, ◌<◌, ◌≤◌, [], ◌∷◌, length, unwrap_or, IsTrue, List};
+ghost use Rattle.fc_base.specs.declared.limits.TheConstants.{MAX_SERVERS, MAX_TEXT};
 ghost use Rattle.messages.specs.Ranges.{is_body, is_run};
 
 use crate::beginning::Beginning;
 use crate::outcome::Outcome;
 use crate::standing::Standing;
-use fc_base::RunNo;
+use fc_base::{MAX_SERVERS, RunNo};
 use messages::{Act, Body, Text};
 
 /// How many servers a client drives at most.
-pub const SERVERS: usize = 8;
+pub const SERVERS: usize = MAX_SERVERS as usize;
 
 /// What was asked for one run, and how it stands at each server.
 #[derive(Debug, Drop)]
@@ -72,7 +73,7 @@ impl RunAsked {
     /// The text with which it was begun, empty where it wasn't.
     pub fn text(&self) -> &[u8]
         ensures text { result.now ≡ unwrap_or self.now.text [] }
-        ensures range { length result.now ≤ 16384 }
+        ensures range { length result.now ≤ MAX_TEXT }
     {
         match &self.text {
             Some(text) => text.as_slice(),
@@ -82,7 +83,7 @@ impl RunAsked {
 
     /// How far its begin is at a server.
     pub fn begin_at(&self, server: u32) -> Beginning
-        requires { server < 8 }
+        requires { server < MAX_SERVERS }
         ensures { (run : _) (deeds : List Deed) → RunIs run deeds self.now →
             result ≡ begin_at run server deeds }
     {
@@ -91,7 +92,7 @@ impl RunAsked {
 
     /// How its trigger stands at a server.
     pub fn trigger_at(&self, server: u32) -> Outcome
-        requires { server < 8 }
+        requires { server < MAX_SERVERS }
         ensures { (run : _) (deeds : List Deed) → RunIs run deeds self.now →
             result ≡ request_outcome (trigger_at run server deeds) }
     {
@@ -100,7 +101,7 @@ impl RunAsked {
 
     /// How its stop stands at a server.
     pub fn stop_at(&self, server: u32) -> Outcome
-        requires { server < 8 }
+        requires { server < MAX_SERVERS }
         ensures { (run : _) (deeds : List Deed) → RunIs run deeds self.now →
             result ≡ request_outcome (stop_at run server deeds) }
     {
@@ -109,7 +110,7 @@ impl RunAsked {
 
     /// What a server says.
     pub fn hear(&mut self, run: RunNo, server: u32, body: &Body)
-        requires server { server < 8 }
+        requires server { server < MAX_SERVERS }
         requires body { IsTrue (is_body body.now) }
         ensures { (deeds : List Deed) → RunIs run deeds self.old →
             RunIs run (Hears server body.now ∷ deeds) self.new }

@@ -9,11 +9,11 @@ ghost use Rattle.client_core.specs.Reports.{counts_for};
 ghost use Rattle.client_core.specs.Standing.{IsKept, all_told, with_answer};
 
 use crate::outcome::Outcome;
-use fc_base::{Attempt, RunNo};
+use fc_base::{Attempt, MAX_JOBS, RunNo};
 use messages::{Asked, Body, Reason, Refusal};
 
 /// How many jobs a run has at most.
-const JOBS: usize = 16;
+const JOBS: usize = MAX_JOBS as usize;
 
 /// How a trigger, a stop or a verify stands at a server; where it is open, how many jobs there are, 0
 /// before the first answer, which of them have an answer, and whether one of these tells of a misfit.

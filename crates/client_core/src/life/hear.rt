@@ -3,6 +3,8 @@
 ghost use Rattle.std.specs.Prelude.{◌≡◌, ◌<◌, ◌∷◌, true, IsTrue, List, Some, OnOk, OnErr};
 ghost use Rattle.fc_base.specs.Keys.{is_same_key};
 ghost use Rattle.std.specs.HashSet.{IsUnchanged, Updates};
+ghost use Rattle.fc_base.specs.declared.limits.TheConstants.{MAX_SERVERS};
+ghost use Rattle.messages.specs.declared.limits.TheConstants.{MIRROR_NUMBER};
 ghost use Rattle.messages.specs.Ranges.{is_body};
 ghost use Rattle.messages.specs.Bodies.{kind_of};
 ghost use Rattle.messages.specs.Kinds.{is_of_mirror};
@@ -23,7 +25,7 @@ use std::alloc::AllocError;
 impl Life {
     /// What a server says. Where memory runs out, nothing is heard.
     pub fn hear_any(&mut self, server: u32, body: Body) -> Result<(), AllocError>
-        requires server { server < 8 }
+        requires server { server < MAX_SERVERS }
         requires body { IsTrue (is_body body) }
         ensures left { OnOk result (EachLife self.old
             (λ deeds. LifeIs self.new (Hears server body ∷ deeds))) }
@@ -57,7 +59,7 @@ impl Life {
     pub fn hear_mirror(&mut self, body: &Body) -> Result<(), AllocError>
         requires { IsTrue (is_of_mirror (kind_of body.now)) }
         ensures left { OnOk result (EachLife self.old
-            (λ deeds. LifeIs self.new (Hears 9 body.now ∷ deeds))) }
+            (λ deeds. LifeIs self.new (Hears MIRROR_NUMBER body.now ∷ deeds))) }
         ensures same { OnErr result (EachLife self.old (LifeIs self.new)) }
     {
         match body {
@@ -83,7 +85,7 @@ impl Life {
 
     /// What a server says, but for a report.
     pub fn hear(&mut self, server: u32, body: &Body)
-        requires server { server < 8 }
+        requires server { server < MAX_SERVERS }
         requires body { IsTrue (is_body body.now) }
         requires no_report { IsNoReport body.now }
         ensures { EachLife self.old (λ deeds. LifeIs self.new (Hears server body.now ∷ deeds)) }
@@ -94,7 +96,7 @@ impl Life {
 
     /// The requests of a run hear it.
     fn hear_of_run(&mut self, server: u32, body: &Body)
-        requires server { server < 8 }
+        requires server { server < MAX_SERVERS }
         requires body { IsTrue (is_body body.now) }
         ensures runs { (deeds : List Deed) → RunsAre self.old deeds →
             RunsAre self.new (Hears server body.now ∷ deeds) }
@@ -110,7 +112,7 @@ impl Life {
 
     /// The attempt hears it.
     fn hear_of_attempt(&mut self, server: u32, body: &Body)
-        requires server { server < 8 }
+        requires server { server < MAX_SERVERS }
         requires body { IsTrue (is_body body.now) }
         ensures attempts { (deeds : List Deed) → AttemptsAre self.old deeds →
             AttemptsAre self.new (Hears server body.now ∷ deeds) }
@@ -127,7 +129,7 @@ impl Life {
 
 /// An attempt hears what a server says, where it was made.
 fn hear_at(place: &mut Option<AttemptAsked>, attempt: Attempt, server: u32, body: &Body)
-    requires server { server < 8 }
+    requires server { server < MAX_SERVERS }
     requires body { IsTrue (is_body body.now) }
     ensures { (deeds : List Deed) → AttemptFor attempt deeds (Some place.old) →
         AttemptFor attempt (Hears server body.now ∷ deeds) (Some place.new) }

@@ -1,6 +1,7 @@
 //! How the requests of this life stand.
 
 ghost use Rattle.std.specs.Prelude.{◌≡◌, ◌<◌, ◌≤◌, List, length};
+ghost use Rattle.fc_base.specs.declared.limits.TheConstants.{MAX_SERVERS, MAX_TEXT};
 ghost use Rattle.client_core.specs.Begins.{begin_at};
 ghost use Rattle.client_core.specs.Life.{Deed, text_of};
 ghost use Rattle.client_core.specs.Lives.{EachLife};
@@ -16,7 +17,7 @@ use fc_base::{Attempt, Key, RunNo};
 impl Life {
     /// How far the begin of a run is at a server.
     pub fn begin_at(&self, run: RunNo, server: u32) -> Beginning
-        requires { server < 8 }
+        requires { server < MAX_SERVERS }
         ensures { EachLife self.now (λ deeds. result ≡ begin_at run server deeds) }
     {
         match self.runs.get(&run.0) {
@@ -28,7 +29,7 @@ impl Life {
     /// The text with which a run was begun in this life, empty where it wasn't.
     pub fn text_of(&self, run: RunNo) -> &[u8]
         ensures text { EachLife self.now (λ deeds. result.now ≡ text_of run deeds) }
-        ensures range { length result.now ≤ 16384 }
+        ensures range { length result.now ≤ MAX_TEXT }
     {
         match self.runs.get(&run.0) {
             Some(asked) => asked.text(),
@@ -38,7 +39,7 @@ impl Life {
 
     /// How a request stands at a server, by the number of its run or attempt.
     pub fn outcome(&self, kind: RequestKind, number: u64, server: u32) -> Outcome
-        requires { server < 8 }
+        requires { server < MAX_SERVERS }
         ensures { EachLife self.now (λ deeds. result ≡ outcome_at kind number server deeds) }
     {
         match kind {
@@ -51,7 +52,7 @@ impl Life {
 
     /// How the trigger of a run stands at a server.
     pub fn trigger_outcome(&self, run: RunNo, server: u32) -> Outcome
-        requires { server < 8 }
+        requires { server < MAX_SERVERS }
         ensures { EachLife self.now (λ deeds. result ≡ request_outcome (trigger_at run server deeds)) }
     {
         match self.runs.get(&run.0) {
@@ -62,7 +63,7 @@ impl Life {
 
     /// How the stop of a run stands at a server.
     fn stop_outcome(&self, run: RunNo, server: u32) -> Outcome
-        requires { server < 8 }
+        requires { server < MAX_SERVERS }
         ensures { EachLife self.now (λ deeds. result ≡ request_outcome (stop_at run server deeds)) }
     {
         match self.runs.get(&run.0) {
@@ -73,7 +74,7 @@ impl Life {
 
     /// How an attempt to verify stands at a server.
     fn verify_outcome(&self, attempt: Attempt, server: u32) -> Outcome
-        requires { server < 8 }
+        requires { server < MAX_SERVERS }
         ensures { EachLife self.now (λ deeds. result ≡ request_outcome (verify_at attempt server deeds)) }
     {
         match self.attempts.get(&attempt.0) {
@@ -91,7 +92,7 @@ impl Life {
 
     /// Whether the trigger of a run has ended at each of so many servers.
     pub fn settled(&self, run: RunNo, servers: u32) -> bool
-        requires { servers ≤ 8 }
+        requires { servers ≤ MAX_SERVERS }
         ensures { EachLife self.now (λ deeds. result ≡ all_ended run deeds servers) }
     {
         let mut settled = true;

@@ -1,6 +1,7 @@
 //! A run begins.
 
 ghost use Rattle.std.specs.Prelude.{◌≡◌, ◌≤◌, not, List, IsTrue, IfOk};
+ghost use Rattle.fc_base.specs.declared.limits.TheConstants.{MAX_SERVERS};
 ghost use Rattle.client_core.specs.declared.call.Call.TheVariants.{Begin};
 ghost use Rattle.client_core.specs.Ends.{Gives};
 ghost use Rattle.messages.specs.Ranges.{is_run, is_text};
@@ -83,7 +84,7 @@ fn begin_frames(
     run: RunNo,
     text: &[u8],
 ) -> Result<(Frames, Text), AllocError>
-    requires few { servers ≤ 8 }
+    requires few { servers ≤ MAX_SERVERS }
     requires run { IsTrue (is_run run) }
     requires text { IsTrue (is_text text.now) }
     ensures frames { IfOk result (λ b. b.0 ≡ framed (to_all servers (Jobs run text.now))) }

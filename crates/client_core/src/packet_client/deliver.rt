@@ -1,6 +1,7 @@
 //! A packet of a server, or of the mirror, is delivered.
 
 ghost use Rattle.std.specs.Prelude.{◌≡◌, ◌<◌, [], not, false, true, List, None, IsTrue};
+ghost use Rattle.fc_base.specs.declared.limits.TheConstants.{MAX_SERVERS};
 ghost use Rattle.messages.specs.declared.packet.PacketParts.{PacketParts as Parts};
 ghost use Rattle.messages.specs.Nodes.{node_number, is_client, is_mirror};
 ghost use Rattle.messages.specs.Ranges.{is_body, KeepsState};
@@ -46,7 +47,7 @@ impl<N: Notes> PacketClient<N> {
     /// Takes what a server says, which isn't refused.
     fn hear(&mut self, server: u32, body: Body) -> Result<Frames, Fault>
         requires up { self.old.down ≡ false }
-        requires server { server < 8 }
+        requires server { server < MAX_SERVERS }
         requires body { IsTrue (is_body body) }
         requires state { KeepsState body }
         requires free { faults_of_body self.old.noted body ≡ [] }

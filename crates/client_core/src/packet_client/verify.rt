@@ -1,6 +1,7 @@
 //! An attempt verifies a run.
 
 ghost use Rattle.std.specs.Prelude.{◌≡◌, ◌≤◌, ◌∷◌, not, List, None, IsTrue, IfOk};
+ghost use Rattle.fc_base.specs.declared.limits.TheConstants.{MAX_SERVERS};
 ghost use Rattle.client_core.specs.declared.call.Call.TheVariants.{Verify as Verifying};
 ghost use Rattle.client_core.specs.Ends.{Gives};
 ghost use Rattle.messages.specs.Ranges.{is_attempt, is_run, is_text};
@@ -93,7 +94,7 @@ fn verify_frames(
     attempt: Attempt,
     text: &[u8],
 ) -> Result<(Frames, AttemptAsked), AllocError>
-    requires few { servers ≤ 8 }
+    requires few { servers ≤ MAX_SERVERS }
     requires run { IsTrue (is_run run) }
     requires attempt { IsTrue (is_attempt attempt) }
     requires text { IsTrue (is_text text.now) }

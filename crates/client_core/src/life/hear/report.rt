@@ -1,6 +1,7 @@
 //! What a server reports of a check.
 
 ghost use Rattle.std.specs.Prelude.{◌≡◌, ◌<◌, ◌∷◌, IsTrue, List, Some, OnOk, OnErr};
+ghost use Rattle.fc_base.specs.declared.limits.TheConstants.{MAX_SERVERS};
 ghost use Rattle.fc_base.specs.declared.report.ReportParts.{ReportParts};
 ghost use Rattle.messages.specs.Ranges.{is_job_of};
 ghost use Rattle.messages.specs.declared.body.Body.TheVariants.{Report};
@@ -18,7 +19,7 @@ impl Life {
     /// What a server reports of a job, which tells how many jobs there are. It is kept where it is the
     /// first of its attempt, server and job that counts. Where memory runs out nothing changes.
     pub fn hear_report(&mut self, received: Received, jobs: u32) -> Result<(), AllocError>
-        requires server { received.server < 8 }
+        requires server { received.server < MAX_SERVERS }
         requires job { IsTrue (is_job_of received.job jobs) }
         ensures left { OnOk result (EachLife self.old
             (λ deeds. LifeIs self.new (Hears received.server (said received jobs) ∷ deeds))) }
@@ -33,7 +34,7 @@ impl Life {
 
     /// Keeps a report where it is the first of its attempt, server and job that counts.
     fn keep_report(&mut self, received: Received, jobs: u32) -> Result<(), AllocError>
-        requires { received.server < 8 }
+        requires { received.server < MAX_SERVERS }
         ensures kept { OnOk result ((deeds : List Deed) → AttemptsAre self.old deeds →
             self.new.reports.items
             ≡ reports_heard deeds received.server (said received jobs) self.old.reports.items) }
@@ -52,7 +53,7 @@ impl Life {
 
     /// The attempt hears a report.
     fn tell_report(&mut self, run: RunNo, attempt: Attempt, server: u32, job: u32, jobs: u32)
-        requires server { server < 8 }
+        requires server { server < MAX_SERVERS }
         requires job { IsTrue (is_job_of job jobs) }
         ensures attempts { (deeds : List Deed) (report : ReportParts) → AttemptsAre self.old deeds →
             AttemptsAre self.new (Hears server (Report run attempt job jobs report) ∷ deeds) }
@@ -67,7 +68,7 @@ impl Life {
 
     /// Whether a report counts, which tells how many jobs there are.
     fn counts(&self, run: RunNo, attempt: Attempt, server: ServerNo, job: JobNo, jobs: u32) -> bool
-        requires { server < 8 }
+        requires { server < MAX_SERVERS }
         ensures { (deeds : List Deed) → AttemptsAre self.now deeds →
             result ≡ report_counts run attempt server job jobs deeds }
     {
@@ -88,7 +89,7 @@ fn has_report(reports: &[Received], attempt: Attempt, server: ServerNo, job: Job
 
 /// An attempt hears a report, where it was made.
 fn report_at(place: &mut Option<AttemptAsked>, run: RunNo, server: u32, job: u32, jobs: u32)
-    requires server { server < 8 }
+    requires server { server < MAX_SERVERS }
     requires job { IsTrue (is_job_of job jobs) }
     ensures { (attempt : _) (deeds : List Deed) (report : ReportParts) →
         AttemptFor attempt deeds (Some place.old) →

@@ -1,4 +1,5 @@
 use Rattle.std.proofs.Common.{sym, subst, ◌∙◌, ap, ◌∷◌, true}
+use Rattle.messages.specs.declared.limits.TheConstants.{MIRROR_NUMBER}
 use Rattle.messages.specs.Nodes.{node_number}
 use Rattle.messages.specs.Bodies.{kind_of}
 use Rattle.messages.specs.Kinds.{is_of_mirror}
@@ -50,4 +51,4 @@ returns-in-Ok-hear_mirror g c o past p e from to r s =
     let kind = ap (λ b. is_of_mirror (kind_of b)) e ∙ c.requires.kind in
     answers_from_mirror g.N.Notes.note old c.hear_mirror.new.self o past p c.args.body.now c.new-in-Ok-hear_mirror.result _ e from to c.requires.up c.requires.mirror r (ap (addition_by old.noted) e ∙ c.in-None.ensures)
     (λ deeds h. c.new-in-Ok-hear_mirror.ensures ∙ ap framed (sym (no_reply old.peers.mirror old.noted deeds (node_number p.from) p.body kind)))
-    (λ deeds h. subst (λ n. LifeIs c.hear_mirror.new.self (Hears n p.body ∷ deeds)) (sym (mirror_number p.from from)) (subst (λ b. LifeIs c.hear_mirror.new.self (Hears 9 b ∷ deeds)) (sym e) (c.in-Ok-hear_mirror.ensures.left deeds h))) c.hear.ensures s
+    (λ deeds h. subst (λ n. LifeIs c.hear_mirror.new.self (Hears n p.body ∷ deeds)) (sym (mirror_number p.from from)) (subst (λ b. LifeIs c.hear_mirror.new.self (Hears MIRROR_NUMBER b ∷ deeds)) (sym e) (c.in-Ok-hear_mirror.ensures.left deeds h))) c.hear.ensures s
