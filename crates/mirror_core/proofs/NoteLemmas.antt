@@ -11,6 +11,7 @@ use Rattle.std.proofs.lemmas.Nat.{from_be_bytes-to_be_bytes_4, from_be_bytes-to_
 use Rattle.std.proofs.lemmas.Slice.Eq.{bytes_eq-Decides}
 use Rattle.fc_base.specs.Layouts.{bytes_of, number_in}
 use Rattle.fc_base.specs.declared.limits.TheConstants.{MAX_GENERATION}
+use Rattle.state_table.specs.declared.kept.TheConstants.{KEPT_LIMIT}
 use Rattle.verify_state.specs.State.{State, IsState}
 use Rattle.verify_state.specs.Spelling.{spelling as state_bytes}
 use Rattle.verify_state.specs.Laws.{ReadsBack}
@@ -44,7 +45,7 @@ unfolding note_of bytes_of number_in
 spelled_read reads n parts k h =
     let r = reads parts n.kept h in
     let l : length parts ≡ length n.kept = r.0 in
-    let few : length n.kept ≤ 1024 = k.count in
+    let few : length n.kept ≤ KEPT_LIMIT = k.count in
     let small : length parts < 2 ^ 32 = omega arith in
     record {
       mark = refl;
@@ -118,7 +119,7 @@ each_byte bytes h = recursion_from_All (λ byte. byte < 256) bytes (All-from_get
 -- what is read says the note
 pub read_says : SpelledAreRead → ReadWereSpelled → (bytes : List ℕ) (generation count : ℕ) (kept : List State) → AreBytes bytes → take 4 bytes ≡ codes "FCM1" → 16 ≤ length bytes
     → generation ≡ number_in w64 (after_magic bytes) → count ≡ number_in w32 (after_generation bytes)
-    → generation ≤ MAX_GENERATION → count ≤ 1024 → states_at count (drop 4 (after_generation bytes)) ≡ Some kept → has_distinct_keys kept ≡ true → Says bytes (record { generation = generation; kept = kept })
+    → generation ≤ MAX_GENERATION → count ≤ KEPT_LIMIT → states_at count (drop 4 (after_generation bytes)) ≡ Some kept → has_distinct_keys kept ≡ true → Says bytes (record { generation = generation; kept = kept })
 unfolding note_of bytes_of number_in
 read_says reads spelled bytes generation count kept h mark long g c low few states keys =
     let one = dropped 4 bytes h in
@@ -178,10 +179,10 @@ too_great reads bytes n generation some g h s =
     let more : 4294967295 < generation = h in
     absurd (omega arith)
 
-pub too_many : SpelledAreRead → (bytes : List ℕ) (n : Noted) (count : ℕ) → (bytes ≡ [] → ⊥) → count ≡ number_in w32 (after_generation bytes) → 1024 < count → Says bytes n → ⊥
+pub too_many : SpelledAreRead → (bytes : List ℕ) (n : Noted) (count : ℕ) → (bytes ≡ [] → ⊥) → count ≡ number_in w32 (after_generation bytes) → KEPT_LIMIT < count → Says bytes n → ⊥
 too_many reads bytes n count some c h s =
     let e : count ≡ length n.kept = c ∙ (says_read reads bytes n s some).count in
-    let few : length n.kept ≤ 1024 = s.note.count in
+    let few : length n.kept ≤ KEPT_LIMIT = s.note.count in
     absurd (omega arith)
 
 pub no_states : SpelledAreRead → (bytes : List ℕ) (n : Noted) (count : ℕ) → (bytes ≡ [] → ⊥) → count ≡ number_in w32 (after_generation bytes) → ReadsStates count (drop 4 (after_generation bytes)) None → Says bytes n → ⊥

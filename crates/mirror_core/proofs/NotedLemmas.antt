@@ -6,6 +6,7 @@ use Rattle.std.proofs.lemmas.Bool.{and_parts}
 use Rattle.std.proofs.lemmas.Bool.Decides.{nat_tests}
 use Rattle.fc_base.specs.declared.fault.Fault.{Fault}
 use Rattle.fc_base.specs.declared.limits.TheConstants.{MAX_GENERATION}
+use Rattle.state_table.specs.declared.kept.TheConstants.{KEPT_LIMIT}
 use Rattle.verify_state.specs.State.{State, IsState}
 use Rattle.disk_model.specs.Left.{has_new}
 use Rattle.messages.specs.declared.frame.Frame.TheVariants.{Whole, Piece}
@@ -28,7 +29,7 @@ use Rattle.mirror_core.proofs.RequestLemmas.{asked_range, room_fault, taken_in}
 
 -- ---- an addition fits
 
-pub kept_fits : KeysStayApart → (n : Noted) (s : State) → kept_of s.key n.kept ≡ None → length n.kept < 1024 → IsState s → IsNoted n → IsNoted (with_addition (Keep s) n)
+pub kept_fits : KeysStayApart → (n : Noted) (s : State) → kept_of s.key n.kept ≡ None → length n.kept < KEPT_LIMIT → IsState s → IsNoted n → IsNoted (with_addition (Keep s) n)
 kept_fits apart n s none room h k = record {
   generation = k.generation;
   count = omega (arith, length-append n.kept (s ∷ []), room);
@@ -63,11 +64,11 @@ granted_already n g h = let e : nat_lt n.generation g ≡ false = grind (arith, 
 pub granted_newly : (n : Noted) (g : ℕ) → n.generation < g → addition_by n (Fetch g) ≡ Some (Grant g)
 granted_newly n g h = let e : nat_lt n.generation g ≡ true = grind (arith, nat_tests) in rw e refl
 
-room_left : (n : Noted) (s : State) (x : Option State) → x ≡ None → lacks_room n.kept x ≡ false → length n.kept < 1024
+room_left : (n : Noted) (s : State) (x : Option State) → x ≡ None → lacks_room n.kept x ≡ false → length n.kept < KEPT_LIMIT
 room_left n s None e h = grind (arith, nat_tests)
 room_left n s (Some k) e h = cc
 
-pub has_room : (n : Noted) (s : State) → kept_of s.key n.kept ≡ None → faults_of_request n (Copy s) ≡ [] → length n.kept < 1024
+pub has_room : (n : Noted) (s : State) → kept_of s.key n.kept ≡ None → faults_of_request n (Copy s) ≡ [] → length n.kept < KEPT_LIMIT
 has_room n s none free =
     let x = kept_of s.key n.kept in
     room_left n s x none (room_fault (differs s x) (lacks_room n.kept x) free).1

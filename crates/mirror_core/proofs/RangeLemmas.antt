@@ -5,7 +5,9 @@ use Rattle.std.specs.List.{AllByRecursion}
 use Rattle.std.proofs.lemmas.Bool.{and_parts}
 use Rattle.std.proofs.lemmas.Bool.Decides.{nat_tests}
 use Rattle.std.proofs.lemmas.List.Sums.{sum_by-append}
+use Rattle.fc_base.specs.declared.limits.TheConstants.{MAX_JOBS, MAX_SERVERS}
 use Rattle.fc_base.specs.Layouts.{bytes_of}
+use Rattle.messages.specs.declared.limits.TheConstants.{CHUNK_LIMIT}
 use Rattle.verify_state.specs.State.{State, IsState}
 use Rattle.messages.specs.declared.packet.PacketParts.{PacketParts}
 use Rattle.messages.specs.declared.body.Body.TheVariants as bodies
@@ -32,13 +34,13 @@ use Rattle.mirror_core.proofs.RequestLemmas.{asked_range}
 
 copy_ok_fits : (s : State) → IsState s → is_body (bodies.CopyOk s.key.run s.key.server s.key.job) ≡ true
 copy_ok_fits s k =
-    let p = and_parts (nat_le 1 s.key.run && nat_lt s.key.server 8) (nat_lt s.key.job 16) k.key in
-    let q = and_parts (nat_le 1 s.key.run) (nat_lt s.key.server 8) p.0 in
+    let p = and_parts (nat_le 1 s.key.run && nat_lt s.key.server MAX_SERVERS) (nat_lt s.key.job MAX_JOBS) k.key in
+    let q = and_parts (nat_le 1 s.key.run) (nat_lt s.key.server MAX_SERVERS) p.0 in
     let a : nat_le 1 s.key.run ≡ true = q.0 in
     let l : s.key.run < 2 ^ 64 = k.run in
     let w : nat_lt s.key.run (2 ^ 64) ≡ true = grind (arith, nat_tests) in
-    let v : nat_lt s.key.server 8 ≡ true = q.1 in
-    let j : nat_lt s.key.job 16 ≡ true = p.1 in
+    let v : nat_lt s.key.server MAX_SERVERS ≡ true = q.1 in
+    let j : nat_lt s.key.job MAX_JOBS ≡ true = p.1 in
     rw (a, w, v, j) refl
 
 asked_in_range : (n : Noted) (q : Option Request) → IsNoted n → ((r : Request) → q ≡ Some r → IsRequest r) → AllByRecursion IsPacket (packets_for n q)
@@ -67,7 +69,7 @@ unfolding bytes_of
 copy_length s = omega arith
 
 uncut : (s : State) → length_of (bodies.Copy s) ≤ 136 → spelled_frames (copy_of s) ≡ spelling (copy_of s) ∷ []
-uncut s l = let e : nat_lt 1024 (length_of (bodies.Copy s)) ≡ false = grind (arith, nat_tests) in rw e refl
+uncut s l = let e : nat_lt CHUNK_LIMIT (length_of (bodies.Copy s)) ≡ false = grind (arith, nat_tests) in rw e refl
 
 one_copy : LengthsAreBounded → (s : State) → IsState s → AreCopies 1 (spelled_frames (copy_of s))
 one_copy bounded s k =

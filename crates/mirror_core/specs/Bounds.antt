@@ -1,5 +1,6 @@
 -- How much a mirror sends in answer to one frame.
-use Rattle.std.specs.Prelude.{◌≤◌, ℕ, List, ◌∷◌, length, sum_by}
+use Rattle.std.specs.Prelude.{◌≤◌, ℕ, ◌+◌, List, ◌∷◌, length, sum_by}
+use Rattle.state_table.specs.declared.kept.TheConstants.{KEPT_LIMIT}
 use Rattle.mirror_core.specs.declared.noted.Noted.{Noted}
 use Rattle.mirror_core.specs.History.{Entry}
 use Rattle.mirror_core.specs.Laws.{CameInRange}
@@ -8,7 +9,7 @@ use Rattle.mirror_core.specs.Packets.{packets, framed}
 
 -- At most 1,025 frames, of together 160,000 bytes: a grant, and a copy of each kept state.
 pub record AreShort (frames : List (List ℕ)) : Type 0 where
-  pub few : length frames ≤ 1025
+  pub few : length frames ≤ KEPT_LIMIT + 1
   pub short : sum_by (λ frame. length frame) frames ≤ 160000
 
 -- What an event sends is short, where what came is within its ranges.

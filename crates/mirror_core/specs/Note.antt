@@ -4,6 +4,7 @@ use Rattle.std.specs.List.{flat_map, AllByRecursion}
 use Rattle.std.specs.Int.{w32, w64}
 use Rattle.fc_base.specs.Layouts.{bytes_of}
 use Rattle.fc_base.specs.declared.limits.TheConstants.{MAX_GENERATION}
+use Rattle.state_table.specs.declared.kept.TheConstants.{KEPT_LIMIT}
 use Rattle.verify_state.specs.State.{IsState}
 use Rattle.verify_state.specs.Spelling.{spelling as state_bytes}
 use Rattle.state_table.specs.Counted.{counted_bytes, SayStates}
@@ -29,7 +30,7 @@ spelling n = note_of n.generation (map state_bytes n.kept)
 -- keys.
 pub record IsNoted (n : Noted) : Type 0 where
   pub generation : n.generation ≤ MAX_GENERATION
-  pub count : length n.kept ≤ 1024
+  pub count : length n.kept ≤ KEPT_LIMIT
   pub states : AllByRecursion IsState n.kept
   pub keys : IsTrue (has_distinct_keys n.kept)
 

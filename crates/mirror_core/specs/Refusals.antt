@@ -3,6 +3,7 @@ use Rattle.std.specs.Prelude.{◌≡◌, Bool, false, not, nat_lt, nat_le, List,
 use Rattle.fc_base.specs.declared.fault.Fault.{Fault}
 use Rattle.fc_base.specs.declared.fault.Fault.TheVariants.{Old, Down, Misdirected, Conflict, TableFull}
 use Rattle.fc_base.specs.Faults.{when}
+use Rattle.state_table.specs.declared.kept.TheConstants.{KEPT_LIMIT}
 use Rattle.verify_state.specs.State.{State}
 use Rattle.verify_state.specs.Same.{is_same}
 use Rattle.messages.specs.declared.frame.Frame.{Frame}
@@ -19,7 +20,7 @@ differs state (Some kept) = not (is_same kept state)
 
 -- None is kept, and there is no room for one more.
 abbrev pub lacks_room : List State → Option State → Bool
-lacks_room states None = nat_le 1024 (length states)
+lacks_room states None = nat_le KEPT_LIMIT (length states)
 lacks_room states (Some kept) = false
 
 -- Why what is asked for is refused: another state of the key is kept, or there is no room for one more;
