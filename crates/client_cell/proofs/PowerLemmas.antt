@@ -32,17 +32,18 @@ use Rattle.client_core.specs.FrameEnds as ends
 use Rattle.client_core.specs.FrameEnds.{StandsFor}
 use Rattle.node_history.specs.declared.answer.Answer.TheVariants.{Plain, Run, Attempt}
 use Rattle.node_history.specs.declared.answer.Said.{Said}
-use Rattle.node_history.specs.AtHub.{is_save, is_drop as says_drop}
+use Rattle.node_history.specs.AtHub.{is_save}
 use Rattle.node_history.specs.Failures.{is_load, CountsBy, Counts}
-use Rattle.node_history.specs.Rules.{Meets}
-use Rattle.node_history.specs.Replay.{Stops}
+use Rattle.node_history.specs.Moves.{plain, Faults, StepEnds, TaskEnds}
+use Rattle.node_history.specs.Rules.{Meets, Cuts, Restarts}
 use Rattle.node_history.specs.ServerRules.{left_by}
 use Rattle.node_history.specs.ClientRules.{rules, is_up, answer_to}
+use Rattle.node_history.proofs.MoveLemmas.{up, refused, refused_step, lost, left_is, no_load}
+use Rattle.node_history.proofs.MoveLemmas as moves
 use Rattle.client_cell.specs.declared.outs.Outs.{Outs}
 use Rattle.client_cell.specs.declared.power.Power.{Power}
 use Rattle.client_cell.specs.declared.power.Power.TheVariants.{On, Off}
-use Rattle.client_cell.specs.declared.task.Task.TheVariants as tasks
-use Rattle.client_cell.specs.Stands.{plain, outs_of, outs_of_run, outs_of_attempt, Stands, Shows, Moves, Answers, Faults, StepEnds, TaskEnds}
+use Rattle.client_cell.specs.Stands.{given, outs_of, outs_of_run, outs_of_attempt, ways, Stands, Shows}
 
 -- ---- what came stays within its ranges
 
@@ -63,12 +64,8 @@ came_after o past inputs.Tick left h came = came
 
 -- ---- a step
 
-up : (b : Bool) (x : Option Fault) (y : Option Fault) → b ≡ true → (if b then x else y) ≡ x
-up true x y h = refl
-up false x y h = cc
-
 answers_step : {T : Type 0} (note : T → Note) (o : Opening) (past : List FrameEntry) (e : Input) (old client : Client T) (outs : Outs) → is_up o past ≡ true
-    → outs.answer ≡ answer_to o past e → ends.Answers note o past e old client outs.frames → SenseInRange (sense o past e) → Answers note o past e (On client) outs
+    → outs.answer ≡ answer_to o past e → ends.Answers note o past e old client outs.frames → SenseInRange (sense o past e) → StepEnds (ways note o) past e (On client) (given (Ok outs))
 answers_step note o past e old client outs on said a h = record {
   moves = record {
     after = answers.answered o past e ∷ past;
@@ -86,12 +83,6 @@ answers_step note o past e old client outs on said a h = record {
   short = a.short;
 }
 
-left_is : (left : Left) → is_lost left ≡ true → (landed : Bool) × (left_by landed ≡ left)
-left_is lefts.NoSave h = cc
-left_is lefts.Saved h = cc
-left_is lefts.LostNew h = (true, refl)
-left_is lefts.LostOld h = (false, refl)
-
 no_drop : (o : Opening) (past : List FrameEntry) (s : Sense) (fault : Fault) → answers.refusal_in o (packets_heard o past) s ≡ Some fault → (fault ≡ FrameBadField → ⊥) → is_drop s ≡ false
 no_drop o past (Hears c) fault h k = refl
 no_drop o past (Keeps q) fault h k = refl
@@ -101,75 +92,24 @@ no_drop o past (Drops q) fault h k = absurd (k (same FrameBadField fault h))
     same x y h = cc
 no_drop o past Misses fault h k = refl
 
--- Where the fault tells of no dropped tag, it is another.
-another : (fault : Fault) → says_drop fault ≡ false → fault ≡ FrameBadField → ⊥
-another fault h e = clash (sym h ∙ ap says_drop e)
-  where
-    clash : false ≡ true → ⊥
-    clash h = cc
-
--- What is refused stands in the list where it dropped a tag, and else it doesn't.
-refused_step : {T : Type 0} (note : T → Note) (o : Opening) (past : List FrameEntry) (e : Input) (old client : Client T) (fault : Fault) → is_up o past ≡ true → ends.Refuses note o past e fault old client → SenseInRange (sense o past e) → sort_of fault ≡ sorts.Refusal
-    → (b : Bool) → says_drop fault ≡ b → Moves note o past (Meets e) (Err fault) [] (On client)
-refused_step note o past e old client fault on f h is true d = record {
-  after = Met e lefts.NoSave ∷ past;
-  ends = subst (λ (sort : FaultSort). Stops (rules o) past (Meets e) sort fault [] (Met e lefts.NoSave ∷ past)) (sym is) (record {
-    why = inl (up (is_up o past) (answers.refusal o past e) (Some NodeOff) on ∙ f.why);
-    sends_none = refl;
-    after_is = ap (λ b. if b then Met e lefts.NoSave ∷ past else past) (sym d);
-  });
-  stands = f.stands;
-  ranges = came_after o past e lefts.NoSave h;
-}
-refused_step note o past e old client fault on f h is false d = record {
-  after = past;
-  ends = subst (λ (sort : FaultSort). Stops (rules o) past (Meets e) sort fault [] past) (sym is) (record {
-    why = inl (up (is_up o past) (answers.refusal o past e) (Some NodeOff) on ∙ f.why);
-    sends_none = refl;
-    after_is = ap (λ b. if b then Met e lefts.NoSave ∷ past else past) (sym d);
-  });
-  stands = f.unchanged (no_drop o past (sense o past e) fault f.why (another fault d));
-  ranges = λ h. h;
-}
-
 faults_step : {T : Type 0} (note : T → Note) (o : Opening) (past : List FrameEntry) (e : Input) (old client : Client T) (fault : Fault) → is_up o past ≡ true
-    → (sort : FaultSort) → ends.Faults note o past e sort fault old client → UnlessMemory sort (sense o past e) → sort_of fault ≡ sort → Faults note o past e sort fault (On client)
+    → (sort : FaultSort) → ends.Faults note o past e sort fault old client → UnlessMemory sort (sense o past e) → sort_of fault ≡ sort → Faults (ways note o) past e sort fault (On client)
 faults_step note o past e old client fault on sorts.Memory f h is = (f.why, f.unchanged)
 faults_step note o past e old client fault on sorts.Save f h is =
     let l = left_is f.left f.lost in
-    record {
-      after = Met e f.left ∷ past;
-      ends = subst (λ (sort : FaultSort). Stops (rules o) past (Meets e) sort fault [] (Met e f.left ∷ past)) (sym is) (record {
-        free = up (is_up o past) (answers.refusal o past e) (Some NodeOff) on ∙ f.free;
-        landed = l.0;
-        entry = Met e f.left;
-        entry_is = ap (option_map (λ addition. Met e (left_by l.0))) f.makes_one ∙ ap (λ left. Some (Met e left)) l.1;
-        sends_none = refl;
-        after_is = refl;
-      });
-      stands = f.stands;
-      ranges = came_after o past e f.left h;
-    }
-faults_step note o past e old client fault on sorts.Refusal f h is = record {
-  moves = refused_step note o past e old client fault on f h is (says_drop fault) refl;
-  unchanged = λ k. f.unchanged (no_drop o past (sense o past e) fault f.why k);
-}
+    lost (ways note o) past (Meets e) fault l.0 (Met e f.left) (On client) is (up (is_up o past) (answers.refusal o past e) (Some NodeOff) on ∙ f.free)
+    (ap (option_map (λ addition. Met e (left_by l.0))) f.makes_one ∙ ap (λ left. Some (Met e left)) l.1) f.stands (came_after o past e f.left h)
+faults_step note o past e old client fault on sorts.Refusal f h is =
+    refused_step (ways note o) past e (Met e lefts.NoSave) fault (On client) is (up (is_up o past) (answers.refusal o past e) (Some NodeOff) on ∙ f.why) refl
+    f.stands (λ k. f.unchanged (no_drop o past (sense o past e) fault f.why k)) (came_after o past e lefts.NoSave h)
 
 -- What comes to a client that isn't on is refused, and nothing changes.
-pub off_ends : {T : Type 0} (note : T → Note) (o : Opening) (past : List FrameEntry) (e : Input) (power : Power T) → is_up o past ≡ false → Stands note o past power → StepEnds note o past e power (Err NodeOff)
-off_ends note o past e power off s = record {
-  moves = record {
-    after = past;
-    ends = record { why = inl (ap (λ b. if b then answers.refusal o past e else Some NodeOff) off); sends_none = refl; after_is = refl };
-    stands = s;
-    ranges = λ h. h;
-  };
-  unchanged = λ k. s;
-}
+pub off_ends : {T : Type 0} (note : T → Note) (o : Opening) (past : List FrameEntry) (e : Input) (power : Power T) → is_up o past ≡ false → Stands note o past power → StepEnds (ways note o) past e power (Err NodeOff)
+off_ends note o past e power off s = moves.off_ends (ways note o) past e power (ap (λ b. if b then answers.refusal o past e else Some NodeOff) off) refl s
 
 -- A client that is on takes a frame.
 pub deliver_ends : {T : Type 0} (note : T → Note) (o : Opening) (past : List FrameEntry) (frame : _) (old client : Client T) (sent : Result (List (List ℕ)) Fault) → is_up o past ≡ true
-    → ends.Ends note o past (inputs.Deliver frame) old client sent → HearsInRange o past (inputs.Deliver frame) sent → StepEnds note o past (inputs.Deliver frame) (On client) (outs_of sent)
+    → ends.Ends note o past (inputs.Deliver frame) old client sent → HearsInRange o past (inputs.Deliver frame) sent → StepEnds (ways note o) past (inputs.Deliver frame) (On client) (given (outs_of sent))
 deliver_ends note o past frame old client (Ok sent) on a h = answers_step note o past (inputs.Deliver frame) old client (record { answer = Plain; frames = sent }) on refl a h
 deliver_ends note o past frame old client (Err fault) on f h = faults_step note o past (inputs.Deliver frame) old client fault on (sort_of fault) f h refl
 
@@ -181,38 +121,33 @@ unasked o past e sorts.Refusal h = h
 
 -- A call that is not answered.
 pub not_answered : {T : Type 0} (note : T → Note) (o : Opening) (past : List FrameEntry) (e : Input) (old client : Client T) (fault : Fault) → is_up o past ≡ true
-    → SenseInRange (sense o past e) → ends.Faults note o past e (sort_of fault) fault old client → StepEnds note o past e (On client) (Err fault)
+    → SenseInRange (sense o past e) → ends.Faults note o past e (sort_of fault) fault old client → StepEnds (ways note o) past e (On client) (Err fault)
 not_answered note o past e old client fault on h f = faults_step note o past e old client fault on (sort_of fault) f (unasked o past e (sort_of fault) h) refl
 
 -- A call that has no number.
 pub plain_ends : {T : Type 0} (note : T → Note) (o : Opening) (past : List FrameEntry) (e : Input) (old client : Client T) (sent : Result (List (List ℕ)) Fault) → is_up o past ≡ true
-    → SenseInRange (sense o past e) → Plain ≡ answer_to o past e → ends.Ends note o past e old client sent → StepEnds note o past e (On client) (outs_of sent)
+    → SenseInRange (sense o past e) → Plain ≡ answer_to o past e → ends.Ends note o past e old client sent → StepEnds (ways note o) past e (On client) (given (outs_of sent))
 plain_ends note o past e old client (Ok sent) on h said a = answers_step note o past e old client (record { answer = Plain; frames = sent }) on said a h
 plain_ends note o past e old client (Err fault) on h said f = not_answered note o past e old client fault on h f
 
 -- A call that gives a number.
-pub begin_ends : {T : Type 0} (note : T → Note) (o : Opening) (past : List FrameEntry) (text : List ℕ) (old client : Client T) (given : Result (ℕ × List (List ℕ)) Fault) → is_up o past ≡ true
-    → ends.Gives note o past (inputs.Begin text) (noted o (packets_heard o past)).runs old client given → StepEnds note o past (inputs.Begin text) (On client) (outs_of_run given)
-begin_ends note o past text old client (Ok given) on a = answers_step note o past (inputs.Begin text) old client (record { answer = Run given.0; frames = given.1 }) on (ap Run a.0) a.1 tt
+pub begin_ends : {T : Type 0} (note : T → Note) (o : Opening) (past : List FrameEntry) (text : List ℕ) (old client : Client T) (got : Result (ℕ × List (List ℕ)) Fault) → is_up o past ≡ true
+    → ends.Gives note o past (inputs.Begin text) (noted o (packets_heard o past)).runs old client got → StepEnds (ways note o) past (inputs.Begin text) (On client) (given (outs_of_run got))
+begin_ends note o past text old client (Ok got) on a = answers_step note o past (inputs.Begin text) old client (record { answer = Run got.0; frames = got.1 }) on (ap Run a.0) a.1 tt
 begin_ends note o past text old client (Err fault) on f = not_answered note o past (inputs.Begin text) old client fault on tt f
 
-pub verify_ends : {T : Type 0} (note : T → Note) (o : Opening) (past : List FrameEntry) (run : ℕ) (text : List ℕ) (old client : Client T) (given : Result (ℕ × List (List ℕ)) Fault) → is_up o past ≡ true
-    → ends.Gives note o past (inputs.Verify run text) (noted o (packets_heard o past)).attempts old client given → StepEnds note o past (inputs.Verify run text) (On client) (outs_of_attempt given)
-verify_ends note o past run text old client (Ok given) on a = answers_step note o past (inputs.Verify run text) old client (record { answer = Attempt given.0; frames = given.1 }) on (ap Attempt a.0) a.1 tt
+pub verify_ends : {T : Type 0} (note : T → Note) (o : Opening) (past : List FrameEntry) (run : ℕ) (text : List ℕ) (old client : Client T) (got : Result (ℕ × List (List ℕ)) Fault) → is_up o past ≡ true
+    → ends.Gives note o past (inputs.Verify run text) (noted o (packets_heard o past)).attempts old client got → StepEnds (ways note o) past (inputs.Verify run text) (On client) (given (outs_of_attempt got))
+verify_ends note o past run text old client (Ok got) on a = answers_step note o past (inputs.Verify run text) old client (record { answer = Attempt got.0; frames = got.1 }) on (ap Attempt a.0) a.1 tt
 verify_ends note o past run text old client (Err fault) on f = not_answered note o past (inputs.Verify run text) old client fault on tt f
 
 -- ---- a cut
 
 -- A client that isn't on has no power to lose.
-pub cut_off : {T : Type 0} (note : T → Note) (o : Opening) (past : List FrameEntry) (power : Power T) → is_up o past ≡ false → Stands note o past power → TaskEnds note o past tasks.Cut power (Err NodeOff)
-cut_off note o past power off s = record {
-  after = past;
-  ends = record { why = inl (ap (λ b. if b then None else Some NodeOff) off); sends_none = refl; after_is = refl };
-  stands = s;
-  ranges = λ h. h;
-}
+pub cut_off : {T : Type 0} (note : T → Note) (o : Opening) (past : List FrameEntry) (power : Power T) → is_up o past ≡ false → Stands note o past power → TaskEnds (ways note o) past Cuts power (Err NodeOff)
+cut_off note o past power off s = refused (ways note o) past Cuts NodeOff power refl (ap (λ b. if b then None else Some NodeOff) off) refl s
 
-pub cut_ends : {T : Type 0} (note : T → Note) (o : Opening) (past : List FrameEntry) (notes : T) → is_up o past ≡ true → Says (note notes).bytes (noted o (packets_heard o past)) → TaskEnds note o past tasks.Cut (Off notes) (Ok plain)
+pub cut_ends : {T : Type 0} (note : T → Note) (o : Opening) (past : List FrameEntry) (notes : T) → is_up o past ≡ true → Says (note notes).bytes (noted o (packets_heard o past)) → TaskEnds (ways note o) past Cuts (Off notes) (Ok plain)
 cut_ends note o past notes on says = record {
   after = Cut ∷ past;
   ends = record { free = up (is_up o past) None (Some NodeOff) on; said_is = refl; entry = Cut; entry_is = refl; sent_are = refl; after_is = refl };
@@ -222,16 +157,11 @@ cut_ends note o past notes on says = record {
 
 -- ---- a restart
 
-pub on_refuses : {T : Type 0} (note : T → Note) (o : Opening) (past : List FrameEntry) (power : Power T) → is_up o past ≡ true → Stands note o past power → TaskEnds note o past tasks.Restart power (Err NodeOn)
-on_refuses note o past power on s = record {
-  after = past;
-  ends = record { why = inl (up (is_up o past) (Some NodeOn) None on); sends_none = refl; after_is = refl };
-  stands = s;
-  ranges = λ h. h;
-}
+pub on_refuses : {T : Type 0} (note : T → Note) (o : Opening) (past : List FrameEntry) (power : Power T) → is_up o past ≡ true → Stands note o past power → TaskEnds (ways note o) past Restarts power (Err NodeOn)
+on_refuses note o past power on s = refused (ways note o) past Restarts NodeOn power refl (up (is_up o past) (Some NodeOn) None on) refl s
 
 pub started : {T : Type 0} (note : T → Note) (o : Opening) (past : List FrameEntry) (servers : ℕ) (notes : T) (client : Client T) → o.servers ≡ servers → is_up o past ≡ false → Says (note notes).bytes (noted o (packets_heard o past)) → ends.Opens note servers false (note notes) client
-    → TaskEnds note o past tasks.Restart (On client) (Ok plain)
+    → TaskEnds (ways note o) past Restarts (On client) (Ok plain)
 started note o past servers notes client is off says h = record {
   after = Restart false ∷ past;
   ends = record { free = ap (λ b. if b then Some NodeOn else None) off; said_is = refl; entry = Restart false; entry_is = refl; sent_are = refl; after_is = refl };
@@ -245,7 +175,7 @@ no_note bytes (inl bad) said says = bad said says
 no_note bytes (inr empty) said says = cc
 
 pub unstarted : {T : Type 0} (note : T → Note) (o : Opening) (past : List FrameEntry) (notes back : T) (fault : Fault) → is_up o past ≡ false → Says (note notes).bytes (noted o (packets_heard o past)) → NotOpened false (note notes) (note back) fault
-    → TaskEnds note o past tasks.Restart (Off back) (Err fault)
+    → TaskEnds (ways note o) past Restarts (Off back) (Err fault)
 unstarted note o past notes back LoadFault off says h = record {
   after = past;
   ends = record { why = inr (refl, ap not off); sends_none = refl; after_is = refl };
@@ -268,30 +198,26 @@ there note o past (Some client) s h = s.1
 
 -- ---- the device's failures
 
-no_load : (load : Bool) (old new : ℕ) → new ≡ old → CountsBy (load && false) old new
-no_load true old new h = h
-no_load false old new h = h
-
 faults_count : {T : Type 0} (note : T → Note) (o : Opening) (past : List FrameEntry) (e : Input) (old client : Client T) (fault : Fault) (sort : FaultSort) → ends.Faults note o past e sort fault old client → CountsBy (is_save sort || (is_load fault && false)) (note old.core.notes).failures (note client.core.notes).failures
-faults_count note o past e old client fault sorts.Memory f = no_load (is_load fault) (note old.core.notes).failures (note client.core.notes).failures (ap (λ (n : Note). n.failures) f.same_note)
+faults_count note o past e old client fault sorts.Memory f = no_load fault (note old.core.notes).failures (note client.core.notes).failures (ap (λ (n : Note). n.failures) f.same_note)
 faults_count note o past e old client fault sorts.Save f = f.cause
-faults_count note o past e old client fault sorts.Refusal f = no_load (is_load fault) (note old.core.notes).failures (note client.core.notes).failures (ap (λ (n : Note). n.failures) f.same_note)
+faults_count note o past e old client fault sorts.Refusal f = no_load fault (note old.core.notes).failures (note client.core.notes).failures (ap (λ (n : Note). n.failures) f.same_note)
 
 -- A call counts a failed save.
 pub sent_counts : {T : Type 0} (note : T → Note) (o : Opening) (past : List FrameEntry) (e : Input) (old client : Client T) (sent : Result (List (List ℕ)) Fault) (result : Result Outs Fault) → result ≡ outs_of sent → ends.Ends note o past e old client sent
-    → Counts false (note old.core.notes).failures (note client.core.notes).failures result
-sent_counts note o past e old client (Ok sent) result is a = subst (Counts false (note old.core.notes).failures (note client.core.notes).failures) (sym is) tt
-sent_counts note o past e old client (Err fault) result is f = subst (Counts false (note old.core.notes).failures (note client.core.notes).failures) (sym is) (faults_count note o past e old client fault (sort_of fault) f)
+    → Counts false (note old.core.notes).failures (note client.core.notes).failures (given result)
+sent_counts note o past e old client (Ok sent) result is a = subst (λ (r : Result Outs Fault). Counts false (note old.core.notes).failures (note client.core.notes).failures (given r)) (sym is) tt
+sent_counts note o past e old client (Err fault) result is f = subst (λ (r : Result Outs Fault). Counts false (note old.core.notes).failures (note client.core.notes).failures (given r)) (sym is) (faults_count note o past e old client fault (sort_of fault) f)
 
-pub run_counts : {T : Type 0} (note : T → Note) (o : Opening) (past : List FrameEntry) (e : Input) (used : ℕ) (old client : Client T) (given : Result (ℕ × List (List ℕ)) Fault) (result : Result Outs Fault) → result ≡ outs_of_run given → ends.Gives note o past e used old client given
-    → Counts false (note old.core.notes).failures (note client.core.notes).failures result
-run_counts note o past e used old client (Ok given) result is a = subst (Counts false (note old.core.notes).failures (note client.core.notes).failures) (sym is) tt
-run_counts note o past e used old client (Err fault) result is f = subst (Counts false (note old.core.notes).failures (note client.core.notes).failures) (sym is) (faults_count note o past e old client fault (sort_of fault) f)
+pub run_counts : {T : Type 0} (note : T → Note) (o : Opening) (past : List FrameEntry) (e : Input) (used : ℕ) (old client : Client T) (got : Result (ℕ × List (List ℕ)) Fault) (result : Result Outs Fault) → result ≡ outs_of_run got → ends.Gives note o past e used old client got
+    → Counts false (note old.core.notes).failures (note client.core.notes).failures (given result)
+run_counts note o past e used old client (Ok got) result is a = subst (λ (r : Result Outs Fault). Counts false (note old.core.notes).failures (note client.core.notes).failures (given r)) (sym is) tt
+run_counts note o past e used old client (Err fault) result is f = subst (λ (r : Result Outs Fault). Counts false (note old.core.notes).failures (note client.core.notes).failures (given r)) (sym is) (faults_count note o past e old client fault (sort_of fault) f)
 
-pub attempt_counts : {T : Type 0} (note : T → Note) (o : Opening) (past : List FrameEntry) (e : Input) (used : ℕ) (old client : Client T) (given : Result (ℕ × List (List ℕ)) Fault) (result : Result Outs Fault) → result ≡ outs_of_attempt given → ends.Gives note o past e used old client given
-    → Counts false (note old.core.notes).failures (note client.core.notes).failures result
-attempt_counts note o past e used old client (Ok given) result is a = subst (Counts false (note old.core.notes).failures (note client.core.notes).failures) (sym is) tt
-attempt_counts note o past e used old client (Err fault) result is f = subst (Counts false (note old.core.notes).failures (note client.core.notes).failures) (sym is) (faults_count note o past e old client fault (sort_of fault) f)
+pub attempt_counts : {T : Type 0} (note : T → Note) (o : Opening) (past : List FrameEntry) (e : Input) (used : ℕ) (old client : Client T) (got : Result (ℕ × List (List ℕ)) Fault) (result : Result Outs Fault) → result ≡ outs_of_attempt got → ends.Gives note o past e used old client got
+    → Counts false (note old.core.notes).failures (note client.core.notes).failures (given result)
+attempt_counts note o past e used old client (Ok got) result is a = subst (λ (r : Result Outs Fault). Counts false (note old.core.notes).failures (note client.core.notes).failures (given r)) (sym is) tt
+attempt_counts note o past e used old client (Err fault) result is f = subst (λ (r : Result Outs Fault). Counts false (note old.core.notes).failures (note client.core.notes).failures (given r)) (sym is) (faults_count note o past e old client fault (sort_of fault) f)
 
 -- A restart that fails counts why.
 pub unstarted_counts : (old new : Note) (fault : Fault) → NotOpened false old new fault → Counts {X = Said} true old.failures new.failures (Err fault)

@@ -2,22 +2,15 @@
 use Rattle.std.specs.Prelude.{◌≡◌, Bool, true, false, [], ◌∷◌, None, Result, Ok, Err}
 use Rattle.fc_base.specs.declared.fault.Fault.{Fault}
 use Rattle.fc_base.specs.declared.fault.Fault.TheVariants.{NoMemory}
-use Rattle.fc_base.specs.declared.fault.FaultSort.{FaultSort}
-use Rattle.fc_base.specs.declared.fault.FaultSort.TheVariants as sorts
-use Rattle.fc_base.specs.Fault.{sort_of}
 use Rattle.node_history.specs.declared.answer.Said.{Said}
 use Rattle.node_history.specs.declared.answer.Told.{Told}
 use Rattle.node_history.specs.declared.came.Came.{Came}
 use Rattle.node_history.specs.declared.logged.Logged.{Logged}
+use Rattle.node_history.specs.AtHub.{lacks_memory, told_by}
 use Rattle.node_history.specs.Failures.{Counts}
 use Rattle.client_cell.specs.declared.task.Task.{Task}
 use Rattle.client_cell.specs.Cells.{ClientLog}
 use Rattle.client_cell.specs.Tasks.{came_by, loads_note}
-
--- What is told of an answer that sends nothing.
-abbrev pub told_by : Result Said Fault → Result Told Fault
-told_by (Ok said) = Ok (record { answer = said.answer; first = 0; sent = 0; act = said.act })
-told_by (Err fault) = Err fault
 
 -- The entry of what came from no seat and was answered so, which sends nothing.
 abbrev pub logged_by : Came → Result Said Fault → Logged
@@ -28,16 +21,6 @@ pub record IsAdded (old : ClientLog) (task : Task) (answer : Result Said Fault) 
   pub opening : new.opening ≡ old.opening
   pub history : new.history ≡ logged_by (came_by task) answer ∷ old.history
   pub failures : Counts (loads_note task) old.failures new.failures answer
-
--- Memory ran out.
-abbrev pub is_memory : FaultSort → Bool
-is_memory sorts.Memory = true
-is_memory sorts.Save = false
-is_memory sorts.Refusal = false
-
-abbrev pub lacks_memory : Result Said Fault → Bool
-lacks_memory (Ok said) = false
-lacks_memory (Err fault) = is_memory (sort_of fault)
 
 -- What a task leaves that has this answer: for want of memory nothing changes, and any other answer is
 -- entered.

@@ -3,13 +3,14 @@ use Rattle.std.specs.Prelude.{ℕ, ◌≤◌, List}
 use Rattle.disk_model.specs.Notes.{Note}
 use Rattle.client_core.specs.declared.client.Client.{Client}
 use Rattle.client_core.specs.History.{Opening}
-use Rattle.client_core.specs.Ranges.{OpensInRange, CameInRange}
-use Rattle.client_core.specs.Hearing.{FrameEntry, packets_heard}
+use Rattle.client_core.specs.Ranges.{OpensInRange}
+use Rattle.client_core.specs.Hearing.{FrameEntry}
 use Rattle.node_history.specs.declared.logged.Logged.{Logged}
+use Rattle.node_history.specs.Moves.{IsKept}
 use Rattle.node_history.specs.Replay.{Makes}
 use Rattle.node_history.specs.ClientRules.{rules}
 use Rattle.client_cell.specs.declared.power.Power.{Power}
-use Rattle.client_cell.specs.Stands.{Stands}
+use Rattle.client_cell.specs.Stands.{ways}
 
 -- The client under its lock: what it was opened with, its history, newest first, and how often the device of
 -- its note has failed.
@@ -29,9 +30,6 @@ IsReplay cell past = Makes (rules cell.opening) cell.history past
 -- What is true of every cell: the client stands for a list that its history makes, in which all is in its
 -- ranges.
 pub record IsCell {T : Type 0} (note : T → Note) (cell : ClientLog) (power : Power T) : Type 0 where
-  pub past : List FrameEntry
-  pub replay : IsReplay cell past
-  pub stands : Stands note cell.opening past power
+  pub kept : IsKept (ways note cell.opening) cell.history power
   pub some : 1 ≤ cell.opening.servers
   pub opens : OpensInRange cell.opening
-  pub ranges : CameInRange (packets_heard cell.opening past)

@@ -1,6 +1,5 @@
 pub mod Asks
 pub mod Calls
 pub mod Cells
-pub mod Hearing
 pub mod Stands
 pub mod Tasks

@@ -1,10 +1,6 @@
 -- Which lists of frames a client that may have no power stands for, and how its steps end.
-use Rattle.std.specs.Prelude.{◌≡◌, ℕ, true, false, List, [], Option, Some, None, Result, Ok, Err}
+use Rattle.std.specs.Prelude.{◌≡◌, ℕ, true, false, List, Option, Some, None, Result, Ok, Err}
 use Rattle.fc_base.specs.declared.fault.Fault.{Fault}
-use Rattle.fc_base.specs.declared.fault.Fault.TheVariants.{NoMemory, FrameBadField}
-use Rattle.fc_base.specs.declared.fault.FaultSort.{FaultSort}
-use Rattle.fc_base.specs.declared.fault.FaultSort.TheVariants as sorts
-use Rattle.fc_base.specs.Fault.{sort_of}
 use Rattle.disk_model.specs.Notes.{Note}
 use Rattle.client_core.specs.declared.input.Input.{Input}
 use Rattle.client_core.specs.declared.client.Client.{Client}
@@ -18,14 +14,11 @@ use Rattle.client_core.specs.FrameEnds.{StandsFor, most_packets}
 use Rattle.messages.specs.declared.refusal.Act.TheVariants as acts
 use Rattle.node_history.specs.declared.answer.Answer.TheVariants.{Plain, Run, Attempt}
 use Rattle.node_history.specs.declared.answer.Said.{Said}
-use Rattle.node_history.specs.Rules.{Ask, Meets}
-use Rattle.node_history.specs.Replay.{Ends}
-use Rattle.node_history.specs.ClientRules.{rules, asked, is_up}
+use Rattle.node_history.specs.Moves.{Ways}
+use Rattle.node_history.specs.ClientRules.{rules, is_up}
 use Rattle.client_cell.specs.declared.outs.Outs.{Outs}
 use Rattle.client_cell.specs.declared.power.Power.{Power}
 use Rattle.client_cell.specs.declared.power.Power.TheVariants.{On, Off, Lent}
-use Rattle.client_cell.specs.declared.task.Task.{Task}
-use Rattle.client_cell.specs.Tasks.{came_by}
 
 -- A client that has power stands for the list; of one that has none, which the list says, the note says
 -- what the list says.
@@ -46,17 +39,20 @@ abbrev pub Shows : {T : Type 0} → (T → Note) → Opening → List FrameEntry
 Shows note o past (Some client) = StandsFor note client o past × (is_up o past ≡ true)
 Shows note o past None = is_up o past ≡ false
 
--- What comes is answered so, and these frames are sent, as the rules have it; and the client then stands
--- for the list that they give.
-pub record Moves {T : Type 0} (note : T → Note) (o : Opening) (past : List FrameEntry) (ask : Ask Input) (answer : Result Said Fault) (sent : List (List ℕ)) (new : Power T) : Type 0 where
-  pub after : List FrameEntry
-  pub ends : Ends (rules o) past ask answer sent after
-  pub stands : Stands note o after new
-  pub ranges : CameInRange (packets_heard o past) → CameInRange (packets_heard o after)
+-- The ways of a client that was opened so.
+abbrev pub ways : {T : Type 0} → (T → Note) → Opening → Ways Input FrameEntry (Power T)
+ways note o = record {
+  rules = rules o;
+  Stands = Stands note o;
+  InRange = λ past. CameInRange (packets_heard o past);
+  SendsFew = λ past e sent.
+      OpensInRange o → CameInRange (packets_heard o past) → AreShort (most_packets o past e) sent;
+}
 
--- What a step says to its caller. A client asks nothing of it.
-abbrev pub said_of : Outs → Said
-said_of outs = record { answer = outs.answer; act = acts.None }
+-- What a step says to its caller, and the frames that it sends. A client asks nothing of its caller.
+abbrev pub given : Result Outs Fault → Result (Said × List (List ℕ)) Fault
+given (Ok outs) = Ok (record { answer = outs.answer; act = acts.None }, outs.frames)
+given (Err fault) = Err fault
 
 -- Frames with no more of an answer.
 abbrev pub outs_of : Result (List (List ℕ)) Fault → Result Outs Fault
@@ -72,39 +68,3 @@ outs_of_run (Err fault) = Err fault
 abbrev pub outs_of_attempt : Result (ℕ × List (List ℕ)) Fault → Result Outs Fault
 outs_of_attempt (Ok given) = Ok (record { answer = Attempt given.0; frames = given.1 })
 outs_of_attempt (Err fault) = Err fault
-
--- What is told of what is done, and has no answer.
-abbrev pub plain : Said
-plain = record { answer = Plain; act = acts.None }
-
--- What comes is answered, by few and short frames.
-pub record Answers {T : Type 0} (note : T → Note) (o : Opening) (past : List FrameEntry) (e : Input) (new : Power T) (outs : Outs) : Type 0 where
-  pub moves : Moves note o past (Meets e) (Ok (said_of outs)) outs.frames new
-  pub short : OpensInRange o → CameInRange (packets_heard o past) → AreShort (most_packets o past e) outs.frames
-
--- What comes is refused. But where a tag is dropped, nothing changes, too.
-pub record Refuses {T : Type 0} (note : T → Note) (o : Opening) (past : List FrameEntry) (e : Input) (fault : Fault) (new : Power T) : Type 0 where
-  pub moves : Moves note o past (Meets e) (Err fault) [] new
-  pub unchanged : (fault ≡ FrameBadField → ⊥) → Stands note o past new
-
--- How a step ends that isn't answered.
-abbrev pub Faults : {T : Type 0} → (T → Note) → Opening → List FrameEntry → Input → FaultSort → Fault → Power T → Type 0
-Faults note o past e sorts.Memory fault new = (fault ≡ NoMemory) × Stands note o past new
-Faults note o past e sorts.Save fault new = Moves note o past (Meets e) (Err fault) [] new
-Faults note o past e sorts.Refusal fault new = Refuses note o past e fault new
-
--- How a step ends.
-abbrev pub StepEnds : {T : Type 0} → (T → Note) → Opening → List FrameEntry → Input → Power T → Result Outs Fault → Type 0
-StepEnds note o past e new (Ok outs) = Answers note o past e new outs
-StepEnds note o past e new (Err fault) = Faults note o past e (sort_of fault) fault new
-
--- What is asked isn't done: for want of memory nothing changes.
-abbrev pub Fails : {T : Type 0} → (T → Note) → Opening → List FrameEntry → Ask Input → FaultSort → Fault → Power T → Type 0
-Fails note o past ask sorts.Memory fault new = (fault ≡ NoMemory) × Stands note o past new
-Fails note o past ask sorts.Save fault new = Moves note o past ask (Err fault) [] new
-Fails note o past ask sorts.Refusal fault new = Moves note o past ask (Err fault) [] new
-
--- How a task ends.
-abbrev pub TaskEnds : {T : Type 0} → (T → Note) → Opening → List FrameEntry → Task → Power T → Result Said Fault → Type 0
-TaskEnds note o past task new (Ok said) = Moves note o past (asked (came_by task)) (Ok said) [] new
-TaskEnds note o past task new (Err fault) = Fails note o past (asked (came_by task)) (sort_of fault) fault new

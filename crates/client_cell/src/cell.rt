@@ -5,9 +5,9 @@ ghost use Rattle.client_core.specs.Hearing.{FrameEntry};
 ghost use Rattle.node_history.specs.ClientRules.{is_up};
 
 mod apply;
-mod enter;
 mod hear;
 mod node;
+mod sent;
 
 use crate::power::Power;
 use client_core::Client;

@@ -5,11 +5,11 @@ ghost use Rattle.std.specs.Option.{option_copied};
 ghost use Rattle.client_core.specs.History.{Opening};
 ghost use Rattle.client_core.specs.Words.{noted};
 ghost use Rattle.client_core.specs.Hearing.{FrameEntry, packets_heard};
-ghost use Rattle.node_history.specs.ClientRules.{is_up};
+ghost use Rattle.node_history.specs.ClientRules.{asked, is_up};
 ghost use Rattle.node_history.specs.Failures.{Counts};
-ghost use Rattle.client_cell.specs.Stands.{plain};
-ghost use Rattle.client_cell.specs.Tasks.{loads_note};
-ghost use Rattle.client_cell.specs.declared.task.Task.TheVariants as tasks;
+ghost use Rattle.node_history.specs.Moves.{TaskEnds};
+ghost use Rattle.node_history.specs.Rules.{Cuts, Restarts};
+ghost use Rattle.client_cell.specs.Tasks.{came_by, loads_note};
 
 mod step;
 
@@ -17,8 +17,7 @@ use crate::task::Task;
 use client_core::Client;
 use disk_model::Notes;
 use fc_base::Fault;
-use messages::Act;
-use node_history::{Answer, Said};
+use node_history::Said;
 use std::alloc::Global;
 use std::mem;
 
@@ -33,7 +32,7 @@ pub enum Power<N> {
 
 impl<N: Notes + Drop> Power<N> {
     ghost use Rattle.client_core.specs.Note.{Says};
-    ghost use Rattle.client_cell.specs.Stands.{failures_of, Stands, Shows, TaskEnds};
+    ghost use Rattle.client_cell.specs.Stands.{failures_of, ways, Stands, Shows};
 
     /// The client, where it is on: it has power, and isn't down.
     pub(crate) fn client(&self) -> Option<&Client<N>>
@@ -56,7 +55,7 @@ impl<N: Notes + Drop> Power<N> {
         requires some { 1 ≤ servers }
         requires few { servers ≤ 8 }
         ensures ends { (o : Opening) (past : List FrameEntry) → o.servers ≡ servers → Stands N.note o past self.old →
-            TaskEnds N.note o past task.now self.new result }
+            TaskEnds (ways N.note o) past (asked (came_by task.now)) self.new result }
         ensures count { (o : Opening) (past : List FrameEntry) → o.servers ≡ servers → Stands N.note o past self.old →
             Counts (loads_note task.now) (failures_of N.note self.old) (failures_of N.note self.new) result }
     {
@@ -69,7 +68,7 @@ impl<N: Notes + Drop> Power<N> {
     /// Loses its power. `NodeOff`: it isn't on, and nothing changes.
     fn cut(&mut self) -> Result<Said, Fault>
         ensures ends { (o : Opening) (past : List FrameEntry) → Stands N.note o past self.old →
-            TaskEnds N.note o past tasks.Cut self.new result }
+            TaskEnds (ways N.note o) past Cuts self.new result }
         ensures count { (o : Opening) (past : List FrameEntry) → Stands N.note o past self.old →
             Counts false (failures_of N.note self.old) (failures_of N.note self.new) result }
     {
@@ -79,7 +78,7 @@ impl<N: Notes + Drop> Power<N> {
         match self.lend() {
             Some(notes) => {
                 *self = Power::Off(notes);
-                Ok(plain())
+                Ok(Said::plain())
             }
             None => Err(Fault::NodeOff),
         }
@@ -92,7 +91,7 @@ impl<N: Notes + Drop> Power<N> {
         requires some { 1 ≤ servers }
         requires few { servers ≤ 8 }
         ensures ends { (o : Opening) (past : List FrameEntry) → o.servers ≡ servers → Stands N.note o past self.old →
-            TaskEnds N.note o past tasks.Restart self.new result }
+            TaskEnds (ways N.note o) past Restarts self.new result }
         ensures count { (o : Opening) (past : List FrameEntry) → o.servers ≡ servers → Stands N.note o past self.old →
             Counts true (failures_of N.note self.old) (failures_of N.note self.new) result }
     {
@@ -111,13 +110,13 @@ impl<N: Notes + Drop> Power<N> {
         requires few { servers ≤ 8 }
         ensures ends { (o : Opening) (past : List FrameEntry) → o.servers ≡ servers → is_up o past ≡ false →
             Says (N.note notes).bytes (noted o (packets_heard o past)) →
-            TaskEnds N.note o past tasks.Restart self.new result }
+            TaskEnds (ways N.note o) past Restarts self.new result }
         ensures count { Counts true (N.note notes).failures (failures_of N.note self.new) result }
     {
         match Client::restart(alloc, servers, false, notes) {
             Ok(client) => {
                 *self = Power::On(client);
-                Ok(plain())
+                Ok(Said::plain())
             }
             Err((notes, fault)) => {
                 *self = Power::Off(notes);
@@ -138,15 +137,5 @@ impl<N: Notes + Drop> Power<N> {
             Power::Off(notes) => Some(notes),
             Power::Lent => None,
         }
-    }
-}
-
-/// Nothing but that it was done.
-fn plain() -> Said
-    ensures { result ≡ plain }
-{
-    Said {
-        answer: Answer::Plain,
-        act: Act::None,
     }
 }

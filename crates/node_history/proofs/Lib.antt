@@ -1,2 +1,4 @@
 pub mod CallLemmas
 pub mod HistoryLemmas
+pub mod HubLemmas
+pub mod MoveLemmas

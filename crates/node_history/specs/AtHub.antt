@@ -22,6 +22,16 @@ is_save sorts.Memory = false
 is_save sorts.Save = true
 is_save sorts.Refusal = false
 
+-- Memory ran out.
+abbrev pub is_memory : FaultSort → Bool
+is_memory sorts.Memory = true
+is_memory sorts.Save = false
+is_memory sorts.Refusal = false
+
+abbrev pub lacks_memory : Result Said Fault → Bool
+lacks_memory (Ok said) = false
+lacks_memory (Err fault) = is_memory (sort_of fault)
+
 -- A piece's bytes weren't their tag's packet, and the tag was dropped.
 abbrev pub is_drop : Fault → Bool
 is_drop FrameBadField = true
@@ -36,6 +46,10 @@ is_left_out (Err fault) = not (is_save (sort_of fault) || is_drop fault)
 abbrev pub told_at : ℕ → ℕ → Result Said Fault → Result Told Fault
 told_at first sent (Ok said) = Ok (record { answer = said.answer; first = first; sent = sent; act = said.act })
 told_at first sent (Err fault) = Err fault
+
+-- What is told of an answer that sends nothing.
+abbrev pub told_by : Result Said Fault → Result Told Fault
+told_by answer = told_at 0 0 answer
 
 -- The event is entered in the history; its frames stand behind those of the hub; and the journal has its
 -- entry, if it took or sent a frame.

@@ -3,6 +3,7 @@ pub mod Calls
 pub mod ClientRules
 pub mod Failures
 pub mod Histories
+pub mod Moves
 pub mod Replay
 pub mod Rules
 pub mod Seats

@@ -37,7 +37,19 @@ pub struct Told {
 }
 
 impl Said {
+    ghost use Rattle.node_history.specs.Moves.{plain};
     ghost use Rattle.node_history.specs.ServerRules.{answer_of};
+
+    /// Nothing but that it was done.
+    #[inline(always)]
+    pub fn plain() -> Said
+        ensures { result ≡ plain }
+    {
+        Said {
+            answer: Answer::Plain,
+            act: Act::None,
+        }
+    }
 
     /// What a server says: what it answers of writes, if anything, and what it asks of its caller.
     pub fn of(issue: Option<Issue>, act: Act) -> Said

@@ -1,7 +1,7 @@
 //! What comes to a node from the hub, and what its history keeps of it.
 
 ghost use Rattle.std.specs.Prelude.{◌≡◌, ◌≤◌, ◌∷◌, [], IfOk, Err};
-ghost use Rattle.node_history.specs.AtHub.{is_left_out, is_save, is_drop, told_at, Comes};
+ghost use Rattle.node_history.specs.AtHub.{is_left_out, is_save, is_drop, lacks_memory, told_at, Comes};
 
 use crate::answer::{Said, Told};
 use crate::came::{Came, FrameBytes};
@@ -61,7 +61,19 @@ fn is_drop(fault: Fault) -> bool
     matches!(fault, Fault::FrameBadField)
 }
 
+/// Whether memory ran out.
+#[inline(always)]
+pub fn lacks_memory(answer: &Result<Said, Fault>) -> bool
+    ensures { result ≡ lacks_memory answer.now }
+{
+    match answer {
+        Ok(_) => false,
+        Err(fault) => matches!(fault.sort(), FaultSort::Memory),
+    }
+}
+
 /// What is told of an answer, with so many frames behind so many.
+#[inline(always)]
 pub fn told_at(first: u64, sent: u64, answer: &Result<Said, Fault>) -> Result<Told, Fault>
     ensures { result ≡ told_at first sent answer.now }
 {

@@ -5,14 +5,16 @@
 mod answer;
 mod at_hub;
 mod came;
+mod entered;
 mod history;
 mod logged;
 mod node;
 mod short;
 
 pub use answer::{Answer, Said, Told};
-pub use at_hub::{frame_came, is_left_out, told_at};
+pub use at_hub::{frame_came, is_left_out, lacks_memory, told_at};
 pub use came::{Came, FrameBytes};
+pub use entered::{enter, make_room};
 pub use history::{History, Lent};
 pub use logged::{Logged, Turn};
 pub use node::Node;

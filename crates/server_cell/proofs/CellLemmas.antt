@@ -19,19 +19,19 @@ use Rattle.node_history.specs.declared.answer.Told.{Told}
 use Rattle.node_history.specs.declared.logged.Turn.{Turn}
 use Rattle.server_cell.specs.Seated.{Seated}
 use Rattle.node_history.specs.ServerRules.{asked}
+use Rattle.node_history.specs.AtHub.{lacks_memory, told_by}
 use Rattle.node_history.specs.Failures.{Counts}
+use Rattle.node_history.specs.Moves.{Moves}
 use Rattle.node_history.specs.Seats.{times, with_turn}
 use Rattle.fc_base.specs.declared.fault.Fault.{Fault}
 use Rattle.fc_base.specs.declared.fault.Fault.TheVariants.{NoMemory}
-use Rattle.fc_base.specs.declared.fault.FaultSort.{FaultSort}
-use Rattle.fc_base.specs.declared.fault.FaultSort.TheVariants as sorts
-use Rattle.fc_base.specs.Fault.{sort_of}
+use Rattle.node_history.proofs.HubLemmas.{same_kept, entered as kept_more}
 use Rattle.server_cell.specs.declared.power.Power.{Power}
 use Rattle.server_cell.specs.declared.power.Power.TheVariants.{On}
 use Rattle.server_cell.specs.declared.task.Task.{Task}
 use Rattle.server_cell.specs.Tasks.{came_by, loads_note}
-use Rattle.server_cell.specs.Stands.{Stands, Moves, Fails, TaskEnds}
-use Rattle.server_cell.specs.Calls.{is_right, is_memory, lacks_memory, logged_by, entry_of, told_by, Enters, Applies, AppliesBy}
+use Rattle.server_cell.specs.Stands.{ways, Stands}
+use Rattle.server_cell.specs.Calls.{is_right, logged_by, entry_of, Enters, Applies, AppliesBy}
 use Rattle.server_cell.specs.Cells.{ServerLog, Replays, IsCell, AreCounted}
 
 -- The opening with these numbers.
@@ -75,11 +75,9 @@ pub new_cell : {T : Type 0} (note : T → Note) (me : ℕ) (notes : T) (server :
     → IsCell note (record { me = me; boot = boot; last = last }) (On server) (reverse history) (zeros 17)
 new_cell note me notes server h boot last history few b l none =
     rw (← b, ← l, none) (record {
-      past = first;
-      replay = record { numbered = tt; made = refl };
-      stands = opened_once note me notes server h;
+      kept = record { past = first; made = refl; stands = opened_once note me notes server h; ranges = tt };
+      numbered = tt;
       opens = record { me = few; last = h.says.last_range };
-      ranges = tt;
       counted = record { long = refl; each = none_counted 17 };
     })
 
@@ -102,47 +100,14 @@ pub count_fits : (applied : List ℕ) (items : List Logged) (seat : ℕ) → Are
 count_fits applied items seat counted few small =
     omega (arith, counted.each seat few, times_few seat (reverse items), length-reverse items, small)
 
--- Memory ran out.
-pub is_lack : {T : Type 0} (note : T → Note) (o : Opening) (past : List FrameEntry) (task : Task) (new : Power T) (answer : Result Said Fault) → lacks_memory answer ≡ true → TaskEnds note o past task new answer → answer ≡ Err NoMemory
-is_lack note o past task new (Ok said) h e = cc
-is_lack note o past task new (Err fault) h e = ap (λ (f : Fault). Err f) (by_sort (sort_of fault) h e)
-  where
-    by_sort : (sort : FaultSort) → is_memory sort ≡ true → Fails note o past (asked (came_by task)) sort fault new → fault ≡ NoMemory
-    by_sort sorts.Memory h e = e.0
-    by_sort sorts.Save h e = cc
-    by_sort sorts.Refusal h e = cc
-
--- Then no device has failed.
-pub lack_counts : (loads : Bool) (old new : ℕ) (answer : Result Said Fault) → answer ≡ Err NoMemory → Counts loads old new answer → new ≡ old
-lack_counts loads old new answer is counted = subst (Counts loads old new) is counted
-
 -- For want of memory nothing changes.
 pub lacks : (old new : ServerLog) (seat : Seated) (task : Task) → is_right old seat ≡ true → new ≡ old → Applies old seat task new seat (Err NoMemory)
 lacks old new seat task right same =
     subst (λ b. AppliesBy b old seat task new seat (Err NoMemory)) (sym right) (Err NoMemory, refl, (record { cell = same; seat_is = refl }, refl))
 
-pub stays : {T : Type 0} (note : T → Note) (o : Opening) (past : List FrameEntry) (task : Task) (new : Power T) (answer : Result Said Fault) → lacks_memory answer ≡ true → TaskEnds note o past task new answer → Stands note o past new
-stays note o past task new (Ok said) h e = cc
-stays note o past task new (Err fault) h e = by_sort (sort_of fault) h e
-  where
-    by_sort : (sort : FaultSort) → is_memory sort ≡ true → Fails note o past (asked (came_by task)) sort fault new → Stands note o past new
-    by_sort sorts.Memory h e = e.1
-    by_sort sorts.Save h e = cc
-    by_sort sorts.Refusal h e = cc
-
-pub moved : {T : Type 0} (note : T → Note) (o : Opening) (past : List FrameEntry) (task : Task) (new : Power T) (answer : Result Said Fault) → lacks_memory answer ≡ false → TaskEnds note o past task new answer → Moves note o past (asked (came_by task)) answer [] new
-moved note o past task new (Ok said) h e = e
-moved note o past task new (Err fault) h e = by_sort (sort_of fault) h e
-  where
-    by_sort : (sort : FaultSort) → is_memory sort ≡ false → Fails note o past (asked (came_by task)) sort fault new → Moves note o past (asked (came_by task)) (Err fault) [] new
-    by_sort sorts.Memory h e = cc
-    by_sort sorts.Save h e = e
-    by_sort sorts.Refusal h e = e
-
 -- Where nothing is entered, a cell is what it was.
-pub same_cell : {T : Type 0} (note : T → Note) (o : Opening) (power new : Power T) (history : List Logged) (applied : List ℕ) → (cell : IsCell note o power history applied) → Stands note o cell.past new → IsCell note o new history applied
-same_cell note o power new history applied cell s =
-    record { past = cell.past; replay = cell.replay; stands = s; opens = cell.opens; ranges = cell.ranges; counted = cell.counted }
+pub same_cell : {T : Type 0} (note : T → Note) (o : Opening) (power new : Power T) (history : List Logged) (applied : List ℕ) (cell : IsCell note o power history applied) → Stands note o cell.kept.past new → IsCell note o new history applied
+same_cell note o power new history applied cell s = record { kept = same_kept (ways note o) history power new cell.kept s; numbered = cell.numbered; opens = cell.opens; counted = cell.counted }
 
 clash : false ≡ true → ⊥
 clash h = cc
@@ -164,34 +129,29 @@ counted_once_more applied history seat came answer few counted = record {
   each = λ k h. same_or_not seat.number k (seat.number == k) refl applied (times k history) (subst (λ n. seat.number < n) (sym counted.long) few) (counted.each k h);
 }
 
+is_next : (log : ServerLog) (seat : Seated) → is_right log seat ≡ true → seat.applied ≡ times seat.number log.history
+is_next log seat right = eqb-true seat.applied (times seat.number log.history) (and_parts (seat.server == log.opening.me) (seat.applied == times seat.number log.history) right).1
+
 -- What was asked is entered.
 pub entered : {T : Type 0} (note : T → Note) (o : Opening) (power new : Power T) (history : List Logged) (applied : List ℕ) (failures : ℕ) (seat : Seated) (task : Task) (answer : Result Said Fault) → (cell : IsCell note o power history applied) → is_right (record { opening = o; history = history; failures = failures }) seat ≡ true → seat.number < 17
-    → Moves note o cell.past (asked (came_by task)) answer [] new → IsCell note o new (entry_of seat task answer ∷ history) (slice_set applied seat.number (slice_index_or applied seat.number 0 + 1))
+    → Moves (ways note o) cell.kept.past (asked (came_by task)) answer [] new → IsCell note o new (entry_of seat task answer ∷ history) (slice_set applied seat.number (slice_index_or applied seat.number 0 + 1))
 entered note o power new history applied failures seat task answer cell right few m = record {
-  past = m.after;
-  replay = record {
-    numbered = (cell.replay.numbered, eqb-true seat.applied (times seat.number history) (and_parts (seat.server == o.me) (seat.applied == times seat.number history) right).1);
-    made = (cell.past, cell.replay.made, m.ends);
-  };
-  stands = m.stands;
+  kept = kept_more (ways note o) history power new cell.kept _ (came_by task) answer [] m;
+  numbered = (cell.numbered, is_next (record { opening = o; history = history; failures = failures }) seat right);
   opens = cell.opens;
-  ranges = m.ranges cell.ranges;
   counted = counted_once_more applied history seat (came_by task) answer few cell.counted;
 }
 
 pub replayed : {T : Type 0} (note : T → Note) (o : Opening) {power new : Power T} {history : List Logged} {applied : List ℕ} (cell : IsCell note o power history applied) (failures : ℕ) (seat : Seated) (task : Task) (answer : Result Said Fault) → is_right (record { opening = o; history = history; failures = failures }) seat ≡ true
-    → Moves note o cell.past (asked (came_by task)) answer [] new → (past : List FrameEntry) × Replays o (entry_of seat task answer ∷ history) past
+    → Moves (ways note o) cell.kept.past (asked (came_by task)) answer [] new → (past : List FrameEntry) × Replays o (entry_of seat task answer ∷ history) past
 replayed note o {history = history} cell failures seat task answer right m = (
   m.after,
-  record {
-    numbered = (cell.replay.numbered, eqb-true seat.applied (times seat.number history) (and_parts (seat.server == o.me) (seat.applied == times seat.number history) right).1);
-    made = (cell.past, cell.replay.made, m.ends);
-  },
+  record { numbered = (cell.numbered, is_next (record { opening = o; history = history; failures = failures }) seat right); made = (cell.kept.past, cell.kept.made, m.ends) },
 )
 
 pub seat_fits : (items : List Logged) (cell : ServerLog) (seat : Seated) → is_right cell seat ≡ true → cell.history ≡ reverse items → length items + 1 < 2 ^ 64 → seat.applied + 1 < 2 ^ 64
 seat_fits items cell seat right is small =
-    omega (arith, eqb-true seat.applied (times seat.number cell.history) (and_parts (seat.server == cell.opening.me) (seat.applied == times seat.number cell.history) right).1, times_few seat.number cell.history, ap length is, length-reverse items, small)
+    omega (arith, is_next cell seat right, times_few seat.number cell.history, ap length is, length-reverse items, small)
 
 -- So a call ends that was entered.
 pub applied : (old : ServerLog) (seat : Seated) (task : Task) (answer : Result Said Fault) (new : ServerLog) (after : Seated) (result : Result Told Fault) → is_right old seat ≡ true → lacks_memory answer ≡ false → new.opening ≡ old.opening → new.history ≡ entry_of seat task answer ∷ old.history
@@ -199,10 +159,6 @@ pub applied : (old : ServerLog) (seat : Seated) (task : Task) (answer : Result S
 applied old seat task answer new after result right kept opening history counted seat_is told =
     subst (λ b. AppliesBy b old seat task new after result) (sym right)
     (answer, told, subst (λ b. Enters b old seat task new after answer) (sym kept) (record { opening = opening; history = history; failures = counted; seat_is = seat_is }))
-
--- The newest entry is the last of the items.
-pub pushed : (items : List Logged) (l : Logged) → reverse (items ++ l ∷ []) ≡ l ∷ reverse items
-pushed items l = reverse-append items (l ∷ [])
 
 -- One entry more is a number of eight bytes, where they are counted behind it.
 pub few_before : (items new : List Logged) (l : Logged) → new ≡ items ++ l ∷ [] → length new < 2 ^ 64 → length items + 1 < 2 ^ 64

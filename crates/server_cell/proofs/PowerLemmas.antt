@@ -40,15 +40,16 @@ use Rattle.server_core.specs.HeardRange.{SenseInRange, UnlessMemory, HearsInRang
 use Rattle.server_core.specs.FrameEnds as ends
 use Rattle.server_core.specs.FrameEnds.{StandsFor, is_drop}
 use Rattle.node_history.specs.declared.answer.Said.{Said}
-use Rattle.node_history.specs.AtHub.{is_save, is_drop as says_drop}
+use Rattle.node_history.specs.AtHub.{is_save}
 use Rattle.node_history.specs.Failures.{is_load, CountsBy, Counts}
-use Rattle.node_history.specs.Rules.{Meets}
-use Rattle.node_history.specs.Replay.{Stops}
+use Rattle.node_history.specs.Moves.{plain, answer_of, Answers, Faults, StepEnds, TaskEnds}
+use Rattle.node_history.specs.Rules.{Meets, Cuts, Restarts}
 use Rattle.node_history.specs.ServerRules.{rules, is_up, has_boot, left_by}
+use Rattle.node_history.proofs.MoveLemmas.{up, refused, refused_step, lost, left_is, silent, no_load}
+use Rattle.node_history.proofs.MoveLemmas as moves
 use Rattle.server_cell.specs.declared.power.Power.{Power}
 use Rattle.server_cell.specs.declared.power.Power.TheVariants.{On, Off}
-use Rattle.server_cell.specs.declared.task.Task.TheVariants as tasks
-use Rattle.server_cell.specs.Stands.{noted, plain, Stands, Shows, Moves, said_of, said_by, Answers, Faults, StepEnds, Fails, TaskEnds}
+use Rattle.server_cell.specs.Stands.{noted, given, ways, Stands, Shows}
 
 -- ---- what came stays within its ranges
 
@@ -67,12 +68,8 @@ came_after o past (inputs.CheckDone now a j report) left h came = (h, came)
 
 -- ---- a step
 
-up : (b : Bool) (x : Option Fault) (y : Option Fault) → b ≡ true → (if b then x else y) ≡ x
-up true x y h = refl
-up false x y h = cc
-
 answers_step : {T : Type 0} (note : T → Note) (o : Opening) (past : List FrameEntry) (e : Input) (old server : Server T) (outs : Outs) → is_up o past ≡ true
-    → ends.Answers note o past e old server outs → SenseInRange (sense o past e) → Answers note o past e (On server) outs
+    → ends.Answers note o past e old server outs → SenseInRange (sense o past e) → StepEnds (ways note o) past e (On server) (given (Ok outs))
 answers_step note o past e old server outs on a h = record {
   moves = record {
     after = answers.answered o past e ∷ past;
@@ -90,12 +87,6 @@ answers_step note o past e old server outs on a h = record {
   short = a.short;
 }
 
-left_is : (left : Left) → is_lost left ≡ true → (landed : Bool) × (left_by landed ≡ left)
-left_is lefts.NoSave h = cc
-left_is lefts.Saved h = cc
-left_is lefts.LostNew h = (true, refl)
-left_is lefts.LostOld h = (false, refl)
-
 no_drop : (o : Opening) (past : List FrameEntry) (s : Sense) (fault : Fault) → answers.refusal_in o (packets_heard o past) s ≡ Some fault → (fault ≡ FrameBadField → ⊥) → is_drop s ≡ false
 no_drop o past (Hears e) fault h k = refl
 no_drop o past (Keeps q) fault h k = refl
@@ -105,77 +96,26 @@ no_drop o past (Drops q) fault h k = absurd (k (same FrameBadField fault h))
     same x y h = cc
 no_drop o past Misses fault h k = refl
 
--- Where the fault tells of no dropped tag, it is another.
-another : (fault : Fault) → says_drop fault ≡ false → fault ≡ FrameBadField → ⊥
-another fault h e = clash (sym h ∙ ap says_drop e)
-  where
-    clash : false ≡ true → ⊥
-    clash h = cc
-
--- What is refused stands in the list where it dropped a tag, and else it doesn't.
-refused_step : {T : Type 0} (note : T → Note) (o : Opening) (past : List FrameEntry) (e : Input) (old server : Server T) (fault : Fault) → is_up o past ≡ true → ends.Refuses note o past e fault old server → SenseInRange (sense o past e) → sort_of fault ≡ sorts.Refusal
-    → (b : Bool) → says_drop fault ≡ b → Moves note o past (Meets e) (Err fault) [] (On server)
-refused_step note o past e old server fault on f h is true d = record {
-  after = Met e lefts.NoSave ∷ past;
-  ends = subst (λ (sort : FaultSort). Stops (rules o) past (Meets e) sort fault [] (Met e lefts.NoSave ∷ past)) (sym is) (record {
-    why = inl (up (is_up o past) (answers.refusal o past e) (Some NodeOff) on ∙ f.why);
-    sends_none = refl;
-    after_is = ap (λ b. if b then Met e lefts.NoSave ∷ past else past) (sym d);
-  });
-  stands = f.stands;
-  ranges = came_after o past e lefts.NoSave h;
-}
-refused_step note o past e old server fault on f h is false d = record {
-  after = past;
-  ends = subst (λ (sort : FaultSort). Stops (rules o) past (Meets e) sort fault [] past) (sym is) (record {
-    why = inl (up (is_up o past) (answers.refusal o past e) (Some NodeOff) on ∙ f.why);
-    sends_none = refl;
-    after_is = ap (λ b. if b then Met e lefts.NoSave ∷ past else past) (sym d);
-  });
-  stands = f.unchanged (no_drop o past (sense o past e) fault f.why (another fault d));
-  ranges = λ h. h;
-}
-
 faults_step : {T : Type 0} (note : T → Note) (o : Opening) (past : List FrameEntry) (e : Input) (old server : Server T) (fault : Fault) → is_up o past ≡ true
-    → (sort : FaultSort) → ends.Faults note o past e sort fault old server → UnlessMemory sort (sense o past e) → sort_of fault ≡ sort → Faults note o past e sort fault (On server)
+    → (sort : FaultSort) → ends.Faults note o past e sort fault old server → UnlessMemory sort (sense o past e) → sort_of fault ≡ sort → Faults (ways note o) past e sort fault (On server)
 faults_step note o past e old server fault on sorts.Memory f h is = (f.why, f.unchanged)
 faults_step note o past e old server fault on sorts.Save f h is =
     let l = left_is f.left f.lost in
-    record {
-      after = Met e f.left ∷ past;
-      ends = subst (λ (sort : FaultSort). Stops (rules o) past (Meets e) sort fault [] (Met e f.left ∷ past)) (sym is) (record {
-        free = up (is_up o past) (answers.refusal o past e) (Some NodeOff) on ∙ f.free;
-        landed = l.0;
-        entry = Met e f.left;
-        entry_is = ap (option_map (λ began. Met e (left_by l.0))) f.makes_one ∙ ap (λ left. Some (Met e left)) l.1;
-        sends_none = refl;
-        after_is = refl;
-      });
-      stands = f.stands;
-      ranges = came_after o past e f.left h;
-    }
-faults_step note o past e old server fault on sorts.Refusal f h is = record {
-  moves = refused_step note o past e old server fault on f h is (says_drop fault) refl;
-  unchanged = λ k. f.unchanged (no_drop o past (sense o past e) fault f.why k);
-}
+    lost (ways note o) past (Meets e) fault l.0 (Met e f.left) (On server) is (up (is_up o past) (answers.refusal o past e) (Some NodeOff) on ∙ f.free)
+    (ap (option_map (λ began. Met e (left_by l.0))) f.makes_one ∙ ap (λ left. Some (Met e left)) l.1) f.stands (came_after o past e f.left h)
+faults_step note o past e old server fault on sorts.Refusal f h is =
+    refused_step (ways note o) past e (Met e lefts.NoSave) fault (On server) is (up (is_up o past) (answers.refusal o past e) (Some NodeOff) on ∙ f.why) refl
+    f.stands (λ k. f.unchanged (no_drop o past (sense o past e) fault f.why k)) (came_after o past e lefts.NoSave h)
 
 -- A server that is on takes what comes.
 pub step_ends : {T : Type 0} (note : T → Note) (o : Opening) (past : List FrameEntry) (e : Input) (old server : Server T) (result : Result Outs Fault) → is_up o past ≡ true
-    → ends.Ends note o past e old server result → HearsInRange o past e result → StepEnds note o past e (On server) result
+    → ends.Ends note o past e old server result → HearsInRange o past e result → StepEnds (ways note o) past e (On server) (given result)
 step_ends note o past e old server (Ok outs) on a h = answers_step note o past e old server outs on a h
 step_ends note o past e old server (Err fault) on f h = faults_step note o past e old server fault on (sort_of fault) f h refl
 
 -- What comes to a server that isn't on is refused, and nothing changes.
-pub off_ends : {T : Type 0} (note : T → Note) (o : Opening) (past : List FrameEntry) (e : Input) (power : Power T) → is_up o past ≡ false → Stands note o past power → StepEnds note o past e power (Err NodeOff)
-off_ends note o past e power off s = record {
-  moves = record {
-    after = past;
-    ends = record { why = inl (ap (λ b. if b then answers.refusal o past e else Some NodeOff) off); sends_none = refl; after_is = refl };
-    stands = s;
-    ranges = λ h. h;
-  };
-  unchanged = λ k. s;
-}
+pub off_ends : {T : Type 0} (note : T → Note) (o : Opening) (past : List FrameEntry) (e : Input) (power : Power T) → is_up o past ≡ false → Stands note o past power → StepEnds (ways note o) past e power (Err NodeOff)
+off_ends note o past e power off s = moves.off_ends (ways note o) past e power (ap (λ b. if b then answers.refusal o past e else Some NodeOff) off) refl s
 
 -- ---- what a seat asks
 
@@ -192,40 +132,19 @@ end_sends_none : (o : Opening) (past : List FrameEntry) (ticket : Ticket) (end :
 end_sends_none o past ticket end =
     ap (λ bodies. map frame_spelling (flat_map frames_of (to_client o.me bodies))) (none_sent (is_lost (saved_for (answers.due o past (inputs.WriteDone ticket end)))) (refusal o (packets_heard o past) (events.WriteDone ticket end)))
 
-same_entry : (x y : FrameEntry) → Some x ≡ Some y → y ≡ x
-same_entry x y h = cc
+pub issue_task : {T : Type 0} (note : T → Note) (o : Opening) (past : List FrameEntry) (j : ℕ) (new : Power T) (result : Result Outs Fault) → StepEnds (ways note o) past (inputs.Issue j) new (given result) → TaskEnds (ways note o) past (Meets (inputs.Issue j)) new (answer_of (given result))
+issue_task note o past j new result h = silent (ways note o) past (inputs.Issue j) _ new (given result) refl (issue_sends_none o past j) h
 
-silent : {T : Type 0} (note : T → Note) (o : Opening) (past : List FrameEntry) (e : Input) (said : Said) (sent : List (List ℕ)) (new : Power T) → map frame_spelling (answers.frames o past (answers.answered o past e)) ≡ []
-    → Moves note o past (Meets e) (Ok said) sent new → Moves note o past (Meets e) (Ok said) [] new
-silent note o past e said sent new none m =
-    let same = same_entry (answers.answered o past e) m.ends.entry m.ends.entry_is in
-    subst (λ s. Moves note o past (Meets e) (Ok said) s new) (m.ends.sent_are ∙ ap (λ x. map frame_spelling (answers.frames o past x)) same ∙ none) m
-
-refused_task : {T : Type 0} (note : T → Note) (o : Opening) (past : List FrameEntry) (e : Input) (fault : Fault) (new : Power T) → (sort : FaultSort) → Faults note o past e sort fault new → Fails note o past (Meets e) sort fault new
-refused_task note o past e fault new sorts.Memory h = h
-refused_task note o past e fault new sorts.Save h = h
-refused_task note o past e fault new sorts.Refusal h = h.moves
-
-pub issue_task : {T : Type 0} (note : T → Note) (o : Opening) (past : List FrameEntry) (j : ℕ) (new : Power T) (result : Result Outs Fault) → StepEnds note o past (inputs.Issue j) new result → TaskEnds note o past (tasks.Issue j) new (said_by result)
-issue_task note o past j new (Ok outs) h = silent note o past (inputs.Issue j) (said_of outs) outs.frames new (issue_sends_none o past j) h.moves
-issue_task note o past j new (Err fault) h = refused_task note o past (inputs.Issue j) fault new (sort_of fault) h
-
-pub end_task : {T : Type 0} (note : T → Note) (o : Opening) (past : List FrameEntry) (ticket : Ticket) (end : WriteEnd) (new : Power T) (result : Result Outs Fault) → StepEnds note o past (inputs.WriteDone ticket end) new result → TaskEnds note o past (tasks.WriteDone ticket end) new (said_by result)
-end_task note o past ticket end new (Ok outs) h = silent note o past (inputs.WriteDone ticket end) (said_of outs) outs.frames new (end_sends_none o past ticket end) h.moves
-end_task note o past ticket end new (Err fault) h = refused_task note o past (inputs.WriteDone ticket end) fault new (sort_of fault) h
+pub end_task : {T : Type 0} (note : T → Note) (o : Opening) (past : List FrameEntry) (ticket : Ticket) (end : WriteEnd) (new : Power T) (result : Result Outs Fault) → StepEnds (ways note o) past (inputs.WriteDone ticket end) new (given result) → TaskEnds (ways note o) past (Meets (inputs.WriteDone ticket end)) new (answer_of (given result))
+end_task note o past ticket end new result h = silent (ways note o) past (inputs.WriteDone ticket end) _ new (given result) refl (end_sends_none o past ticket end) h
 
 -- ---- a cut
 
 -- A server that isn't on has no power to lose.
-pub cut_off : {T : Type 0} (note : T → Note) (o : Opening) (past : List FrameEntry) (power : Power T) → is_up o past ≡ false → Stands note o past power → TaskEnds note o past tasks.Cut power (Err NodeOff)
-cut_off note o past power off s = record {
-  after = past;
-  ends = record { why = inl (ap (λ b. if b then None else Some NodeOff) off); sends_none = refl; after_is = refl };
-  stands = s;
-  ranges = λ h. h;
-}
+pub cut_off : {T : Type 0} (note : T → Note) (o : Opening) (past : List FrameEntry) (power : Power T) → is_up o past ≡ false → Stands note o past power → TaskEnds (ways note o) past Cuts power (Err NodeOff)
+cut_off note o past power off s = refused (ways note o) past Cuts NodeOff power refl (ap (λ b. if b then None else Some NodeOff) off) refl s
 
-pub cut_ends : {T : Type 0} (note : T → Note) (o : Opening) (past : List FrameEntry) (notes : T) → is_up o past ≡ true → Says (note notes).bytes (noted o (packets_heard o past)) → TaskEnds note o past tasks.Cut (Off notes) (Ok plain)
+pub cut_ends : {T : Type 0} (note : T → Note) (o : Opening) (past : List FrameEntry) (notes : T) → is_up o past ≡ true → Says (note notes).bytes (noted o (packets_heard o past)) → TaskEnds (ways note o) past Cuts (Off notes) (Ok plain)
 cut_ends note o past notes on says = record {
   after = Cut ∷ past;
   ends = record { free = up (is_up o past) None (Some NodeOff) on; said_is = refl; entry = Cut; entry_is = refl; sent_are = refl; after_is = refl };
@@ -235,13 +154,9 @@ cut_ends note o past notes on says = record {
 
 -- ---- a restart
 
-pub on_refuses : {T : Type 0} (note : T → Note) (o : Opening) (past : List FrameEntry) (power : Power T) → is_up o past ≡ true → Stands note o past power → TaskEnds note o past tasks.Restart power (Err NodeOn)
-on_refuses note o past power on s = record {
-  after = past;
-  ends = record { why = inl (up (is_up o past) (Some NodeOn) (if has_boot o past then None else Some NumbersSpent) on); sends_none = refl; after_is = refl };
-  stands = s;
-  ranges = λ h. h;
-}
+pub on_refuses : {T : Type 0} (note : T → Note) (o : Opening) (past : List FrameEntry) (power : Power T) → is_up o past ≡ true → Stands note o past power → TaskEnds (ways note o) past Restarts power (Err NodeOn)
+on_refuses note o past power on s =
+    refused (ways note o) past Restarts NodeOn power refl (up (is_up o past) (Some NodeOn) (if has_boot o past then None else Some NumbersSpent) on) refl s
 
 lt_true : (a b : ℕ) → a < b → nat_lt a b ≡ true
 lt_true a b h = grind (arith, nat_tests)
@@ -257,7 +172,7 @@ is_spent false true h k = cc
 is_spent true boots h k = cc
 
 pub started : {T : Type 0} (note : T → Note) (o : Opening) (past : List FrameEntry) (me : ℕ) (notes : T) (server : Server T) → o.me ≡ me → is_up o past ≡ false → Says (note notes).bytes (noted o (packets_heard o past)) → ends.Restarts note me notes server
-    → TaskEnds note o past tasks.Restart (On server) (Ok plain)
+    → TaskEnds (ways note o) past Restarts (On server) (Ok plain)
 started note o past me notes server is off says h =
     let stands = h.stands o past is says in
     record {
@@ -295,7 +210,7 @@ next_says one old new o past n read left says is =
     (record { boot_range = omega (arith, left); last_range = read.last_range; spelled = inl is })
 
 pub unstarted : {T : Type 0} (note : T → Note) (o : Opening) (past : List FrameEntry) (notes back : T) (fault : Fault) → SaysOneThing → is_up o past ≡ false → Says (note notes).bytes (noted o (packets_heard o past)) → NotOpened (note notes) (note back) fault
-    → TaskEnds note o past tasks.Restart (Off back) (Err fault)
+    → TaskEnds (ways note o) past Restarts (Off back) (Err fault)
 unstarted note o past notes back LoadFault one off says h = record {
   after = past;
   ends = record { why = inr (refl, not_off (is_up o past) off); sends_none = refl; after_is = refl };
@@ -303,42 +218,19 @@ unstarted note o past notes back LoadFault one off says h = record {
   ranges = λ h. h;
 }
 unstarted note o past notes back BadNote one off says h = absurd (h.1 (noted o (packets_heard o past)) says)
-unstarted note o past notes back NumbersSpent one off says h = record {
-  after = past;
-  ends = record { why = inl (is_spent (is_up o past) (has_boot o past) off (spent (boot o (packets_heard o past)) (h.1 (noted o (packets_heard o past)) says))); sends_none = refl; after_is = refl };
-  stands = (subst (λ (n : Note). Says n.bytes (noted o (packets_heard o past))) (sym h.0) says, off);
-  ranges = λ h. h;
-}
+unstarted note o past notes back NumbersSpent one off says h =
+    refused (ways note o) past Restarts NumbersSpent (Off back) refl (is_spent (is_up o past) (has_boot o past) off (spent (boot o (packets_heard o past)) (h.1 (noted o (packets_heard o past)) says))) refl
+    (subst (λ (n : Note). Says n.bytes (noted o (packets_heard o past))) (sym h.0) says, off)
 unstarted note o past notes back NoMemory one off says h = (refl, (subst (λ (n : Note). Says n.bytes (noted o (packets_heard o past))) (sym h) says, off))
 unstarted note o past notes back SaveFault one off says h = half h.1
   where
-    half : (n : Noted) × Says (note notes).bytes n × (n.boot < 2 ^ 64 - 1) × (((note back).bytes ≡ (note notes).bytes) ⊎ ((note back).bytes ≡ spelling (record { boot = n.boot + 1; last_run = n.last_run }))) → TaskEnds note o past tasks.Restart (Off back) (Err SaveFault)
-    half (n, read, left, inl is) = record {
-      after = Restart lefts.LostOld ∷ past;
-      ends = record {
-        free = may_restart (is_up o past) (has_boot o past) off (left_one one (note notes).bytes o past n read left says);
-        landed = false;
-        entry = Restart lefts.LostOld;
-        entry_is = refl;
-        sends_none = refl;
-        after_is = refl;
-      };
-      stands = (subst (λ bytes. Says bytes (noted o (packets_heard o past))) (sym is) says, refl);
-      ranges = λ h. h;
-    }
-    half (n, read, left, inr is) = record {
-      after = Restart lefts.LostNew ∷ past;
-      ends = record {
-        free = may_restart (is_up o past) (has_boot o past) off (left_one one (note notes).bytes o past n read left says);
-        landed = true;
-        entry = Restart lefts.LostNew;
-        entry_is = refl;
-        sends_none = refl;
-        after_is = refl;
-      };
-      stands = (next_says one (note notes).bytes (note back).bytes o past n read left says is, refl);
-      ranges = λ h. h;
-    }
+    half : (n : Noted) × Says (note notes).bytes n × (n.boot < 2 ^ 64 - 1) × (((note back).bytes ≡ (note notes).bytes) ⊎ ((note back).bytes ≡ spelling (record { boot = n.boot + 1; last_run = n.last_run }))) → TaskEnds (ways note o) past Restarts (Off back) (Err SaveFault)
+    half (n, read, left, inl is) =
+        lost (ways note o) past Restarts SaveFault false (Restart lefts.LostOld) (Off back) refl (may_restart (is_up o past) (has_boot o past) off (left_one one (note notes).bytes o past n read left says)) refl
+        (subst (λ bytes. Says bytes (noted o (packets_heard o past))) (sym is) says, refl) (λ h. h)
+    half (n, read, left, inr is) =
+        lost (ways note o) past Restarts SaveFault true (Restart lefts.LostNew) (Off back) refl (may_restart (is_up o past) (has_boot o past) off (left_one one (note notes).bytes o past n read left says)) refl
+        (next_says one (note notes).bytes (note back).bytes o past n read left says is, refl) (λ h. h)
 unstarted note o past notes back _ one off says h = absurd h
 
 -- ---- whether it is on
@@ -353,24 +245,15 @@ there note o past (Some server) s h = s.1
 
 -- ---- the device's failures
 
-no_load : (load : Bool) (old new : ℕ) → new ≡ old → CountsBy (load && false) old new
-no_load true old new h = h
-no_load false old new h = h
-
 -- A step counts a failed save.
-pub step_counts : {T : Type 0} (note : T → Note) (o : Opening) (past : List FrameEntry) (e : Input) (old server : Server T) (result : Result Outs Fault) → ends.Ends note o past e old server result → Counts false (note old.core.notes).failures (note server.core.notes).failures result
+pub step_counts : {T : Type 0} (note : T → Note) (o : Opening) (past : List FrameEntry) (e : Input) (old server : Server T) (result : Result Outs Fault) → ends.Ends note o past e old server result → Counts false (note old.core.notes).failures (note server.core.notes).failures (given result)
 step_counts note o past e old server (Ok outs) a = tt
 step_counts note o past e old server (Err fault) f = by_sort (sort_of fault) f
   where
     by_sort : (sort : FaultSort) → ends.Faults note o past e sort fault old server → CountsBy (is_save sort || (is_load fault && false)) (note old.core.notes).failures (note server.core.notes).failures
-    by_sort sorts.Memory f = no_load (is_load fault) (note old.core.notes).failures (note server.core.notes).failures (ap (λ (n : Note). n.failures) f.same_note)
+    by_sort sorts.Memory f = no_load fault (note old.core.notes).failures (note server.core.notes).failures (ap (λ (n : Note). n.failures) f.same_note)
     by_sort sorts.Save f = f.cause
-    by_sort sorts.Refusal f = no_load (is_load fault) (note old.core.notes).failures (note server.core.notes).failures (ap (λ (n : Note). n.failures) f.same_note)
-
--- What is told of a step counts it, too.
-pub said_counts : (old new : ℕ) (said : Result Said Fault) (result : Result Outs Fault) → said ≡ said_by result → Counts false old new result → Counts false old new said
-said_counts old new said (Ok outs) is h = subst (Counts false old new) (sym is) tt
-said_counts old new said (Err fault) is h = subst (Counts false old new) (sym is) h
+    by_sort sorts.Refusal f = no_load fault (note old.core.notes).failures (note server.core.notes).failures (ap (λ (n : Note). n.failures) f.same_note)
 
 -- A restart that fails counts why.
 pub unstarted_counts : (old new : Note) (fault : Fault) → NotOpened old new fault → Counts {X = Said} true old.failures new.failures (Err fault)

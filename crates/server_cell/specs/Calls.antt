@@ -2,17 +2,15 @@
 use Rattle.std.specs.Prelude.{◌≡◌, ◌+◌, ◌&&◌, ◌==◌, Bool, true, false, [], ◌∷◌, Some, Result, Ok, Err}
 use Rattle.fc_base.specs.declared.fault.Fault.{Fault}
 use Rattle.fc_base.specs.declared.fault.Fault.TheVariants.{NoMemory, WrongSeat}
-use Rattle.fc_base.specs.declared.fault.FaultSort.{FaultSort}
-use Rattle.fc_base.specs.declared.fault.FaultSort.TheVariants as sorts
-use Rattle.fc_base.specs.Fault.{sort_of}
 use Rattle.node_history.specs.declared.answer.Said.{Said}
 use Rattle.node_history.specs.declared.answer.Told.{Told}
 use Rattle.node_history.specs.declared.came.Came.{Came}
 use Rattle.node_history.specs.declared.logged.Logged.{Logged}
-use Rattle.server_cell.specs.Seated.{Seated}
+pub use Rattle.node_history.specs.AtHub.{lacks_memory, told_by}
 use Rattle.node_history.specs.Failures.{Counts}
 use Rattle.node_history.specs.Seats.{times}
 use Rattle.server_cell.specs.declared.task.Task.{Task}
+use Rattle.server_cell.specs.Seated.{Seated}
 use Rattle.server_cell.specs.Cells.{ServerLog}
 use Rattle.server_cell.specs.Tasks.{came_by, loads_note}
 
@@ -20,11 +18,6 @@ use Rattle.server_cell.specs.Tasks.{came_by, loads_note}
 abbrev pub is_right : ServerLog → Seated → Bool
 is_right cell seat =
     (seat.server == cell.opening.me) && (seat.applied == times seat.number cell.history)
-
--- What is told of an answer that sends nothing.
-abbrev pub told_by : Result Said Fault → Result Told Fault
-told_by (Ok said) = Ok (record { answer = said.answer; first = 0; sent = 0; act = said.act })
-told_by (Err fault) = Err fault
 
 -- The entry of what came from a seat: it has the seat's next number, and sends nothing.
 abbrev pub logged_by : Seated → Came → Result Said Fault → Logged
@@ -51,16 +44,6 @@ pub record IsAdded (old : ServerLog) (seat : Seated) (task : Task) (answer : Res
 pub record IsSame (old : ServerLog) (seat : Seated) (new : ServerLog) (after : Seated) : Type 0 where
   pub cell : new ≡ old
   pub seat_is : after ≡ seat
-
--- Memory ran out.
-abbrev pub is_memory : FaultSort → Bool
-is_memory sorts.Memory = true
-is_memory sorts.Save = false
-is_memory sorts.Refusal = false
-
-abbrev pub lacks_memory : Result Said Fault → Bool
-lacks_memory (Ok said) = false
-lacks_memory (Err fault) = is_memory (sort_of fault)
 
 -- How what is asked from a right seat ends, with this answer: for want of memory nothing changes, and any
 -- other answer is entered.

@@ -5,10 +5,11 @@ ghost use Rattle.std.specs.Option.{option_copied};
 ghost use Rattle.server_core.specs.History.{Opening};
 ghost use Rattle.server_core.specs.Hearing.{FrameEntry, packets_heard};
 ghost use Rattle.node_history.specs.Failures.{Counts};
-ghost use Rattle.node_history.specs.ServerRules.{is_up};
-ghost use Rattle.server_cell.specs.Stands.{plain, said_by};
-ghost use Rattle.server_cell.specs.Tasks.{loads_note};
-ghost use Rattle.server_cell.specs.declared.task.Task.TheVariants as tasks;
+ghost use Rattle.node_history.specs.Moves.{answer_of, StepEnds, TaskEnds};
+ghost use Rattle.node_history.specs.Rules.{Cuts, Restarts};
+ghost use Rattle.node_history.specs.ServerRules.{asked, is_up};
+ghost use Rattle.server_cell.specs.Stands.{given};
+ghost use Rattle.server_cell.specs.Tasks.{came_by, loads_note};
 ghost use Rattle.server_core.specs.declared.input.Input.TheVariants as inputs;
 ghost use Rattle.server_core.specs.Handles.{issued, ended};
 
@@ -33,7 +34,7 @@ pub enum Power<N> {
 
 impl<N: Notes + Drop> Power<N> {
     ghost use Rattle.server_core.specs.Note.{Says};
-    ghost use Rattle.server_cell.specs.Stands.{failures_of, noted, Stands, Shows, StepEnds, TaskEnds};
+    ghost use Rattle.server_cell.specs.Stands.{failures_of, noted, ways, Stands, Shows};
 
     /// The server, where it is on: it has power, and isn't down.
     pub(crate) fn server(&self) -> Option<&Server<N>>
@@ -49,9 +50,9 @@ impl<N: Notes + Drop> Power<N> {
     /// Takes what comes. `NodeOff`: it isn't on, and nothing changes. Any other fault is the server's.
     pub(crate) fn step(&mut self, input: Input) -> Result<Outs, Fault>
         ensures ends { (o : Opening) (past : List FrameEntry) → Stands N.note o past self.old →
-            StepEnds N.note o past input self.new result }
+            StepEnds (ways N.note o) past input self.new (given result) }
         ensures count { (o : Opening) (past : List FrameEntry) → Stands N.note o past self.old →
-            Counts false (failures_of N.note self.old) (failures_of N.note self.new) result }
+            Counts false (failures_of N.note self.old) (failures_of N.note self.new) (given result) }
     {
         match self {
             Power::On(server) => {
@@ -69,9 +70,9 @@ impl<N: Notes + Drop> Power<N> {
     #[inline(always)]
     fn issue(&mut self, job: JobNo) -> Result<Issue, Fault>
         ensures ends { (o : Opening) (past : List FrameEntry) → Stands N.note o past self.old →
-            StepEnds N.note o past (inputs.Issue job) self.new (issued result) }
+            StepEnds (ways N.note o) past (inputs.Issue job) self.new (given (issued result)) }
         ensures count { (o : Opening) (past : List FrameEntry) → Stands N.note o past self.old →
-            Counts false (failures_of N.note self.old) (failures_of N.note self.new) (issued result) }
+            Counts false (failures_of N.note self.old) (failures_of N.note self.new) (given (issued result)) }
     {
         match self {
             Power::On(server) => {
@@ -89,9 +90,9 @@ impl<N: Notes + Drop> Power<N> {
     #[inline(always)]
     fn end_write(&mut self, ticket: Ticket, end: WriteEnd) -> Result<(), Fault>
         ensures ends { (o : Opening) (past : List FrameEntry) → Stands N.note o past self.old →
-            StepEnds N.note o past (inputs.WriteDone ticket end) self.new (ended result) }
+            StepEnds (ways N.note o) past (inputs.WriteDone ticket end) self.new (given (ended result)) }
         ensures count { (o : Opening) (past : List FrameEntry) → Stands N.note o past self.old →
-            Counts false (failures_of N.note self.old) (failures_of N.note self.new) (ended result) }
+            Counts false (failures_of N.note self.old) (failures_of N.note self.new) (given (ended result)) }
     {
         match self {
             Power::On(server) => {
@@ -115,7 +116,7 @@ impl<N: Notes + Drop> Power<N> {
     ) -> Result<Said, Fault>
         requires { me < 8 }
         ensures ends { (o : Opening) (past : List FrameEntry) → o.me ≡ me → Stands N.note o past self.old →
-            TaskEnds N.note o past task.now self.new result }
+            TaskEnds (ways N.note o) past (asked (came_by task.now)) self.new result }
         ensures count { (o : Opening) (past : List FrameEntry) → o.me ≡ me → Stands N.note o past self.old →
             Counts (loads_note task.now) (failures_of N.note self.old) (failures_of N.note self.new) result }
     {
@@ -130,7 +131,7 @@ impl<N: Notes + Drop> Power<N> {
     /// Loses its power. `NodeOff`: it isn't on, and nothing changes.
     fn cut(&mut self) -> Result<Said, Fault>
         ensures ends { (o : Opening) (past : List FrameEntry) → Stands N.note o past self.old →
-            TaskEnds N.note o past tasks.Cut self.new result }
+            TaskEnds (ways N.note o) past Cuts self.new result }
         ensures count { (o : Opening) (past : List FrameEntry) → Stands N.note o past self.old →
             Counts false (failures_of N.note self.old) (failures_of N.note self.new) result }
     {
@@ -140,7 +141,7 @@ impl<N: Notes + Drop> Power<N> {
         match self.lend() {
             Some(notes) => {
                 *self = Power::Off(notes);
-                Ok(plain())
+                Ok(Said::plain())
             }
             None => Err(Fault::NodeOff),
         }
@@ -153,7 +154,7 @@ impl<N: Notes + Drop> Power<N> {
     fn restart(&mut self, alloc: Global, me: ServerNo) -> Result<Said, Fault>
         requires { me < 8 }
         ensures ends { (o : Opening) (past : List FrameEntry) → o.me ≡ me → Stands N.note o past self.old →
-            TaskEnds N.note o past tasks.Restart self.new result }
+            TaskEnds (ways N.note o) past Restarts self.new result }
         ensures count { (o : Opening) (past : List FrameEntry) → o.me ≡ me → Stands N.note o past self.old →
             Counts true (failures_of N.note self.old) (failures_of N.note self.new) result }
     {
@@ -171,14 +172,14 @@ impl<N: Notes + Drop> Power<N> {
         requires { me < 8 }
         ensures ends { (o : Opening) (past : List FrameEntry) → o.me ≡ me → is_up o past ≡ false →
             Says (N.note notes).bytes (noted o (packets_heard o past)) →
-            TaskEnds N.note o past tasks.Restart self.new result }
+            TaskEnds (ways N.note o) past Restarts self.new result }
         ensures count { Counts true (N.note notes).failures (failures_of N.note self.new) result }
     {
         one_note();
         match Server::restart(alloc, me, notes) {
             Ok(server) => {
                 *self = Power::On(server);
-                Ok(plain())
+                Ok(Said::plain())
             }
             Err((notes, fault)) => {
                 *self = Power::Off(notes);
@@ -202,20 +203,10 @@ impl<N: Notes + Drop> Power<N> {
     }
 }
 
-/// Nothing but that it was done.
-fn plain() -> Said
-    ensures { result ≡ plain }
-{
-    Said {
-        answer: Answer::Plain,
-        act: Act::None,
-    }
-}
-
 /// What is answered of a request for a write.
 #[inline(always)]
 fn issued(answer: Result<Issue, Fault>) -> Result<Said, Fault>
-    ensures { result ≡ said_by (issued answer) }
+    ensures { result ≡ answer_of (given (issued answer)) }
 {
     match answer {
         Ok(issue) => Ok(Said {
@@ -229,10 +220,10 @@ fn issued(answer: Result<Issue, Fault>) -> Result<Said, Fault>
 /// What is answered of the end of a write.
 #[inline(always)]
 fn heard(answer: Result<(), Fault>) -> Result<Said, Fault>
-    ensures { result ≡ said_by (ended answer) }
+    ensures { result ≡ answer_of (given (ended answer)) }
 {
     match answer {
-        Ok(()) => Ok(plain()),
+        Ok(()) => Ok(Said::plain()),
         Err(fault) => Err(fault),
     }
 }

@@ -3,14 +3,14 @@
 ghost use Rattle.std.specs.Prelude.{◌≡◌, List};
 ghost use Rattle.client_core.specs.Hearing.{FrameEntry};
 ghost use Rattle.client_cell.specs.Cells.{IsReplay};
-ghost use Rattle.client_cell.specs.Calls.{lacks_memory, logged_by, told_by, Applies};
+ghost use Rattle.client_cell.specs.Calls.{logged_by, Applies};
 
 use super::ClientCell;
 use crate::task::Task;
 use disk_model::Notes;
-use fc_base::{Fault, FaultSort};
+use fc_base::Fault;
 use messages::Frames;
-use node_history::{Came, Logged, Said, Told};
+use node_history::{Came, Logged, Said, Told, lacks_memory, told_at};
 use std::alloc::Global;
 
 impl<N: Notes + Drop> ClientCell<N> {
@@ -33,7 +33,7 @@ impl<N: Notes + Drop> ClientCell<N> {
             return Err(Fault::NoMemory);
         }
         self.history.push(entry(alloc, came, &answer));
-        told(&answer)
+        told_at(0, 0, &answer)
     }
 }
 
@@ -46,30 +46,5 @@ fn entry(alloc: Global, came: Came, answer: &Result<Said, Fault>) -> Logged
         came,
         answer: *answer,
         sent: Frames::new(alloc),
-    }
-}
-
-/// What is told of an answer that sends nothing.
-fn told(answer: &Result<Said, Fault>) -> Result<Told, Fault>
-    ensures { result ≡ told_by answer.now }
-{
-    match answer {
-        Ok(said) => Ok(Told {
-            answer: said.answer,
-            first: 0,
-            sent: 0,
-            act: said.act,
-        }),
-        Err(fault) => Err(*fault),
-    }
-}
-
-/// Whether memory ran out.
-fn lacks_memory(answer: &Result<Said, Fault>) -> bool
-    ensures { result ≡ lacks_memory answer.now }
-{
-    match answer {
-        Ok(_) => false,
-        Err(fault) => matches!(fault.sort(), FaultSort::Memory),
     }
 }

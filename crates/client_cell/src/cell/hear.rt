@@ -14,14 +14,14 @@ ghost use Rattle.client_cell.specs.Cells.{IsReplay};
 ghost use Rattle.client_cell.specs.Tasks.{came_of, input_of};
 
 use super::ClientCell;
-use super::enter::{bytes_of, enter, make_room, outcome};
+use super::sent::{bytes_of, outcome};
 use crate::request::Request;
 use client_core::packets_are_in_range;
 use disk_model::Notes;
 use fc_base::Fault;
 use hub::{Hub, frames_are_spelled};
-use messages::Frame;
-use node_history::{Came, Told};
+use messages::{Frame, Node};
+use node_history::{Came, Told, enter, make_room};
 
 /// The most frames that the client sends at once, but for a tick, and the most bytes that they have
 /// together.
@@ -55,7 +55,14 @@ impl<N: Notes + Drop> ClientCell<N> {
             return Err(Fault::NoMemory);
         }
         let done = outcome(self.alloc, self.power.deliver(frame));
-        enter(&mut self.history, hub, came, Some(position), done)
+        enter(
+            &mut self.history,
+            hub,
+            Node::Client,
+            came,
+            Some(position),
+            done,
+        )
     }
 
     /// Asks this of the client, whose frames go to the hub.
@@ -78,7 +85,14 @@ impl<N: Notes + Drop> ClientCell<N> {
             return Err(Fault::NoMemory);
         }
         let done = outcome(self.alloc, self.power.request(&request));
-        enter(&mut self.history, hub, request.into_came(), None, done)
+        enter(
+            &mut self.history,
+            hub,
+            Node::Client,
+            request.into_came(),
+            None,
+            done,
+        )
     }
 
     /// Has the client ask again for all that isn't answered.
@@ -103,6 +117,6 @@ impl<N: Notes + Drop> ClientCell<N> {
         if make_room(&mut self.history, hub, done.1.len(), bytes).is_err() {
             return Err(Fault::NoMemory);
         }
-        enter(&mut self.history, hub, Came::Tick, None, done)
+        enter(&mut self.history, hub, Node::Client, Came::Tick, None, done)
     }
 }

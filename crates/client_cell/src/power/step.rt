@@ -7,9 +7,10 @@ ghost use Rattle.client_core.specs.FrameEnds.{StandsFor};
 ghost use Rattle.client_core.specs.Hearing.{FrameEntry};
 ghost use Rattle.node_history.specs.ClientRules.{is_up};
 ghost use Rattle.node_history.specs.Failures.{Counts};
+ghost use Rattle.node_history.specs.Moves.{StepEnds};
 ghost use Rattle.client_cell.specs.declared.power.Power.TheVariants.{On};
 ghost use Rattle.client_cell.specs.Tasks.{input_of};
-ghost use Rattle.client_cell.specs.Stands.{outs_of, outs_of_run, outs_of_attempt, failures_of, Stands, StepEnds};
+ghost use Rattle.client_cell.specs.Stands.{given, outs_of, outs_of_run, outs_of_attempt, failures_of, ways, Stands};
 
 use super::Power;
 use crate::outs::Outs;
@@ -24,9 +25,9 @@ impl<N: Notes + Drop> Power<N> {
     /// Takes a request. `NodeOff`: it isn't on, and nothing changes. Any other fault is the client's.
     pub(crate) fn request(&mut self, request: &Request) -> Result<Outs, Fault>
         ensures ends { (o : Opening) (past : List FrameEntry) → Stands N.note o past self.old →
-            StepEnds N.note o past (input_of request.now) self.new result }
+            StepEnds (ways N.note o) past (input_of request.now) self.new (given result) }
         ensures count { (o : Opening) (past : List FrameEntry) → Stands N.note o past self.old →
-            Counts false (failures_of N.note self.old) (failures_of N.note self.new) result }
+            Counts false (failures_of N.note self.old) (failures_of N.note self.new) (given result) }
     {
         match self {
             Power::On(client) => {
@@ -43,9 +44,9 @@ impl<N: Notes + Drop> Power<N> {
     /// Takes a frame. `NodeOff`: it isn't on, and nothing changes. Any other fault is the client's.
     pub(crate) fn deliver(&mut self, frame: Frame) -> Result<Outs, Fault>
         ensures ends { (o : Opening) (past : List FrameEntry) → Stands N.note o past self.old →
-            StepEnds N.note o past (inputs.Deliver frame) self.new result }
+            StepEnds (ways N.note o) past (inputs.Deliver frame) self.new (given result) }
         ensures count { (o : Opening) (past : List FrameEntry) → Stands N.note o past self.old →
-            Counts false (failures_of N.note self.old) (failures_of N.note self.new) result }
+            Counts false (failures_of N.note self.old) (failures_of N.note self.new) (given result) }
     {
         match self {
             Power::On(client) => {
@@ -62,9 +63,9 @@ impl<N: Notes + Drop> Power<N> {
     /// Asks again for all that isn't answered, and changes nothing. `NodeOff`: it isn't on. `NoMemory`.
     pub(crate) fn tick(&self) -> Result<Outs, Fault>
         ensures ends { (o : Opening) (past : List FrameEntry) → Stands N.note o past self.now →
-            StepEnds N.note o past inputs.Tick self.now result }
+            StepEnds (ways N.note o) past inputs.Tick self.now (given result) }
         ensures count { (o : Opening) (past : List FrameEntry) → Stands N.note o past self.now →
-            Counts false (failures_of N.note self.now) (failures_of N.note self.now) result }
+            Counts false (failures_of N.note self.now) (failures_of N.note self.now) (given result) }
     {
         match self {
             Power::On(client) => {
@@ -82,9 +83,9 @@ impl<N: Notes + Drop> Power<N> {
 /// Asks this of a client that is on.
 fn ask<N: Notes + Drop>(client: &mut Client<N>, request: &Request) -> Result<Outs, Fault>
     ensures ends { (o : Opening) (past : List FrameEntry) → is_up o past ≡ true → StandsFor N.note client.old o past →
-        StepEnds N.note o past (input_of request.now) (On client.new) result }
+        StepEnds (ways N.note o) past (input_of request.now) (On client.new) (given result) }
     ensures count { (o : Opening) (past : List FrameEntry) → StandsFor N.note client.old o past →
-        Counts false (N.note client.old.core.notes).failures (N.note client.new.core.notes).failures result }
+        Counts false (N.note client.old.core.notes).failures (N.note client.new.core.notes).failures (given result) }
 {
     match request {
         Request::Begin(text) => begun(client.begin(text.as_slice())),

@@ -3,14 +3,14 @@
 ghost use Rattle.std.specs.Prelude.{◌≡◌, ◌≤◌, ◌<◌, ◌^◌, ◌++◌, ◌∷◌, [], List, length};
 ghost use Rattle.server_core.specs.Hearing.{FrameEntry};
 ghost use Rattle.server_cell.specs.Cells.{IsReplay};
-ghost use Rattle.server_cell.specs.Calls.{is_right, lacks_memory, entry_of, told_by, Applies};
+ghost use Rattle.server_cell.specs.Calls.{is_right, entry_of, Applies};
 
 use super::ServerCell;
 use crate::seat::Seat;
 use crate::task::Task;
 use disk_model::Notes;
-use fc_base::{Fault, FaultSort};
-use node_history::{History, Said, Told, Turn};
+use fc_base::Fault;
+use node_history::{History, Said, Told, Turn, lacks_memory, told_at};
 
 impl<N: Notes + Drop> ServerCell<N> {
     /// Does what is asked from a seat. Each answer but two is entered in the history, as this seat's next.
@@ -37,7 +37,7 @@ impl<N: Notes + Drop> ServerCell<N> {
         enter(&mut self.history, seat, &task, &answer);
         self.applied[seat.number() as usize] += 1;
         seat.advance(&answer);
-        told(&answer)
+        told_at(0, 0, &answer)
     }
 
     /// Whether the seat is of this server, which has just as many events of it as it has applied.
@@ -63,30 +63,5 @@ fn enter(history: &mut History, seat: &Seat, task: &Task, answer: &Result<Said, 
         Task::Issue(job) => history.push_issue(by, *job, answer),
         Task::WriteDone(ticket, end) => history.push_end(by, ticket, *end, answer),
         Task::Cut | Task::Restart => history.push_turn(by, task.came(), answer),
-    }
-}
-
-/// What is told of an answer that sends nothing.
-fn told(answer: &Result<Said, Fault>) -> Result<Told, Fault>
-    ensures { result ≡ told_by answer.now }
-{
-    match answer {
-        Ok(said) => Ok(Told {
-            answer: said.answer,
-            first: 0,
-            sent: 0,
-            act: said.act,
-        }),
-        Err(fault) => Err(*fault),
-    }
-}
-
-/// Whether memory ran out.
-fn lacks_memory(answer: &Result<Said, Fault>) -> bool
-    ensures { result ≡ lacks_memory answer.now }
-{
-    match answer {
-        Ok(_) => false,
-        Err(fault) => matches!(fault.sort(), FaultSort::Memory),
     }
 }

@@ -9,15 +9,16 @@ ghost use Rattle.node_history.specs.ServerRules.{asked, is_up, rules};
 ghost use Rattle.node_history.specs.AtHub.{Posts};
 ghost use Rattle.node_history.specs.Calls.{HasWhy};
 ghost use Rattle.node_history.specs.Failures.{Counts};
+ghost use Rattle.node_history.specs.Moves.{outcome_of};
 ghost use Rattle.server_cell.specs.Cells.{IsReplay};
-ghost use Rattle.server_cell.specs.Hearing.{outcome_of};
+ghost use Rattle.server_cell.specs.Stands.{given};
 
 use super::ServerCell;
 use disk_model::Notes;
 use fc_base::Fault;
 use hub::{Hub, frames_are_spelled};
 use messages::{Frames, Node};
-use node_history::{Came, Logged, Said, Told, is_left_out, told_at};
+use node_history::{Came, Said, Told, enter, make_room};
 use server_core::{Input, Outs, packets_are_in_range};
 use std::alloc::Global;
 
@@ -55,33 +56,18 @@ impl<N: Notes + Drop> ServerCell<N> {
         if self.power.server().is_none() {
             return Err(Fault::NodeOff);
         }
-        if self.history.reserve().is_err() {
+        if make_room(&mut self.history, hub, FRAMES, FRAMES * FRAME_BYTES).is_err() {
             return Err(Fault::NoMemory);
         }
-        if hub.reserve(FRAMES, FRAMES * FRAME_BYTES).is_err() {
-            return Err(Fault::NoMemory);
-        }
-        let alloc = self.alloc;
-        let (answer, sent) = outcome(alloc, self.power.step(input));
-        if is_left_out(&answer) {
-            return told_at(0, 0, &answer);
-        }
-        let told = told_at(hub.len() as u64, sent.len() as u64, &answer);
-        let at = self.history.len() as u64;
-        hub.note(Node::Server(self.me), at, taken, &sent);
-        self.history.push(Logged {
-            by: None,
-            came,
-            answer,
-            sent,
-        });
-        told
+        let done = outcome(self.alloc, self.power.step(input));
+        let me = Node::Server(self.me);
+        enter(&mut self.history, hub, me, came, taken, done)
     }
 }
 
 /// What a step is answered, and the frames that it sends.
 fn outcome(alloc: Global, step: Result<Outs, Fault>) -> (Result<Said, Fault>, Frames)
-    ensures { result ≡ outcome_of step }
+    ensures { result ≡ outcome_of (given step) }
 {
     match step {
         Ok(outs) => (Ok(Said::of(outs.issue, outs.act)), outs.frames),

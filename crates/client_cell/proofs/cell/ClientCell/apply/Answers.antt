@@ -1,10 +1,13 @@
 use Rattle.std.proofs.Common.{refl, sym, ◌∙◌, ap, subst, ◌∷◌}
 use Rattle.client_cell.specs.Tasks.{came_by, loads_note}
-use Rattle.client_cell.specs.Stands.{failures_of}
+use Rattle.node_history.specs.ClientRules.{asked}
+use Rattle.node_history.proofs.HubLemmas.{pushed}
+use Rattle.node_history.proofs.MoveLemmas.{is_lack, lack_counts, stays, done}
+use Rattle.client_cell.specs.Stands.{failures_of, ways}
 use Rattle.client_cell.specs.Cells.{ClientLog, opening_of}
 use Rattle.client_cell.specs.Calls.{logged_by}
 use Rattle.node_history.specs.Failures.{Counts}
-use Rattle.client_cell.proofs.CellLemmas.{is_lack, lack_counts, lacks, applied, stays, moved, same_cell, entered, replayed, pushed}
+use Rattle.client_cell.proofs.CellLemmas.{lacks, applied, same_cell, entered, replayed}
 use Rattle.client_cell.proofs.cell.ClientCell.apply.Goals as goal
 
 pub returns-then-is_err-clause-ends : goal.returns-then-is_err-clause-ends
@@ -17,7 +20,7 @@ invariant_of-self-then-lacks_memory g c =
     let o = opening_of c.self.inside.servers c.self.inside.opened.value in (
       rw c.reserve.ensures.same
           (same_cell note _ c.self.inside.power c.perform-answer.new.self (failures_of note c.perform-answer.new.self) cell
-          (stays note o cell.past c.args.task c.perform-answer.new.self c.perform-answer.result (sym c.lacks_memory.ensures ∙ c.if-lacks_memory.true) (c.perform-answer.ensures.ends o cell.past refl cell.stands))),
+          (stays (ways note o) cell.kept.past (asked (came_by c.args.task)) c.perform-answer.new.self c.perform-answer.result (sym c.lacks_memory.ensures ∙ c.if-lacks_memory.true) (c.perform-answer.ensures.ends o cell.kept.past refl cell.kept.stands))),
       c.self.invariant.1,
     )
 
@@ -26,9 +29,9 @@ returns-then-lacks_memory-clause-ends g c =
     let note = g.N.Notes.note in
     let cell = c.self.invariant.0 in
     let o = opening_of c.self.inside.servers c.self.inside.opened.value in
-    let ends = c.perform-answer.ensures.ends o cell.past refl cell.stands in
-    let lack = is_lack note o cell.past c.args.task c.perform-answer.new.self c.perform-answer.result (sym c.lacks_memory.ensures ∙ c.if-lacks_memory.true) ends in
-    let same = lack_counts (loads_note c.args.task) (failures_of note c.self.inside.power) (failures_of note c.perform-answer.new.self) c.perform-answer.result lack (c.perform-answer.ensures.count o cell.past refl cell.stands) in
+    let ends = c.perform-answer.ensures.ends o cell.kept.past refl cell.kept.stands in
+    let lack = is_lack (ways note o) cell.kept.past (asked (came_by c.args.task)) c.perform-answer.new.self c.perform-answer.result (sym c.lacks_memory.ensures ∙ c.if-lacks_memory.true) ends in
+    let same = lack_counts (loads_note c.args.task) (failures_of note c.self.inside.power) (failures_of note c.perform-answer.new.self) c.perform-answer.result lack (c.perform-answer.ensures.count o cell.kept.past refl cell.kept.stands) in
     lacks c.args.self.now _ c.args.task (rw (c.reserve.ensures.same, same) c.self.view_is)
 
 pub invariant_of-self-2 : goal.invariant_of-self-2
@@ -36,7 +39,7 @@ invariant_of-self-2 g c =
     let note = g.N.Notes.note in
     let cell = c.self.invariant.0 in
     let o = opening_of c.self.inside.servers c.self.inside.opened.value in
-    let m = moved note o cell.past c.args.task c.perform-answer.new.self c.perform-answer.result (sym c.lacks_memory.ensures ∙ c.if-lacks_memory.false) (c.perform-answer.ensures.ends o cell.past refl cell.stands) in (
+    let m = done (ways note o) cell.kept.past (asked (came_by c.args.task)) c.perform-answer.new.self c.perform-answer.result (sym c.lacks_memory.ensures ∙ c.if-lacks_memory.false) (c.perform-answer.ensures.ends o cell.kept.past refl cell.kept.stands) in (
       rw (c.push.ensures.items, c.reserve.ensures.same, pushed c.self.inside.history.items c.entry.result, c.entry.ensures, c.came-came.ensures)
           (entered note _ c.self.inside.power c.perform-answer.new.self (failures_of note c.perform-answer.new.self) (came_by c.args.task) c.perform-answer.result cell m),
       c.self.invariant.1,
@@ -47,7 +50,7 @@ returns-clause-replay g c =
     let note = g.N.Notes.note in
     let cell = c.self.invariant.0 in
     let o = opening_of c.self.inside.servers c.self.inside.opened.value in
-    let m = moved note o cell.past c.args.task c.perform-answer.new.self c.perform-answer.result (sym c.lacks_memory.ensures ∙ c.if-lacks_memory.false) (c.perform-answer.ensures.ends o cell.past refl cell.stands) in
+    let m = done (ways note o) cell.kept.past (asked (came_by c.args.task)) c.perform-answer.new.self c.perform-answer.result (sym c.lacks_memory.ensures ∙ c.if-lacks_memory.false) (c.perform-answer.ensures.ends o cell.kept.past refl cell.kept.stands) in
     rw (c.push.ensures.items, c.reserve.ensures.same, pushed c.self.inside.history.items c.entry.result, c.entry.ensures, c.came-came.ensures)
     (replayed note _ c.self.inside.power c.perform-answer.new.self (failures_of note c.perform-answer.new.self) (came_by c.args.task) c.perform-answer.result cell m)
 
@@ -58,8 +61,8 @@ returns-clause-ends g c =
     let o = opening_of c.self.inside.servers c.self.inside.opened.value in
     let new = c.perform-answer.new.self in
     let answer = c.perform-answer.result in
-    applied c.args.self.now c.args.task answer _ c.told.result (sym c.lacks_memory.ensures ∙ c.if-lacks_memory.false)
+    applied c.args.self.now c.args.task answer _ c.told_at.result (sym c.lacks_memory.ensures ∙ c.if-lacks_memory.false)
     (ap (λ (log : ClientLog). log.opening) c.self.view_is)
     (rw (c.push.ensures.items, c.reserve.ensures.same, pushed c.self.inside.history.items c.entry.result, c.entry.ensures, c.came-came.ensures) (ap (λ (log : ClientLog). logged_by (came_by c.args.task) answer ∷ log.history) c.self.view_is))
-    (subst (λ n. Counts (loads_note c.args.task) n (failures_of note new) answer) (ap (λ (log : ClientLog). log.failures) c.self.view_is) (c.perform-answer.ensures.count o cell.past refl cell.stands))
-    c.told.ensures
+    (subst (λ n. Counts (loads_note c.args.task) n (failures_of note new) answer) (ap (λ (log : ClientLog). log.failures) c.self.view_is) (c.perform-answer.ensures.count o cell.kept.past refl cell.kept.stands))
+    c.told_at.ensures

@@ -1,18 +1,23 @@
-use Rattle.std.proofs.Common.{sym, ap, subst, ℕ, List, None}
+use Rattle.std.proofs.Common.{refl, sym, ap, subst, ℕ, List, None}
 use Rattle.std.specs.Prelude.{All, Result}
 use Rattle.fc_base.specs.declared.fault.Fault.{Fault}
 use Rattle.hub.specs.Network.{IsSpelled}
 use Rattle.client_cell.specs.Tasks.{came_of, input_of}
 use Rattle.node_history.specs.declared.answer.Said.{Said}
+use Rattle.fc_base.specs.declared.fault.Fault.TheVariants.{NodeOff}
+use Rattle.messages.specs.declared.node.Node.TheVariants.{Client}
+use Rattle.node_history.proofs.CallLemmas.{left_out_posts}
+use Rattle.node_history.proofs.HubLemmas.{lacking, hear_counts}
+use Rattle.node_history.proofs.MoveLemmas.{where_ok}
 use Rattle.client_cell.specs.Cells.{ClientLog, opening_of}
-use Rattle.client_cell.specs.Stands.{failures_of}
+use Rattle.client_cell.specs.Stands.{failures_of, given}
 use Rattle.client_cell.proofs.PowerLemmas.{hidden, there}
-use Rattle.client_cell.proofs.HearLemmas.{lacking, lacks_why, off, off_why, where_ok, has_room, sent_spelled, heard_cell, told_why, replayed, hear_counts, requests_eight, request_asks}
+use Rattle.client_cell.proofs.HearLemmas.{lacks_why, off_why, has_room, sent_spelled, heard_cell, told_why, replayed, requests_eight, request_asks}
 use Rattle.client_cell.proofs.cell.ClientCell.ask.Goals as goal
 
 pub returns-then-is_err-clause-ends : goal.returns-then-is_err-clause-ends
 returns-then-is_err-clause-ends g c =
-    lacking (came_of c.args.request) None c.args.hub.now.net c.make_room.new.hub.net c.args.self.now.history _ c.make_room.ensures.net
+    lacking Client (came_of c.args.request) None c.args.hub.now.net c.make_room.new.hub.net c.args.self.now.history _ c.make_room.ensures.net
     (rw c.make_room.ensures.items (ap (λ (log : ClientLog). log.history) c.self.view_is))
 
 pub enter-requires-clause-room : goal.enter-requires-clause-room
@@ -20,14 +25,14 @@ enter-requires-clause-room g c =
     let cell = c.self.invariant.0 in
     let o = opening_of c.self.inside.servers c.self.inside.opened.value in
     rw c.outcome-done.ensures
-    (has_room g.N.Notes.note _ c.self.inside.power cell (input_of c.args.request) c.request.new.self c.request.result c.make_room.new.hub.room (requests_eight o cell.past c.args.request) (c.request.ensures.ends o cell.past cell.stands)
+    (has_room g.N.Notes.note _ c.self.inside.power cell (input_of c.args.request) c.request.new.self c.request.result c.make_room.new.hub.room (requests_eight o cell.kept.past c.args.request) (c.request.ensures.ends o cell.kept.past cell.kept.stands)
     (where_ok c.make_room.result c.make_room.ensures.room c.if-is_err.ensures.negation))
 
 pub enter-requires-clause-spelled : goal.enter-requires-clause-spelled
 enter-requires-clause-spelled g c =
     let cell = c.self.invariant.0 in
     let o = opening_of c.self.inside.servers c.self.inside.opened.value in
-    let ends = c.request.ensures.ends o cell.past cell.stands in
+    let ends = c.request.ensures.ends o cell.kept.past cell.kept.stands in
     subst (λ (r : Result Said Fault × List (List ℕ)). All IsSpelled r.1) (sym c.outcome-done.ensures)
     (sent_spelled g.N.Notes.note _ c.self.inside.power cell (input_of c.args.request) c.request.new.self c.request.result c.frames_are_spelled.ensures c.packets_are_in_range.ensures ends)
 
@@ -35,41 +40,41 @@ pub invariant_of-self-2 : goal.invariant_of-self-2
 invariant_of-self-2 g c =
     let cell = c.self.invariant.0 in
     let o = opening_of c.self.inside.servers c.self.inside.opened.value in
-    let ends = c.request.ensures.ends o cell.past cell.stands in
+    let ends = c.request.ensures.ends o cell.kept.past cell.kept.stands in
     (heard_cell g.N.Notes.note _ c.self.inside.power c.request.new.self cell (input_of c.args.request) c.request.result (came_of c.args.request) None c.make_room.new.hub.net c.enter.new.hub.net _ (failures_of g.N.Notes.note c.request.new.self) (request_asks c.args.request) ends (rw (c.into_came.ensures, c.outcome-done.ensures, c.make_room.ensures.items) at c.enter.ensures.heard), c.self.invariant.1)
 
 pub returns-clause-why : goal.returns-clause-why
 returns-clause-why g c =
     let cell = c.self.invariant.0 in
     let o = opening_of c.self.inside.servers c.self.inside.opened.value in
-    let ends = c.request.ensures.ends o cell.past cell.stands in
-    told_why g.N.Notes.note _ c.self.inside.power c.request.new.self cell (input_of c.args.request) c.request.result _ _ c.enter.result c.args.self.now (there g.N.Notes.note o cell.past c.client.result (c.client.ensures o cell.past cell.stands) c.if-is_none.ensures) ends (rw c.outcome-done.ensures at c.enter.ensures.told) c.self.view_is
+    let ends = c.request.ensures.ends o cell.kept.past cell.kept.stands in
+    told_why g.N.Notes.note _ c.self.inside.power c.request.new.self cell (input_of c.args.request) c.request.result _ _ c.enter.result c.args.self.now (there g.N.Notes.note o cell.kept.past c.client.result (c.client.ensures o cell.kept.past cell.kept.stands) c.if-is_none.ensures) ends (rw c.outcome-done.ensures at c.enter.ensures.told) c.self.view_is
 
 pub returns-clause-replay : goal.returns-clause-replay
 returns-clause-replay g c =
     let cell = c.self.invariant.0 in
     let o = opening_of c.self.inside.servers c.self.inside.opened.value in
-    let ends = c.request.ensures.ends o cell.past cell.stands in
+    let ends = c.request.ensures.ends o cell.kept.past cell.kept.stands in
     replayed g.N.Notes.note _ c.request.new.self
     (heard_cell g.N.Notes.note _ c.self.inside.power c.request.new.self cell (input_of c.args.request) c.request.result (came_of c.args.request) None c.make_room.new.hub.net c.enter.new.hub.net _ (failures_of g.N.Notes.note c.request.new.self) (request_asks c.args.request) ends (rw (c.into_came.ensures, c.outcome-done.ensures, c.make_room.ensures.items) at c.enter.ensures.heard))
 
 pub returns-then-is_none-clause-ends : goal.returns-then-is_none-clause-ends
-returns-then-is_none-clause-ends g c = off (came_of c.args.request) None c.args.hub.now.net c.args.self.now.history
+returns-then-is_none-clause-ends g c = left_out_posts Client (came_of c.args.request) None c.args.hub.now.net c.args.self.now.history NodeOff refl
 
 pub returns-then-is_none-clause-why : goal.returns-then-is_none-clause-why
 returns-then-is_none-clause-why g c =
     let cell = c.self.invariant.0 in
     let o = opening_of c.self.inside.servers c.self.inside.opened.value in
-    off_why g.N.Notes.note _ c.self.inside.power cell (input_of c.args.request) c.args.self.now (hidden g.N.Notes.note o cell.past c.client.result (c.client.ensures o cell.past cell.stands) c.if-is_none.ensures) c.self.view_is
+    off_why g.N.Notes.note _ c.self.inside.power cell (input_of c.args.request) c.args.self.now (hidden g.N.Notes.note o cell.kept.past c.client.result (c.client.ensures o cell.kept.past cell.kept.stands) c.if-is_none.ensures) c.self.view_is
 
 pub returns-then-is_err-clause-why : goal.returns-then-is_err-clause-why
 returns-then-is_err-clause-why g c =
     let cell = c.self.invariant.0 in
     let o = opening_of c.self.inside.servers c.self.inside.opened.value in
-    lacks_why g.N.Notes.note _ c.self.inside.power cell (input_of c.args.request) c.args.self.now (there g.N.Notes.note o cell.past c.client.result (c.client.ensures o cell.past cell.stands) c.if-is_none.ensures) c.self.view_is
+    lacks_why g.N.Notes.note _ c.self.inside.power cell (input_of c.args.request) c.args.self.now (there g.N.Notes.note o cell.kept.past c.client.result (c.client.ensures o cell.kept.past cell.kept.stands) c.if-is_none.ensures) c.self.view_is
 
 pub returns-clause-failures : goal.returns-clause-failures
 returns-clause-failures g c =
     let cell = c.self.invariant.0 in
     let o = opening_of c.self.inside.servers c.self.inside.opened.value in
-    hear_counts c.args.self.now (failures_of g.N.Notes.note c.self.inside.power) (failures_of g.N.Notes.note c.request.new.self) _ _ c.request.result c.enter.result (ap (λ (log : ClientLog). log.failures) c.self.view_is) (rw c.outcome-done.ensures at c.enter.ensures.told) (c.request.ensures.count o cell.past cell.stands)
+    hear_counts c.args.self.now.failures (failures_of g.N.Notes.note c.self.inside.power) (failures_of g.N.Notes.note c.request.new.self) _ _ (given c.request.result) c.enter.result (ap (λ (log : ClientLog). log.failures) c.self.view_is) (rw c.outcome-done.ensures at c.enter.ensures.told) (c.request.ensures.count o cell.kept.past cell.kept.stands)

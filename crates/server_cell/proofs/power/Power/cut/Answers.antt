@@ -1,7 +1,8 @@
 use Rattle.std.proofs.Common.{sym, subst, Ok}
 use Rattle.server_cell.specs.declared.power.Power.TheVariants.{Off}
-use Rattle.server_cell.specs.declared.task.Task.TheVariants as tasks
-use Rattle.server_cell.specs.Stands.{TaskEnds}
+use Rattle.node_history.specs.Moves.{TaskEnds}
+use Rattle.node_history.specs.Rules.{Cuts}
+use Rattle.server_cell.specs.Stands.{ways}
 use Rattle.server_cell.proofs.PowerLemmas.{hidden, there, cut_off, cut_ends}
 use Rattle.server_cell.proofs.power.Power.cut.Goals as goal
 
@@ -13,7 +14,7 @@ returns-then-is_none-clause-ends g c o past s =
 pub returns-in-Some-clause-ends : goal.returns-in-Some-clause-ends
 returns-in-Some-clause-ends g c o past s =
     let note = g.N.Notes.note in
-    subst (λ said. TaskEnds note o past tasks.Cut (Off c.in-Some.notes) (Ok said)) (sym c.plain.ensures)
+    subst (λ said. TaskEnds (ways note o) past Cuts (Off c.in-Some.notes) (Ok said)) (sym c.plain.ensures)
     (cut_ends note o past c.in-Some.notes (there note o past c.server.result (c.server.ensures o past s) c.if-is_none.ensures) (c.in-Some.ensures.some o past s))
 
 pub returns-in-None-clause-ends : goal.returns-in-None-clause-ends

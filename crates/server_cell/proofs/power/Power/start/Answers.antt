@@ -1,14 +1,15 @@
 use Rattle.std.proofs.Common.{sym, subst, Ok}
 use Rattle.server_cell.specs.declared.power.Power.TheVariants.{On}
-use Rattle.server_cell.specs.declared.task.Task.TheVariants as tasks
-use Rattle.server_cell.specs.Stands.{TaskEnds}
+use Rattle.node_history.specs.Moves.{TaskEnds}
+use Rattle.node_history.specs.Rules.{Restarts}
+use Rattle.server_cell.specs.Stands.{ways}
 use Rattle.server_cell.proofs.PowerLemmas.{started, unstarted, unstarted_counts}
 use Rattle.server_cell.proofs.power.Power.start.Goals as goal
 
 pub returns-in-Ok-clause-ends : goal.returns-in-Ok-clause-ends
 returns-in-Ok-clause-ends g c o past me off says =
     let note = g.N.Notes.note in
-    subst (λ said. TaskEnds note o past tasks.Restart (On c.in-Ok.server) (Ok said)) (sym c.plain.ensures)
+    subst (λ said. TaskEnds (ways note o) past Restarts (On c.in-Ok.server) (Ok said)) (sym c.plain.ensures)
     (started note o past c.args.me c.args.notes c.in-Ok.server me off says c.in-Ok.ensures)
 
 pub returns-in-Err-clause-ends : goal.returns-in-Err-clause-ends
