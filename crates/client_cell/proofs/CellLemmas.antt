@@ -1,6 +1,5 @@
 -- What the client's cell keeps.
-use Rattle.std.proofs.Common.{◌≡◌, refl, sym, ap, subst, ℕ, ◌≤◌, Bool, true, false, List, [], ◌∷◌, ◌++◌, Result, Ok, Err}
-use Rattle.std.proofs.lemmas.List.{reverse-append}
+use Rattle.std.proofs.Common.{◌≡◌, refl, sym, subst, ℕ, ◌≤◌, false, List, [], ◌∷◌, Result, Err}
 use Rattle.std.specs.Prelude.{reverse}
 use Rattle.fc_base.specs.declared.fault.Fault.{Fault}
 use Rattle.fc_base.specs.declared.fault.Fault.TheVariants.{NoMemory}
@@ -19,8 +18,8 @@ use Rattle.node_history.specs.AtHub.{lacks_memory, told_by}
 use Rattle.node_history.specs.Failures.{Counts}
 use Rattle.node_history.specs.Moves.{Moves}
 use Rattle.node_history.proofs.HubLemmas.{same_kept, entered as kept_more}
-use Rattle.client_cell.specs.declared.power.Power.{Power}
-use Rattle.client_cell.specs.declared.power.Power.TheVariants.{On}
+use Rattle.node_history.specs.declared.power.Power.{Power}
+use Rattle.node_history.specs.declared.power.Power.TheVariants.{On}
 use Rattle.client_cell.specs.declared.task.Task.{Task}
 use Rattle.client_cell.specs.Stands.{ways, Stands}
 use Rattle.client_cell.specs.Cells.{ClientLog, opening_of, IsReplay, IsCell}
@@ -65,15 +64,15 @@ abbrev pub with_history : ClientLog → List Logged → ℕ → ClientLog
 with_history log history failures = record { opening = log.opening; history = history; failures = failures }
 
 -- Where nothing is entered, a cell is what it was.
-pub same_cell : {T : Type 0} (note : T → Note) (log : ClientLog) (power new : Power T) (failures : ℕ) (cell : IsCell note log power) → Stands note log.opening cell.kept.past new → IsCell note (with_history log log.history failures) new
+pub same_cell : {T : Type 0} (note : T → Note) (log : ClientLog) (power new : Power (Client T) T) (failures : ℕ) (cell : IsCell note log power) → Stands note log.opening cell.kept.past new → IsCell note (with_history log log.history failures) new
 same_cell note log power new failures cell s = record { kept = same_kept (ways note log.opening) log.history power new cell.kept s; some = cell.some; opens = cell.opens }
 
 -- What was asked is entered.
-pub entered : {T : Type 0} (note : T → Note) (log : ClientLog) (power new : Power T) (failures : ℕ) (came : Came) (answer : Result Said Fault) (cell : IsCell note log power)
+pub entered : {T : Type 0} (note : T → Note) (log : ClientLog) (power new : Power (Client T) T) (failures : ℕ) (came : Came) (answer : Result Said Fault) (cell : IsCell note log power)
     → Moves (ways note log.opening) cell.kept.past (asked came) answer [] new → IsCell note (with_history log (logged_by came answer ∷ log.history) failures) new
 entered note log power new failures came answer cell m = record { kept = kept_more (ways note log.opening) log.history power new cell.kept _ came answer [] m; some = cell.some; opens = cell.opens }
 
-pub replayed : {T : Type 0} (note : T → Note) (log : ClientLog) (power new : Power T) (failures : ℕ) (came : Came) (answer : Result Said Fault) (cell : IsCell note log power)
+pub replayed : {T : Type 0} (note : T → Note) (log : ClientLog) (power new : Power (Client T) T) (failures : ℕ) (came : Came) (answer : Result Said Fault) (cell : IsCell note log power)
     → Moves (ways note log.opening) cell.kept.past (asked came) answer [] new → (past : List FrameEntry) × IsReplay (with_history log (logged_by came answer ∷ log.history) failures) past
 replayed note log power new failures came answer cell m = (m.after, (cell.kept.past, cell.kept.made, m.ends))
 

@@ -38,7 +38,7 @@ use Rattle.node_history.proofs.CallLemmas.{why_not_there}
 use Rattle.node_history.proofs.HubLemmas as hub
 use Rattle.node_history.proofs.MoveLemmas.{off_where}
 use Rattle.client_cell.specs.declared.outs.Outs.{Outs}
-use Rattle.client_cell.specs.declared.power.Power.{Power}
+use Rattle.node_history.specs.declared.power.Power.{Power}
 use Rattle.client_cell.specs.declared.request.Request.{Request}
 use Rattle.client_cell.specs.declared.request.Request.TheVariants as requests
 use Rattle.client_cell.specs.Stands.{given, ways}
@@ -48,11 +48,11 @@ use Rattle.client_cell.proofs.CellLemmas.{with_history}
 
 -- ---- the room for its frames
 
-short : {T : Type 0} (note : T → Note) (o : Opening) (past : List FrameEntry) (e : Input) (new : Power T) (step : Result Outs Fault) → most_packets o past e ≡ 8 → OpensInRange o → CameInRange (packets_heard o past) → StepEnds (ways note o) past e new (given step) → AreShort 8 (outcome_of (given step)).1
+short : {T : Type 0} (note : T → Note) (o : Opening) (past : List FrameEntry) (e : Input) (new : Power (Client T) T) (step : Result Outs Fault) → most_packets o past e ≡ 8 → OpensInRange o → CameInRange (packets_heard o past) → StepEnds (ways note o) past e new (given step) → AreShort 8 (outcome_of (given step)).1
 short note o past e new (Ok outs) eight i h f = subst (λ most. AreShort most outs.frames) eight (f.short i h)
 short note o past e new (Err fault) eight i h f = record { few = omega arith; short = omega arith }
 
-pub has_room : {T : Type 0} (note : T → Note) (log : ClientLog) (power : Power T) (cell : IsCell note log power) (e : Input) (new : Power T) (step : Result Outs Fault) (room : Room) → most_packets log.opening cell.kept.past e ≡ 8 → StepEnds (ways note log.opening) cell.kept.past e new (given step) → HasRoom room 136 137864
+pub has_room : {T : Type 0} (note : T → Note) (log : ClientLog) (power : Power (Client T) T) (cell : IsCell note log power) (e : Input) (new : Power (Client T) T) (step : Result Outs Fault) (room : Room) → most_packets log.opening cell.kept.past e ≡ 8 → StepEnds (ways note log.opening) cell.kept.past e new (given step) → HasRoom room 136 137864
     → HasRoom room (length (outcome_of (given step)).1) (sum_by (λ (frame : List ℕ). length frame) (outcome_of (given step)).1)
 has_room note log power cell e new step room eight f has =
     let few = short note log.opening cell.kept.past e new step eight cell.opens cell.kept.ranges f in
@@ -96,7 +96,7 @@ by_entry : FramesAreSpelled → PacketsAreInRange → (o : Opening) (past : List
 by_entry law ranges o past i None came = All-nil IsSpelled
 by_entry law ranges o past i (Some x) came = hub.packets_spelled law (packets o past x) (ranges o past x i (came x refl))
 
-pub sent_spelled : {T : Type 0} (note : T → Note) (log : ClientLog) (power : Power T) (cell : IsCell note log power) (e : Input) (new : Power T) (step : Result Outs Fault) → FramesAreSpelled → PacketsAreInRange → StepEnds (ways note log.opening) cell.kept.past e new (given step) → All IsSpelled (outcome_of (given step)).1
+pub sent_spelled : {T : Type 0} (note : T → Note) (log : ClientLog) (power : Power (Client T) T) (cell : IsCell note log power) (e : Input) (new : Power (Client T) T) (step : Result Outs Fault) → FramesAreSpelled → PacketsAreInRange → StepEnds (ways note log.opening) cell.kept.past e new (given step) → All IsSpelled (outcome_of (given step)).1
 sent_spelled note log power cell e new step law ranges f =
     let o = log.opening in
     let past = cell.kept.past in
@@ -106,7 +106,7 @@ sent_spelled note log power cell e new step law ranges f =
 -- ---- what came is entered
 
 -- A cell behind what came.
-pub heard_cell : {T : Type 0} (note : T → Note) (log : ClientLog) (power new : Power T) (cell : IsCell note log power) (e : Input) (step : Result Outs Fault) (came : Came) (taken : Option ℕ) (net after : Network) (history : List Logged) (failures : ℕ) → asked came ≡ Meets e → StepEnds (ways note log.opening) cell.kept.past e new (given step)
+pub heard_cell : {T : Type 0} (note : T → Note) (log : ClientLog) (power new : Power (Client T) T) (cell : IsCell note log power) (e : Input) (step : Result Outs Fault) (came : Came) (taken : Option ℕ) (net after : Network) (history : List Logged) (failures : ℕ) → asked came ≡ Meets e → StepEnds (ways note log.opening) cell.kept.past e new (given step)
     → Hears (is_left_out (outcome_of (given step)).0) nodes.Client came taken (outcome_of (given step)).0 (outcome_of (given step)).1 net after log.history history → IsCell note (with_history log history failures) new
 heard_cell note log power new cell e step came taken net after history failures asks f h = record {
   kept = hub.heard (ways note log.opening) log.history history power new cell.kept e (given step) nodes.Client came taken net after asks f h;
@@ -114,7 +114,7 @@ heard_cell note log power new cell e step came taken net after history failures 
   opens = cell.opens;
 }
 
-pub replayed : {T : Type 0} (note : T → Note) (log : ClientLog) (power : Power T) → IsCell note log power → (past : List FrameEntry) × IsReplay log past
+pub replayed : {T : Type 0} (note : T → Note) (log : ClientLog) (power : Power (Client T) T) → IsCell note log power → (past : List FrameEntry) × IsReplay log past
 replayed note log power cell = (cell.kept.past, cell.kept.made)
 
 -- ---- why it was refused
@@ -122,15 +122,15 @@ replayed note log power cell = (cell.kept.past, cell.kept.made)
 is_off_as : (o : Opening) (past : List FrameEntry) (up : Bool) → is_up o past ≡ up → is_off (rules o) past ≡ not up
 is_off_as o past up h = off_where (rules o) past (is_up o past) up refl h
 
-pub lacks_why : {T : Type 0} (note : T → Note) (log : ClientLog) (power : Power T) (cell : IsCell note log power) (e : Input) (shown : ClientLog) → is_up log.opening cell.kept.past ≡ true → log ≡ shown → HasWhy (rules shown.opening) shown.history (Meets e) NoMemory
+pub lacks_why : {T : Type 0} (note : T → Note) (log : ClientLog) (power : Power (Client T) T) (cell : IsCell note log power) (e : Input) (shown : ClientLog) → is_up log.opening cell.kept.past ≡ true → log ≡ shown → HasWhy (rules shown.opening) shown.history (Meets e) NoMemory
 lacks_why note log power cell e shown up view =
     subst (λ (l : ClientLog). HasWhy (rules l.opening) l.history (Meets e) NoMemory) view (hub.lack_why (ways note log.opening) log.history power cell.kept (Meets e) (is_off_as log.opening cell.kept.past true up))
 
-pub off_why : {T : Type 0} (note : T → Note) (log : ClientLog) (power : Power T) (cell : IsCell note log power) (e : Input) (shown : ClientLog) → is_up log.opening cell.kept.past ≡ false → log ≡ shown → HasWhy (rules shown.opening) shown.history (Meets e) NodeOff
+pub off_why : {T : Type 0} (note : T → Note) (log : ClientLog) (power : Power (Client T) T) (cell : IsCell note log power) (e : Input) (shown : ClientLog) → is_up log.opening cell.kept.past ≡ false → log ≡ shown → HasWhy (rules shown.opening) shown.history (Meets e) NodeOff
 off_why note log power cell e shown down view =
     subst (λ (l : ClientLog). HasWhy (rules l.opening) l.history (Meets e) NodeOff) view (hub.off_why (ways note log.opening) log.history power cell.kept (Meets e) (is_off_as log.opening cell.kept.past false down))
 
-pub told_why : {T : Type 0} (note : T → Note) (log : ClientLog) (power new : Power T) (cell : IsCell note log power) (e : Input) (step : Result Outs Fault) (first sent : ℕ) (result : Result Told Fault) (shown : ClientLog) → is_up log.opening cell.kept.past ≡ true → StepEnds (ways note log.opening) cell.kept.past e new (given step) → result ≡ told_at first sent (outcome_of (given step)).0 → log ≡ shown
+pub told_why : {T : Type 0} (note : T → Note) (log : ClientLog) (power new : Power (Client T) T) (cell : IsCell note log power) (e : Input) (step : Result Outs Fault) (first sent : ℕ) (result : Result Told Fault) (shown : ClientLog) → is_up log.opening cell.kept.past ≡ true → StepEnds (ways note log.opening) cell.kept.past e new (given step) → result ≡ told_at first sent (outcome_of (given step)).0 → log ≡ shown
     → IfErr result (HasWhy (rules shown.opening) shown.history (Meets e))
 told_why note log power new cell e step first sent result shown up f is view =
     subst (λ (l : ClientLog). IfErr result (HasWhy (rules l.opening) l.history (Meets e))) view

@@ -1,49 +1,43 @@
 -- A client that may have no power takes what comes as the rules have it.
-use Rattle.std.proofs.Common.{◌≡◌, refl, sym, ◌∙◌, ap, subst, inl, inr, ℕ, Bool, true, false, List, [], ◌∷◌, Option, Some, None, Result, Ok, Err}
-use Rattle.std.specs.Prelude.{◌&&◌, ◌||◌, if◌then◌else◌, not, is_some}
-use Rattle.std.specs.Borrow.{Bor}
-use Rattle.std.specs.Option.{option_map, option_copied}
+use Rattle.std.proofs.Common.{◌≡◌, refl, sym, ◌∙◌, ap, subst, ℕ, true, false, List, ◌∷◌, Some, Result, Ok, Err}
+use Rattle.std.specs.Prelude.{◌&&◌, ◌||◌, if◌then◌else◌}
+use Rattle.std.specs.Option.{option_map}
 use Rattle.fc_base.specs.declared.fault.Fault.{Fault}
-use Rattle.fc_base.specs.declared.fault.Fault.TheVariants.{NoMemory, LoadFault, BadNote, NodeOff, NodeOn, FrameBadField}
+use Rattle.fc_base.specs.declared.fault.Fault.TheVariants.{NodeOff, FrameBadField}
 use Rattle.fc_base.specs.declared.fault.FaultSort.{FaultSort}
 use Rattle.fc_base.specs.declared.fault.FaultSort.TheVariants as sorts
 use Rattle.fc_base.specs.Fault.{sort_of}
 use Rattle.disk_model.specs.declared.left.Left.{Left}
 use Rattle.disk_model.specs.declared.left.Left.TheVariants as lefts
-use Rattle.disk_model.specs.Left.{is_lost}
 use Rattle.disk_model.specs.Notes.{Note}
 use Rattle.messages.specs.declared.frame.Frame.TheVariants.{Whole, Piece}
 use Rattle.messages.specs.Hearing.{Meaning, Says as Speaks, Waits, Spoils, Strays, meaning, heard_by, with_entry}
 use Rattle.client_core.specs.declared.client.Client.{Client}
 use Rattle.client_core.specs.declared.input.Input.{Input}
 use Rattle.client_core.specs.declared.input.Input.TheVariants as inputs
-use Rattle.client_core.specs.declared.noted.Noted.{Noted}
 use Rattle.client_core.specs.History as packets
 use Rattle.client_core.specs.History.{Opening}
-use Rattle.client_core.specs.Note.{Says}
 use Rattle.client_core.specs.Ranges.{CameInRange}
 use Rattle.client_core.specs.Words.{noted}
-use Rattle.client_core.specs.Stands.{IsBadNote, NotOpened}
-use Rattle.client_core.specs.Hearing.{FrameEntry, Met, Cut, Restart, packets_heard, heard_at, rules as hearing}
+use Rattle.client_core.specs.Hearing.{FrameEntry, Met, packets_heard, heard_at, rules as hearing}
 use Rattle.client_core.specs.FrameAnswers as answers
 use Rattle.client_core.specs.FrameAnswers.{Sense, Hears, Keeps, Drops, Misses, sense, sense_of, is_drop}
 use Rattle.client_core.specs.HeardRange.{SenseInRange, UnlessMemory, HearsInRange}
 use Rattle.client_core.specs.FrameEnds as ends
 use Rattle.client_core.specs.FrameEnds.{StandsFor}
 use Rattle.node_history.specs.declared.answer.Answer.TheVariants.{Plain, Run, Attempt}
-use Rattle.node_history.specs.declared.answer.Said.{Said}
+use Rattle.node_history.specs.declared.power.Power.{Power}
+use Rattle.node_history.specs.declared.power.Power.TheVariants.{On}
 use Rattle.node_history.specs.AtHub.{is_save}
 use Rattle.node_history.specs.Failures.{is_load, CountsBy, Counts}
-use Rattle.node_history.specs.Moves.{plain, Faults, StepEnds, TaskEnds}
-use Rattle.node_history.specs.Rules.{Meets, Cuts, Restarts}
+use Rattle.node_history.specs.Moves.{Faults, StepEnds}
+use Rattle.node_history.specs.Rules.{Meets}
 use Rattle.node_history.specs.ServerRules.{left_by}
-use Rattle.node_history.specs.ClientRules.{rules, is_up, answer_to}
+use Rattle.node_history.specs.ClientRules.{is_up, answer_to}
 use Rattle.node_history.proofs.MoveLemmas.{up, refused, refused_step, lost, left_is, no_load}
 use Rattle.node_history.proofs.MoveLemmas as moves
 use Rattle.client_cell.specs.declared.outs.Outs.{Outs}
-use Rattle.client_cell.specs.declared.power.Power.{Power}
-use Rattle.client_cell.specs.declared.power.Power.TheVariants.{On, Off}
-use Rattle.client_cell.specs.Stands.{given, outs_of, outs_of_run, outs_of_attempt, ways, Stands, Shows}
+use Rattle.client_cell.specs.Stands.{given, outs_of, outs_of_run, outs_of_attempt, ways, Stands}
 
 -- ---- what came stays within its ranges
 
@@ -104,7 +98,7 @@ faults_step note o past e old client fault on sorts.Refusal f h is =
     f.stands (λ k. f.unchanged (no_drop o past (sense o past e) fault f.why k)) (came_after o past e lefts.NoSave h)
 
 -- What comes to a client that isn't on is refused, and nothing changes.
-pub off_ends : {T : Type 0} (note : T → Note) (o : Opening) (past : List FrameEntry) (e : Input) (power : Power T) → is_up o past ≡ false → Stands note o past power → StepEnds (ways note o) past e power (Err NodeOff)
+pub off_ends : {T : Type 0} (note : T → Note) (o : Opening) (past : List FrameEntry) (e : Input) (power : Power (Client T) T) → is_up o past ≡ false → Stands note o past power → StepEnds (ways note o) past e power (Err NodeOff)
 off_ends note o past e power off s = moves.off_ends (ways note o) past e power (ap (λ b. if b then answers.refusal o past e else Some NodeOff) off) refl s
 
 -- A client that is on takes a frame.
@@ -141,61 +135,6 @@ pub verify_ends : {T : Type 0} (note : T → Note) (o : Opening) (past : List Fr
 verify_ends note o past run text old client (Ok got) on a = answers_step note o past (inputs.Verify run text) old client (record { answer = Attempt got.0; frames = got.1 }) on (ap Attempt a.0) a.1 tt
 verify_ends note o past run text old client (Err fault) on f = not_answered note o past (inputs.Verify run text) old client fault on tt f
 
--- ---- a cut
-
--- A client that isn't on has no power to lose.
-pub cut_off : {T : Type 0} (note : T → Note) (o : Opening) (past : List FrameEntry) (power : Power T) → is_up o past ≡ false → Stands note o past power → TaskEnds (ways note o) past Cuts power (Err NodeOff)
-cut_off note o past power off s = refused (ways note o) past Cuts NodeOff power refl (ap (λ b. if b then None else Some NodeOff) off) refl s
-
-pub cut_ends : {T : Type 0} (note : T → Note) (o : Opening) (past : List FrameEntry) (notes : T) → is_up o past ≡ true → Says (note notes).bytes (noted o (packets_heard o past)) → TaskEnds (ways note o) past Cuts (Off notes) (Ok plain)
-cut_ends note o past notes on says = record {
-  after = Cut ∷ past;
-  ends = record { free = up (is_up o past) None (Some NodeOff) on; said_is = refl; entry = Cut; entry_is = refl; sent_are = refl; after_is = refl };
-  stands = (says, refl);
-  ranges = λ h. h;
-}
-
--- ---- a restart
-
-pub on_refuses : {T : Type 0} (note : T → Note) (o : Opening) (past : List FrameEntry) (power : Power T) → is_up o past ≡ true → Stands note o past power → TaskEnds (ways note o) past Restarts power (Err NodeOn)
-on_refuses note o past power on s = refused (ways note o) past Restarts NodeOn power refl (up (is_up o past) (Some NodeOn) None on) refl s
-
-pub started : {T : Type 0} (note : T → Note) (o : Opening) (past : List FrameEntry) (servers : ℕ) (notes : T) (client : Client T) → o.servers ≡ servers → is_up o past ≡ false → Says (note notes).bytes (noted o (packets_heard o past)) → ends.Opens note servers false (note notes) client
-    → TaskEnds (ways note o) past Restarts (On client) (Ok plain)
-started note o past servers notes client is off says h = record {
-  after = Restart false ∷ past;
-  ends = record { free = ap (λ b. if b then Some NodeOn else None) off; said_is = refl; entry = Restart false; entry_is = refl; sent_are = refl; after_is = refl };
-  stands = h.stands o past is says;
-  ranges = λ h. h;
-}
-
--- Without a mirror a bad note says nothing.
-no_note : (bytes : List ℕ) → IsBadNote false bytes → (said : Noted) → Says bytes said → ⊥
-no_note bytes (inl bad) said says = bad said says
-no_note bytes (inr empty) said says = cc
-
-pub unstarted : {T : Type 0} (note : T → Note) (o : Opening) (past : List FrameEntry) (notes back : T) (fault : Fault) → is_up o past ≡ false → Says (note notes).bytes (noted o (packets_heard o past)) → NotOpened false (note notes) (note back) fault
-    → TaskEnds (ways note o) past Restarts (Off back) (Err fault)
-unstarted note o past notes back LoadFault off says h = record {
-  after = past;
-  ends = record { why = inr (refl, ap not off); sends_none = refl; after_is = refl };
-  stands = (subst (λ bytes. Says bytes (noted o (packets_heard o past))) (sym h.1) says, off);
-  ranges = λ h. h;
-}
-unstarted note o past notes back BadNote off says h = absurd (no_note (note notes).bytes h.1 (noted o (packets_heard o past)) says)
-unstarted note o past notes back NoMemory off says h = (refl, (subst (λ (n : Note). Says n.bytes (noted o (packets_heard o past))) (sym h) says, off))
-unstarted note o past notes back _ off says h = absurd h
-
--- ---- whether it is on
-
-pub hidden : {T : Type 0} (note : T → Note) (o : Opening) (past : List FrameEntry) (shown : Option (Bor (Client T))) → Shows note o past (option_copied shown) → is_some shown ≡ false → is_up o past ≡ false
-hidden note o past None s h = s
-hidden note o past (Some client) s h = cc
-
-pub there : {T : Type 0} (note : T → Note) (o : Opening) (past : List FrameEntry) (shown : Option (Bor (Client T))) → Shows note o past (option_copied shown) → is_some shown ≡ true → is_up o past ≡ true
-there note o past None s h = cc
-there note o past (Some client) s h = s.1
-
 -- ---- the device's failures
 
 faults_count : {T : Type 0} (note : T → Note) (o : Opening) (past : List FrameEntry) (e : Input) (old client : Client T) (fault : Fault) (sort : FaultSort) → ends.Faults note o past e sort fault old client → CountsBy (is_save sort || (is_load fault && false)) (note old.core.notes).failures (note client.core.notes).failures
@@ -218,10 +157,3 @@ pub attempt_counts : {T : Type 0} (note : T → Note) (o : Opening) (past : List
     → Counts false (note old.core.notes).failures (note client.core.notes).failures (given result)
 attempt_counts note o past e used old client (Ok got) result is a = subst (λ (r : Result Outs Fault). Counts false (note old.core.notes).failures (note client.core.notes).failures (given r)) (sym is) tt
 attempt_counts note o past e used old client (Err fault) result is f = subst (λ (r : Result Outs Fault). Counts false (note old.core.notes).failures (note client.core.notes).failures (given r)) (sym is) (faults_count note o past e old client fault (sort_of fault) f)
-
--- A restart that fails counts why.
-pub unstarted_counts : (old new : Note) (fault : Fault) → NotOpened false old new fault → Counts {X = Said} true old.failures new.failures (Err fault)
-unstarted_counts old new LoadFault h = h.0
-unstarted_counts old new BadNote h = ap (λ (n : Note). n.failures) h.0
-unstarted_counts old new NoMemory h = ap (λ (n : Note). n.failures) h
-unstarted_counts old new _ h = absurd h

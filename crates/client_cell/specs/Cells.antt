@@ -6,10 +6,10 @@ use Rattle.client_core.specs.History.{Opening}
 use Rattle.client_core.specs.Ranges.{OpensInRange}
 use Rattle.client_core.specs.Hearing.{FrameEntry}
 use Rattle.node_history.specs.declared.logged.Logged.{Logged}
+use Rattle.node_history.specs.declared.power.Power.{Power}
 use Rattle.node_history.specs.Moves.{IsKept}
 use Rattle.node_history.specs.Replay.{Makes}
 use Rattle.node_history.specs.ClientRules.{rules}
-use Rattle.client_cell.specs.declared.power.Power.{Power}
 use Rattle.client_cell.specs.Stands.{ways}
 
 -- The client under its lock: what it was opened with, its history, newest first, and how often the device of
@@ -29,7 +29,7 @@ IsReplay cell past = Makes (rules cell.opening) cell.history past
 
 -- What is true of every cell: the client stands for a list that its history makes, in which all is in its
 -- ranges.
-pub record IsCell {T : Type 0} (note : T → Note) (cell : ClientLog) (power : Power T) : Type 0 where
+pub record IsCell {T : Type 0} (note : T → Note) (cell : ClientLog) (power : Power (Client T) T) : Type 0 where
   pub kept : IsKept (ways note cell.opening) cell.history power
   pub some : 1 ≤ cell.opening.servers
   pub opens : OpensInRange cell.opening

@@ -9,11 +9,10 @@ mod hear;
 mod node;
 mod sent;
 
-use crate::power::Power;
 use client_core::Client;
 use disk_model::Notes;
 use fc_base::Fault;
-use node_history::History;
+use node_history::{History, Power};
 use std::alloc::Global;
 use std::marker::Model;
 use std::snapshot::Snapshot;
@@ -26,7 +25,7 @@ pub struct ClientCell<N: Notes + Drop> {
     opened: Snapshot<Client<N>>,
     /// It was opened over a blank note.
     is_blank: bool,
-    power: Power<N>,
+    power: Power<Client<N>, N>,
     history: History,
 }
 
@@ -115,7 +114,7 @@ impl<N: Notes + Drop> ClientCell<N> {
         ensures off { IfNone result ((past : List FrameEntry) × IsReplay self.now past
             × (is_up self.now.opening past ≡ false)) }
     {
-        match self.power.client() {
+        match self.power.core() {
             Some(client) => Some(client),
             None => None,
         }

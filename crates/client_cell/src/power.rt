@@ -1,141 +1,160 @@
-//! A client that has power, or none.
+//! What a client takes that has power, or none.
 
-ghost use Rattle.std.specs.Prelude.{◌≡◌, ◌≤◌, true, false, List, IfSome, IfNone};
-ghost use Rattle.std.specs.Option.{option_copied};
+ghost use Rattle.std.specs.Prelude.{◌≡◌, ◌≤◌, true, false, List};
+ghost use Rattle.client_core.specs.declared.input.Input.TheVariants as inputs;
 ghost use Rattle.client_core.specs.History.{Opening};
-ghost use Rattle.client_core.specs.Words.{noted};
-ghost use Rattle.client_core.specs.Hearing.{FrameEntry, packets_heard};
+ghost use Rattle.client_core.specs.FrameEnds.{StandsFor};
+ghost use Rattle.client_core.specs.Hearing.{FrameEntry};
+ghost use Rattle.node_history.specs.declared.power.Power.TheVariants.{On};
 ghost use Rattle.node_history.specs.ClientRules.{asked, is_up};
 ghost use Rattle.node_history.specs.Failures.{Counts};
-ghost use Rattle.node_history.specs.Moves.{TaskEnds};
-ghost use Rattle.node_history.specs.Rules.{Cuts, Restarts};
-ghost use Rattle.client_cell.specs.Tasks.{came_by, loads_note};
+ghost use Rattle.node_history.specs.Moves.{StepEnds, TaskEnds};
+ghost use Rattle.client_cell.specs.Tasks.{came_by, input_of, loads_note};
+ghost use Rattle.client_cell.specs.Stands.{given, outs_of, outs_of_run, outs_of_attempt, failures_of, ways, Stands};
 
-mod step;
-
+use crate::outs::Outs;
+use crate::request::Request;
 use crate::task::Task;
 use client_core::Client;
 use disk_model::Notes;
-use fc_base::Fault;
-use node_history::Said;
+use fc_base::{Attempt, Fault, RunNo};
+use messages::{Frame, Frames};
+use node_history::{Answer, Power, Said};
 use std::alloc::Global;
-use std::mem;
 
-/// A client that has power, and may be down; or the notes of one that has none.
-#[derive(Drop)]
-pub enum Power<N> {
-    On(Client<N>),
-    Off(N),
-    /// Its notes are in other hands, which put them back.
-    Lent,
+/// Does what is asked without the network.
+pub(crate) fn perform<N: Notes + Drop>(
+    power: &mut Power<Client<N>, N>,
+    alloc: Global,
+    servers: u32,
+    task: &Task,
+) -> Result<Said, Fault>
+    requires some { 1 ≤ servers }
+    requires few { servers ≤ 8 }
+    ensures ends { (o : Opening) (past : List FrameEntry) → o.servers ≡ servers → Stands N.note o past power.old →
+        TaskEnds (ways N.note o) past (asked (came_by task.now)) power.new result }
+    ensures count { (o : Opening) (past : List FrameEntry) → o.servers ≡ servers → Stands N.note o past power.old →
+        Counts (loads_note task.now) (failures_of N.note power.old) (failures_of N.note power.new) result }
+{
+    match task {
+        Task::Cut => power.cut(),
+        Task::Restart => power.restart(alloc, servers),
+    }
 }
 
-impl<N: Notes + Drop> Power<N> {
-    ghost use Rattle.client_core.specs.Note.{Says};
-    ghost use Rattle.client_cell.specs.Stands.{failures_of, ways, Stands, Shows};
-
-    /// The client, where it is on: it has power, and isn't down.
-    pub(crate) fn client(&self) -> Option<&Client<N>>
-        ensures { (o : Opening) (past : List FrameEntry) → Stands N.note o past self.now →
-            Shows N.note o past (option_copied result) }
-    {
-        match self {
-            Power::On(client) => { if client.on() { Some(client) } else { None } }
-            _ => None,
-        }
-    }
-
-    /// Does what is asked without the network.
-    pub(crate) fn perform(
-        &mut self,
-        alloc: Global,
-        servers: u32,
-        task: &Task,
-    ) -> Result<Said, Fault>
-        requires some { 1 ≤ servers }
-        requires few { servers ≤ 8 }
-        ensures ends { (o : Opening) (past : List FrameEntry) → o.servers ≡ servers → Stands N.note o past self.old →
-            TaskEnds (ways N.note o) past (asked (came_by task.now)) self.new result }
-        ensures count { (o : Opening) (past : List FrameEntry) → o.servers ≡ servers → Stands N.note o past self.old →
-            Counts (loads_note task.now) (failures_of N.note self.old) (failures_of N.note self.new) result }
-    {
-        match task {
-            Task::Cut => self.cut(),
-            Task::Restart => self.restart(alloc, servers),
-        }
-    }
-
-    /// Loses its power. `NodeOff`: it isn't on, and nothing changes.
-    fn cut(&mut self) -> Result<Said, Fault>
-        ensures ends { (o : Opening) (past : List FrameEntry) → Stands N.note o past self.old →
-            TaskEnds (ways N.note o) past Cuts self.new result }
-        ensures count { (o : Opening) (past : List FrameEntry) → Stands N.note o past self.old →
-            Counts false (failures_of N.note self.old) (failures_of N.note self.new) result }
-    {
-        if self.client().is_none() {
-            return Err(Fault::NodeOff);
-        }
-        match self.lend() {
-            Some(notes) => {
-                *self = Power::Off(notes);
-                Ok(Said::plain())
-            }
-            None => Err(Fault::NodeOff),
-        }
-    }
-
-    /// Starts again, from what its note says.
-    ///
-    /// `NodeOn`: it is on. `LoadFault`. `NoMemory`. Nothing changes.
-    fn restart(&mut self, alloc: Global, servers: u32) -> Result<Said, Fault>
-        requires some { 1 ≤ servers }
-        requires few { servers ≤ 8 }
-        ensures ends { (o : Opening) (past : List FrameEntry) → o.servers ≡ servers → Stands N.note o past self.old →
-            TaskEnds (ways N.note o) past Restarts self.new result }
-        ensures count { (o : Opening) (past : List FrameEntry) → o.servers ≡ servers → Stands N.note o past self.old →
-            Counts true (failures_of N.note self.old) (failures_of N.note self.new) result }
-    {
-        if !self.client().is_none() {
-            return Err(Fault::NodeOn);
-        }
-        match self.lend() {
-            Some(notes) => self.start(alloc, servers, notes),
-            None => Err(Fault::NodeOn),
-        }
-    }
-
-    /// Starts a client over these notes. It has no mirror.
-    fn start(&mut self, alloc: Global, servers: u32, notes: N) -> Result<Said, Fault>
-        requires some { 1 ≤ servers }
-        requires few { servers ≤ 8 }
-        ensures ends { (o : Opening) (past : List FrameEntry) → o.servers ≡ servers → is_up o past ≡ false →
-            Says (N.note notes).bytes (noted o (packets_heard o past)) →
-            TaskEnds (ways N.note o) past Restarts self.new result }
-        ensures count { Counts true (N.note notes).failures (failures_of N.note self.new) result }
-    {
-        match Client::restart(alloc, servers, false, notes) {
-            Ok(client) => {
-                *self = Power::On(client);
-                Ok(Said::plain())
-            }
-            Err((notes, fault)) => {
-                *self = Power::Off(notes);
-                Err(fault)
+/// Takes a request. `NodeOff`: it isn't on, and nothing changes. Any other fault is the client's.
+pub(crate) fn take<N: Notes + Drop>(
+    power: &mut Power<Client<N>, N>,
+    request: &Request,
+) -> Result<Outs, Fault>
+    ensures ends { (o : Opening) (past : List FrameEntry) → Stands N.note o past power.old →
+        StepEnds (ways N.note o) past (input_of request.now) power.new (given result) }
+    ensures count { (o : Opening) (past : List FrameEntry) → Stands N.note o past power.old →
+        Counts false (failures_of N.note power.old) (failures_of N.note power.new) (given result) }
+{
+    match power {
+        Power::On(client) => {
+            if client.on() {
+                ask(client, request)
+            } else {
+                Err(Fault::NodeOff)
             }
         }
+        _ => Err(Fault::NodeOff),
     }
+}
 
-    /// Its notes, which are lent until they are put back; `None` where they are lent already.
-    fn lend(&mut self) -> Option<N>
-        ensures count { IfSome result (λ notes. (N.note notes).failures ≡ failures_of N.note self.old) }
-        ensures some { (o : Opening) (past : List FrameEntry) → Stands N.note o past self.old →
-            IfSome result (λ notes. Says (N.note notes).bytes (noted o (packets_heard o past))) }
-        ensures none { (o : Opening) (past : List FrameEntry) → Stands N.note o past self.old → IfNone result ⊥ }
-    {
-        match mem::replace(self, Power::Lent) {
-            Power::On(client) => Some(client.off()),
-            Power::Off(notes) => Some(notes),
-            Power::Lent => None,
+/// Takes a frame. `NodeOff`: it isn't on, and nothing changes. Any other fault is the client's.
+pub(crate) fn deliver<N: Notes + Drop>(
+    power: &mut Power<Client<N>, N>,
+    frame: Frame,
+) -> Result<Outs, Fault>
+    ensures ends { (o : Opening) (past : List FrameEntry) → Stands N.note o past power.old →
+        StepEnds (ways N.note o) past (inputs.Deliver frame) power.new (given result) }
+    ensures count { (o : Opening) (past : List FrameEntry) → Stands N.note o past power.old →
+        Counts false (failures_of N.note power.old) (failures_of N.note power.new) (given result) }
+{
+    match power {
+        Power::On(client) => {
+            if client.on() {
+                plainly(client.deliver(frame))
+            } else {
+                Err(Fault::NodeOff)
+            }
         }
+        _ => Err(Fault::NodeOff),
+    }
+}
+
+/// Asks again for all that isn't answered, and changes nothing. `NodeOff`: it isn't on. `NoMemory`.
+pub(crate) fn tick<N: Notes + Drop>(power: &Power<Client<N>, N>) -> Result<Outs, Fault>
+    ensures ends { (o : Opening) (past : List FrameEntry) → Stands N.note o past power.now →
+        StepEnds (ways N.note o) past inputs.Tick power.now (given result) }
+    ensures count { (o : Opening) (past : List FrameEntry) → Stands N.note o past power.now →
+        Counts false (failures_of N.note power.now) (failures_of N.note power.now) (given result) }
+{
+    match power {
+        Power::On(client) => {
+            if client.on() {
+                plainly(client.tick())
+            } else {
+                Err(Fault::NodeOff)
+            }
+        }
+        _ => Err(Fault::NodeOff),
+    }
+}
+
+/// Asks this of a client that is on.
+fn ask<N: Notes + Drop>(client: &mut Client<N>, request: &Request) -> Result<Outs, Fault>
+    ensures ends { (o : Opening) (past : List FrameEntry) → is_up o past ≡ true → StandsFor N.note client.old o past →
+        StepEnds (ways N.note o) past (input_of request.now) (On client.new) (given result) }
+    ensures count { (o : Opening) (past : List FrameEntry) → StandsFor N.note client.old o past →
+        Counts false (N.note client.old.core.notes).failures (N.note client.new.core.notes).failures (given result) }
+{
+    match request {
+        Request::Begin(text) => begun(client.begin(text.as_slice())),
+        Request::Trigger(run, act) => plainly(client.trigger(*run, *act)),
+        Request::Stop(run) => plainly(client.stop(*run)),
+        Request::Verify(run, text) => tried(client.verify(*run, text.as_slice())),
+    }
+}
+
+/// Frames, and the number of the run that has begun.
+fn begun(given: Result<(RunNo, Frames), Fault>) -> Result<Outs, Fault>
+    ensures { result ≡ outs_of_run given }
+{
+    match given {
+        Ok((run, frames)) => Ok(Outs {
+            answer: Answer::Run(run),
+            frames,
+        }),
+        Err(fault) => Err(fault),
+    }
+}
+
+/// Frames, and the number of the attempt to verify.
+fn tried(given: Result<(Attempt, Frames), Fault>) -> Result<Outs, Fault>
+    ensures { result ≡ outs_of_attempt given }
+{
+    match given {
+        Ok((attempt, frames)) => Ok(Outs {
+            answer: Answer::Attempt(attempt),
+            frames,
+        }),
+        Err(fault) => Err(fault),
+    }
+}
+
+/// Frames with no more of an answer.
+fn plainly(sent: Result<Frames, Fault>) -> Result<Outs, Fault>
+    ensures { result ≡ outs_of sent }
+{
+    match sent {
+        Ok(frames) => Ok(Outs {
+            answer: Answer::Plain,
+            frames,
+        }),
+        Err(fault) => Err(fault),
     }
 }

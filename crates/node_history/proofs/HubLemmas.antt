@@ -23,7 +23,6 @@ use Rattle.node_history.specs.AtHub.{is_left_out, told_at, Hears, Posts}
 use Rattle.node_history.specs.Calls.{is_off, HasWhy}
 use Rattle.node_history.specs.Failures.{Counts}
 use Rattle.node_history.specs.Moves.{Ways, Moves, StepEnds, IsKept, outcome_of}
-use Rattle.node_history.specs.Replay.{Ends}
 use Rattle.node_history.specs.Rules.{Ask, Meets}
 use Rattle.node_history.proofs.CallLemmas.{why_off, why_on}
 use Rattle.node_history.proofs.MoveLemmas.{unmoved, moved, refused_for}

@@ -1,11 +1,14 @@
 pub mod AtHub
 pub mod Calls
+pub mod ClientKind
 pub mod ClientRules
 pub mod Failures
 pub mod Histories
 pub mod Moves
+pub mod Powers
 pub mod Replay
 pub mod Rules
 pub mod Seats
+pub mod ServerKind
 pub mod ServerRules
 pub mod Shorts

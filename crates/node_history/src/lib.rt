@@ -5,10 +5,14 @@
 mod answer;
 mod at_hub;
 mod came;
+mod client;
 mod entered;
 mod history;
 mod logged;
 mod node;
+mod node_core;
+mod power;
+mod server;
 mod short;
 
 pub use answer::{Answer, Said, Told};
@@ -18,3 +22,5 @@ pub use entered::{enter, make_room};
 pub use history::{History, Lent};
 pub use logged::{Logged, Turn};
 pub use node::Node;
+pub use node_core::NodeCore;
+pub use power::Power;

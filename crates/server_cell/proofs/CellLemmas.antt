@@ -1,7 +1,7 @@
 -- What a server's cell keeps.
 use Rattle.std.proofs.Common.{◌≡◌, refl, sym, ◌∙◌, ap, subst, ℕ, zero, suc, ◌+◌, ◌-◌, ◌^◌, ◌<◌, ◌≤◌, arith, Bool, true, false, List, [], ◌∷◌, ◌++◌, Option, Some, None}
-use Rattle.std.specs.Prelude.{reverse, length, slice_index_or, slice_set, if◌then◌else◌, ◌==◌, ◌≢◌, Result, Ok, Err}
-use Rattle.std.proofs.lemmas.List.{get_or-set_same, get_or-set_other, length-append, length-set, reverse-append, length-reverse}
+use Rattle.std.specs.Prelude.{reverse, length, slice_index_or, slice_set, if◌then◌else◌, ◌==◌, ◌≢◌, Result, Err}
+use Rattle.std.proofs.lemmas.List.{get_or-set_same, get_or-set_other, length-append, length-set, length-reverse}
 use Rattle.std.proofs.lemmas.Bool.{eqb-true, eq-eqb, and_parts}
 use Rattle.disk_model.specs.declared.left.Left.TheVariants.{Saved}
 use Rattle.disk_model.specs.Notes.{Note}
@@ -26,8 +26,8 @@ use Rattle.node_history.specs.Seats.{times, with_turn}
 use Rattle.fc_base.specs.declared.fault.Fault.{Fault}
 use Rattle.fc_base.specs.declared.fault.Fault.TheVariants.{NoMemory}
 use Rattle.node_history.proofs.HubLemmas.{same_kept, entered as kept_more}
-use Rattle.server_cell.specs.declared.power.Power.{Power}
-use Rattle.server_cell.specs.declared.power.Power.TheVariants.{On}
+use Rattle.node_history.specs.declared.power.Power.{Power}
+use Rattle.node_history.specs.declared.power.Power.TheVariants.{On}
 use Rattle.server_cell.specs.declared.task.Task.{Task}
 use Rattle.server_cell.specs.Tasks.{came_by, loads_note}
 use Rattle.server_cell.specs.Stands.{ways, Stands}
@@ -106,7 +106,7 @@ lacks old new seat task right same =
     subst (λ b. AppliesBy b old seat task new seat (Err NoMemory)) (sym right) (Err NoMemory, refl, (record { cell = same; seat_is = refl }, refl))
 
 -- Where nothing is entered, a cell is what it was.
-pub same_cell : {T : Type 0} (note : T → Note) (o : Opening) (power new : Power T) (history : List Logged) (applied : List ℕ) (cell : IsCell note o power history applied) → Stands note o cell.kept.past new → IsCell note o new history applied
+pub same_cell : {T : Type 0} (note : T → Note) (o : Opening) (power new : Power (Server T) T) (history : List Logged) (applied : List ℕ) (cell : IsCell note o power history applied) → Stands note o cell.kept.past new → IsCell note o new history applied
 same_cell note o power new history applied cell s = record { kept = same_kept (ways note o) history power new cell.kept s; numbered = cell.numbered; opens = cell.opens; counted = cell.counted }
 
 clash : false ≡ true → ⊥
@@ -133,7 +133,7 @@ is_next : (log : ServerLog) (seat : Seated) → is_right log seat ≡ true → s
 is_next log seat right = eqb-true seat.applied (times seat.number log.history) (and_parts (seat.server == log.opening.me) (seat.applied == times seat.number log.history) right).1
 
 -- What was asked is entered.
-pub entered : {T : Type 0} (note : T → Note) (o : Opening) (power new : Power T) (history : List Logged) (applied : List ℕ) (failures : ℕ) (seat : Seated) (task : Task) (answer : Result Said Fault) → (cell : IsCell note o power history applied) → is_right (record { opening = o; history = history; failures = failures }) seat ≡ true → seat.number < 17
+pub entered : {T : Type 0} (note : T → Note) (o : Opening) (power new : Power (Server T) T) (history : List Logged) (applied : List ℕ) (failures : ℕ) (seat : Seated) (task : Task) (answer : Result Said Fault) → (cell : IsCell note o power history applied) → is_right (record { opening = o; history = history; failures = failures }) seat ≡ true → seat.number < 17
     → Moves (ways note o) cell.kept.past (asked (came_by task)) answer [] new → IsCell note o new (entry_of seat task answer ∷ history) (slice_set applied seat.number (slice_index_or applied seat.number 0 + 1))
 entered note o power new history applied failures seat task answer cell right few m = record {
   kept = kept_more (ways note o) history power new cell.kept _ (came_by task) answer [] m;
@@ -142,7 +142,7 @@ entered note o power new history applied failures seat task answer cell right fe
   counted = counted_once_more applied history seat (came_by task) answer few cell.counted;
 }
 
-pub replayed : {T : Type 0} (note : T → Note) (o : Opening) {power new : Power T} {history : List Logged} {applied : List ℕ} (cell : IsCell note o power history applied) (failures : ℕ) (seat : Seated) (task : Task) (answer : Result Said Fault) → is_right (record { opening = o; history = history; failures = failures }) seat ≡ true
+pub replayed : {T : Type 0} (note : T → Note) (o : Opening) {power new : Power (Server T) T} {history : List Logged} {applied : List ℕ} (cell : IsCell note o power history applied) (failures : ℕ) (seat : Seated) (task : Task) (answer : Result Said Fault) → is_right (record { opening = o; history = history; failures = failures }) seat ≡ true
     → Moves (ways note o) cell.kept.past (asked (came_by task)) answer [] new → (past : List FrameEntry) × Replays o (entry_of seat task answer ∷ history) past
 replayed note o {history = history} cell failures seat task answer right m = (
   m.after,

@@ -1,5 +1,5 @@
 -- What comes to a server at the hub is entered, or left out.
-use Rattle.std.proofs.Common.{◌≡◌, refl, sym, ◌∙◌, ap, subst, ℕ, ◌≤◌, arith, Bool, true, false, List, [], ◌∷◌, length, Option, Some, None, Result, Ok, Err}
+use Rattle.std.proofs.Common.{◌≡◌, refl, subst, ℕ, ◌≤◌, arith, Bool, true, false, List, [], ◌∷◌, length, Option, Some, None, Result, Ok, Err}
 use Rattle.std.specs.Prelude.{map, not, All}
 use Rattle.std.specs.List.{sum_by}
 use Rattle.std.proofs.lemmas.List.Elements.{All-nil}
@@ -12,6 +12,7 @@ use Rattle.hub.specs.Laws.{FramesAreSpelled}
 use Rattle.hub.specs.Network.{Room, HasRoom, IsSpelled}
 use Rattle.server_core.specs.declared.input.Input.{Input}
 use Rattle.server_core.specs.declared.outs.Outs.{Outs}
+use Rattle.server_core.specs.declared.server.Server.{Server}
 use Rattle.server_core.specs.Bounds.{AreShort}
 use Rattle.server_core.specs.Answers.{packets}
 use Rattle.server_core.specs.History as history
@@ -29,8 +30,8 @@ use Rattle.node_history.specs.Rules.{Meets}
 use Rattle.node_history.specs.ServerRules.{asked, rules, is_up}
 use Rattle.node_history.proofs.HubLemmas.{heard, packets_spelled, sent_spelled as spelled_by}
 use Rattle.node_history.proofs.MoveLemmas.{off_where}
-use Rattle.server_cell.specs.declared.power.Power.{Power}
-use Rattle.server_cell.specs.Cells.{ServerLog, Replays, IsCell}
+use Rattle.node_history.specs.declared.power.Power.{Power}
+use Rattle.server_cell.specs.Cells.{Replays, IsCell}
 use Rattle.server_cell.specs.Stands.{given, ways}
 use Rattle.messages.specs.declared.node.Node.{Node}
 use Rattle.hub.specs.Network.{Network}
@@ -40,7 +41,7 @@ use Rattle.hub.specs.Network.{Network}
 none_short : AreShort []
 none_short = record { few = omega arith; short = All-nil (λ (frame : List ℕ). length frame ≤ 1073) }
 
-pub short : {T : Type 0} (note : T → Note) (o : Opening) (past : List FrameEntry) (e : Input) (new : Power T) (step : Result Outs Fault) → OpensInRange o → CameInRange (packets_heard o past) → StepEnds (ways note o) past e new (given step) → AreShort (outcome_of (given step)).1
+pub short : {T : Type 0} (note : T → Note) (o : Opening) (past : List FrameEntry) (e : Input) (new : Power (Server T) T) (step : Result Outs Fault) → OpensInRange o → CameInRange (packets_heard o past) → StepEnds (ways note o) past e new (given step) → AreShort (outcome_of (given step)).1
 short note o past e new (Ok outs) i h f = f.short i h
 short note o past e new (Err fault) i h f = none_short
 
@@ -57,14 +58,14 @@ by_entry : FramesAreSpelled → PacketsAreInRange → (o : Opening) (past : List
 by_entry law ranges o past i None came = All-nil IsSpelled
 by_entry law ranges o past i (Some x) came = packets_spelled law (packets o past x) (ranges o past x i (came x refl))
 
-pub sent_spelled : {T : Type 0} (note : T → Note) (o : Opening) (past : List FrameEntry) (e : Input) (new : Power T) (step : Result Outs Fault) → FramesAreSpelled → PacketsAreInRange → OpensInRange o → CameInRange (packets_heard o past) → StepEnds (ways note o) past e new (given step) → All IsSpelled (outcome_of (given step)).1
+pub sent_spelled : {T : Type 0} (note : T → Note) (o : Opening) (past : List FrameEntry) (e : Input) (new : Power (Server T) T) (step : Result Outs Fault) → FramesAreSpelled → PacketsAreInRange → OpensInRange o → CameInRange (packets_heard o past) → StepEnds (ways note o) past e new (given step) → All IsSpelled (outcome_of (given step)).1
 sent_spelled note o past e new step law ranges i h f =
     spelled_by (ways note o) past e (answered o past e) new (given step) refl h
     (λ came. by_entry law ranges o (packets_heard o past) i (entry_heard o past (answered o past e)) (λ x is. subst (λ (y : Option history.Entry). CameInRange (with_entry y (packets_heard o past))) is came)) f
 
 -- ---- what came is entered
 
-pub heard_cell : {T : Type 0} (note : T → Note) (o : Opening) (power new : Power T) (before after : List Logged) (applied : List ℕ) (cell : IsCell note o power before applied) (e : Input) (step : Result Outs Fault) (node : Node) (came : Came) (taken : Option ℕ) (net net' : Network) → asked came ≡ Meets e
+pub heard_cell : {T : Type 0} (note : T → Note) (o : Opening) (power new : Power (Server T) T) (before after : List Logged) (applied : List ℕ) (cell : IsCell note o power before applied) (e : Input) (step : Result Outs Fault) (node : Node) (came : Came) (taken : Option ℕ) (net net' : Network) → asked came ≡ Meets e
     → StepEnds (ways note o) cell.kept.past e new (given step) → Hears (is_left_out (outcome_of (given step)).0) node came taken (outcome_of (given step)).0 (outcome_of (given step)).1 net net' before after → IsCell note o new after applied
 heard_cell note o power new before after applied cell e step node came taken net net' asks f h = by_test (is_left_out (outcome_of (given step)).0) h
   where
@@ -81,7 +82,7 @@ heard_cell note o power new before after applied cell e step node came taken net
     by_test true h = same h.history
     by_test false h = more h.entry
 
-pub replayed : {T : Type 0} (note : T → Note) (o : Opening) (power : Power T) (history : List Logged) (applied : List ℕ) → IsCell note o power history applied → (past : List FrameEntry) × Replays o history past
+pub replayed : {T : Type 0} (note : T → Note) (o : Opening) (power : Power (Server T) T) (history : List Logged) (applied : List ℕ) → IsCell note o power history applied → (past : List FrameEntry) × Replays o history past
 replayed note o power history applied cell = (cell.kept.past, record { numbered = cell.numbered; made = cell.kept.made })
 
 -- ---- whether it is on

@@ -1,12 +1,10 @@
 -- A server that may have no power takes what comes as the rules have it.
-use Rattle.std.proofs.Common.{◌≡◌, refl, sym, ◌∙◌, ap, subst, inl, inr, ℕ, ◌+◌, ◌-◌, ◌^◌, ◌<◌, arith, Bool, true, false, List, [], ◌∷◌, Option, Some, None, Result, Ok, Err}
-use Rattle.std.specs.Prelude.{◌⊎◌, ◌&&◌, ◌||◌, if◌then◌else◌, map, nat_lt, not, is_some}
-use Rattle.std.specs.Borrow.{Bor}
+use Rattle.std.proofs.Common.{◌≡◌, refl, ◌∙◌, ap, ℕ, Bool, true, false, List, [], ◌∷◌, Option, Some, None, Result, Ok, Err}
+use Rattle.std.specs.Prelude.{◌&&◌, ◌||◌, if◌then◌else◌, map}
 use Rattle.std.specs.List.{flat_map}
-use Rattle.std.specs.Option.{option_map, option_copied}
-use Rattle.std.proofs.lemmas.Bool.Decides.{nat_tests}
+use Rattle.std.specs.Option.{option_map}
 use Rattle.fc_base.specs.declared.fault.Fault.{Fault}
-use Rattle.fc_base.specs.declared.fault.Fault.TheVariants.{NoMemory, LoadFault, SaveFault, BadNote, NumbersSpent, NodeOff, NodeOn, FrameBadField}
+use Rattle.fc_base.specs.declared.fault.Fault.TheVariants.{NodeOff, FrameBadField}
 use Rattle.fc_base.specs.declared.fault.FaultSort.{FaultSort}
 use Rattle.fc_base.specs.declared.fault.FaultSort.TheVariants as sorts
 use Rattle.fc_base.specs.Fault.{sort_of}
@@ -22,34 +20,30 @@ use Rattle.messages.specs.Hearing.{Meaning, Says as Speaks, Waits, Spoils, Stray
 use Rattle.server_core.specs.declared.event.WriteEnd.{WriteEnd}
 use Rattle.server_core.specs.declared.input.Input.{Input}
 use Rattle.server_core.specs.declared.input.Input.TheVariants as inputs
-use Rattle.server_core.specs.declared.note.Noted.{Noted}
 use Rattle.server_core.specs.declared.outs.Outs.{Outs}
 use Rattle.server_core.specs.declared.server.Server.{Server}
 use Rattle.server_core.specs.History as packets
 use Rattle.server_core.specs.Answers.{sent_by, to_client, refusal}
 use Rattle.server_core.specs.declared.event.Event.TheVariants as events
 use Rattle.server_core.specs.History.{Opening}
-use Rattle.server_core.specs.Note.{Says, SaysOneThing, spelling}
 use Rattle.server_core.specs.Ranges.{CameInRange}
-use Rattle.server_core.specs.Words.{boot}
-use Rattle.server_core.specs.Serves.{NotOpened, saved_for}
-use Rattle.server_core.specs.Hearing.{FrameEntry, Met, Cut, Restart, packets_heard, heard_at, rules as hearing}
+use Rattle.server_core.specs.Serves.{saved_for}
+use Rattle.server_core.specs.Hearing.{FrameEntry, Met, packets_heard, heard_at, rules as hearing}
 use Rattle.server_core.specs.FrameAnswers as answers
 use Rattle.server_core.specs.FrameAnswers.{Sense, Hears, Keeps, Drops, Misses, sense, sense_of}
 use Rattle.server_core.specs.HeardRange.{SenseInRange, UnlessMemory, HearsInRange}
 use Rattle.server_core.specs.FrameEnds as ends
 use Rattle.server_core.specs.FrameEnds.{StandsFor, is_drop}
-use Rattle.node_history.specs.declared.answer.Said.{Said}
+use Rattle.node_history.specs.declared.power.Power.{Power}
+use Rattle.node_history.specs.declared.power.Power.TheVariants.{On}
 use Rattle.node_history.specs.AtHub.{is_save}
 use Rattle.node_history.specs.Failures.{is_load, CountsBy, Counts}
-use Rattle.node_history.specs.Moves.{plain, answer_of, Answers, Faults, StepEnds, TaskEnds}
-use Rattle.node_history.specs.Rules.{Meets, Cuts, Restarts}
-use Rattle.node_history.specs.ServerRules.{rules, is_up, has_boot, left_by}
+use Rattle.node_history.specs.Moves.{answer_of, Faults, StepEnds, TaskEnds}
+use Rattle.node_history.specs.Rules.{Meets}
+use Rattle.node_history.specs.ServerRules.{is_up, left_by}
 use Rattle.node_history.proofs.MoveLemmas.{up, refused, refused_step, lost, left_is, silent, no_load}
 use Rattle.node_history.proofs.MoveLemmas as moves
-use Rattle.server_cell.specs.declared.power.Power.{Power}
-use Rattle.server_cell.specs.declared.power.Power.TheVariants.{On, Off}
-use Rattle.server_cell.specs.Stands.{noted, given, ways, Stands, Shows}
+use Rattle.server_cell.specs.Stands.{given, ways, Stands}
 
 -- ---- what came stays within its ranges
 
@@ -114,7 +108,7 @@ step_ends note o past e old server (Ok outs) on a h = answers_step note o past e
 step_ends note o past e old server (Err fault) on f h = faults_step note o past e old server fault on (sort_of fault) f h refl
 
 -- What comes to a server that isn't on is refused, and nothing changes.
-pub off_ends : {T : Type 0} (note : T → Note) (o : Opening) (past : List FrameEntry) (e : Input) (power : Power T) → is_up o past ≡ false → Stands note o past power → StepEnds (ways note o) past e power (Err NodeOff)
+pub off_ends : {T : Type 0} (note : T → Note) (o : Opening) (past : List FrameEntry) (e : Input) (power : Power (Server T) T) → is_up o past ≡ false → Stands note o past power → StepEnds (ways note o) past e power (Err NodeOff)
 off_ends note o past e power off s = moves.off_ends (ways note o) past e power (ap (λ b. if b then answers.refusal o past e else Some NodeOff) off) refl s
 
 -- ---- what a seat asks
@@ -132,116 +126,11 @@ end_sends_none : (o : Opening) (past : List FrameEntry) (ticket : Ticket) (end :
 end_sends_none o past ticket end =
     ap (λ bodies. map frame_spelling (flat_map frames_of (to_client o.me bodies))) (none_sent (is_lost (saved_for (answers.due o past (inputs.WriteDone ticket end)))) (refusal o (packets_heard o past) (events.WriteDone ticket end)))
 
-pub issue_task : {T : Type 0} (note : T → Note) (o : Opening) (past : List FrameEntry) (j : ℕ) (new : Power T) (result : Result Outs Fault) → StepEnds (ways note o) past (inputs.Issue j) new (given result) → TaskEnds (ways note o) past (Meets (inputs.Issue j)) new (answer_of (given result))
+pub issue_task : {T : Type 0} (note : T → Note) (o : Opening) (past : List FrameEntry) (j : ℕ) (new : Power (Server T) T) (result : Result Outs Fault) → StepEnds (ways note o) past (inputs.Issue j) new (given result) → TaskEnds (ways note o) past (Meets (inputs.Issue j)) new (answer_of (given result))
 issue_task note o past j new result h = silent (ways note o) past (inputs.Issue j) _ new (given result) refl (issue_sends_none o past j) h
 
-pub end_task : {T : Type 0} (note : T → Note) (o : Opening) (past : List FrameEntry) (ticket : Ticket) (end : WriteEnd) (new : Power T) (result : Result Outs Fault) → StepEnds (ways note o) past (inputs.WriteDone ticket end) new (given result) → TaskEnds (ways note o) past (Meets (inputs.WriteDone ticket end)) new (answer_of (given result))
+pub end_task : {T : Type 0} (note : T → Note) (o : Opening) (past : List FrameEntry) (ticket : Ticket) (end : WriteEnd) (new : Power (Server T) T) (result : Result Outs Fault) → StepEnds (ways note o) past (inputs.WriteDone ticket end) new (given result) → TaskEnds (ways note o) past (Meets (inputs.WriteDone ticket end)) new (answer_of (given result))
 end_task note o past ticket end new result h = silent (ways note o) past (inputs.WriteDone ticket end) _ new (given result) refl (end_sends_none o past ticket end) h
-
--- ---- a cut
-
--- A server that isn't on has no power to lose.
-pub cut_off : {T : Type 0} (note : T → Note) (o : Opening) (past : List FrameEntry) (power : Power T) → is_up o past ≡ false → Stands note o past power → TaskEnds (ways note o) past Cuts power (Err NodeOff)
-cut_off note o past power off s = refused (ways note o) past Cuts NodeOff power refl (ap (λ b. if b then None else Some NodeOff) off) refl s
-
-pub cut_ends : {T : Type 0} (note : T → Note) (o : Opening) (past : List FrameEntry) (notes : T) → is_up o past ≡ true → Says (note notes).bytes (noted o (packets_heard o past)) → TaskEnds (ways note o) past Cuts (Off notes) (Ok plain)
-cut_ends note o past notes on says = record {
-  after = Cut ∷ past;
-  ends = record { free = up (is_up o past) None (Some NodeOff) on; said_is = refl; entry = Cut; entry_is = refl; sent_are = refl; after_is = refl };
-  stands = (says, refl);
-  ranges = λ h. h;
-}
-
--- ---- a restart
-
-pub on_refuses : {T : Type 0} (note : T → Note) (o : Opening) (past : List FrameEntry) (power : Power T) → is_up o past ≡ true → Stands note o past power → TaskEnds (ways note o) past Restarts power (Err NodeOn)
-on_refuses note o past power on s =
-    refused (ways note o) past Restarts NodeOn power refl (up (is_up o past) (Some NodeOn) (if has_boot o past then None else Some NumbersSpent) on) refl s
-
-lt_true : (a b : ℕ) → a < b → nat_lt a b ≡ true
-lt_true a b h = grind (arith, nat_tests)
-
-may_restart : (on boots : Bool) → on ≡ false → boots ≡ true → (if on then Some NodeOn else (if boots then None else Some NumbersSpent)) ≡ None
-may_restart false true h k = refl
-may_restart false false h k = cc
-may_restart true boots h k = cc
-
-is_spent : (on boots : Bool) → on ≡ false → boots ≡ false → (if on then Some NodeOn else (if boots then None else Some NumbersSpent)) ≡ Some NumbersSpent
-is_spent false false h k = refl
-is_spent false true h k = cc
-is_spent true boots h k = cc
-
-pub started : {T : Type 0} (note : T → Note) (o : Opening) (past : List FrameEntry) (me : ℕ) (notes : T) (server : Server T) → o.me ≡ me → is_up o past ≡ false → Says (note notes).bytes (noted o (packets_heard o past)) → ends.Restarts note me notes server
-    → TaskEnds (ways note o) past Restarts (On server) (Ok plain)
-started note o past me notes server is off says h =
-    let stands = h.stands o past is says in
-    record {
-      after = Restart lefts.Saved ∷ past;
-      ends = record {
-        free = may_restart (is_up o past) (has_boot o past) off (lt_true (boot o (packets_heard o past) + 1) (2 ^ 64) stands.core.durable.boot_range);
-        said_is = refl;
-        entry = Restart lefts.Saved;
-        entry_is = refl;
-        sent_are = refl;
-        after_is = refl;
-      };
-      stands = stands;
-      ranges = λ h. h;
-    }
-
-spent : (b : ℕ) → b ≡ 2 ^ 64 - 1 → nat_lt (b + 1) (2 ^ 64) ≡ false
-spent b h = rw h refl
-
-not_off : (b : Bool) → b ≡ false → not b ≡ true
-not_off false h = refl
-not_off true h = cc
-
--- A boot was left where what the note said left one.
-left_one : SaysOneThing → (old : List ℕ) (o : Opening) (past : List FrameEntry) (n : Noted) → Says old n → n.boot < 2 ^ 64 - 1 → Says old (noted o (packets_heard o past)) → has_boot o past ≡ true
-left_one one old o past n read left says =
-    let same = one old n (noted o (packets_heard o past)) read says in
-    let below = subst (λ (m : Noted). m.boot < 2 ^ 64 - 1) same left in
-    lt_true (boot o (packets_heard o past) + 1) (2 ^ 64) (omega (arith, below))
-
-next_says : SaysOneThing → (old new : List ℕ) (o : Opening) (past : List FrameEntry) (n : Noted) → Says old n → n.boot < 2 ^ 64 - 1 → Says old (noted o (packets_heard o past)) → new ≡ spelling (record { boot = n.boot + 1; last_run = n.last_run })
-    → Says new (noted o (packets_heard o (Restart lefts.LostNew ∷ past)))
-next_says one old new o past n read left says is =
-    subst (λ (m : Noted). Says new (record { boot = m.boot + 1; last_run = m.last_run })) (one old n (noted o (packets_heard o past)) read says)
-    (record { boot_range = omega (arith, left); last_range = read.last_range; spelled = inl is })
-
-pub unstarted : {T : Type 0} (note : T → Note) (o : Opening) (past : List FrameEntry) (notes back : T) (fault : Fault) → SaysOneThing → is_up o past ≡ false → Says (note notes).bytes (noted o (packets_heard o past)) → NotOpened (note notes) (note back) fault
-    → TaskEnds (ways note o) past Restarts (Off back) (Err fault)
-unstarted note o past notes back LoadFault one off says h = record {
-  after = past;
-  ends = record { why = inr (refl, not_off (is_up o past) off); sends_none = refl; after_is = refl };
-  stands = (subst (λ bytes. Says bytes (noted o (packets_heard o past))) (sym h.1) says, off);
-  ranges = λ h. h;
-}
-unstarted note o past notes back BadNote one off says h = absurd (h.1 (noted o (packets_heard o past)) says)
-unstarted note o past notes back NumbersSpent one off says h =
-    refused (ways note o) past Restarts NumbersSpent (Off back) refl (is_spent (is_up o past) (has_boot o past) off (spent (boot o (packets_heard o past)) (h.1 (noted o (packets_heard o past)) says))) refl
-    (subst (λ (n : Note). Says n.bytes (noted o (packets_heard o past))) (sym h.0) says, off)
-unstarted note o past notes back NoMemory one off says h = (refl, (subst (λ (n : Note). Says n.bytes (noted o (packets_heard o past))) (sym h) says, off))
-unstarted note o past notes back SaveFault one off says h = half h.1
-  where
-    half : (n : Noted) × Says (note notes).bytes n × (n.boot < 2 ^ 64 - 1) × (((note back).bytes ≡ (note notes).bytes) ⊎ ((note back).bytes ≡ spelling (record { boot = n.boot + 1; last_run = n.last_run }))) → TaskEnds (ways note o) past Restarts (Off back) (Err SaveFault)
-    half (n, read, left, inl is) =
-        lost (ways note o) past Restarts SaveFault false (Restart lefts.LostOld) (Off back) refl (may_restart (is_up o past) (has_boot o past) off (left_one one (note notes).bytes o past n read left says)) refl
-        (subst (λ bytes. Says bytes (noted o (packets_heard o past))) (sym is) says, refl) (λ h. h)
-    half (n, read, left, inr is) =
-        lost (ways note o) past Restarts SaveFault true (Restart lefts.LostNew) (Off back) refl (may_restart (is_up o past) (has_boot o past) off (left_one one (note notes).bytes o past n read left says)) refl
-        (next_says one (note notes).bytes (note back).bytes o past n read left says is, refl) (λ h. h)
-unstarted note o past notes back _ one off says h = absurd h
-
--- ---- whether it is on
-
-pub hidden : {T : Type 0} (note : T → Note) (o : Opening) (past : List FrameEntry) (shown : Option (Bor (Server T))) → Shows note o past (option_copied shown) → is_some shown ≡ false → is_up o past ≡ false
-hidden note o past None s h = s
-hidden note o past (Some server) s h = cc
-
-pub there : {T : Type 0} (note : T → Note) (o : Opening) (past : List FrameEntry) (shown : Option (Bor (Server T))) → Shows note o past (option_copied shown) → is_some shown ≡ true → is_up o past ≡ true
-there note o past None s h = cc
-there note o past (Some server) s h = s.1
 
 -- ---- the device's failures
 
@@ -254,12 +143,3 @@ step_counts note o past e old server (Err fault) f = by_sort (sort_of fault) f
     by_sort sorts.Memory f = no_load fault (note old.core.notes).failures (note server.core.notes).failures (ap (λ (n : Note). n.failures) f.same_note)
     by_sort sorts.Save f = f.cause
     by_sort sorts.Refusal f = no_load fault (note old.core.notes).failures (note server.core.notes).failures (ap (λ (n : Note). n.failures) f.same_note)
-
--- A restart that fails counts why.
-pub unstarted_counts : (old new : Note) (fault : Fault) → NotOpened old new fault → Counts {X = Said} true old.failures new.failures (Err fault)
-unstarted_counts old new LoadFault h = h.0
-unstarted_counts old new BadNote h = ap (λ (n : Note). n.failures) h.0
-unstarted_counts old new NumbersSpent h = ap (λ (n : Note). n.failures) h.0
-unstarted_counts old new NoMemory h = ap (λ (n : Note). n.failures) h
-unstarted_counts old new SaveFault h = h.0
-unstarted_counts old new _ h = absurd h

@@ -1,5 +1,5 @@
 -- How what is asked from a seat ends.
-use Rattle.std.specs.Prelude.{◌≡◌, ◌+◌, ◌&&◌, ◌==◌, Bool, true, false, [], ◌∷◌, Some, Result, Ok, Err}
+use Rattle.std.specs.Prelude.{◌≡◌, ◌+◌, ◌&&◌, ◌==◌, Bool, true, false, [], ◌∷◌, Some, Result, Err}
 use Rattle.fc_base.specs.declared.fault.Fault.{Fault}
 use Rattle.fc_base.specs.declared.fault.Fault.TheVariants.{NoMemory, WrongSeat}
 use Rattle.node_history.specs.declared.answer.Said.{Said}

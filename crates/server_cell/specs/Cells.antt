@@ -1,15 +1,16 @@
 -- What a server's cell shows, and what is true of every one.
 use Rattle.std.specs.Prelude.{◌≡◌, ℕ, ◌<◌, ◌==◌, ◌&&◌, Bool, List, length, slice_index_or}
 use Rattle.disk_model.specs.Notes.{Note}
+use Rattle.server_core.specs.declared.server.Server.{Server}
 use Rattle.server_core.specs.History.{Opening}
 use Rattle.server_core.specs.Ranges.{OpensInRange}
 use Rattle.server_core.specs.Hearing.{FrameEntry}
 use Rattle.node_history.specs.declared.logged.Logged.{Logged}
+use Rattle.node_history.specs.declared.power.Power.{Power}
 use Rattle.node_history.specs.Moves.{IsKept}
 use Rattle.node_history.specs.Replay.{Makes}
 use Rattle.node_history.specs.Seats.{times, IsNumbered}
 use Rattle.node_history.specs.ServerRules.{rules}
-use Rattle.server_cell.specs.declared.power.Power.{Power}
 use Rattle.server_cell.specs.Stands.{ways}
 
 -- A server under its lock: what it was opened with, its history, newest first, and how often the device of
@@ -39,7 +40,7 @@ pub record AreCounted (applied : List ℕ) (history : List Logged) : Type 0 wher
 
 -- What is true of every cell: the server stands for a list that its history makes, in which all is in
 -- its ranges, and the events of each seat are numbered and counted.
-pub record IsCell {T : Type 0} (note : T → Note) (o : Opening) (power : Power T) (history : List Logged) (applied : List ℕ) : Type 0 where
+pub record IsCell {T : Type 0} (note : T → Note) (o : Opening) (power : Power (Server T) T) (history : List Logged) (applied : List ℕ) : Type 0 where
   pub kept : IsKept (ways note o) history power
   pub numbered : IsNumbered history
   pub opens : OpensInRange o

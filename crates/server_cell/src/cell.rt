@@ -9,12 +9,11 @@ mod apply;
 mod hear;
 mod node;
 
-use crate::power::Power;
 use crate::seat::Seat;
 use crate::seats::{SEATS, new_seats};
 use disk_model::Notes;
 use fc_base::{Fault, RunNo, ServerNo};
-use node_history::History;
+use node_history::{History, Power};
 use server_core::{Server, Status};
 use std::alloc::Global;
 use std::marker::Model;
@@ -25,7 +24,7 @@ pub struct ServerCell<N: Notes + Drop> {
     me: ServerNo,
     boot: u64,
     last_run: RunNo,
-    power: Power<N>,
+    power: Power<Server<N>, N>,
     history: History,
     /// How many events of each seat the history has.
     applied: [u64; SEATS],
@@ -130,7 +129,7 @@ impl<N: Notes + Drop> ServerCell<N> {
         ensures off { IfNone result ((past : List FrameEntry) × IsReplay self.now past
             × (is_up self.now.opening past ≡ false)) }
     {
-        match self.power.server() {
+        match self.power.core() {
             Some(server) => Some(server),
             None => None,
         }

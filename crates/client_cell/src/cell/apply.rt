@@ -6,6 +6,7 @@ ghost use Rattle.client_cell.specs.Cells.{IsReplay};
 ghost use Rattle.client_cell.specs.Calls.{logged_by, Applies};
 
 use super::ClientCell;
+use crate::power::perform;
 use crate::task::Task;
 use disk_model::Notes;
 use fc_base::Fault;
@@ -28,7 +29,7 @@ impl<N: Notes + Drop> ClientCell<N> {
         }
         let (alloc, servers) = (self.alloc, self.servers);
         let came = task.came();
-        let answer = self.power.perform(alloc, servers, &task);
+        let answer = perform(&mut self.power, alloc, servers, &task);
         if lacks_memory(&answer) {
             return Err(Fault::NoMemory);
         }

@@ -15,6 +15,7 @@ ghost use Rattle.client_cell.specs.Tasks.{came_of, input_of};
 
 use super::ClientCell;
 use super::sent::{bytes_of, outcome};
+use crate::power::{deliver, take, tick};
 use crate::request::Request;
 use client_core::packets_are_in_range;
 use disk_model::Notes;
@@ -48,13 +49,13 @@ impl<N: Notes + Drop> ClientCell<N> {
     {
         packets_are_in_range();
         frames_are_spelled();
-        if self.power.client().is_none() {
+        if self.power.core().is_none() {
             return Err(Fault::NodeOff);
         }
         if make_room(&mut self.history, hub, FRAMES, BYTES).is_err() {
             return Err(Fault::NoMemory);
         }
-        let done = outcome(self.alloc, self.power.deliver(frame));
+        let done = outcome(self.alloc, deliver(&mut self.power, frame));
         enter(
             &mut self.history,
             hub,
@@ -78,13 +79,13 @@ impl<N: Notes + Drop> ClientCell<N> {
     {
         packets_are_in_range();
         frames_are_spelled();
-        if self.power.client().is_none() {
+        if self.power.core().is_none() {
             return Err(Fault::NodeOff);
         }
         if make_room(&mut self.history, hub, FRAMES, BYTES).is_err() {
             return Err(Fault::NoMemory);
         }
-        let done = outcome(self.alloc, self.power.request(&request));
+        let done = outcome(self.alloc, take(&mut self.power, &request));
         enter(
             &mut self.history,
             hub,
@@ -107,10 +108,10 @@ impl<N: Notes + Drop> ClientCell<N> {
     {
         packets_are_in_range();
         frames_are_spelled();
-        if self.power.client().is_none() {
+        if self.power.core().is_none() {
             return Err(Fault::NodeOff);
         }
-        let done = outcome(self.alloc, self.power.tick());
+        let done = outcome(self.alloc, tick(&self.power));
         let Some(bytes) = bytes_of(&done.1) else {
             return Err(Fault::NoMemory);
         };

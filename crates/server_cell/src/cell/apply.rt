@@ -6,6 +6,7 @@ ghost use Rattle.server_cell.specs.Cells.{IsReplay};
 ghost use Rattle.server_cell.specs.Calls.{is_right, entry_of, Applies};
 
 use super::ServerCell;
+use crate::power::perform;
 use crate::seat::Seat;
 use crate::task::Task;
 use disk_model::Notes;
@@ -30,7 +31,7 @@ impl<N: Notes + Drop> ServerCell<N> {
             return Err(Fault::NoMemory);
         }
         let (alloc, me) = (self.alloc, self.me);
-        let answer = self.power.perform(alloc, me, &task);
+        let answer = perform(&mut self.power, alloc, me, &task);
         if lacks_memory(&answer) {
             return Err(Fault::NoMemory);
         }

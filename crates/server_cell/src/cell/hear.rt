@@ -14,6 +14,7 @@ ghost use Rattle.server_cell.specs.Cells.{IsReplay};
 ghost use Rattle.server_cell.specs.Stands.{given};
 
 use super::ServerCell;
+use crate::power::step;
 use disk_model::Notes;
 use fc_base::Fault;
 use hub::{Hub, frames_are_spelled};
@@ -53,13 +54,13 @@ impl<N: Notes + Drop> ServerCell<N> {
     {
         packets_are_in_range();
         frames_are_spelled();
-        if self.power.server().is_none() {
+        if self.power.core().is_none() {
             return Err(Fault::NodeOff);
         }
         if make_room(&mut self.history, hub, FRAMES, FRAMES * FRAME_BYTES).is_err() {
             return Err(Fault::NoMemory);
         }
-        let done = outcome(self.alloc, self.power.step(input));
+        let done = outcome(self.alloc, step(&mut self.power, input));
         let me = Node::Server(self.me);
         enter(&mut self.history, hub, me, came, taken, done)
     }

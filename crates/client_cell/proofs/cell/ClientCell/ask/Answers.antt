@@ -11,7 +11,8 @@ use Rattle.node_history.proofs.HubLemmas.{lacking, hear_counts}
 use Rattle.node_history.proofs.MoveLemmas.{where_ok}
 use Rattle.client_cell.specs.Cells.{ClientLog, opening_of}
 use Rattle.client_cell.specs.Stands.{failures_of, given}
-use Rattle.client_cell.proofs.PowerLemmas.{hidden, there}
+use Rattle.node_history.specs.ClientKind.{client_kind}
+use Rattle.node_history.proofs.PowerLemmas.{hidden, there}
 use Rattle.client_cell.proofs.HearLemmas.{lacks_why, off_why, has_room, sent_spelled, heard_cell, told_why, replayed, requests_eight, request_asks}
 use Rattle.client_cell.proofs.cell.ClientCell.ask.Goals as goal
 
@@ -25,38 +26,38 @@ enter-requires-clause-room g c =
     let cell = c.self.invariant.0 in
     let o = opening_of c.self.inside.servers c.self.inside.opened.value in
     rw c.outcome-done.ensures
-    (has_room g.N.Notes.note _ c.self.inside.power cell (input_of c.args.request) c.request.new.self c.request.result c.make_room.new.hub.room (requests_eight o cell.kept.past c.args.request) (c.request.ensures.ends o cell.kept.past cell.kept.stands)
+    (has_room g.N.Notes.note _ c.self.inside.power cell (input_of c.args.request) c.take.new.power c.take.result c.make_room.new.hub.room (requests_eight o cell.kept.past c.args.request) (c.take.ensures.ends o cell.kept.past cell.kept.stands)
     (where_ok c.make_room.result c.make_room.ensures.room c.if-is_err.ensures.negation))
 
 pub enter-requires-clause-spelled : goal.enter-requires-clause-spelled
 enter-requires-clause-spelled g c =
     let cell = c.self.invariant.0 in
     let o = opening_of c.self.inside.servers c.self.inside.opened.value in
-    let ends = c.request.ensures.ends o cell.kept.past cell.kept.stands in
+    let ends = c.take.ensures.ends o cell.kept.past cell.kept.stands in
     subst (λ (r : Result Said Fault × List (List ℕ)). All IsSpelled r.1) (sym c.outcome-done.ensures)
-    (sent_spelled g.N.Notes.note _ c.self.inside.power cell (input_of c.args.request) c.request.new.self c.request.result c.frames_are_spelled.ensures c.packets_are_in_range.ensures ends)
+    (sent_spelled g.N.Notes.note _ c.self.inside.power cell (input_of c.args.request) c.take.new.power c.take.result c.frames_are_spelled.ensures c.packets_are_in_range.ensures ends)
 
 pub invariant_of-self-2 : goal.invariant_of-self-2
 invariant_of-self-2 g c =
     let cell = c.self.invariant.0 in
     let o = opening_of c.self.inside.servers c.self.inside.opened.value in
-    let ends = c.request.ensures.ends o cell.kept.past cell.kept.stands in
-    (heard_cell g.N.Notes.note _ c.self.inside.power c.request.new.self cell (input_of c.args.request) c.request.result (came_of c.args.request) None c.make_room.new.hub.net c.enter.new.hub.net _ (failures_of g.N.Notes.note c.request.new.self) (request_asks c.args.request) ends (rw (c.into_came.ensures, c.outcome-done.ensures, c.make_room.ensures.items) at c.enter.ensures.heard), c.self.invariant.1)
+    let ends = c.take.ensures.ends o cell.kept.past cell.kept.stands in
+    (heard_cell g.N.Notes.note _ c.self.inside.power c.take.new.power cell (input_of c.args.request) c.take.result (came_of c.args.request) None c.make_room.new.hub.net c.enter.new.hub.net _ (failures_of g.N.Notes.note c.take.new.power) (request_asks c.args.request) ends (rw (c.into_came.ensures, c.outcome-done.ensures, c.make_room.ensures.items) at c.enter.ensures.heard), c.self.invariant.1)
 
 pub returns-clause-why : goal.returns-clause-why
 returns-clause-why g c =
     let cell = c.self.invariant.0 in
     let o = opening_of c.self.inside.servers c.self.inside.opened.value in
-    let ends = c.request.ensures.ends o cell.kept.past cell.kept.stands in
-    told_why g.N.Notes.note _ c.self.inside.power c.request.new.self cell (input_of c.args.request) c.request.result _ _ c.enter.result c.args.self.now (there g.N.Notes.note o cell.kept.past c.client.result (c.client.ensures o cell.kept.past cell.kept.stands) c.if-is_none.ensures) ends (rw c.outcome-done.ensures at c.enter.ensures.told) c.self.view_is
+    let ends = c.take.ensures.ends o cell.kept.past cell.kept.stands in
+    told_why g.N.Notes.note _ c.self.inside.power c.take.new.power cell (input_of c.args.request) c.take.result _ _ c.enter.result c.args.self.now (there (client_kind g.N.Notes.note o) cell.kept.past c.core.result (c.core.ensures o cell.kept.past cell.kept.stands) c.if-is_none.ensures) ends (rw c.outcome-done.ensures at c.enter.ensures.told) c.self.view_is
 
 pub returns-clause-replay : goal.returns-clause-replay
 returns-clause-replay g c =
     let cell = c.self.invariant.0 in
     let o = opening_of c.self.inside.servers c.self.inside.opened.value in
-    let ends = c.request.ensures.ends o cell.kept.past cell.kept.stands in
-    replayed g.N.Notes.note _ c.request.new.self
-    (heard_cell g.N.Notes.note _ c.self.inside.power c.request.new.self cell (input_of c.args.request) c.request.result (came_of c.args.request) None c.make_room.new.hub.net c.enter.new.hub.net _ (failures_of g.N.Notes.note c.request.new.self) (request_asks c.args.request) ends (rw (c.into_came.ensures, c.outcome-done.ensures, c.make_room.ensures.items) at c.enter.ensures.heard))
+    let ends = c.take.ensures.ends o cell.kept.past cell.kept.stands in
+    replayed g.N.Notes.note _ c.take.new.power
+    (heard_cell g.N.Notes.note _ c.self.inside.power c.take.new.power cell (input_of c.args.request) c.take.result (came_of c.args.request) None c.make_room.new.hub.net c.enter.new.hub.net _ (failures_of g.N.Notes.note c.take.new.power) (request_asks c.args.request) ends (rw (c.into_came.ensures, c.outcome-done.ensures, c.make_room.ensures.items) at c.enter.ensures.heard))
 
 pub returns-then-is_none-clause-ends : goal.returns-then-is_none-clause-ends
 returns-then-is_none-clause-ends g c = left_out_posts Client (came_of c.args.request) None c.args.hub.now.net c.args.self.now.history NodeOff refl
@@ -65,16 +66,16 @@ pub returns-then-is_none-clause-why : goal.returns-then-is_none-clause-why
 returns-then-is_none-clause-why g c =
     let cell = c.self.invariant.0 in
     let o = opening_of c.self.inside.servers c.self.inside.opened.value in
-    off_why g.N.Notes.note _ c.self.inside.power cell (input_of c.args.request) c.args.self.now (hidden g.N.Notes.note o cell.kept.past c.client.result (c.client.ensures o cell.kept.past cell.kept.stands) c.if-is_none.ensures) c.self.view_is
+    off_why g.N.Notes.note _ c.self.inside.power cell (input_of c.args.request) c.args.self.now (hidden (client_kind g.N.Notes.note o) cell.kept.past c.core.result (c.core.ensures o cell.kept.past cell.kept.stands) c.if-is_none.ensures) c.self.view_is
 
 pub returns-then-is_err-clause-why : goal.returns-then-is_err-clause-why
 returns-then-is_err-clause-why g c =
     let cell = c.self.invariant.0 in
     let o = opening_of c.self.inside.servers c.self.inside.opened.value in
-    lacks_why g.N.Notes.note _ c.self.inside.power cell (input_of c.args.request) c.args.self.now (there g.N.Notes.note o cell.kept.past c.client.result (c.client.ensures o cell.kept.past cell.kept.stands) c.if-is_none.ensures) c.self.view_is
+    lacks_why g.N.Notes.note _ c.self.inside.power cell (input_of c.args.request) c.args.self.now (there (client_kind g.N.Notes.note o) cell.kept.past c.core.result (c.core.ensures o cell.kept.past cell.kept.stands) c.if-is_none.ensures) c.self.view_is
 
 pub returns-clause-failures : goal.returns-clause-failures
 returns-clause-failures g c =
     let cell = c.self.invariant.0 in
     let o = opening_of c.self.inside.servers c.self.inside.opened.value in
-    hear_counts c.args.self.now.failures (failures_of g.N.Notes.note c.self.inside.power) (failures_of g.N.Notes.note c.request.new.self) _ _ (given c.request.result) c.enter.result (ap (λ (log : ClientLog). log.failures) c.self.view_is) (rw c.outcome-done.ensures at c.enter.ensures.told) (c.request.ensures.count o cell.kept.past cell.kept.stands)
+    hear_counts c.args.self.now.failures (failures_of g.N.Notes.note c.self.inside.power) (failures_of g.N.Notes.note c.take.new.power) _ _ (given c.take.result) c.enter.result (ap (λ (log : ClientLog). log.failures) c.self.view_is) (rw c.outcome-done.ensures at c.enter.ensures.told) (c.take.ensures.count o cell.kept.past cell.kept.stands)

@@ -11,7 +11,8 @@ use Rattle.node_history.proofs.HubLemmas.{lacking, hear_counts}
 use Rattle.node_history.proofs.MoveLemmas.{where_ok}
 use Rattle.client_cell.specs.Cells.{ClientLog, opening_of}
 use Rattle.client_cell.specs.Stands.{failures_of, given}
-use Rattle.client_cell.proofs.PowerLemmas.{hidden, there}
+use Rattle.node_history.specs.ClientKind.{client_kind}
+use Rattle.node_history.proofs.PowerLemmas.{hidden, there}
 use Rattle.client_cell.proofs.HearLemmas.{lacks_why, off_why, has_room, sent_spelled, heard_cell, told_why, replayed}
 use Rattle.client_cell.proofs.cell.ClientCell.hear.Goals as goal
 
@@ -25,7 +26,7 @@ enter-requires-clause-room g c =
     let cell = c.self.invariant.0 in
     let o = opening_of c.self.inside.servers c.self.inside.opened.value in
     rw c.outcome-done.ensures
-    (has_room g.N.Notes.note _ c.self.inside.power cell (Deliver c.args.frame) c.deliver.new.self c.deliver.result c.make_room.new.hub.room refl (c.deliver.ensures.ends o cell.kept.past cell.kept.stands)
+    (has_room g.N.Notes.note _ c.self.inside.power cell (Deliver c.args.frame) c.deliver.new.power c.deliver.result c.make_room.new.hub.room refl (c.deliver.ensures.ends o cell.kept.past cell.kept.stands)
     (where_ok c.make_room.result c.make_room.ensures.room c.if-is_err.ensures.negation))
 
 pub enter-requires-clause-spelled : goal.enter-requires-clause-spelled
@@ -34,29 +35,29 @@ enter-requires-clause-spelled g c =
     let o = opening_of c.self.inside.servers c.self.inside.opened.value in
     let ends = c.deliver.ensures.ends o cell.kept.past cell.kept.stands in
     subst (λ (r : Result Said Fault × List (List ℕ)). All IsSpelled r.1) (sym c.outcome-done.ensures)
-    (sent_spelled g.N.Notes.note _ c.self.inside.power cell (Deliver c.args.frame) c.deliver.new.self c.deliver.result c.frames_are_spelled.ensures c.packets_are_in_range.ensures ends)
+    (sent_spelled g.N.Notes.note _ c.self.inside.power cell (Deliver c.args.frame) c.deliver.new.power c.deliver.result c.frames_are_spelled.ensures c.packets_are_in_range.ensures ends)
 
 pub invariant_of-self-2 : goal.invariant_of-self-2
 invariant_of-self-2 g c =
     let cell = c.self.invariant.0 in
     let o = opening_of c.self.inside.servers c.self.inside.opened.value in
     let ends = c.deliver.ensures.ends o cell.kept.past cell.kept.stands in
-    (heard_cell g.N.Notes.note _ c.self.inside.power c.deliver.new.self cell (Deliver c.args.frame) c.deliver.result c.args.came (Some c.args.position) c.make_room.new.hub.net c.enter.new.hub.net _ (failures_of g.N.Notes.note c.deliver.new.self) c.requires.asks ends (rw (c.outcome-done.ensures, c.make_room.ensures.items) at c.enter.ensures.heard), c.self.invariant.1)
+    (heard_cell g.N.Notes.note _ c.self.inside.power c.deliver.new.power cell (Deliver c.args.frame) c.deliver.result c.args.came (Some c.args.position) c.make_room.new.hub.net c.enter.new.hub.net _ (failures_of g.N.Notes.note c.deliver.new.power) c.requires.asks ends (rw (c.outcome-done.ensures, c.make_room.ensures.items) at c.enter.ensures.heard), c.self.invariant.1)
 
 pub returns-clause-why : goal.returns-clause-why
 returns-clause-why g c =
     let cell = c.self.invariant.0 in
     let o = opening_of c.self.inside.servers c.self.inside.opened.value in
     let ends = c.deliver.ensures.ends o cell.kept.past cell.kept.stands in
-    told_why g.N.Notes.note _ c.self.inside.power c.deliver.new.self cell (Deliver c.args.frame) c.deliver.result _ _ c.enter.result c.args.self.now (there g.N.Notes.note o cell.kept.past c.client.result (c.client.ensures o cell.kept.past cell.kept.stands) c.if-is_none.ensures) ends (rw c.outcome-done.ensures at c.enter.ensures.told) c.self.view_is
+    told_why g.N.Notes.note _ c.self.inside.power c.deliver.new.power cell (Deliver c.args.frame) c.deliver.result _ _ c.enter.result c.args.self.now (there (client_kind g.N.Notes.note o) cell.kept.past c.core.result (c.core.ensures o cell.kept.past cell.kept.stands) c.if-is_none.ensures) ends (rw c.outcome-done.ensures at c.enter.ensures.told) c.self.view_is
 
 pub returns-clause-replay : goal.returns-clause-replay
 returns-clause-replay g c =
     let cell = c.self.invariant.0 in
     let o = opening_of c.self.inside.servers c.self.inside.opened.value in
     let ends = c.deliver.ensures.ends o cell.kept.past cell.kept.stands in
-    replayed g.N.Notes.note _ c.deliver.new.self
-    (heard_cell g.N.Notes.note _ c.self.inside.power c.deliver.new.self cell (Deliver c.args.frame) c.deliver.result c.args.came (Some c.args.position) c.make_room.new.hub.net c.enter.new.hub.net _ (failures_of g.N.Notes.note c.deliver.new.self) c.requires.asks ends (rw (c.outcome-done.ensures, c.make_room.ensures.items) at c.enter.ensures.heard))
+    replayed g.N.Notes.note _ c.deliver.new.power
+    (heard_cell g.N.Notes.note _ c.self.inside.power c.deliver.new.power cell (Deliver c.args.frame) c.deliver.result c.args.came (Some c.args.position) c.make_room.new.hub.net c.enter.new.hub.net _ (failures_of g.N.Notes.note c.deliver.new.power) c.requires.asks ends (rw (c.outcome-done.ensures, c.make_room.ensures.items) at c.enter.ensures.heard))
 
 pub returns-then-is_none-clause-ends : goal.returns-then-is_none-clause-ends
 returns-then-is_none-clause-ends g c = left_out_posts Client c.args.came (Some c.args.position) c.args.hub.now.net c.args.self.now.history NodeOff refl
@@ -65,16 +66,16 @@ pub returns-then-is_none-clause-why : goal.returns-then-is_none-clause-why
 returns-then-is_none-clause-why g c =
     let cell = c.self.invariant.0 in
     let o = opening_of c.self.inside.servers c.self.inside.opened.value in
-    off_why g.N.Notes.note _ c.self.inside.power cell (Deliver c.args.frame) c.args.self.now (hidden g.N.Notes.note o cell.kept.past c.client.result (c.client.ensures o cell.kept.past cell.kept.stands) c.if-is_none.ensures) c.self.view_is
+    off_why g.N.Notes.note _ c.self.inside.power cell (Deliver c.args.frame) c.args.self.now (hidden (client_kind g.N.Notes.note o) cell.kept.past c.core.result (c.core.ensures o cell.kept.past cell.kept.stands) c.if-is_none.ensures) c.self.view_is
 
 pub returns-then-is_err-clause-why : goal.returns-then-is_err-clause-why
 returns-then-is_err-clause-why g c =
     let cell = c.self.invariant.0 in
     let o = opening_of c.self.inside.servers c.self.inside.opened.value in
-    lacks_why g.N.Notes.note _ c.self.inside.power cell (Deliver c.args.frame) c.args.self.now (there g.N.Notes.note o cell.kept.past c.client.result (c.client.ensures o cell.kept.past cell.kept.stands) c.if-is_none.ensures) c.self.view_is
+    lacks_why g.N.Notes.note _ c.self.inside.power cell (Deliver c.args.frame) c.args.self.now (there (client_kind g.N.Notes.note o) cell.kept.past c.core.result (c.core.ensures o cell.kept.past cell.kept.stands) c.if-is_none.ensures) c.self.view_is
 
 pub returns-clause-failures : goal.returns-clause-failures
 returns-clause-failures g c =
     let cell = c.self.invariant.0 in
     let o = opening_of c.self.inside.servers c.self.inside.opened.value in
-    hear_counts c.args.self.now.failures (failures_of g.N.Notes.note c.self.inside.power) (failures_of g.N.Notes.note c.deliver.new.self) _ _ (given c.deliver.result) c.enter.result (ap (λ (log : ClientLog). log.failures) c.self.view_is) (rw c.outcome-done.ensures at c.enter.ensures.told) (c.deliver.ensures.count o cell.kept.past cell.kept.stands)
+    hear_counts c.args.self.now.failures (failures_of g.N.Notes.note c.self.inside.power) (failures_of g.N.Notes.note c.deliver.new.power) _ _ (given c.deliver.result) c.enter.result (ap (λ (log : ClientLog). log.failures) c.self.view_is) (rw c.outcome-done.ensures at c.enter.ensures.told) (c.deliver.ensures.count o cell.kept.past cell.kept.stands)

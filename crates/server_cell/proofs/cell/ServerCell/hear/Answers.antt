@@ -7,15 +7,16 @@ use Rattle.messages.specs.declared.node.Node.TheVariants.{Server as ServerNode}
 use Rattle.node_history.specs.declared.answer.Said.{Said}
 use Rattle.node_history.specs.Calls.{HasWhy}
 use Rattle.node_history.specs.Rules.{Meets}
+use Rattle.node_history.specs.ServerKind.{server_kind}
 use Rattle.node_history.specs.ServerRules.{rules}
 use Rattle.node_history.proofs.CallLemmas.{left_out_posts}
 use Rattle.node_history.proofs.HubLemmas.{lacking, off_why, lack_why, step_why, hear_counts}
 use Rattle.node_history.proofs.MoveLemmas.{where_ok}
+use Rattle.node_history.proofs.PowerLemmas.{hidden, there}
 use Rattle.server_cell.specs.Cells.{ServerLog}
 use Rattle.server_cell.specs.Stands.{failures_of, given, ways}
 use Rattle.server_cell.proofs.CellLemmas.{opening_with}
 use Rattle.server_cell.proofs.HearLemmas.{short, has_room, sent_spelled, heard_cell, replayed, is_off_as}
-use Rattle.server_cell.proofs.PowerLemmas.{hidden, there}
 use Rattle.server_cell.proofs.cell.ServerCell.hear.Goals as goal
 
 pub returns-then-is_none-clause-ends : goal.returns-then-is_none-clause-ends
@@ -27,7 +28,7 @@ returns-then-is_none-clause-why g c =
     let note = g.N.Notes.note in
     let cell = c.self.invariant in
     let o = opening_with c.self.inside.me c.self.inside.boot c.self.inside.last_run in
-    let off = hidden note o cell.kept.past c.server.result (c.server.ensures o cell.kept.past cell.kept.stands) c.if-is_none.ensures in
+    let off = hidden (server_kind note o) cell.kept.past c.core.result (c.core.ensures o cell.kept.past cell.kept.stands) c.if-is_none.ensures in
     subst (λ (log : ServerLog). HasWhy (rules log.opening) log.history (Meets c.args.input) NodeOff) c.self.view_is
     (off_why (ways note o) _ c.self.inside.power cell.kept (Meets c.args.input) (is_off_as o cell.kept.past false off))
 
@@ -41,7 +42,7 @@ returns-then-is_err-clause-why g c =
     let note = g.N.Notes.note in
     let cell = c.self.invariant in
     let o = opening_with c.self.inside.me c.self.inside.boot c.self.inside.last_run in
-    let on = there note o cell.kept.past c.server.result (c.server.ensures o cell.kept.past cell.kept.stands) c.if-is_none.ensures in
+    let on = there (server_kind note o) cell.kept.past c.core.result (c.core.ensures o cell.kept.past cell.kept.stands) c.if-is_none.ensures in
     subst (λ (log : ServerLog). HasWhy (rules log.opening) log.history (Meets c.args.input) NoMemory) c.self.view_is
     (lack_why (ways note o) _ c.self.inside.power cell.kept (Meets c.args.input) (is_off_as o cell.kept.past true on))
 
@@ -53,7 +54,7 @@ enter-requires-clause-room g c =
     let ends = c.step.ensures.ends o cell.kept.past cell.kept.stands in
     rw c.outcome-done.ensures
     (has_room c.make_room.new.hub.room _ (where_ok c.make_room.result c.make_room.ensures.room c.if-is_err.ensures.negation)
-    (short note o cell.kept.past c.args.input c.step.new.self c.step.result cell.opens cell.kept.ranges ends))
+    (short note o cell.kept.past c.args.input c.step.new.power c.step.result cell.opens cell.kept.ranges ends))
 
 pub enter-requires-clause-spelled : goal.enter-requires-clause-spelled
 enter-requires-clause-spelled g c =
@@ -62,7 +63,7 @@ enter-requires-clause-spelled g c =
     let o = opening_with c.self.inside.me c.self.inside.boot c.self.inside.last_run in
     let ends = c.step.ensures.ends o cell.kept.past cell.kept.stands in
     subst (λ (r : Result Said Fault × List (List ℕ)). All IsSpelled r.1) (sym c.outcome-done.ensures)
-    (sent_spelled note o cell.kept.past c.args.input c.step.new.self c.step.result c.frames_are_spelled.ensures c.packets_are_in_range.ensures cell.opens cell.kept.ranges ends)
+    (sent_spelled note o cell.kept.past c.args.input c.step.new.power c.step.result c.frames_are_spelled.ensures c.packets_are_in_range.ensures cell.opens cell.kept.ranges ends)
 
 pub invariant_of-self-2 : goal.invariant_of-self-2
 invariant_of-self-2 g c =
@@ -70,7 +71,7 @@ invariant_of-self-2 g c =
     let cell = c.self.invariant in
     let o = opening_with c.self.inside.me c.self.inside.boot c.self.inside.last_run in
     let ends = c.step.ensures.ends o cell.kept.past cell.kept.stands in
-    heard_cell note o c.self.inside.power c.step.new.self _ _ c.self.inside.applied cell c.args.input c.step.result (ServerNode c.self.inside.me) c.args.came c.args.taken c.make_room.new.hub.net c.enter.new.hub.net c.requires.asks ends (rw (c.outcome-done.ensures, c.make_room.ensures.items) at c.enter.ensures.heard)
+    heard_cell note o c.self.inside.power c.step.new.power _ _ c.self.inside.applied cell c.args.input c.step.result (ServerNode c.self.inside.me) c.args.came c.args.taken c.make_room.new.hub.net c.enter.new.hub.net c.requires.asks ends (rw (c.outcome-done.ensures, c.make_room.ensures.items) at c.enter.ensures.heard)
 
 pub returns-clause-replay : goal.returns-clause-replay
 returns-clause-replay g c =
@@ -78,21 +79,21 @@ returns-clause-replay g c =
     let cell = c.self.invariant in
     let o = opening_with c.self.inside.me c.self.inside.boot c.self.inside.last_run in
     let ends = c.step.ensures.ends o cell.kept.past cell.kept.stands in
-    replayed note o c.step.new.self _ c.self.inside.applied
-    (heard_cell note o c.self.inside.power c.step.new.self _ _ c.self.inside.applied cell c.args.input c.step.result (ServerNode c.self.inside.me) c.args.came c.args.taken c.make_room.new.hub.net c.enter.new.hub.net c.requires.asks ends (rw (c.outcome-done.ensures, c.make_room.ensures.items) at c.enter.ensures.heard))
+    replayed note o c.step.new.power _ c.self.inside.applied
+    (heard_cell note o c.self.inside.power c.step.new.power _ _ c.self.inside.applied cell c.args.input c.step.result (ServerNode c.self.inside.me) c.args.came c.args.taken c.make_room.new.hub.net c.enter.new.hub.net c.requires.asks ends (rw (c.outcome-done.ensures, c.make_room.ensures.items) at c.enter.ensures.heard))
 
 pub returns-clause-why : goal.returns-clause-why
 returns-clause-why g c =
     let note = g.N.Notes.note in
     let cell = c.self.invariant in
     let o = opening_with c.self.inside.me c.self.inside.boot c.self.inside.last_run in
-    let on = there note o cell.kept.past c.server.result (c.server.ensures o cell.kept.past cell.kept.stands) c.if-is_none.ensures in
+    let on = there (server_kind note o) cell.kept.past c.core.result (c.core.ensures o cell.kept.past cell.kept.stands) c.if-is_none.ensures in
     subst (λ (log : ServerLog). IfErr c.enter.result (HasWhy (rules log.opening) log.history (Meets c.args.input))) c.self.view_is
-    (step_why (ways note o) _ c.self.inside.power c.step.new.self cell.kept c.args.input (given c.step.result) _ _ c.enter.result (is_off_as o cell.kept.past true on) refl (c.step.ensures.ends o cell.kept.past cell.kept.stands) (rw c.outcome-done.ensures at c.enter.ensures.told))
+    (step_why (ways note o) _ c.self.inside.power c.step.new.power cell.kept c.args.input (given c.step.result) _ _ c.enter.result (is_off_as o cell.kept.past true on) refl (c.step.ensures.ends o cell.kept.past cell.kept.stands) (rw c.outcome-done.ensures at c.enter.ensures.told))
 
 pub returns-clause-failures : goal.returns-clause-failures
 returns-clause-failures g c =
     let note = g.N.Notes.note in
     let cell = c.self.invariant in
     let o = opening_with c.self.inside.me c.self.inside.boot c.self.inside.last_run in
-    hear_counts c.args.self.now.failures (failures_of note c.self.inside.power) (failures_of note c.step.new.self) _ _ (given c.step.result) c.enter.result (ap (λ (log : ServerLog). log.failures) c.self.view_is) (rw c.outcome-done.ensures at c.enter.ensures.told) (c.step.ensures.count o cell.kept.past cell.kept.stands)
+    hear_counts c.args.self.now.failures (failures_of note c.self.inside.power) (failures_of note c.step.new.power) _ _ (given c.step.result) c.enter.result (ap (λ (log : ServerLog). log.failures) c.self.view_is) (rw c.outcome-done.ensures at c.enter.ensures.told) (c.step.ensures.count o cell.kept.past cell.kept.stands)

@@ -1,0 +1,50 @@
+//! The client is the core of a node.
+
+ghost use Rattle.std.specs.Prelude.{◌≡◌, ◌≤◌};
+ghost use Rattle.client_core.specs.declared.input.Input.{Input as ClientInput};
+ghost use Rattle.client_core.specs.History.{Opening as ClientOpening};
+ghost use Rattle.client_core.specs.Hearing.{FrameEntry};
+ghost use Rattle.node_history.specs.ClientKind.{client_kind, client_has_power};
+
+use crate::node_core::NodeCore;
+use client_core::Client;
+use disk_model::Notes;
+use fc_base::Fault;
+use std::alloc::Global;
+
+impl<N: Notes + Drop> NodeCore<N> for Client<N> {
+    type Seed = u32;
+
+    ghost Opening = { ClientOpening };
+
+    ghost Input = { ClientInput };
+
+    ghost Past = { FrameEntry };
+
+    ghost kind = { client_kind N.note };
+
+    ghost failures = { λ client. (N.note client.core.notes).failures };
+
+    ghost notes_failures = { λ notes. (N.note notes).failures };
+
+    ghost IsOf = { λ servers o. o.servers ≡ servers };
+
+    ghost IsSeed = { λ servers. (1 ≤ servers) × (servers ≤ 8) };
+
+    ghost has_power = { client_has_power N.note };
+
+    fn is_up(&self) -> bool {
+        self.on()
+    }
+
+    fn into_notes(self) -> N {
+        self.off()
+    }
+
+    /// Starts a client of so many servers from what its note says. It has no mirror.
+    ///
+    /// `LoadFault`. `NoMemory`.
+    fn start(alloc: Global, servers: u32, notes: N) -> Result<Client<N>, (N, Fault)> {
+        Client::restart(alloc, servers, false, notes)
+    }
+}
