@@ -1,6 +1,7 @@
 -- When the nodes that ran agree with the journal of their frames.
 use Rattle.std.specs.Prelude.{◌≡◌, ◌≤◌, true, List, length, slice_get, All}
 use Rattle.std.specs.Option.{ForSome}
+use Rattle.fc_base.specs.declared.limits.TheConstants.{MAX_SERVERS}
 use Rattle.messages.specs.declared.node.Node.{Node}
 use Rattle.messages.specs.declared.node.Node.TheVariants.{Server, Client, Mirror}
 use Rattle.hub.specs.Network.{Network}
@@ -15,7 +16,7 @@ use Rattle.assembly.specs.Ran.{Ran, history_of}
 -- at each place is the server of that number, opened over a note that says of no boot and no run. There is
 -- no mirror to be opened.
 abbrev pub IsOpened : Ran → Node → Type 0
-IsOpened r Client = (is_blank r.client.opening.noted ≡ true) × (r.client.opening.servers ≡ length r.servers) × (length r.servers ≤ 8)
+IsOpened r Client = (is_blank r.client.opening.noted ≡ true) × (r.client.opening.servers ≡ length r.servers) × (length r.servers ≤ MAX_SERVERS)
 IsOpened r Mirror = Unit {0}
 IsOpened r (Server s) = ForSome (slice_get r.servers s) (λ cell. cell.opening ≡ opening_of s)
 

@@ -13,7 +13,7 @@ use crate::fault::AssembleFault;
 use crate::order::Order;
 use client_cell::ClientCell;
 use disk_model::Notes;
-use fc_base::ServerNo;
+use fc_base::{MAX_SERVERS, ServerNo};
 use hub::Hub;
 use messages::Node;
 use node_history::History;
@@ -50,7 +50,7 @@ fn follow_journal<N: Notes + Drop>(
     none: &History,
 ) -> Result<(), AssembleFault>
     requires none { none.now.items ≡ [] }
-    requires few { length servers.now ≤ 8 }
+    requires few { length servers.now ≤ MAX_SERVERS }
     requires new { order.old ≡ nothing_followed }
     ensures legal { IsLegal hub.now.net }
     ensures followed { OnOk result (IsFollowed (ran client.now servers.now) hub.now.net hub.now.net.journal order.new) }

@@ -11,7 +11,7 @@ mod sent;
 
 use client_core::Client;
 use disk_model::Notes;
-use fc_base::Fault;
+use fc_base::{Fault, MAX_SERVERS};
 use node_history::{History, Power};
 use std::alloc::Global;
 use std::marker::Model;
@@ -68,7 +68,7 @@ impl<N: Notes + Drop> ClientCell<N> {
     /// `LoadFault`, `BadNote`, `NoMemory`: the notes hold what they held.
     pub fn new(alloc: Global, servers: u32, notes: N) -> Result<ClientCell<N>, (N, Fault)>
         requires some { 1 ≤ servers }
-        requires few { servers ≤ 8 }
+        requires few { servers ≤ MAX_SERVERS }
         ensures opened { IfOk result (λ cell. (cell.opening.servers ≡ servers) × Says (N.note notes).bytes cell.opening.noted
             × (cell.history ≡ []) × (cell.failures ≡ (N.note notes).failures)) }
         ensures refused { IfErr result (λ back. NotOpened false (N.note notes) (N.note back.0) back.1) }

@@ -17,7 +17,7 @@ use crate::request::Request;
 use crate::task::Task;
 use client_core::Client;
 use disk_model::Notes;
-use fc_base::{Attempt, Fault, RunNo};
+use fc_base::{Attempt, Fault, MAX_SERVERS, RunNo};
 use messages::{Frame, Frames};
 use node_history::{Answer, Power, Said};
 use std::alloc::Global;
@@ -30,7 +30,7 @@ pub(crate) fn perform<N: Notes + Drop>(
     task: &Task,
 ) -> Result<Said, Fault>
     requires some { 1 ≤ servers }
-    requires few { servers ≤ 8 }
+    requires few { servers ≤ MAX_SERVERS }
     ensures ends { (o : Opening) (past : List FrameEntry) → o.servers ≡ servers → Stands N.note o past power.old →
         TaskEnds (ways N.note o) past (asked (came_by task.now)) power.new result }
     ensures count { (o : Opening) (past : List FrameEntry) → o.servers ≡ servers → Stands N.note o past power.old →

@@ -4,6 +4,7 @@ ghost use Rattle.std.specs.Prelude.{◌≡◌, ◌≤◌, IfSome};
 ghost use Rattle.commands.specs.Command.{IsRequest, IsLive};
 
 use clap::{Arg, ArgMatches, Command, Error};
+use fc_base::{MAX_SERVERS, MAX_WORKERS};
 use std::alloc::{AllocError, Global};
 use std::convert::AsStr;
 
@@ -89,8 +90,8 @@ fn live_request<'a>(words: &ArgMatches<'a>) -> Option<Request<'a>>
     ensures { IfSome result IsLive }
 {
     let size = FleetSize {
-        servers: number_among(words, "servers", 8)?,
-        workers: number_among(words, "workers", 16)?,
+        servers: number_among(words, "servers", MAX_SERVERS)?,
+        workers: number_among(words, "workers", MAX_WORKERS)?,
     };
     let path = words.get_str("path")?;
     Some(Request::Live { size, path })

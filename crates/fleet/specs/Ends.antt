@@ -2,6 +2,7 @@
 use Rattle.std.specs.Prelude.{◌≡◌, ℕ, ◌+◌, ◌≤◌, ◌==◌, ◌&&◌, min, List, [], ◌∷◌, ◌++◌, length, map, Option, Some, IfNone, All, slice_get}
 use Rattle.std.specs.List.{find}
 use Rattle.std.specs.Option.{option_map, option_map_or}
+use Rattle.fc_base.specs.declared.limits.TheConstants.{MAX_JOBS}
 use Rattle.fc_base.specs.declared.report.ReportParts.{ReportParts}
 use Rattle.fc_base.specs.Counted.{numbers_below}
 use Rattle.job_file.specs.declared.job.Job.{Job}
@@ -44,7 +45,7 @@ pub record Checks (attempt count : ℕ) (cell : ServerLog) : Type 0 where
   pub past : List FrameEntry
   pub replay : IsReplay cell past
   pub attempt_is : (status cell.opening (looked (packets_heard cell.opening past))).attempt ≡ attempt
-  pub jobs_are : min 16 (length (jobs_checked cell.opening (looked (packets_heard cell.opening past)))) ≡ count
+  pub jobs_are : min MAX_JOBS (length (jobs_checked cell.opening (looked (packets_heard cell.opening past)))) ≡ count
   pub some : 1 ≤ count
 
 -- By its history, a server has refused the state that came for a job of its open check.

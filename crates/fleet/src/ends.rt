@@ -1,6 +1,7 @@
 //! How the checks of a fleet have ended.
 
 ghost use Rattle.std.specs.Prelude.{◌≡◌, min, length, List, IfOk, OnOk};
+ghost use Rattle.fc_base.specs.declared.limits.TheConstants.{MAX_JOBS};
 ghost use Rattle.server_core.specs.History.{Opening};
 ghost use Rattle.server_core.specs.Answers.{looked};
 ghost use Rattle.server_core.specs.Hearing.{FrameEntry, packets_heard};
@@ -83,7 +84,7 @@ fn jobs_in(server: &Server, attempt: Attempt) -> Result<u32, FleetFault>
 /// How many jobs the open check of a server has.
 fn count_of(core: &server_core::Server<MemNotes>) -> u32
     ensures { (o : Opening) (past : List FrameEntry) → StandsFor note_of core.now o past →
-        result ≡ min 16 (length (jobs_checked o (looked (packets_heard o past)))) }
+        result ≡ min MAX_JOBS (length (jobs_checked o (looked (packets_heard o past)))) }
 {
     for job in 0..MAX_JOBS {
         if core.check_job(JobNo(job)).is_none() {

@@ -1,6 +1,7 @@
 //! A fleet, from the text of a run to the reports of its checks.
 
 ghost use Rattle.std.specs.Prelude.{◌≤◌, IfOk};
+ghost use Rattle.fc_base.specs.declared.limits.TheConstants.{MAX_SERVERS, MAX_WORKERS};
 ghost use Rattle.fleet.specs.Asked.{IsAsked};
 ghost use Rattle.fleet.specs.Heard.{AreHeard, AreOfOneRun};
 ghost use Rattle.fleet.specs.OneRun.{IsOneRun};
@@ -36,8 +37,8 @@ pub fn run_fleet<R: Threads + Wait + Sync, T: Trigger, G: Gate + Sync>(
     trigger: &mut T,
     gate: &G,
 ) -> Result<Vec<End>, FleetFault>
-    requires servers { (1 ≤ servers) × (servers ≤ 8) }
-    requires workers { (1 ≤ workers) × (workers ≤ 16) }
+    requires servers { (1 ≤ servers) × (servers ≤ MAX_SERVERS) }
+    requires workers { (1 ≤ workers) × (workers ≤ MAX_WORKERS) }
     ensures { IfOk result (λ ends. AreOfOneRun servers write.now read.now ends.items) }
 {
     let (ends, _left) = run_and_leave(rt, alloc, servers, workers, write, read, trigger, gate)?;
@@ -55,8 +56,8 @@ pub fn run_and_leave<R: Threads + Wait + Sync, T: Trigger, G: Gate + Sync>(
     trigger: &mut T,
     gate: &G,
 ) -> Result<(Vec<End>, Left), FleetFault>
-    requires servers { (1 ≤ servers) × (servers ≤ 8) }
-    requires workers { (1 ≤ workers) × (workers ≤ 16) }
+    requires servers { (1 ≤ servers) × (servers ≤ MAX_SERVERS) }
+    requires workers { (1 ≤ workers) × (workers ≤ MAX_WORKERS) }
     ensures heard { IfOk result (λ ran. AreHeard ran.1 servers ran.0.items) }
     ensures one_run { IfOk result (λ ran. IsOneRun ran.1) }
     ensures asked { IfOk result (λ ran. IsAsked ran.1.client write.now read.now) }
@@ -84,8 +85,8 @@ fn run_to_the_end<R: Threads + Wait + Sync, T: Trigger, G: Gate + Sync>(
     trigger: &mut T,
     gate: &G,
 ) -> Result<(Left, Result<RunNo, FleetFault>), FleetFault>
-    requires servers { (1 ≤ servers) × (servers ≤ 8) }
-    requires workers { (1 ≤ plan.workers) × (plan.workers ≤ 16) }
+    requires servers { (1 ≤ servers) × (servers ≤ MAX_SERVERS) }
+    requires workers { (1 ≤ plan.workers) × (plan.workers ≤ MAX_WORKERS) }
     ensures { IfOk result (λ ran. IsOneRun ran.0) }
 {
     let Opened {

@@ -18,11 +18,11 @@ use Rattle.server_core.specs.contracts.progress.Progress as progress
 use Rattle.server_core.specs.contracts.open_check.OpenCheck as open_check
 use Rattle.server_core.specs.contracts.machine.Machine as machine
 use Rattle.server_core.specs.contracts.server.Server as server_core
+use Rattle.client_core.specs.contracts.client.Client as client_core
 use Rattle.node_history.specs.contracts.logged.Logged as logged
+use Rattle.node_history.specs.contracts.power.Power as power
 use Rattle.client_cell.specs.contracts.cell.ClientCell as client
-use Rattle.client_cell.specs.contracts.power.Power as client_power
 use Rattle.server_cell.specs.contracts.cell.ServerCell as server
-use Rattle.server_cell.specs.contracts.power.Power as server_power
 use Rattle.server_cell.specs.contracts.seat.Seat as seat
 use Rattle.fleet_threads.specs.contracts.crew.Hand as hand
 use Rattle.fleet_threads.specs.contracts.flags.Flags as flags
@@ -43,12 +43,15 @@ logged_sent = search (fault_sent, frames_sent, sendable, crosses) depth 60 fits 
 opened_sent : (T : RattleType) → IsSend (snapshot.the_row T)
 opened_sent T = search (sendable, crosses) depth 20
 
-client_power_sent : (T : RattleType) → IsSend T → IsSend (client_power.the_field T).row
-client_power_sent T s = search (sendable, crosses, maps) depth 60 fits 20000
+power_sent : (C N : RattleType) → IsSend C → IsSend N → IsSend (power.the_field C N).row
+power_sent C N c n = search (sendable, crosses) depth 60 fits 20000
+
+client_core_sent : (T : RattleType) → IsSend T → IsSend (client_core.the_row T)
+client_core_sent T s = search (sendable, crosses, maps) depth 60 fits 20000
 
 -- The client under its lock, with its notes.
 pub client_sent : (T : RattleType) (notes : Ghosts T.Denot) → IsSend T → IsSend (client.the_field T notes).row
-client_sent T notes s = search (client_power_sent, logged_sent, opened_sent, sendable, crosses) depth 60 fits 20000
+client_sent T notes s = search (power_sent, client_core_sent, logged_sent, opened_sent, sendable, crosses) depth 60 fits 20000
 
 window_sent : IsSend (window.the_field).row
 window_sent = search (Cells-send, Deed-send, sendable, crosses) depth 60 fits 20000
@@ -71,15 +74,12 @@ open_check_sent = search (progress_sent, sendable, crosses, maps) depth 100 fits
 machine_sent : IsSend (machine.the_field).row
 machine_sent = search (run_sent, open_check_sent, sendable, crosses, maps) depth 100 fits 20000
 
-core_sent : (T : RattleType) → IsSend T → IsSend (server_core.the_field T).row
+core_sent : (T : RattleType) → IsSend T → IsSend (server_core.the_row T)
 core_sent T s = search (machine_sent, sendable, crosses, maps) depth 100 fits 20000
-
-server_power_sent : (T : RattleType) → IsSend T → IsSend (server_power.the_field T).row
-server_power_sent T s = search (core_sent, sendable, crosses, maps) depth 100 fits 20000
 
 -- A server under its lock, with its notes.
 pub server_sent : (T : RattleType) (notes : Ghosts T.Denot) → IsSend T → IsSend (server.the_field T notes).row
-server_sent T notes s = search (server_power_sent, logged_sent, sendable, crosses) depth 60 fits 20000
+server_sent T notes s = search (power_sent, core_sent, logged_sent, sendable, crosses) depth 60 fits 20000
 
 hub_sent : IsSend (hub.the_field).row
 hub_sent = search (sendable, crosses, maps) depth 60 fits 20000

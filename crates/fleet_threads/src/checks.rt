@@ -6,7 +6,7 @@ use crate::fault::FleetFault;
 use crate::nodes::{Nodes, Server, add};
 use crate::post::post;
 use disk_model::MemDisk;
-use fc_base::{Attempt, CheckReport, Fault, JobNo, JobRecord, Key, MAX_JOBS};
+use fc_base::{Attempt, CheckReport, Fault, JobNo, JobRecord, Key, MAX_JOBS, MAX_WORKERS};
 use parallel_checks::{Task, check_jobs};
 use server_cell::Report;
 use server_core::Progress;
@@ -38,7 +38,7 @@ pub(crate) fn check_all<R: Threads + Wait + Sync>(
     workers: u32,
 ) -> Result<(), FleetFault>
     requires some { 1 ≤ workers }
-    requires few { workers ≤ 16 }
+    requires few { workers ≤ MAX_WORKERS }
 {
     let dues = dues_of(rt, alloc, &nodes.servers)?;
     let tasks = tasks_of(rt, alloc, nodes, &dues)?;

@@ -10,7 +10,7 @@ use crate::nodes::Nodes;
 use crate::post::post;
 use crate::trigger::Trigger;
 use client_cell::{Command, Request};
-use fc_base::{Attempt, Fault, MAX_TEXT, RunNo};
+use fc_base::{Attempt, Fault, MAX_TEXT, MAX_WORKERS, RunNo};
 use messages::{Act, Text};
 use node_history::Answer;
 use std::alloc::Global;
@@ -40,7 +40,7 @@ pub(crate) fn run<R: Threads + Wait + Sync, T: Trigger>(
     trigger: &mut T,
 ) -> Result<RunNo, FleetFault>
     requires some { 1 ≤ plan.workers }
-    requires few { plan.workers ≤ 16 }
+    requires few { plan.workers ≤ MAX_WORKERS }
 {
     let Plan {
         workers,
@@ -80,7 +80,7 @@ fn check_files<R: Threads + Wait + Sync>(
     workers: u32,
 ) -> Result<(), FleetFault>
     requires some { 1 ≤ workers }
-    requires few { workers ≤ 16 }
+    requires few { workers ≤ MAX_WORKERS }
 {
     wait_for(rt, nodes, flags, &Awaited::Ready(attempt))?;
     check_all(rt, alloc, nodes, attempt, workers)?;

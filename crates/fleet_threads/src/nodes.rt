@@ -6,7 +6,7 @@ use crate::crew::Hand;
 use crate::fault::FleetFault;
 use client_cell::ClientCell;
 use disk_model::{MemDisk, MemNotes};
-use fc_base::{Fault, MAX_JOBS, ServerNo};
+use fc_base::{Fault, MAX_JOBS, MAX_SERVERS, MAX_WORKERS, ServerNo};
 use hub::Hub;
 use server_cell::{Seat, ServerCell};
 use std::alloc::Global;
@@ -41,8 +41,8 @@ pub struct Opened {
 /// 1 to 16 workers. `NoMemory` is want of memory.
 pub fn open(alloc: Global, servers: u32, workers: u32) -> Result<Opened, FleetFault>
     requires some { 1 ≤ servers }
-    requires few { servers ≤ 8 }
-    requires crew { workers ≤ 16 }
+    requires few { servers ≤ MAX_SERVERS }
+    requires crew { workers ≤ MAX_WORKERS }
     ensures servers { IfOk result (λ opened. length opened.nodes.servers.items ≡ servers) }
     ensures files { IfOk result (λ opened. length opened.nodes.files.items ≡ servers) }
     ensures posts { IfOk result (λ opened. length opened.posts.items ≡ servers) }
@@ -76,8 +76,8 @@ impl Opened {
 
     /// Opens one server more, of this number.
     fn add_server(&mut self, alloc: Global, number: u32, workers: u32) -> Result<(), FleetFault>
-        requires server { number < 8 }
-        requires crew { workers ≤ 16 }
+        requires server { number < MAX_SERVERS }
+        requires crew { workers ≤ MAX_WORKERS }
         ensures servers { OnOk result (length self.new.nodes.servers.items ≡ length self.old.nodes.servers.items + 1) }
         ensures files { OnOk result (length self.new.nodes.files.items ≡ length self.old.nodes.files.items + 1) }
         ensures posts { OnOk result (length self.new.posts.items ≡ length self.old.posts.items + 1) }
@@ -94,7 +94,7 @@ impl Opened {
 /// A client of so many servers, over a blank note.
 fn open_client(alloc: Global, servers: u32) -> Result<Client, Fault>
     requires some { 1 ≤ servers }
-    requires few { servers ≤ 8 }
+    requires few { servers ≤ MAX_SERVERS }
 {
     match ClientCell::new(alloc, servers, MemNotes::new(Vec::new(alloc))) {
         Ok(client) => Ok(client),
@@ -104,8 +104,8 @@ fn open_client(alloc: Global, servers: u32) -> Result<Client, Fault>
 
 /// A server over a blank note, with its seats: one for each worker, and the last for the post.
 fn open_server(alloc: Global, number: u32, workers: u32) -> Result<(Server, Vec<Seat>), Fault>
-    requires server { number < 8 }
-    requires crew { workers ≤ 16 }
+    requires server { number < MAX_SERVERS }
+    requires crew { workers ≤ MAX_WORKERS }
 {
     let notes = MemNotes::new(Vec::new(alloc));
     match ServerCell::new(alloc, ServerNo(number), notes, workers + 1) {

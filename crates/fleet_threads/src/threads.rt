@@ -11,7 +11,7 @@ use crate::flags::Flags;
 use crate::nodes::Nodes;
 use crate::post::run_post;
 use crate::trigger::Trigger;
-use fc_base::{Fault, RunNo};
+use fc_base::{Fault, MAX_WORKERS, RunNo};
 use server_cell::Seat;
 use std::alloc::Global;
 use std::sync::Wait;
@@ -45,7 +45,7 @@ pub fn run_threads<R: Threads + Wait + Sync, T: Trigger, G: Gate + Sync>(
     requires posts { length posts.items ≡ length nodes.now.servers.items }
     requires files { length nodes.now.files.items ≡ length nodes.now.servers.items }
     requires some { 1 ≤ plan.workers }
-    requires few { plan.workers ≤ 16 }
+    requires few { plan.workers ≤ MAX_WORKERS }
 {
     let flags = Flags::new();
     let flags = &flags;
@@ -56,7 +56,7 @@ pub fn run_threads<R: Threads + Wait + Sync, T: Trigger, G: Gate + Sync>(
             requires posts { length posts.items ≡ length nodes.now.servers.items }
             requires files { length nodes.now.files.items ≡ length nodes.now.servers.items }
             requires some { 1 ≤ plan.workers }
-            requires few { plan.workers ≤ 16 }
+            requires few { plan.workers ≤ MAX_WORKERS }
         {
             let post = move || -> Vec<Seat>
                 requires posts { length posts.items ≡ length nodes.now.servers.items }

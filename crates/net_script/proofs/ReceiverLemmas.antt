@@ -3,6 +3,7 @@ use Rattle.std.proofs.Common.{◌≡◌, ◌≤◌, ℕ, List, Option, Some, Non
 use Rattle.std.specs.Option.{option_map}
 use Rattle.std.proofs.lemmas.List.Elements.{Contains-get_or}
 use Rattle.std.proofs.lemmas.Option.{slice_get-map, slice_get_within, get_or_from_slice_get}
+use Rattle.fc_base.specs.declared.limits.TheConstants.{MAX_SERVERS}
 use Rattle.messages.specs.declared.frame.Frame.{Frame}
 use Rattle.messages.specs.declared.frame.Frame.TheVariants.{Whole, Piece}
 use Rattle.messages.specs.declared.reading.look.FrameLook.{FrameLook}
@@ -24,7 +25,7 @@ pub record Looked (sent : List Frame) (i : ℕ) (looked : Option FrameLook) : Ty
 contained : (sent : List Frame) (i : ℕ) (f : Frame) → slice_get sent i ≡ Some f → Contains sent f
 contained sent i f at = subst (Contains sent) (get_or_from_slice_get sent i f f at) (Contains-get_or sent i f (slice_get_within sent i f at))
 
-pub looked_at : SentAreFrames → (setup : Setup) (before : List Happening) → setup.servers ≤ 8 → (kept : List (List ℕ)) → kept ≡ frames setup (world setup before)
+pub looked_at : SentAreFrames → (setup : Setup) (before : List Happening) → setup.servers ≤ MAX_SERVERS → (kept : List (List ℕ)) → kept ≡ frames setup (world setup before)
     → (i : ℕ) (bytes : List ℕ) → slice_get kept i ≡ Some bytes → (looked : Option FrameLook) → LooksAtFrames bytes looked
     → Looked (frames_sent setup (steps (world setup before))) i looked
 looked_at law setup before few kept kept_is i bytes at looked looks = with_frame (slice_get sent i) refl

@@ -1,6 +1,7 @@
 -- A line asks for 1 to 8 servers.
 use Rattle.std.proofs.Common.{◌≡◌, ℕ, Bool, true, false, ◌&&◌, cond, nat_le, codes, List, [], ◌∷◌, ◌++◌, Option, Some, None, take, drop, bytes_eq, refl, arith}
 use Rattle.std.proofs.lemmas.Bool.Decides.{nat_tests}
+use Rattle.fc_base.specs.declared.limits.TheConstants.{MAX_SERVERS}
 use Rattle.messages.specs.declared.node.Node.{Node}
 use Rattle.net_script.specs.declared.command.Saving.{Saving}
 use Rattle.net_script.specs.declared.command.Saving.TheVariants.{Begin, Verify, Deliver, Restart, Renew}
@@ -57,9 +58,9 @@ node_few line few (word ∷ []) = read_few line few (node_of word)
 node_few line few (word ∷ next ∷ words) = tt
 
 world_few : (n : ℕ) (mirror : Bool) → AsksFew (world_of n mirror)
-world_few n mirror = by_bounds (nat_le 1 n) (nat_le n 8) refl refl
+world_few n mirror = by_bounds (nat_le 1 n) (nat_le n MAX_SERVERS) refl refl
   where
-    by_bounds : (low high : Bool) → nat_le 1 n ≡ low → nat_le n 8 ≡ high → AsksFew (cond (low && high) (Servers (record { servers = n; mirror = mirror })) Unread)
+    by_bounds : (low high : Bool) → nat_le 1 n ≡ low → nat_le n MAX_SERVERS ≡ high → AsksFew (cond (low && high) (Servers (record { servers = n; mirror = mirror })) Unread)
     by_bounds true true some few = (grind (arith, nat_tests), grind (arith, nat_tests))
     by_bounds true false some few = tt
     by_bounds false high some few = tt

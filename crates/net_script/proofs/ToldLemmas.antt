@@ -4,6 +4,7 @@ use Rattle.std.specs.List.{flat_map}
 use Rattle.std.specs.Io.KnownBytes.{Appends}
 use Rattle.std.proofs.lemmas.List.{drop_at, map-append, take_all, length-map}
 use Rattle.std.proofs.lemmas.List.Elements.{Contains-append_right}
+use Rattle.fc_base.specs.declared.limits.TheConstants.{MAX_SERVERS}
 use Rattle.fc_base.specs.declared.fault.Fault.{Fault}
 use Rattle.fc_base.specs.declared.fault.Fault.TheVariants.{FrameBadField}
 use Rattle.fc_base.specs.declared.fault.FaultSort.{FaultSort}
@@ -67,7 +68,7 @@ pub record Prints (setup : Setup) (past : List Change) (e : Happening) (x : Outc
   pub lines : lines_by setup past e x ≡ (answer_line t.answer ∷ sent_lines t.first sent) ++ act_lines (addressee setup past e) t.act
   pub faults : has_faults t.answer ≡ tells_faults (answer setup past e) x
 
-prints : SentAreFrames → (setup : Setup) (before : List Happening) (e : Happening) (x : Outcome) (t : Told) (kept : List (List ℕ)) → setup.servers ≤ 8
+prints : SentAreFrames → (setup : Setup) (before : List Happening) (e : Happening) (x : Outcome) (t : Told) (kept : List (List ℕ)) → setup.servers ≤ MAX_SERVERS
     → outcome setup (world setup before) e ≡ x → told_by setup (world setup before) e x ≡ Ok t → kept ≡ worlds.frames setup (and_outcome x (world setup before))
     → Prints setup (world setup before) e x t kept
 prints law setup before e (Refuses fault) t kept few is told_so kept_is = absurd cc
@@ -86,7 +87,7 @@ prints law setup before e (Does change) t kept few is told_so kept_is =
     })
 
 -- So it is with the frames of a world that stands for what has changed then.
-pub told_prints : SentAreFrames → (setup : Setup) (before : List Happening) (e : Happening) (t : Told) (kept : List (List ℕ)) → setup.servers ≤ 8
+pub told_prints : SentAreFrames → (setup : Setup) (before : List Happening) (e : Happening) (t : Told) (kept : List (List ℕ)) → setup.servers ≤ MAX_SERVERS
     → told setup (world setup before) e ≡ Ok t → kept ≡ worlds.frames setup (world setup (e ∷ before))
     → Prints setup (world setup before) e (outcome setup (world setup before) e) t kept
 told_prints law setup before e t kept few told_so kept_is =

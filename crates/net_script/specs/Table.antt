@@ -1,6 +1,7 @@
 -- The table of commands.
 use Rattle.std.specs.Prelude.{◌≤◌, ℕ, Bool, true, false, ◌&&◌, nat_eq, nat_le, List, [], ◌∷◌, ◌++◌, Option, Some, None, option_map, take, drop, bytes_eq, codes, if◌then◌else◌}
 use Rattle.std.specs.List.{starts_with}
+use Rattle.fc_base.specs.declared.limits.TheConstants.{MAX_SERVERS}
 use Rattle.messages.specs.declared.refusal.Act.{Act}
 use Rattle.messages.specs.declared.refusal.Act.TheVariants as acts
 use Rattle.net_script.specs.declared.command.Saving.{Saving}
@@ -64,7 +65,7 @@ rot s j sector byte = if nat_le byte 255 then Asks (Rot (place s) (place j) sect
 -- A world of so many servers, 1 to 8, with a mirror or without.
 abbrev pub world_of : ℕ → Bool → Line
 world_of n mirror =
-    if nat_le 1 n && nat_le n 8 then Servers (record { servers = n; mirror = mirror }) else Unread
+    if nat_le 1 n && nat_le n MAX_SERVERS then Servers (record { servers = n; mirror = mirror }) else Unread
 
 -- `servers N`, `servers N mirror`.
 abbrev pub servers : List (List ℕ) → Line
@@ -127,7 +128,7 @@ line_of line = asked_by (words_of line)
 
 -- Where a line asks for a world, that has 1 to 8 servers.
 abbrev pub AsksFew : Line → Type 0
-AsksFew (Servers config) = (1 ≤ config.servers) × (config.servers ≤ 8)
+AsksFew (Servers config) = (1 ≤ config.servers) × (config.servers ≤ MAX_SERVERS)
 AsksFew Skipped = Unit {0}
 AsksFew (Asks command) = Unit {0}
 AsksFew Unread = Unit {0}

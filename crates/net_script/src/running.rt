@@ -2,6 +2,7 @@
 
 ghost use Rattle.std.specs.Prelude.{◌≡◌, ◌≤◌, ◌+◌, ◌∷◌, ℕ, length, IfOk, OnOk, IfSome};
 ghost use Rattle.std.specs.Io.KnownBytes.{Appends};
+ghost use Rattle.fc_base.specs.declared.limits.TheConstants.{MAX_SERVERS};
 ghost use Rattle.net_world.specs.Setup.{setup_of};
 ghost use Rattle.net_script.specs.Left.{orders_left};
 ghost use Rattle.printed.specs.Words.{ended};
@@ -95,7 +96,7 @@ fn open_world<W: Write>(
     writer: &mut W,
 ) -> io::Result<u8>
     requires some { 1 ≤ config.servers }
-    requires few { config.servers ≤ 8 }
+    requires few { config.servers ≤ MAX_SERVERS }
     requires room { orders.old.number + length orders.old.rest.now ≤ u64.MAX }
     ensures { (line : ℕ) → IfOk result (RunOrders lines_of_orders reads_well status_of_orders
         (Opens line (setup_of config) ∷ orders_left orders.old) (W.contents writer.old) (W.contents writer.new)) }

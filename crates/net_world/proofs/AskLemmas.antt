@@ -3,6 +3,7 @@ use Rattle.std.proofs.Common.{◌≡◌, refl, sym, ◌∙◌, ap, subst, inl, i
 use Rattle.std.specs.Prelude.{map, slice_get, Vec}
 use Rattle.std.specs.declared.alloc.Global.{Global}
 use Rattle.std.proofs.lemmas.List.{length-map}
+use Rattle.fc_base.specs.declared.limits.TheConstants.{MAX_JOBS}
 use Rattle.fc_base.specs.declared.fault.Fault.{Fault}
 use Rattle.fc_base.specs.declared.fault.Fault.TheVariants.{NodeOff}
 use Rattle.fc_base.specs.declared.fault.FaultSort.{FaultSort}
@@ -113,7 +114,7 @@ client_passed w past e sent old new stands h is node_is greatest = record {
   mirror_is = subst (λ (m : Option MirrorNode). IsMirror w (of_mirror (steps past)) m) (sym h.node_is) stands.mirror_is;
   greatest_is = subst (λ x. IsGreatest new.mirror.greatest (handed_in (x ∷ entries w past))) (sym (entry_again e)) greatest;
   files = ap (λ (v : Vec MemDisk Global). length v.items) h.files_are ∙ stands.files;
-  files_are = λ s j disk l at. stands.files_are s j disk l (ap (λ (v : Vec MemDisk Global). slice_get v.items (16 * s + j)) (sym h.files_are) ∙ at);
+  files_are = λ s j disk l at. stands.files_are s j disk l (ap (λ (v : Vec MemDisk Global). slice_get v.items (MAX_JOBS * s + j)) (sym h.files_are) ∙ at);
 }
 
 -- A step that hands in no generation.
@@ -138,7 +139,7 @@ client_kept w past old new stands h node_is = record {
   mirror_is = subst (λ (m : Mirrored). IsMirror w (of_mirror (steps past)) m.node) (sym h.mirror_is) stands.mirror_is;
   greatest_is = subst (λ (m : Mirrored). IsGreatest m.greatest (handed_in (client_entries w (steps past)))) (sym h.mirror_is) stands.greatest_is;
   files = ap (λ (v : Vec MemDisk Global). length v.items) h.files_are ∙ stands.files;
-  files_are = λ s j disk l at. stands.files_are s j disk l (ap (λ (v : Vec MemDisk Global). slice_get v.items (16 * s + j)) (sym h.files_are) ∙ at);
+  files_are = λ s j disk l at. stands.files_are s j disk l (ap (λ (v : Vec MemDisk Global). slice_get v.items (MAX_JOBS * s + j)) (sym h.files_are) ∙ at);
 }
 
 same_told : (first first' sent' : ℕ) (asked : Asked) (answer : Answer) → first ≡ first' → length asked.frames ≡ sent' → asked.answer ≡ answer → told_of first asked ≡ record { answer = answer; first = first'; sent = sent'; act = acts.None }

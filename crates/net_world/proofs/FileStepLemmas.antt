@@ -4,7 +4,7 @@ use Rattle.std.specs.Prelude.{if◌then◌else◌, map, nat_le, nat_lt, set, sli
 use Rattle.std.specs.declared.alloc.Global.{Global}
 use Rattle.std.proofs.Math.ListN.{length-set}
 use Rattle.std.proofs.lemmas.Bool.{eqb-true, eq-eqb, and_parts}
-use Rattle.fc_base.specs.declared.limits.TheConstants.{MAX_BLOCKS, MAX_BLOCK_SIZE, MAX_WRITES}
+use Rattle.fc_base.specs.declared.limits.TheConstants.{MAX_BLOCKS, MAX_BLOCK_SIZE, MAX_JOBS, MAX_WRITES}
 use Rattle.fc_base.specs.declared.record.JobParts.{JobParts}
 use Rattle.fc_base.specs.JobParts.{has_block_size, has_region, has_queue, has_pattern, is_within_limits}
 use Rattle.write_order.specs.Blocks.{block_of}
@@ -51,10 +51,10 @@ with_content held = record { content = held; power = Some 0; failures = 0 }
 
 -- The disk of file j of server s holds this; all else is as it was.
 pub record HasWritten (s j : ℕ) (disk : MemDisk) (old new : World) : Type 0 where
-  pub slot : j < 16
-  pub there : 16 * s + j < length old.files.items
+  pub slot : j < MAX_JOBS
+  pub there : MAX_JOBS * s + j < length old.files.items
   pub place : ℕ
-  pub place_is : place ≡ 16 * s + j
+  pub place_is : place ≡ MAX_JOBS * s + j
   pub set_is : new.files.items ≡ set old.files.items place disk
   pub sent_is : sent_in new.sent ≡ sent_in old.sent
   pub client_is : new.client ≡ old.client
@@ -76,21 +76,21 @@ other_file s j t i ne false h = refl
 file_by : (w : Setup) (past : List Change) (s j : ℕ) (change : Change) (held : ℕ → List ℕ) → IsOfFile w past s j change held → (t i : ℕ) (b : Bool) → is_file s j t i ≡ b → content w (change ∷ past) t i ≡ (if b then held else content w past t i)
 file_by w past s j change held f t i b h = f.content_is t i ∙ ap (λ x. if x then held else content w past t i) h
 
-same_place : (s j t i : ℕ) → j < 16 → i < 16 → 16 * s + j ≡ 16 * t + i → (s ≡ t) × (j ≡ i)
+same_place : (s j t i : ℕ) → j < MAX_JOBS → i < MAX_JOBS → MAX_JOBS * s + j ≡ MAX_JOBS * t + i → (s ≡ t) × (j ≡ i)
 same_place s j t i l m h = (omega (arith, h, l, m), omega (arith, h, l, m))
 
 each_file : (w : Setup) (past : List Change) (s j : ℕ) (change : Change) (held : ℕ → List ℕ) (disk : MemDisk) (old new : World) → StandsFor w past old → HasWritten s j disk old new → IsOfFile w past s j change held
-    → file_of disk ≡ with_content held → (t i : ℕ) (x : MemDisk) → i < 16 → slice_get new.files.items (16 * t + i) ≡ Some x → (b : Bool) → is_file s j t i ≡ b → file_of x ≡ file w (change ∷ past) t i
+    → file_of disk ≡ with_content held → (t i : ℕ) (x : MemDisk) → i < MAX_JOBS → slice_get new.files.items (MAX_JOBS * t + i) ≡ Some x → (b : Bool) → is_file s j t i ≡ b → file_of x ≡ file w (change ∷ past) t i
 each_file w past s j change held disk old new stands wrote f is t i x l at true h =
     let p = and_parts (s == t) (j == i) h in
-    let e : 16 * t + i ≡ 16 * s + j = omega (arith, eqb-true s t p.0, eqb-true j i p.1) in
-    let here : slice_get (set old.files.items (16 * s + j) disk) (16 * s + j) ≡ Some x =
-    ap (λ k. slice_get (set old.files.items k disk) (16 * s + j)) (sym wrote.place_is) ∙ ap (λ xs. slice_get xs (16 * s + j)) (sym wrote.set_is) ∙ ap (slice_get new.files.items) (sym e) ∙ at in
-    sym (ap file_of (is_set old.files.items (16 * s + j) disk x wrote.there here)) ∙ is ∙ ap with_content (sym (file_by w past s j change held f t i true h))
+    let e : MAX_JOBS * t + i ≡ MAX_JOBS * s + j = omega (arith, eqb-true s t p.0, eqb-true j i p.1) in
+    let here : slice_get (set old.files.items (MAX_JOBS * s + j) disk) (MAX_JOBS * s + j) ≡ Some x =
+    ap (λ k. slice_get (set old.files.items k disk) (MAX_JOBS * s + j)) (sym wrote.place_is) ∙ ap (λ xs. slice_get xs (MAX_JOBS * s + j)) (sym wrote.set_is) ∙ ap (slice_get new.files.items) (sym e) ∙ at in
+    sym (ap file_of (is_set old.files.items (MAX_JOBS * s + j) disk x wrote.there here)) ∙ is ∙ ap with_content (sym (file_by w past s j change held f t i true h))
 each_file w past s j change held disk old new stands wrote f is t i x l at false h =
-    let ne : 16 * s + j ≡ 16 * t + i → ⊥ = λ e. let p = same_place s j t i wrote.slot l e in true_false (sym (same_file s j t i p.0 p.1) ∙ h) in
-    let was : slice_get old.files.items (16 * t + i) ≡ Some x =
-    sym (set_there old.files.items (16 * s + j) (16 * t + i) disk ne) ∙ ap (λ k. slice_get (set old.files.items k disk) (16 * t + i)) (sym wrote.place_is) ∙ ap (λ xs. slice_get xs (16 * t + i)) (sym wrote.set_is) ∙ at in
+    let ne : MAX_JOBS * s + j ≡ MAX_JOBS * t + i → ⊥ = λ e. let p = same_place s j t i wrote.slot l e in true_false (sym (same_file s j t i p.0 p.1) ∙ h) in
+    let was : slice_get old.files.items (MAX_JOBS * t + i) ≡ Some x =
+    sym (set_there old.files.items (MAX_JOBS * s + j) (MAX_JOBS * t + i) disk ne) ∙ ap (λ k. slice_get (set old.files.items k disk) (MAX_JOBS * t + i)) (sym wrote.place_is) ∙ ap (λ xs. slice_get xs (MAX_JOBS * t + i)) (sym wrote.set_is) ∙ at in
     stands.files_are t i x l was ∙ ap with_content (sym (file_by w past s j change held f t i false h))
   where
     true_false : true ≡ false → ⊥
@@ -151,30 +151,30 @@ lands w past s j k mask = record { steps_are = refl; content_is = λ t i. by_fil
 
 -- ---- where there is no such file
 
-pub has_slot : (s j len : ℕ) → (nat_lt j 16 && nat_lt (16 * s + j) len) ≡ true → (j < 16) × (16 * s + j < len)
-has_slot s j len h = let p = and_parts (nat_lt j 16) (nat_lt (16 * s + j) len) h in (lt_of j 16 p.0, lt_of (16 * s + j) len p.1)
+pub has_slot : (s j len : ℕ) → (nat_lt j MAX_JOBS && nat_lt (MAX_JOBS * s + j) len) ≡ true → (j < MAX_JOBS) × (MAX_JOBS * s + j < len)
+has_slot s j len h = let p = and_parts (nat_lt j MAX_JOBS) (nat_lt (MAX_JOBS * s + j) len) h in (lt_of j MAX_JOBS p.0, lt_of (MAX_JOBS * s + j) len p.1)
 
-pub no_slot : (w : Setup) (s j len : ℕ) → (nat_lt j 16 && nat_lt (16 * s + j) len) ≡ false → len ≡ 16 * w.servers → s < w.servers → 16 ≤ j
-no_slot w s j len h e l = by_test (nat_lt j 16) refl
+pub no_slot : (w : Setup) (s j len : ℕ) → (nat_lt j MAX_JOBS && nat_lt (MAX_JOBS * s + j) len) ≡ false → len ≡ MAX_JOBS * w.servers → s < w.servers → MAX_JOBS ≤ j
+no_slot w s j len h e l = by_test (nat_lt j MAX_JOBS) refl
   where
-    by_test : (b : Bool) → nat_lt j 16 ≡ b → 16 ≤ j
-    by_test false f = le_of j 16 f
-    by_test true f = absurd (omega (arith, le_of (16 * s + j) len (ap (λ x. x && nat_lt (16 * s + j) len) (sym f) ∙ h), e, l, lt_of j 16 f))
+    by_test : (b : Bool) → nat_lt j MAX_JOBS ≡ b → MAX_JOBS ≤ j
+    by_test false f = le_of j MAX_JOBS f
+    by_test true f = absurd (omega (arith, le_of (MAX_JOBS * s + j) len (ap (λ x. x && nat_lt (MAX_JOBS * s + j) len) (sym f) ∙ h), e, l, lt_of j MAX_JOBS f))
 
-pub rot_free : (w : Setup) (s j : ℕ) → s < w.servers → j < 16 → no_file w s j ≡ None
-rot_free w s j l m = both (nat_lt s w.servers) (nat_lt j 16) (lt_true s w.servers l) (lt_true j 16 m)
+pub rot_free : (w : Setup) (s j : ℕ) → s < w.servers → j < MAX_JOBS → no_file w s j ≡ None
+rot_free w s j l m = both (nat_lt s w.servers) (nat_lt j MAX_JOBS) (lt_true s w.servers l) (lt_true j MAX_JOBS m)
   where
     both : (a b : Bool) → a ≡ true → b ≡ true → option_or (unless a NoServer) (unless b NoWrite) ≡ None
     both a b h k = rw (h, k) refl
 
 pub rot_none : (w : Setup) (s j : ℕ) → w.servers ≤ s → no_file w s j ≡ Some NoServer
-rot_none w s j h = first (nat_lt s w.servers) (nat_lt j 16) (lt_false s w.servers h)
+rot_none w s j h = first (nat_lt s w.servers) (nat_lt j MAX_JOBS) (lt_false s w.servers h)
   where
     first : (a b : Bool) → a ≡ false → option_or (unless a NoServer) (unless b NoWrite) ≡ Some NoServer
     first a b h = rw h refl
 
-pub rot_past : (w : Setup) (s j : ℕ) → s < w.servers → 16 ≤ j → no_file w s j ≡ Some NoWrite
-rot_past w s j l h = second (nat_lt s w.servers) (nat_lt j 16) (lt_true s w.servers l) (lt_false j 16 h)
+pub rot_past : (w : Setup) (s j : ℕ) → s < w.servers → MAX_JOBS ≤ j → no_file w s j ≡ Some NoWrite
+rot_past w s j l h = second (nat_lt s w.servers) (nat_lt j MAX_JOBS) (lt_true s w.servers l) (lt_false j MAX_JOBS h)
   where
     second : (a b : Bool) → a ≡ true → b ≡ false → option_or (unless a NoServer) (unless b NoWrite) ≡ Some NoWrite
     second a b h k = rw (h, k) refl
@@ -182,19 +182,19 @@ rot_past w s j l h = second (nat_lt s w.servers) (nat_lt j 16) (lt_true s w.serv
 -- ---- the file holds what it held
 
 same_by : (w : Setup) (past : List Change) (s j : ℕ) (disk : MemDisk) (old new : World) → StandsFor w past old → HasWritten s j disk old new → file_of disk ≡ file w past s j
-    → (t i : ℕ) (x : MemDisk) → i < 16 → slice_get new.files.items (16 * t + i) ≡ Some x → (b : Bool) → is_file s j t i ≡ b → file_of x ≡ file w past t i
+    → (t i : ℕ) (x : MemDisk) → i < MAX_JOBS → slice_get new.files.items (MAX_JOBS * t + i) ≡ Some x → (b : Bool) → is_file s j t i ≡ b → file_of x ≡ file w past t i
 same_by w past s j disk old new stands wrote is t i x l at true h =
     let p = and_parts (s == t) (j == i) h in
     let st = eqb-true s t p.0 in
     let ji = eqb-true j i p.1 in
-    let e : 16 * t + i ≡ 16 * s + j = omega (arith, st, ji) in
-    let here : slice_get (set old.files.items (16 * s + j) disk) (16 * s + j) ≡ Some x =
-    ap (λ k. slice_get (set old.files.items k disk) (16 * s + j)) (sym wrote.place_is) ∙ ap (λ xs. slice_get xs (16 * s + j)) (sym wrote.set_is) ∙ ap (slice_get new.files.items) (sym e) ∙ at in
-    sym (ap file_of (is_set old.files.items (16 * s + j) disk x wrote.there here)) ∙ is ∙ ap (λ r. file w past r j) st ∙ ap (file w past t) ji
+    let e : MAX_JOBS * t + i ≡ MAX_JOBS * s + j = omega (arith, st, ji) in
+    let here : slice_get (set old.files.items (MAX_JOBS * s + j) disk) (MAX_JOBS * s + j) ≡ Some x =
+    ap (λ k. slice_get (set old.files.items k disk) (MAX_JOBS * s + j)) (sym wrote.place_is) ∙ ap (λ xs. slice_get xs (MAX_JOBS * s + j)) (sym wrote.set_is) ∙ ap (slice_get new.files.items) (sym e) ∙ at in
+    sym (ap file_of (is_set old.files.items (MAX_JOBS * s + j) disk x wrote.there here)) ∙ is ∙ ap (λ r. file w past r j) st ∙ ap (file w past t) ji
 same_by w past s j disk old new stands wrote is t i x l at false h =
-    let ne : 16 * s + j ≡ 16 * t + i → ⊥ = λ e. let p = same_place s j t i wrote.slot l e in true_false (sym (same_file s j t i p.0 p.1) ∙ h) in
-    let was : slice_get old.files.items (16 * t + i) ≡ Some x =
-    sym (set_there old.files.items (16 * s + j) (16 * t + i) disk ne) ∙ ap (λ k. slice_get (set old.files.items k disk) (16 * t + i)) (sym wrote.place_is) ∙ ap (λ xs. slice_get xs (16 * t + i)) (sym wrote.set_is) ∙ at in
+    let ne : MAX_JOBS * s + j ≡ MAX_JOBS * t + i → ⊥ = λ e. let p = same_place s j t i wrote.slot l e in true_false (sym (same_file s j t i p.0 p.1) ∙ h) in
+    let was : slice_get old.files.items (MAX_JOBS * t + i) ≡ Some x =
+    sym (set_there old.files.items (MAX_JOBS * s + j) (MAX_JOBS * t + i) disk ne) ∙ ap (λ k. slice_get (set old.files.items k disk) (MAX_JOBS * t + i)) (sym wrote.place_is) ∙ ap (λ xs. slice_get xs (MAX_JOBS * t + i)) (sym wrote.set_is) ∙ at in
     stands.files_are t i x l was
   where
     true_false : true ≡ false → ⊥

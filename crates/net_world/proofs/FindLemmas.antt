@@ -99,7 +99,7 @@ no_open law w past s j k on h =
     let now = work (opening_of s) (of_server s (trace w past)) in
     no_write (off w (trace w past) (nodes.Server s)) (open_at (trace w past) s j k) on (law now j k ∙ none_told (open_ticket now j k) (job_of_run now j) h)
 
-few_jobs : (now : Option Work) (j : ℕ) (job : Job) → ((w : Work) → now ≡ Some w → length w.jobs ≤ MAX_JOBS) → job_of_run now j ≡ Some job → j < 16
+few_jobs : (now : Option Work) (j : ℕ) (job : Job) → ((w : Work) → now ≡ Some w → length w.jobs ≤ MAX_JOBS) → job_of_run now j ≡ Some job → j < MAX_JOBS
 few_jobs None j job f h = absurd cc
 few_jobs (Some w) j job f h = omega (arith, slice_get_within w.jobs j job h, f w refl)
 

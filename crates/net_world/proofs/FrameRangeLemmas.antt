@@ -8,7 +8,9 @@ use Rattle.std.proofs.lemmas.List.Elements.{Contains-append_cases}
 use Rattle.std.proofs.lemmas.Bool.{and_parts, eq-eqb}
 use Rattle.std.proofs.lemmas.Bool.Decides.{nat_tests}
 use Rattle.std.proofs.lemmas.List.{length-append, length-take, length-drop}
+use Rattle.fc_base.specs.declared.limits.TheConstants.{MAX_TEXT}
 use Rattle.fc_base.specs.Layouts.{bytes_of}
+use Rattle.messages.specs.declared.limits.TheConstants.{CHUNK_LIMIT, MAX_BODY}
 use Rattle.messages.specs.declared.packet.PacketParts.{PacketParts}
 use Rattle.messages.specs.declared.piece.PieceParts.{PieceParts}
 use Rattle.messages.specs.declared.frame.Frame.{Frame}
@@ -34,25 +36,25 @@ use Rattle.net_world.proofs.TagLemmas.{Long, OfJobs, OfVerify, long, in_range}
 -- ---- the places of a body
 
 record IsPlaceOf (len at : ℕ) : Type 0 where
-  multiple : at % 1024 ≡ 0
+  multiple : at % CHUNK_LIMIT ≡ 0
   below : at < len
 
-next_place : (at : ℕ) → at % 1024 ≡ 0 → (at + 1024) % 1024 ≡ 0
+next_place : (at : ℕ) → at % CHUNK_LIMIT ≡ 0 → (at + CHUNK_LIMIT) % CHUNK_LIMIT ≡ 0
 next_place at h = omega (arith, h)
 
 below_of : (a b : ℕ) → nat_lt a b ≡ true → a < b
 below_of a b h = grind (arith, nat_tests)
 
-place_by : (at len x : ℕ) (more : List ℕ) → at % 1024 ≡ 0 → (Contains more x → IsPlaceOf len x) → (b : Bool) → nat_lt at len ≡ b → Contains (if b then at ∷ more else []) x → IsPlaceOf len x
+place_by : (at len x : ℕ) (more : List ℕ) → at % CHUNK_LIMIT ≡ 0 → (Contains more x → IsPlaceOf len x) → (b : Bool) → nat_lt at len ≡ b → Contains (if b then at ∷ more else []) x → IsPlaceOf len x
 place_by at len x more m rest true e h = elim (first_or_rest at more x h) [
   | inl i ↦ subst (IsPlaceOf len) i (record { multiple = m; below = below_of at len e })
   | inr i ↦ rest i
 ]
 place_by at len x more m rest false e h = absurd (none_in x h)
 
-places_are : (n at len x : ℕ) → at % 1024 ≡ 0 → Contains (places_from n at len) x → IsPlaceOf len x
+places_are : (n at len x : ℕ) → at % CHUNK_LIMIT ≡ 0 → Contains (places_from n at len) x → IsPlaceOf len x
 places_are zero at len x m h = absurd (none_in x h)
-places_are (suc n) at len x m h = place_by at len x (places_from n (at + 1024) len) m (λ i. places_are n (at + 1024) len x (next_place at m) i) (nat_lt at len) refl h
+places_are (suc n) at len x m h = place_by at len x (places_from n (at + CHUNK_LIMIT) len) m (λ i. places_are n (at + CHUNK_LIMIT) len x (next_place at m) i) (nat_lt at len) refl h
 
 -- ---- the bytes of a job file's body
 
@@ -95,8 +97,8 @@ lt_true a b h = grind (arith, nat_tests)
 eq_true : (a b : ℕ) → a ≡ b → (a == b) ≡ true
 eq_true a b h = eq-eqb a b h
 
-cut_length : (len : ℕ) → nat_lt 1024 len ≡ true → len ≤ 16400 → (nat_le 1025 len && nat_le len 16400) ≡ true
-cut_length len h l = and_true (nat_le 1025 len) (nat_le len 16400) (le_true 1025 len (omega (arith, below_of 1024 len h))) (le_true len 16400 l)
+cut_length : (len : ℕ) → nat_lt CHUNK_LIMIT len ≡ true → len ≤ MAX_BODY → (nat_le (CHUNK_LIMIT + 1) len && nat_le len MAX_BODY) ≡ true
+cut_length len h l = and_true (nat_le (CHUNK_LIMIT + 1) len) (nat_le len MAX_BODY) (le_true (CHUNK_LIMIT + 1) len (omega (arith, below_of CHUNK_LIMIT len h))) (le_true len MAX_BODY l)
 
 -- What is said of a body that is cut.
 record IsCutWell (b : Body) : Type 0 where
@@ -109,13 +111,13 @@ cut_jobs run text h c =
     let len = length_of (bodies.Jobs run text) in
     record {
       tag =
-          and_true (((true && is_run run) && (0 == 0)) && ((0 == 0) && (0 == 0))) (nat_le 1025 len && nat_le len 16400)
+          and_true (((true && is_run run) && (0 == 0)) && ((0 == 0) && (0 == 0))) (nat_le (CHUNK_LIMIT + 1) len && nat_le len MAX_BODY)
           (and_true ((true && is_run run) && (0 == 0)) ((0 == 0) && (0 == 0)) (and_true (true && is_run run) (0 == 0) parts.0 refl) refl)
           (cut_length len c (omega (arith, text_few text parts.1)));
       bytes = jobs_length run text;
     }
   where
-    text_few : (text : List ℕ) → is_text text ≡ true → length text ≤ 16384
+    text_few : (text : List ℕ) → is_text text ≡ true → length text ≤ MAX_TEXT
     text_few text h = grind (arith, nat_tests)
 
 cut_verify : (run attempt : ℕ) (text : List ℕ) → IsTrue (is_body (bodies.Verify run attempt text)) → is_cut (bodies.Verify run attempt text) ≡ true → IsCutWell (bodies.Verify run attempt text)
@@ -125,13 +127,13 @@ cut_verify run attempt text h c =
     let len = length_of (bodies.Verify run attempt text) in
     record {
       tag =
-          and_true (((true && is_run run) && is_attempt attempt) && ((0 == 0) && (0 == 0))) (nat_le 1025 len && nat_le len 16400)
+          and_true (((true && is_run run) && is_attempt attempt) && ((0 == 0) && (0 == 0))) (nat_le (CHUNK_LIMIT + 1) len && nat_le len MAX_BODY)
           (and_true ((true && is_run run) && is_attempt attempt) ((0 == 0) && (0 == 0)) (and_true (true && is_run run) (is_attempt attempt) front.0 front.1) refl)
           (cut_length len c (omega (arith, text_few text parts.1)));
       bytes = verify_length run attempt text;
     }
   where
-    text_few : (text : List ℕ) → is_text text ≡ true → length text ≤ 16384
+    text_few : (text : List ℕ) → is_text text ≡ true → length text ≤ MAX_TEXT
     text_few text h = grind (arith, nat_tests)
 
 cut_well : (b : Body) → IsTrue (is_body b) → is_cut b ≡ true → Long b → IsCutWell b
@@ -142,9 +144,9 @@ cut_well b h c (OfVerify run attempt text e) =
 
 place_fits : (bytes : List ℕ) (len at : ℕ) → length bytes ≡ len → IsPlaceOf len at → is_place len at (length (bytes_at bytes at)) ≡ true
 place_fits bytes len at e p =
-    and_true ((at % 1024 == 0) && nat_lt at len) (length (bytes_at bytes at) == min 1024 (len - at))
-    (and_true (at % 1024 == 0) (nat_lt at len) (eq_true (at % 1024) 0 p.multiple) (lt_true at len p.below))
-    (eq_true (length (bytes_at bytes at)) (min 1024 (len - at)) (length-take 1024 (drop at bytes) ∙ ap (min 1024) (length-drop at bytes ∙ ap (λ k. k - at) e)))
+    and_true ((at % CHUNK_LIMIT == 0) && nat_lt at len) (length (bytes_at bytes at) == min CHUNK_LIMIT (len - at))
+    (and_true (at % CHUNK_LIMIT == 0) (nat_lt at len) (eq_true (at % CHUNK_LIMIT) 0 p.multiple) (lt_true at len p.below))
+    (eq_true (length (bytes_at bytes at)) (min CHUNK_LIMIT (len - at)) (length-take CHUNK_LIMIT (drop at bytes) ∙ ap (min CHUNK_LIMIT) (length-drop at bytes ∙ ap (λ k. k - at) e)))
 
 piece_fits : (p : PacketParts) → IsPacket p → IsCutWell p.body → (q : PieceParts) → Contains (pieces_of p) q → is_piece q ≡ true
 piece_fits p h w q i =
@@ -163,7 +165,7 @@ pub record Fits (f : Frame) : Type 0 where
   pub frame : IsFrame f
   pub short : IsShort f
 
-not_cut : (len : ℕ) → nat_lt 1024 len ≡ false → len ≤ 1024
+not_cut : (len : ℕ) → nat_lt CHUNK_LIMIT len ≡ false → len ≤ CHUNK_LIMIT
 not_cut len h = grind (arith, nat_tests)
 
 of_packet : LengthsAreBounded → (p : PacketParts) → IsPacket p → (b : Bool) → is_cut p.body ≡ b → (f : Frame) → Contains (if b then map Piece (pieces_of p) else Whole p ∷ []) f → Fits f

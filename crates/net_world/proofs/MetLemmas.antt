@@ -4,6 +4,7 @@ use Rattle.std.specs.Prelude.{if◌then◌else◌, map, set, slice_get}
 use Rattle.std.proofs.lemmas.Bool.{eqb-true, eq-eqb}
 use Rattle.std.proofs.Math.ListN.{length-set}
 use Rattle.std.proofs.lemmas.List.{map-append}
+use Rattle.fc_base.specs.declared.limits.TheConstants.{MAX_JOBS}
 use Rattle.messages.specs.FrameBytes.{frame_spelling}
 use Rattle.server_core.specs.declared.input.Input.TheVariants as inputs
 use Rattle.server_core.specs.Hearing as hearing
@@ -127,7 +128,7 @@ server_stepped w past s e node sent old new stands h is node_is = record {
   mirror_is = subst (λ (m : Mirrored). IsMirror w (of_mirror (steps past)) m.node) (sym h.mirror_is) stands.mirror_is;
   greatest_is = subst (λ (m : Mirrored). IsGreatest m.greatest (handed_in (client_entries w (steps past)))) (sym h.mirror_is) stands.greatest_is;
   files = ap (λ fs. length fs.items) h.files_are ∙ stands.files;
-  files_are = λ r j disk l at. stands.files_are r j disk l (ap (λ fs. slice_get fs.items (16 * r + j)) (sym h.files_are) ∙ at);
+  files_are = λ r j disk l at. stands.files_are r j disk l (ap (λ fs. slice_get fs.items (MAX_JOBS * r + j)) (sym h.files_are) ∙ at);
 }
 
 -- The node of server s stands for what it did, and nothing was sent.
@@ -145,5 +146,5 @@ server_kept w past s node old new stands h node_is = record {
   mirror_is = subst (λ (m : Mirrored). IsMirror w (of_mirror (steps past)) m.node) (sym h.mirror_is) stands.mirror_is;
   greatest_is = subst (λ (m : Mirrored). IsGreatest m.greatest (handed_in (client_entries w (steps past)))) (sym h.mirror_is) stands.greatest_is;
   files = ap (λ fs. length fs.items) h.files_are ∙ stands.files;
-  files_are = λ r j disk l at. stands.files_are r j disk l (ap (λ fs. slice_get fs.items (16 * r + j)) (sym h.files_are) ∙ at);
+  files_are = λ r j disk l at. stands.files_are r j disk l (ap (λ fs. slice_get fs.items (MAX_JOBS * r + j)) (sym h.files_are) ∙ at);
 }

@@ -5,6 +5,7 @@ use Rattle.std.specs.List.{flat_map}
 use Rattle.std.specs.Option.{option_or}
 use Rattle.std.specs.declared.alloc.Global.{Global}
 use Rattle.std.proofs.lemmas.List.{length-map, map-append}
+use Rattle.fc_base.specs.declared.limits.TheConstants.{MAX_JOBS}
 use Rattle.fc_base.specs.declared.fault.Fault.{Fault}
 use Rattle.fc_base.specs.declared.fault.Fault.TheVariants.{NoMemory, NoMirror, NodeOff, NodeOn, NoSave}
 use Rattle.fc_base.specs.declared.fault.FaultSort.{FaultSort}
@@ -129,7 +130,7 @@ mirror_stepped w past e node sent old new stands h is node_is = record {
   mirror_is = subst (IsMirror w (e ∷ of_mirror (steps past))) (sym h.node_is) (h.has w past stands, node_is);
   greatest_is = subst (λ g. IsGreatest g (handed_in (client_entries w (steps past)))) (sym h.greatest_is) stands.greatest_is;
   files = ap (λ (v : Vec MemDisk Global). length v.items) h.files_are ∙ stands.files;
-  files_are = λ s j disk l at. stands.files_are s j disk l (ap (λ (v : Vec MemDisk Global). slice_get v.items (16 * s + j)) (sym h.files_are) ∙ at);
+  files_are = λ s j disk l at. stands.files_are s j disk l (ap (λ (v : Vec MemDisk Global). slice_get v.items (MAX_JOBS * s + j)) (sym h.files_are) ∙ at);
 }
 
 -- It stands for what it did, and nothing was sent.
@@ -145,7 +146,7 @@ mirror_kept w past node old new stands h node_is = record {
   mirror_is = subst (IsMirror w (of_mirror (steps past))) (sym h.node_is) (h.has w past stands, node_is);
   greatest_is = subst (λ g. IsGreatest g (handed_in (client_entries w (steps past)))) (sym h.greatest_is) stands.greatest_is;
   files = ap (λ (v : Vec MemDisk Global). length v.items) h.files_are ∙ stands.files;
-  files_are = λ s j disk l at. stands.files_are s j disk l (ap (λ (v : Vec MemDisk Global). slice_get v.items (16 * s + j)) (sym h.files_are) ∙ at);
+  files_are = λ s j disk l at. stands.files_are s j disk l (ap (λ (v : Vec MemDisk Global). slice_get v.items (MAX_JOBS * s + j)) (sym h.files_are) ∙ at);
 }
 
 -- ---- a cut and a restart

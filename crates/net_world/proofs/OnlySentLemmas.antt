@@ -6,6 +6,7 @@ use Rattle.std.specs.Option.{option_map}
 use Rattle.std.proofs.lemmas.Bool.{eqb-true}
 use Rattle.std.proofs.lemmas.List.Concat.{flat_map-cons}
 use Rattle.std.proofs.lemmas.List.Elements.{Contains-append_cases, Contains-append_left}
+use Rattle.fc_base.specs.declared.limits.TheConstants.{MAX_SERVERS}
 use Rattle.messages.specs.declared.packet.PacketParts.{PacketParts}
 use Rattle.messages.specs.declared.node.Node.{Node}
 use Rattle.messages.specs.declared.node.Node.TheVariants.{Server, Client, Mirror}
@@ -175,7 +176,7 @@ SomeFits : Option server.Entry → Type 0
 SomeFits None = Unit {0}
 SomeFits (Some e) = EntryFits e
 
-server_added : (s : ℕ) (x : Option server.Entry) (t : List Step) → s < 8 → SomeFits x → AllByRecursion StepFits t → AllByRecursion StepFits (with_entry (option_map (AtServer s) x) t)
+server_added : (s : ℕ) (x : Option server.Entry) (t : List Step) → s < MAX_SERVERS → SomeFits x → AllByRecursion StepFits t → AllByRecursion StepFits (with_entry (option_map (AtServer s) x) t)
 unfolding SomeFits
 server_added s None t l k h = h
 server_added s (Some e) t l k h = ((l, k), h)

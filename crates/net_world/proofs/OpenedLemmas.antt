@@ -4,6 +4,7 @@ use Rattle.std.specs.Prelude.{slice_get, nat_le, nat_lt, map, ◌&&◌}
 use Rattle.std.proofs.lemmas.Bool.{and_parts}
 use Rattle.std.proofs.lemmas.Bool.Decides.{nat_tests}
 use Rattle.std.proofs.lemmas.List.{length-append}
+use Rattle.fc_base.specs.declared.limits.TheConstants.{MAX_JOBS, MAX_SERVERS}
 use Rattle.disk_model.specs.MemDisk.{file_of}
 use Rattle.disk_model.specs.declared.mem_disk.MemDisk.{MemDisk}
 use Rattle.disk_model.specs.declared.left.Left.TheVariants.{Saved}
@@ -103,8 +104,8 @@ greatest_opens config m h = by_word config.mirror m.node m.greatest h
     by_word false (Some node) g h = absurd h
     by_word true None g h = absurd h
 
-pub opened : (config : Config) (now : World) → 1 ≤ config.servers → config.servers ≤ 8 → AreOpened config.servers now.servers.items
-    → clients.Stands (client_opening (setup_of config)) (client_entries (setup_of config) []) now.client → HasOpened config now.mirror → AreBlank (16 * config.servers) now.files.items → sent_in now.sent ≡ [] → StandsFor (setup_of config) [] now
+pub opened : (config : Config) (now : World) → 1 ≤ config.servers → config.servers ≤ MAX_SERVERS → AreOpened config.servers now.servers.items
+    → clients.Stands (client_opening (setup_of config)) (client_entries (setup_of config) []) now.client → HasOpened config now.mirror → AreBlank (MAX_JOBS * config.servers) now.files.items → sent_in now.sent ≡ [] → StandsFor (setup_of config) [] now
 opened config now some few nodes client_is mirrored files sent = record {
   some = some;
   few = few;
@@ -115,5 +116,5 @@ opened config now some few nodes client_is mirrored files sent = record {
   mirror_is = mirror_opens config now.mirror mirrored;
   greatest_is = greatest_opens config now.mirror mirrored;
   files = files.number;
-  files_are = λ s j disk l at. files.each (16 * s + j) disk at;
+  files_are = λ s j disk l at. files.each (MAX_JOBS * s + j) disk at;
 }

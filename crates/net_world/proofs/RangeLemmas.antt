@@ -3,6 +3,7 @@ use Rattle.std.proofs.Common.{refl, inl, inr, ℕ, ◌≤◌, arith, Bool, true,
 use Rattle.std.specs.Prelude.{if◌then◌else◌}
 use Rattle.std.specs.List.{AllByRecursion}
 use Rattle.std.proofs.lemmas.List.Elements.{Contains-append_cases, Contains-append_left}
+use Rattle.fc_base.specs.declared.limits.TheConstants.{MAX_SERVERS}
 use Rattle.messages.specs.declared.packet.PacketParts.{PacketParts}
 use Rattle.messages.specs.declared.frame.Frame.TheVariants.{Whole, Piece}
 use Rattle.messages.specs.Laws.{IsPacket}
@@ -118,7 +119,7 @@ blank_noted = record { generation = omega arith; runs = omega arith; attempts = 
 each : (ps : List PacketParts) → AllByRecursion IsPacket ps → ArePackets ps
 each ps h p i = each_of IsPacket ps p h i
 
-step_in : servers.PacketsAreInRange → clients.PacketsAreInRange → mirrors.PacketsAreInRange → (w : Setup) (step : Step) (past : List Step) → w.servers ≤ 8 → IsTrace w (step ∷ past) → AllByRecursion StepFits (step ∷ past) → ArePackets (sent w past) → ArePackets (packets_of w past step)
+step_in : servers.PacketsAreInRange → clients.PacketsAreInRange → mirrors.PacketsAreInRange → (w : Setup) (step : Step) (past : List Step) → w.servers ≤ MAX_SERVERS → IsTrace w (step ∷ past) → AllByRecursion StepFits (step ∷ past) → ArePackets (sent w past) → ArePackets (packets_of w past step)
 unfolding AllSent
 step_in by_server by_client by_mirror w (AtServer s e) past l h f are =
     each _ (by_server (opening_of s) (of_server s past) e (record { me = f.0.0; last = omega arith }) (more_in (sent w past) s e (of_server s past) are h.1 f.0.1 (came_to w s past h.0 f.1 are)))

@@ -8,6 +8,7 @@ use Rattle.std.specs.Option.{option_or}
 use Rattle.std.proofs.lemmas.Bool.Decides.{nat_tests}
 use Rattle.std.proofs.lemmas.List.{length-map}
 use Rattle.std.proofs.lemmas.Option.{slice_get_read}
+use Rattle.fc_base.specs.declared.limits.TheConstants.{MAX_JOBS}
 use Rattle.fc_base.specs.declared.fault.Fault.{Fault}
 use Rattle.fc_base.specs.declared.fault.Fault.TheVariants.{NoServer, NodeOff, NoMemory}
 use Rattle.fc_base.specs.declared.fault.FaultSort.{FaultSort}
@@ -214,7 +215,7 @@ settled w past old new stands sent servers client files mirror = record {
   mirror_is = subst (λ (m : Mirrored). IsMirror w (of_mirror (steps past)) m.node) (sym mirror) stands.mirror_is;
   greatest_is = subst (λ (m : Mirrored). IsGreatest m.greatest (handed_in (client_entries w (steps past)))) (sym mirror) stands.greatest_is;
   files = ap (λ (v : Vec MemDisk Global). length v.items) files ∙ stands.files;
-  files_are = λ s j disk l at. stands.files_are s j disk l (ap (λ (v : Vec MemDisk Global). slice_get v.items (16 * s + j)) (sym files) ∙ at);
+  files_are = λ s j disk l at. stands.files_are s j disk l (ap (λ (v : Vec MemDisk Global). slice_get v.items (MAX_JOBS * s + j)) (sym files) ∙ at);
 }
 
 -- Memory has run out.

@@ -3,6 +3,7 @@ use Rattle.std.proofs.Common.{◌≡◌, refl, sym, ◌∙◌, ap, subst, ℕ, �
 use Rattle.std.specs.Prelude.{Contains, IsTrue, nat_lt}
 use Rattle.std.proofs.lemmas.Bool.{and_parts}
 use Rattle.std.proofs.lemmas.Bool.Decides.{nat_tests}
+use Rattle.messages.specs.declared.limits.TheConstants.{CHUNK_LIMIT}
 use Rattle.messages.specs.declared.packet.PacketParts.{PacketParts}
 use Rattle.messages.specs.declared.body.Body.{Body}
 use Rattle.messages.specs.declared.body.Body.TheVariants as bodies
@@ -23,10 +24,10 @@ pub data Long (b : Body) : Type 0 where
   OfJobs : (run : ℕ) (text : List ℕ) → b ≡ bodies.Jobs run text → Long b
   OfVerify : (run attempt : ℕ) (text : List ℕ) → b ≡ bodies.Verify run attempt text → Long b
 
-short : (b : Body) (limit : ℕ) → length_of b ≤ limit → limit ≤ 1024 → is_cut b ≡ true → Long b
+short : (b : Body) (limit : ℕ) → length_of b ≤ limit → limit ≤ CHUNK_LIMIT → is_cut b ≡ true → Long b
 short b limit l m c = absurd (below (length_of b) limit l m c)
   where
-    below : (a limit : ℕ) → a ≤ limit → limit ≤ 1024 → nat_lt 1024 a ≡ true → ⊥
+    below : (a limit : ℕ) → a ≤ limit → limit ≤ CHUNK_LIMIT → nat_lt CHUNK_LIMIT a ≡ true → ⊥
     below a limit l m c = grind (arith, nat_tests)
 
 pub long : LengthsAreBounded → (b : Body) → IsTrue (is_body b) → KeepsState b → is_cut b ≡ true → Long b

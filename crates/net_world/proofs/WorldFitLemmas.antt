@@ -8,7 +8,7 @@ use Rattle.std.proofs.lemmas.Bool.Decides.{nat_tests}
 use Rattle.std.proofs.lemmas.Option.{slice_get_within, get_or_from_slice_get}
 use Rattle.fc_base.specs.declared.fault.Fault.{Fault}
 use Rattle.fc_base.specs.declared.fault.Fault.TheVariants.{NoServer, NodeOff, NodeOn, BadNote, NumbersSpent, NoSave, NoWrite}
-use Rattle.fc_base.specs.declared.limits.TheConstants.{MAX_BLOCKS, MAX_WRITES}
+use Rattle.fc_base.specs.declared.limits.TheConstants.{MAX_BLOCKS, MAX_SERVERS, MAX_WRITES}
 use Rattle.fc_base.specs.JobParts.{has_block_size, has_region, has_queue, has_pattern, is_within_limits}
 use Rattle.fc_base.specs.declared.record.JobParts.{JobParts}
 use Rattle.job_file.specs.declared.job.Job.{Job}
@@ -87,21 +87,21 @@ fit_if false step fault h = tt
 
 -- ---- a server that is there has a number below 8
 
-below : (w : Setup) (s : ℕ) (b : Bool) → nat_lt s w.servers ≡ b → (x : Option Fault) → option_or (if b then None else Some NoServer) x ≡ None → w.servers ≤ 8 → s < 8
+below : (w : Setup) (s : ℕ) (b : Bool) → nat_lt s w.servers ≡ b → (x : Option Fault) → option_or (if b then None else Some NoServer) x ≡ None → w.servers ≤ MAX_SERVERS → s < MAX_SERVERS
 below w s true e x h l = grind (arith, nat_tests)
 below w s false e x h l = absurd cc
 
-server_there : (w : Setup) (t : List Step) (s : ℕ) → w.servers ≤ 8 → off w t (Server s) ≡ None → s < 8
+server_there : (w : Setup) (t : List Step) (s : ℕ) → w.servers ≤ MAX_SERVERS → off w t (Server s) ≡ None → s < MAX_SERVERS
 server_there w t s l h = below w s (nat_lt s w.servers) refl (unless (is_on w t (Server s)) NodeOff) h l
 
-server_off : (w : Setup) (t : List Step) (s : ℕ) → w.servers ≤ 8 → on w t (Server s) ≡ None → s < 8
+server_off : (w : Setup) (t : List Step) (s : ℕ) → w.servers ≤ MAX_SERVERS → on w t (Server s) ≡ None → s < MAX_SERVERS
 server_off w t s l h = below w s (nat_lt s w.servers) refl (unless (not (is_on w t (Server s))) NodeOn) h l
 
 first_none : (x y : Option Fault) → option_or x y ≡ None → x ≡ None
 first_none None y h = refl
 first_none (Some fault) y h = absurd cc
 
-write_there : (w : Setup) (t : List Step) (s j k : ℕ) → w.servers ≤ 8 → unopen w t s j k ≡ None → s < 8
+write_there : (w : Setup) (t : List Step) (s j k : ℕ) → w.servers ≤ MAX_SERVERS → unopen w t s j k ≡ None → s < MAX_SERVERS
 write_there w t s j k l h = server_there w t s l (first_none (off w t (Server s)) (unless (is_some (open_at t s j k)) NoWrite) h)
 
 -- ---- reports
@@ -143,7 +143,7 @@ fit_end law sets s list j held (Some c) is =
 
 -- ---- each sort of happening
 
-fit_server : (t : List Step) (s : ℕ) (e : Event) → s < 8 → ReportFits e → FitBe (met_by_server t s e)
+fit_server : (t : List Step) (s : ℕ) (e : Event) → s < MAX_SERVERS → ReportFits e → FitBe (met_by_server t s e)
 unfolding FitBe
 fit_server t s e l r = fit_unless (answers.refusal (opening_of s) (of_server s t) e) _ (l, r)
 
@@ -151,17 +151,17 @@ fit_client : (w : Setup) (t : List Step) (c : Call) → FitBe (met_by_client w t
 unfolding FitBe
 fit_client w t c = fit_unless (clients.refusal (client_opening w) (of_client w t) c) _ tt
 
-fit_ended : (t : List Step) (s k : ℕ) (end : WriteEnd) (x : Option Origin) → s < 8 → FitBe (ended t s k end x)
+fit_ended : (t : List Step) (s k : ℕ) (end : WriteEnd) (x : Option Origin) → s < MAX_SERVERS → FitBe (ended t s k end x)
 unfolding FitBe
 fit_ended t s k end None l = tt
 fit_ended t s k end (Some origin) l = fit_server t s (events.WriteDone (ticket_of origin k) end) l tt
 
-fit_reported : (t : List Step) (s : ℕ) (x : Option Event) → s < 8 → SomeEnd x → FitBe (reported t s x)
+fit_reported : (t : List Step) (s : ℕ) (x : Option Event) → s < MAX_SERVERS → SomeEnd x → FitBe (reported t s x)
 unfolding FitBe SomeEnd
 fit_reported t s None l r = tt
 fit_reported t s (Some e) l r = fit_server t s e l r
 
-fit_cut : (w : Setup) (t : List Step) (node : Node) → w.servers ≤ 8 → off w t node ≡ None → FitBe (cut node)
+fit_cut : (w : Setup) (t : List Step) (node : Node) → w.servers ≤ MAX_SERVERS → off w t node ≡ None → FitBe (cut node)
 unfolding FitBe
 fit_cut w t (Server s) l h = (server_there w t s l h, tt)
 fit_cut w t Client l h = tt
@@ -172,7 +172,7 @@ unfolding FitBe
 fit_unless_so true step fault h = tt
 fit_unless_so false step fault h = h
 
-fit_restarted : (w : Setup) (t : List Step) (node : Node) → w.servers ≤ 8 → on w t node ≡ None → FitBe (restarted w t node)
+fit_restarted : (w : Setup) (t : List Step) (node : Node) → w.servers ≤ MAX_SERVERS → on w t node ≡ None → FitBe (restarted w t node)
 unfolding FitBe
 fit_restarted w t (Server s) l h = fit_if (has_boot t s) (OfServer s (Happens (server.Restart lefts.Saved))) NumbersSpent (server_off w t s l h, tt)
 fit_restarted w t Client l h = fit_unless_so (w.mirror && is_blank (noted_in w t)) (OfClient (Happens (client.Restart w.mirror))) BadNote tt
@@ -181,13 +181,13 @@ fit_restarted w t Mirror l h = tt
 fit_renewal : (w : Setup) (t : List Step) (g : ℕ) (left : Left) (fault : Fault) → FitBe (if is_blank (noted_in w t) then Ok (OfClient (Happens (client.Renew g left))) else Err fault)
 fit_renewal w t g left fault = fit_if (is_blank (noted_in w t)) (OfClient (Happens (client.Renew g left))) fault tt
 
-fit_restart_cut : (w : Setup) (t : List Step) (landed : Bool) (node : Node) → w.servers ≤ 8 → on w t node ≡ None → FitBe (restart_cut_in t landed node)
+fit_restart_cut : (w : Setup) (t : List Step) (landed : Bool) (node : Node) → w.servers ≤ MAX_SERVERS → on w t node ≡ None → FitBe (restart_cut_in t landed node)
 unfolding FitBe
 fit_restart_cut w t landed (Server s) l h = fit_if (has_boot t s) (OfServer s (Happens (server.Restart (lost_by landed)))) NoSave (server_off w t s l h, tt)
 fit_restart_cut w t landed Client l h = tt
 fit_restart_cut w t landed Mirror l h = tt
 
-fit_comes_to_server : (t : List Step) (s : ℕ) (f : Frame) (m : Meaning) → s < 8 → FitCome (comes_to_server t s f m)
+fit_comes_to_server : (t : List Step) (s : ℕ) (f : Frame) (m : Meaning) → s < MAX_SERVERS → FitCome (comes_to_server t s f m)
 unfolding FitCome FitBe
 fit_comes_to_server t s f (Says p) l = fit_step _ (fit_unless (answers.refusal (opening_of s) (of_server s t) (events.Deliver p)) _ l)
 fit_comes_to_server t s f Waits l = l
@@ -205,18 +205,18 @@ fit_comes_to_mirror : (t : List Step) (f : Frame) → FitBe (comes_to_mirror t f
 unfolding FitBe
 fit_comes_to_mirror t f = fit_unless (mirrors.refusal mirror_opening (of_mirror t) f) _ tt
 
-fit_comes_to : (w : Setup) (past : List Change) (node : Node) (f : Frame) → w.servers ≤ 8 → off w (trace w past) node ≡ None → FitCome (comes_to w past node f)
+fit_comes_to : (w : Setup) (past : List Change) (node : Node) (f : Frame) → w.servers ≤ MAX_SERVERS → off w (trace w past) node ≡ None → FitCome (comes_to w past node f)
 unfolding FitCome
 fit_comes_to w past (Server s) f l h = fit_comes_to_server (trace w past) s f (said_to_server (steps past) s f) (server_there w (trace w past) s l h)
 fit_comes_to w past Client f l h = fit_comes_to_client w (trace w past) f (said_to_client w (steps past) f)
 fit_comes_to w past Mirror f l h = fit_step _ (fit_comes_to_mirror (trace w past) f)
 
-fit_delivered : (w : Setup) (past : List Change) (x : Option Frame) → w.servers ≤ 8 → unsent w (trace w past) x ≡ None → FitCome (delivered w past x)
+fit_delivered : (w : Setup) (past : List Change) (x : Option Frame) → w.servers ≤ MAX_SERVERS → unsent w (trace w past) x ≡ None → FitCome (delivered w past x)
 unfolding FitCome
 fit_delivered w past None l h = tt
 fit_delivered w past (Some f) l h = fit_comes_to w past (to_of f) f l h
 
-fit_server_frame_cut : (t : List Step) (s : ℕ) (landed : Bool) (f : Frame) (m : Meaning) → s < 8 → FitBe (server_frame_cut t s landed f m)
+fit_server_frame_cut : (t : List Step) (s : ℕ) (landed : Bool) (f : Frame) (m : Meaning) → s < MAX_SERVERS → FitBe (server_frame_cut t s landed f m)
 unfolding FitBe
 fit_server_frame_cut t s landed f (Says p) l = fit_save (servers.due (opening_of s) (of_server s t) (events.Deliver p)) (OfServer s (Comes f (lost_by landed))) l
 fit_server_frame_cut t s landed f Waits l = tt
@@ -230,13 +230,13 @@ fit_client_frame_cut w t landed f Waits = tt
 fit_client_frame_cut w t landed f Spoils = tt
 fit_client_frame_cut w t landed f Strays = tt
 
-fit_frame_cut : (w : Setup) (past : List Change) (landed : Bool) (node : Node) (f : Frame) → w.servers ≤ 8 → off w (trace w past) node ≡ None → FitBe (frame_cut w past landed node f)
+fit_frame_cut : (w : Setup) (past : List Change) (landed : Bool) (node : Node) (f : Frame) → w.servers ≤ MAX_SERVERS → off w (trace w past) node ≡ None → FitBe (frame_cut w past landed node f)
 unfolding FitBe
 fit_frame_cut w past landed (Server s) f l h = fit_server_frame_cut (trace w past) s landed f (said_to_server (steps past) s f) (server_there w (trace w past) s l h)
 fit_frame_cut w past landed Client f l h = fit_client_frame_cut w (trace w past) landed f (said_to_client w (steps past) f)
 fit_frame_cut w past landed Mirror f l h = fit_save (mirrors.due mirror_opening (of_mirror (trace w past)) f) (OfMirror (mirror.Met f (lost_by landed))) tt
 
-fit_delivery_cut : (w : Setup) (past : List Change) (landed : Bool) (x : Option Frame) → w.servers ≤ 8 → unsent w (trace w past) x ≡ None → FitBe (delivery_cut_in w past landed x)
+fit_delivery_cut : (w : Setup) (past : List Change) (landed : Bool) (x : Option Frame) → w.servers ≤ MAX_SERVERS → unsent w (trace w past) x ≡ None → FitBe (delivery_cut_in w past landed x)
 unfolding FitBe
 fit_delivery_cut w past landed None l h = tt
 fit_delivery_cut w past landed (Some f) l h = fit_frame_cut w past landed (to_of f) f l h
@@ -249,7 +249,7 @@ pub record Reports : Type 0 where
   pub fit : ReportsFit
   pub sets : ChecksHaveSets
 
-fit_cut_in : (w : Setup) (past : List Change) (landed : Bool) (e : Happening) → w.servers ≤ 8 → barred w (trace w past) (frames_sent w (steps past)) (CutIn landed e) ≡ None → FitBe (cut_in w past landed e)
+fit_cut_in : (w : Setup) (past : List Change) (landed : Bool) (e : Happening) → w.servers ≤ MAX_SERVERS → barred w (trace w past) (frames_sent w (steps past)) (CutIn landed e) ≡ None → FitBe (cut_in w past landed e)
 unfolding FitBe
 fit_cut_in w past landed (Begin text) l h = fit_client_cut w (trace w past) landed (calls.Begin text)
 fit_cut_in w past landed (Verify run text) l h = fit_client_cut w (trace w past) landed (calls.Verify run text)
@@ -269,7 +269,7 @@ fit_cut_in w past landed (happenings.Check s j) l h = tt
 fit_cut_in w past landed (Cut node) l h = tt
 fit_cut_in w past landed (CutIn again e) l h = tt
 
-fit_bring : Reports → (w : Setup) (past : List Change) (e : Happening) → w.servers ≤ 8 → barred w (trace w past) (frames_sent w (steps past)) e ≡ None → FitCome (brings w past e)
+fit_bring : Reports → (w : Setup) (past : List Change) (e : Happening) → w.servers ≤ MAX_SERVERS → barred w (trace w past) (frames_sent w (steps past)) e ≡ None → FitCome (brings w past e)
 unfolding FitBe FitCome
 fit_bring laws w past (Begin text) l h = fit_step _ (fit_client w (trace w past) (calls.Begin text))
 fit_bring laws w past (Trigger run act) l h = fit_step _ (fit_client w (trace w past) (calls.Trigger run act))
@@ -305,12 +305,12 @@ fit_one past (Does (Rotted s j sector bytes)) h f = h
 fit_one past (Refuses fault) h f = h
 fit_one past (Drops step) h f = (f, h)
 
-steps_fit : Reports → (w : Setup) (events : List Happening) → w.servers ≤ 8 → AllByRecursion FrameStepFits (steps (world w events))
+steps_fit : Reports → (w : Setup) (events : List Happening) → w.servers ≤ MAX_SERVERS → AllByRecursion FrameStepFits (steps (world w events))
 steps_fit laws w [] l = tt
 steps_fit laws w (e ∷ events) l =
     let past = world w events in
     fit_one past (outcome w past e) (steps_fit laws w events l)
     (fit_pass (barred w (trace w past) (frames_sent w (steps past)) e) (brings w past e) (λ h. fit_bring laws w past e l h))
 
-pub world_fits : Reports → (w : Setup) (events : List Happening) → w.servers ≤ 8 → FitsFrames w (steps (world w events))
+pub world_fits : Reports → (w : Setup) (events : List Happening) → w.servers ≤ MAX_SERVERS → FitsFrames w (steps (world w events))
 world_fits laws w events l = record { few = l; steps = steps_fit laws w events l }

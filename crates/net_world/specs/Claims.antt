@@ -1,5 +1,6 @@
 -- Where a claim holds: in each trace, in each world, and at each moment of a world.
 use Rattle.std.specs.Prelude.{◌≡◌, ◌≤◌, List, ◌++◌, map, reverse}
+use Rattle.fc_base.specs.declared.limits.TheConstants.{MAX_SERVERS}
 use Rattle.net_world.specs.declared.config.Config.{Config}
 use Rattle.net_world.specs.declared.event.Event.{Event}
 use Rattle.net_world.specs.Setup.{Setup, setup_of}
@@ -25,7 +26,7 @@ OfEachFrameTrace Claim = (w : Setup) (t : List FrameStep) → IsFrameTrace w t �
 
 -- The claim holds of each world of at most 8 servers.
 abbrev pub OfEachWorld : (Setup → List Change → Type 0) → Type 0
-OfEachWorld Claim = (w : Setup) (events : List Happening) → w.servers ≤ 8 → Claim w (world w events)
+OfEachWorld Claim = (w : Setup) (events : List Happening) → w.servers ≤ MAX_SERVERS → Claim w (world w events)
 
 -- The claim holds of the trace that is heard in a trace of frames.
 abbrev pub OfTheHeard : (Setup → List Step → Type 0) → Setup → List FrameStep → Type 0

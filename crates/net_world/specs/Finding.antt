@@ -1,5 +1,6 @@
 -- What a world finds in its servers: an open write, and a job that is ready to be checked.
 use Rattle.std.specs.Prelude.{◌≡◌, ◌⊎◌, ℕ, ◌<◌, List, Option, Some, None, slice_get, Result, Ok, Err}
+use Rattle.fc_base.specs.declared.limits.TheConstants.{MAX_JOBS}
 use Rattle.fc_base.specs.declared.fault.Fault.{Fault}
 use Rattle.fc_base.specs.declared.fault.Fault.TheVariants.{NotInFlight}
 use Rattle.fc_base.specs.declared.fault.FaultSort.TheVariants.{Refusal}
@@ -24,7 +25,7 @@ use Rattle.net_world.specs.Barred.{off, unopen}
 pub record IsOpen (w : Setup) (past : List Change) (s j k : ℕ) (ticket : Ticket) (rec : JobParts) : Type 0 where
   pub there : unopen w (trace w past) s j k ≡ None
   pub on : off w (trace w past) (Server s) ≡ None
-  pub below : j < 16
+  pub below : j < MAX_JOBS
   pub origin : Origin
   pub is_open : open_at (trace w past) s j k ≡ Some origin
   pub ticket_is : ticket ≡ ticket_of origin k
@@ -49,7 +50,7 @@ IsMadeBy c j job (Some state) = progress_after c j job c.since ≡ With state
 -- Job j of the open check at server s is ready to be checked.
 pub record IsReady (w : Setup) (past : List Change) (s j : ℕ) (ready : Ready) : Type 0 where
   pub on : off w (trace w past) (Server s) ≡ None
-  pub below : j < 16
+  pub below : j < MAX_JOBS
   pub now : Check
   pub is_open : check (opening_of s) (of_server s (trace w past)) ≡ Some now
   pub job : Job

@@ -1,6 +1,7 @@
 -- Which steps are within the ranges of what servers and reports may be.
 use Rattle.std.specs.Prelude.{◌<◌, ◌≤◌, List, IsTrue}
 use Rattle.std.specs.List.{AllByRecursion}
+use Rattle.fc_base.specs.declared.limits.TheConstants.{MAX_SERVERS}
 use Rattle.fc_base.specs.Report.{is_report}
 use Rattle.messages.specs.PieceLaws.{ArePackets}
 use Rattle.messages.specs.Hearing.{Comes, Happens}
@@ -27,24 +28,24 @@ EntryFits (Restart left) = Unit {0}
 -- A step is at the client, at the mirror, or at a server with a number below 8, and its report is within
 -- its ranges.
 abbrev pub StepFits : Step → Type 0
-StepFits (AtServer s e) = (s < 8) × EntryFits e
+StepFits (AtServer s e) = (s < MAX_SERVERS) × EntryFits e
 StepFits (AtClient e) = Unit {0}
 StepFits (AtMirror e) = Unit {0}
 
 -- The same of a step of frames.
 abbrev pub FrameStepFits : FrameStep → Type 0
-FrameStepFits (OfServer s (Comes f left)) = s < 8
-FrameStepFits (OfServer s (Happens e)) = (s < 8) × EntryFits e
+FrameStepFits (OfServer s (Comes f left)) = s < MAX_SERVERS
+FrameStepFits (OfServer s (Happens e)) = (s < MAX_SERVERS) × EntryFits e
 FrameStepFits (OfClient c) = Unit {0}
 FrameStepFits (OfMirror e) = Unit {0}
 
 -- There are at most 8 servers, and each step is within its ranges.
 pub record Fits (w : Setup) (t : List Step) : Type 0 where
-  pub few : w.servers ≤ 8
+  pub few : w.servers ≤ MAX_SERVERS
   pub steps : AllByRecursion StepFits t
 
 pub record FitsFrames (w : Setup) (t : List FrameStep) : Type 0 where
-  pub few : w.servers ≤ 8
+  pub few : w.servers ≤ MAX_SERVERS
   pub steps : AllByRecursion FrameStepFits t
 
 -- All that is sent in a trace is within the ranges of packets.

@@ -1,6 +1,7 @@
 -- For which changes a world stands.
 use Rattle.std.specs.Prelude.{◌≡◌, ℕ, ◌+◌, ◌*◌, ◌<◌, ◌≤◌, nat_lt, true, false, List, length, Option, Some, None, slice_get}
 use Rattle.std.specs.List.{list_all}
+use Rattle.fc_base.specs.declared.limits.TheConstants.{MAX_JOBS, MAX_SERVERS}
 use Rattle.disk_model.specs.File.{File}
 use Rattle.disk_model.specs.MemDisk.{file_of}
 use Rattle.disk_model.specs.declared.mem_disk.MemDisk.{MemDisk}
@@ -38,7 +39,7 @@ IsGreatest greatest handed =
 -- own list, and each file holds what it holds by them. A server has 16 files.
 pub record StandsFor (w : Setup) (past : List Change) (now : World) : Type 0 where
   pub some : 1 ≤ w.servers
-  pub few : w.servers ≤ 8
+  pub few : w.servers ≤ MAX_SERVERS
   pub number : length now.servers.items ≡ w.servers
   pub sent_is : sent_in now.sent ≡ frames w past
   pub servers_are :
@@ -47,7 +48,7 @@ pub record StandsFor (w : Setup) (past : List Change) (now : World) : Type 0 whe
   pub client_is : clients.Stands (client_opening w) (client_entries w (steps past)) now.client
   pub mirror_is : IsMirror w (of_mirror (steps past)) now.mirror.node
   pub greatest_is : IsGreatest now.mirror.greatest (clients.handed_in (client_entries w (steps past)))
-  pub files : length now.files.items ≡ 16 * w.servers
+  pub files : length now.files.items ≡ MAX_JOBS * w.servers
   pub files_are :
-      (s j : ℕ) (disk : MemDisk) → j < 16 → slice_get now.files.items (16 * s + j) ≡ Some disk
+      (s j : ℕ) (disk : MemDisk) → j < MAX_JOBS → slice_get now.files.items (MAX_JOBS * s + j) ≡ Some disk
       → file_of disk ≡ file w past s j

@@ -1,5 +1,6 @@
 -- What holds of every world.
 use Rattle.std.specs.Prelude.{◌≡◌, ◌≤◌, List, [], Some, Contains}
+use Rattle.fc_base.specs.declared.limits.TheConstants.{MAX_SERVERS}
 use Rattle.messages.specs.declared.frame.Frame.{Frame}
 use Rattle.messages.specs.FrameBytes.{frame_at, frame_faults, frame_spelling, IsShort}
 use Rattle.messages.specs.FrameLaws.{IsFrame}
@@ -16,13 +17,13 @@ EachWorldIsAFrameTrace = (w : Setup) (events : List Happening) → IsFrameTrace 
 
 -- So what they hear is a trace, where the world has at most 8 servers.
 abbrev pub EachWorldIsATrace : Type 0
-EachWorldIsATrace = (w : Setup) (events : List Happening) → w.servers ≤ 8 → IsTrace w (trace w (world w events))
+EachWorldIsATrace = (w : Setup) (events : List Happening) → w.servers ≤ MAX_SERVERS → IsTrace w (trace w (world w events))
 
 -- Each frame that was sent in a world is in its ranges, and short enough to be read.
 abbrev pub SentAreFrames : Type 0
 SentAreFrames =
     (w : Setup) (events : List Happening) (f : Frame) →
-    w.servers ≤ 8 → Contains (frames_sent w (steps (world w events))) f → IsFrame f × IsShort f
+    w.servers ≤ MAX_SERVERS → Contains (frames_sent w (steps (world w events))) f → IsFrame f × IsShort f
 
 -- A frame's bytes have no fault, and say that frame.
 abbrev pub IsReadBack : Frame → Type 0
@@ -32,4 +33,4 @@ IsReadBack f = (frame_faults (frame_spelling f) ≡ []) × (frame_at (frame_spel
 abbrev pub SentFramesAreRead : Type 0
 SentFramesAreRead =
     (w : Setup) (events : List Happening) (f : Frame) →
-    w.servers ≤ 8 → Contains (frames_sent w (steps (world w events))) f → IsReadBack f
+    w.servers ≤ MAX_SERVERS → Contains (frames_sent w (steps (world w events))) f → IsReadBack f

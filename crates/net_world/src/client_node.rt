@@ -2,6 +2,7 @@
 
 ghost use Rattle.std.specs.Prelude.{◌≡◌, ◌≤◌, ◌∷◌, [], true, false, List, IfOk, IfErr};
 ghost use Rattle.std.specs.Option.{option_copied};
+ghost use Rattle.fc_base.specs.declared.limits.TheConstants.{MAX_SERVERS};
 ghost use Rattle.fc_base.specs.declared.fault.Fault.TheVariants.{NoMemory};
 ghost use Rattle.client_core.specs.Note.{blank};
 ghost use Rattle.client_core.specs.History.{Opening};
@@ -33,7 +34,7 @@ impl ClientNode {
     /// A client of so many servers on a blank note.
     pub(crate) fn open(alloc: Global, servers: u32) -> Result<ClientNode, Fault>
         requires some { 1 ≤ servers }
-        requires few { servers ≤ 8 }
+        requires few { servers ≤ MAX_SERVERS }
         ensures stands { IfOk result (Stands (record { servers = servers; noted = blank }) (Restart false ∷ [])) }
         ensures fault { IfErr result (λ fault. fault ≡ NoMemory) }
     {
@@ -105,7 +106,7 @@ impl ClientNode {
     /// `NodeOn`: it runs. `BadNote`: there is a mirror, and no note. `NoMemory`. Nothing changes.
     pub(crate) fn restart(&mut self, alloc: Global, servers: u32, mirror: bool) -> Result<(), Fault>
         requires some { 1 ≤ servers }
-        requires few { servers ≤ 8 }
+        requires few { servers ≤ MAX_SERVERS }
         ensures { (o : Opening) (past : List FrameEntry) → o.servers ≡ servers → Stands o past self.old →
             Restarts o past mirror self.new result }
     {

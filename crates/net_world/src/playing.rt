@@ -1,6 +1,7 @@
 //! A world from its beginning, and the theorem of it.
 
 ghost use Rattle.std.specs.Prelude.{◌≤◌, IfOk, OnOk};
+ghost use Rattle.fc_base.specs.declared.limits.TheConstants.{MAX_SERVERS};
 ghost use Rattle.net_world.specs.Setup.{setup_of};
 ghost use Rattle.net_world.specs.Stands.{StandsFor};
 ghost use Rattle.net_world.specs.Claims.{played, AtEachMoment, OfItsTrace, OfItsFrames};
@@ -21,7 +22,7 @@ use std::alloc::{AllocError, Global};
 /// The world once these have happened in it, the first of them first. What is refused is passed over.
 pub fn play(alloc: Global, config: Config, events: &[Event]) -> Result<World, AllocError>
     requires some { 1 ≤ config.servers }
-    requires few { config.servers ≤ 8 }
+    requires few { config.servers ≤ MAX_SERVERS }
     ensures stands { IfOk result (StandsFor (setup_of config) (played config events.now)) }
     ensures one_taking { OnOk result (AtEachMoment (OfItsTrace OneTaking) config events.now) }
     ensures one_state { OnOk result (AtEachMoment (OfItsTrace HeldIsTheTaken) config events.now) }

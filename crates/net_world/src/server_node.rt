@@ -2,6 +2,7 @@
 
 ghost use Rattle.std.specs.Prelude.{◌≡◌, ◌<◌, ◌∷◌, [], true, false, List, IfOk};
 ghost use Rattle.std.specs.Option.{option_copied};
+ghost use Rattle.fc_base.specs.declared.limits.TheConstants.{MAX_SERVERS};
 ghost use Rattle.disk_model.specs.declared.left.Left.TheVariants.{Saved};
 ghost use Rattle.server_core.specs.History.{Opening};
 ghost use Rattle.server_core.specs.Hearing.{FrameEntry, Restart, Cut, packets_heard};
@@ -32,7 +33,7 @@ impl ServerNode {
 
     /// The server with this number on a blank note.
     pub(crate) fn open(alloc: Global, me: ServerNo) -> Result<ServerNode, AllocError>
-        requires { me < 8 }
+        requires { me < MAX_SERVERS }
         ensures { IfOk result (Stands (opening_of me) (Restart Saved ∷ [])) }
     {
         match Server::restart(alloc, me, MemNotes::new(Vec::new(alloc))) {
@@ -105,7 +106,7 @@ impl ServerNode {
     ///
     /// `NodeOn`: it runs. `NumbersSpent`: its boots are used up. `NoMemory`. Nothing changes.
     pub(crate) fn restart(&mut self, alloc: Global, me: ServerNo) -> Result<(), Fault>
-        requires { me < 8 }
+        requires { me < MAX_SERVERS }
         ensures { (o : Opening) (past : List FrameEntry) → o.me ≡ me → Stands o past self.old →
             Restarts o past self.new result }
     {
@@ -175,7 +176,7 @@ impl ServerNode {
         landed: bool,
         me: ServerNo,
     ) -> Result<(), Fault>
-        requires { me < 8 }
+        requires { me < MAX_SERVERS }
         ensures { (o : Opening) (past : List FrameEntry) → o.me ≡ me → Stands o past self.old →
             CutsInRestart o past landed self.new result }
     {

@@ -2,6 +2,7 @@
 
 ghost use Rattle.std.specs.Prelude.{◌≡◌, ◌≤◌, ◌+◌, ◌*◌, ◌&&◌, [], List, length, nat_lt, IfOk, OnOk, OnErr, ◌∷◌};
 ghost use Rattle.std.specs.Option.{option_copied};
+ghost use Rattle.fc_base.specs.declared.limits.TheConstants.{MAX_JOBS, MAX_SERVERS};
 ghost use Rattle.net_world.specs.Setup.{Setup, setup_of};
 ghost use Rattle.net_world.specs.Opened.{AreOpened, AreBlank, HasOpened, blank};
 ghost use Rattle.net_world.specs.ClientNodes.{Stands};
@@ -77,11 +78,11 @@ impl World {
     /// boot, and with a mirror the client in its first generation.
     pub fn new(alloc: Global, config: Config) -> Result<World, AllocError>
         requires some { 1 ≤ config.servers }
-        requires few { config.servers ≤ 8 }
+        requires few { config.servers ≤ MAX_SERVERS }
         ensures { IfOk result (StandsFor (setup_of config) []) }
     {
         let servers = open_servers(alloc, config.servers)?;
-        let files = open_files(alloc, 16 * config.servers)?;
+        let files = open_files(alloc, MAX_JOBS * config.servers)?;
         let mirror = open_mirror(alloc, config)?;
         let client = open_client(alloc, config)?;
         Ok(World {
@@ -213,7 +214,7 @@ impl World {
     /// Whether it has a file of this job at this server.
     pub(crate) fn has_file(&self, server: ServerNo, job: JobNo) -> bool
         ensures { result
-            ≡ (nat_lt job 16 && nat_lt (16 * server + job) (length self.now.files.items)) }
+            ≡ (nat_lt job MAX_JOBS && nat_lt (MAX_JOBS * server + job) (length self.now.files.items)) }
     {
         job.0 < MAX_JOBS && place_of(server, job) < self.files.as_slice().len()
     }
@@ -221,9 +222,9 @@ impl World {
 
 /// Where the file of a job lies among those of a world.
 pub(crate) fn place_of(server: ServerNo, job: JobNo) -> usize
-    ensures { result ≡ 16 * server + job }
+    ensures { result ≡ MAX_JOBS * server + job }
 {
-    16 * server.0 as usize + job.0 as usize
+    MAX_JOBS as usize * server.0 as usize + job.0 as usize
 }
 
 /// The mirror, on a blank note, and the generation of the client.
@@ -246,7 +247,7 @@ fn open_mirror(alloc: Global, config: Config) -> Result<Mirrored, AllocError>
 /// The client, on a blank note, or with a mirror in its first generation.
 fn open_client(alloc: Global, config: Config) -> Result<ClientNode, AllocError>
     requires some { 1 ≤ config.servers }
-    requires few { config.servers ≤ 8 }
+    requires few { config.servers ≤ MAX_SERVERS }
     ensures { IfOk result (λ c. Stands (client_opening (setup_of config)) (client_entries (setup_of config) []) c) }
 {
     if config.mirror {
@@ -260,7 +261,7 @@ fn open_client(alloc: Global, config: Config) -> Result<ClientNode, AllocError>
 
 /// The servers, each on a blank note.
 fn open_servers(alloc: Global, servers: u32) -> Result<Vec<ServerNode>, AllocError>
-    requires { servers ≤ 8 }
+    requires { servers ≤ MAX_SERVERS }
     ensures { IfOk result (λ v. AreOpened servers v.items) }
 {
     let mut nodes = Vec::with_capacity(alloc, servers as usize)?;

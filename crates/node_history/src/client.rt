@@ -9,7 +9,7 @@ ghost use Rattle.node_history.specs.ClientKind.{client_kind, client_has_power};
 use crate::node_core::NodeCore;
 use client_core::Client;
 use disk_model::Notes;
-use fc_base::Fault;
+use fc_base::{Fault, MAX_SERVERS};
 use std::alloc::Global;
 
 impl<N: Notes + Drop> NodeCore<N> for Client<N> {
@@ -29,7 +29,7 @@ impl<N: Notes + Drop> NodeCore<N> for Client<N> {
 
     ghost IsOf = { λ servers o. o.servers ≡ servers };
 
-    ghost IsSeed = { λ servers. (1 ≤ servers) × (servers ≤ 8) };
+    ghost IsSeed = { λ servers. (1 ≤ servers) × (servers ≤ MAX_SERVERS) };
 
     ghost has_power = { client_has_power N.note };
 

@@ -8,7 +8,7 @@ ghost use Rattle.node_history.specs.ServerKind.{server_kind, server_has_power};
 
 use crate::node_core::NodeCore;
 use disk_model::Notes;
-use fc_base::{Fault, ServerNo};
+use fc_base::{Fault, MAX_SERVERS, ServerNo};
 use server_core::{Server, one_note};
 use std::alloc::Global;
 
@@ -29,7 +29,7 @@ impl<N: Notes + Drop> NodeCore<N> for Server<N> {
 
     ghost IsOf = { λ me o. o.me ≡ me };
 
-    ghost IsSeed = { λ me. me < 8 };
+    ghost IsSeed = { λ me. me < MAX_SERVERS };
 
     ghost has_power = { server_has_power N.note };
 

@@ -1,5 +1,6 @@
 -- What holds of all nodes whose histories agree with a legal journal.
 use Rattle.std.specs.Prelude.{◌≤◌, ℕ, List}
+use Rattle.fc_base.specs.declared.limits.TheConstants.{MAX_SERVERS}
 use Rattle.messages.specs.declared.node.Node.{Node}
 use Rattle.hub.specs.Network.{Network}
 use Rattle.server_core.specs.Hearing.{FrameEntry as ServerEntry}
@@ -16,7 +17,7 @@ use Rattle.node_traces.specs.Verdict.{IsHeard, HoldOneState}
 
 -- The histories of n servers and of their client agree with a legal journal.
 pub record Agree (n : ℕ) (net : Network) (ran : Node → List Logged) : Type 0 where
-  pub few : n ≤ 8
+  pub few : n ≤ MAX_SERVERS
   pub legal : IsLegal net
   pub ends : EndAt n ran
   pub marked : AreMarked ran net

@@ -7,7 +7,7 @@ ghost use Rattle.parallel_checks.specs.Slots.{AreAnswered, ReportsOf, IsFirstRef
 use crate::slot::Slot;
 use crate::task::Task;
 use disk_model::Disk;
-use fc_base::{CheckReport, Fault};
+use fc_base::{CheckReport, Fault, MAX_WORKERS};
 use std::alloc::{AllocError, Global};
 use std::thread;
 use std::thread::Threads;
@@ -27,7 +27,7 @@ pub fn check_jobs<R: Threads + Sync, D: Disk + Send + Drop>(
     workers: u32,
 ) -> Result<Vec<CheckReport>, Fault>
     requires some { 1 ≤ workers }
-    requires few { workers ≤ 16 }
+    requires few { workers ≤ MAX_WORKERS }
     ensures reports { IfOk result (λ reports. AreReports D.file tasks.items reports.items) }
     ensures refused { IfErr result
         (λ fault. (fault ≡ Fault.NoMemory) ⊎ IsFirstRefusal D.file tasks.items fault) }

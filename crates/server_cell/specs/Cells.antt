@@ -1,5 +1,6 @@
 -- What a server's cell shows, and what is true of every one.
 use Rattle.std.specs.Prelude.{◌≡◌, ℕ, ◌<◌, ◌==◌, ◌&&◌, Bool, List, length, slice_index_or}
+use Rattle.fc_base.specs.declared.limits.TheConstants.{MAX_SEATS}
 use Rattle.disk_model.specs.Notes.{Note}
 use Rattle.server_core.specs.declared.server.Server.{Server}
 use Rattle.server_core.specs.History.{Opening}
@@ -36,7 +37,7 @@ IsReplay cell past = Replays cell.opening cell.history past
 -- For each of 17 seats its events are counted.
 pub record AreCounted (applied : List ℕ) (history : List Logged) : Type 0 where
   pub long : length applied ≡ 17
-  pub each : (seat : ℕ) → seat < 17 → slice_index_or applied seat 0 ≡ times seat history
+  pub each : (seat : ℕ) → seat < MAX_SEATS → slice_index_or applied seat 0 ≡ times seat history
 
 -- What is true of every cell: the server stands for a list that its history makes, in which all is in
 -- its ranges, and the events of each seat are numbered and counted.

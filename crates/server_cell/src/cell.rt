@@ -12,7 +12,7 @@ mod node;
 use crate::seat::Seat;
 use crate::seats::{SEATS, new_seats};
 use disk_model::Notes;
-use fc_base::{Fault, RunNo, ServerNo};
+use fc_base::{Fault, MAX_SEATS, MAX_SERVERS, RunNo, ServerNo};
 use node_history::{History, Power};
 use server_core::{Server, Status};
 use std::alloc::Global;
@@ -74,9 +74,9 @@ impl<N: Notes + Drop> ServerCell<N> {
         notes: N,
         workers: u32,
     ) -> Result<(ServerCell<N>, Vec<Seat>), (N, Fault)>
-        requires server { me < 8 }
+        requires server { me < MAX_SERVERS }
         requires some { 1 ≤ workers }
-        requires few { workers ≤ 17 }
+        requires few { workers ≤ MAX_SEATS }
         ensures opened { IfOk result (λ made. (made.0.opening.me ≡ me)
             × Says (N.note notes).bytes (record { boot = made.0.opening.boot; last_run = made.0.opening.last })
             × (made.0.history ≡ [])) }

@@ -14,7 +14,7 @@ ghost use Rattle.server_cell.specs.Tasks.{came_by, loads_note};
 use crate::task::Task;
 use disk_model::Notes;
 use engine::{Issue, Ticket};
-use fc_base::{Fault, JobNo, ServerNo};
+use fc_base::{Fault, JobNo, MAX_SERVERS, ServerNo};
 use messages::Act;
 use node_history::{Answer, Power, Said};
 use server_core::{Input, Outs, Server, WriteEnd};
@@ -94,7 +94,7 @@ pub(crate) fn perform<N: Notes + Drop>(
     me: ServerNo,
     task: &Task,
 ) -> Result<Said, Fault>
-    requires { me < 8 }
+    requires { me < MAX_SERVERS }
     ensures ends { (o : Opening) (past : List FrameEntry) → o.me ≡ me → Stands N.note o past power.old →
         TaskEnds (ways N.note o) past (asked (came_by task.now)) power.new result }
     ensures count { (o : Opening) (past : List FrameEntry) → o.me ≡ me → Stands N.note o past power.old →

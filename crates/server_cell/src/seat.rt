@@ -3,7 +3,7 @@
 ghost use Rattle.std.specs.Prelude.{◌≡◌, ◌<◌, ◌+◌, ◌^◌, Some};
 ghost use Rattle.server_cell.specs.Seated.{new_seat};
 
-use fc_base::{Fault, ServerNo};
+use fc_base::{Fault, MAX_SEATS, ServerNo};
 use node_history::Said;
 use std::marker::Model;
 
@@ -37,13 +37,13 @@ impl Model for Seat {
 
     ghost view = { λ s. record { server = s.server; number = s.number; applied = s.applied; last = s.last } };
 
-    ghost invariant = { λ s. s.number < 17 };
+    ghost invariant = { λ s. s.number < MAX_SEATS };
 }
 
 impl Seat {
     /// A seat that has applied nothing.
     pub(crate) fn new(server: ServerNo, number: u32) -> Seat
-        requires { number < 17 }
+        requires { number < MAX_SEATS }
         ensures { result ≡ new_seat server number }
     {
         Seat {
@@ -64,7 +64,7 @@ impl Seat {
     /// Its number, from 0 on.
     pub fn number(&self) -> u32
         ensures value { result ≡ self.now.number }
-        ensures few { result < 17 }
+        ensures few { result < MAX_SEATS }
     {
         self.number
     }

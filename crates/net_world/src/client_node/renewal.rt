@@ -1,6 +1,7 @@
 //! The client of a world loses its note, and is begun anew.
 
 ghost use Rattle.std.specs.Prelude.{◌≡◌, ◌≤◌, ◌∷◌, [], Bool, List, IfOk, IsTrue};
+ghost use Rattle.fc_base.specs.declared.limits.TheConstants.{MAX_SERVERS};
 ghost use Rattle.messages.specs.Ranges.{is_generation};
 ghost use Rattle.disk_model.specs.declared.left.Left.TheVariants.{Saved};
 ghost use Rattle.client_core.specs.Note.{blank};
@@ -19,7 +20,7 @@ impl ClientNode {
     /// A client with a mirror, of so many servers, in the first generation.
     pub(crate) fn open_renewed(alloc: Global, servers: u32) -> Result<ClientNode, AllocError>
         requires some { 1 ≤ servers }
-        requires few { servers ≤ 8 }
+        requires few { servers ≤ MAX_SERVERS }
         ensures { IfOk result (Stands (record { servers = servers; noted = blank }) (Renew 1 Saved ∷ [])) }
     {
         let notes = MemNotes::new(Vec::new(alloc));
@@ -54,7 +55,7 @@ impl ClientNode {
         generation: Generation,
     ) -> Result<(), Fault>
         requires some { 1 ≤ servers }
-        requires few { servers ≤ 8 }
+        requires few { servers ≤ MAX_SERVERS }
         requires fits { IsTrue (is_generation generation) }
         ensures { (o : Opening) (past : List FrameEntry) → o.servers ≡ servers → Stands o past self.old →
             Renews o past generation self.new result }
@@ -88,7 +89,7 @@ impl ClientNode {
         generation: Generation,
     ) -> Result<(), Fault>
         requires some { 1 ≤ servers }
-        requires few { servers ≤ 8 }
+        requires few { servers ≤ MAX_SERVERS }
         requires fits { IsTrue (is_generation generation) }
         ensures { (o : Opening) (past : List FrameEntry) → o.servers ≡ servers → Stands o past self.old →
             CutsInRenewal o past landed generation self.new result }

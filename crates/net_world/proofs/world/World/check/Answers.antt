@@ -1,6 +1,7 @@
 use Rattle.std.proofs.Common.{refl, sym, ◌∙◌, subst, ◌+◌, ◌*◌, arith, length}
 use Rattle.std.proofs.Common.{Option, Ok}
 use Rattle.std.specs.Option.{option_copied}
+use Rattle.fc_base.specs.declared.limits.TheConstants.{MAX_JOBS}
 use Rattle.verify_state.specs.State.{State}
 use Rattle.recheck.specs.Disk.{ChecksDisk}
 use Rattle.disk_model.specs.MemDisk.{file_of}
@@ -24,7 +25,7 @@ returns-in_default c w past stands =
     let s = c.args.server in
     let j = c.args.job in
     let slot = has_slot s j (length c.args.self.now.files.items) (sym c.has_file.ensures ∙ c.if-not-has_file.false) in
-    let at = node_at c.args.self.now.files.items (16 * s + j) c.place_of.result c.index_mut.result.now c.place_of.ensures slot.1 c.index_mut.ensures.value in
+    let at = node_at c.args.self.now.files.items (MAX_JOBS * s + j) c.place_of.result c.index_mut.result.now c.place_of.ensures slot.1 c.index_mut.ensures.value in
     let held = stands.files_are s j c.index_mut.result.now slot.0 at in (
       refl,
       file_kept w past s j c.check_disk.new.disk c.args.self.now _ stands
@@ -37,7 +38,7 @@ returns-in-Ok-serve c w past stands =
     let s = c.args.server in
     let j = c.args.job in
     let slot = has_slot s j (length c.args.self.now.files.items) (sym c.has_file.ensures ∙ c.if-not-has_file.false) in
-    let at = node_at c.args.self.now.files.items (16 * s + j) c.place_of.result c.index_mut.result.now c.place_of.ensures slot.1 c.index_mut.ensures.value in
+    let at = node_at c.args.self.now.files.items (MAX_JOBS * s + j) c.place_of.result c.index_mut.result.now c.place_of.ensures slot.1 c.index_mut.ensures.value in
     let held = stands.files_are s j c.index_mut.result.now slot.0 at in
     let h = c.in-Ok.ensures w past stands in
     let r = c.in-Ok-check_disk.report in
@@ -53,7 +54,7 @@ returns-in-Err-serve c w past stands =
     let s = c.args.server in
     let j = c.args.job in
     let slot = has_slot s j (length c.args.self.now.files.items) (sym c.has_file.ensures ∙ c.if-not-has_file.false) in
-    let at = node_at c.args.self.now.files.items (16 * s + j) c.place_of.result c.index_mut.result.now c.place_of.ensures slot.1 c.index_mut.ensures.value in
+    let at = node_at c.args.self.now.files.items (MAX_JOBS * s + j) c.place_of.result c.index_mut.result.now c.place_of.ensures slot.1 c.index_mut.ensures.value in
     let held = stands.files_are s j c.index_mut.result.now slot.0 at in
     let h = c.in-Ok.ensures w past stands in
     let r = c.in-Ok-check_disk.report in

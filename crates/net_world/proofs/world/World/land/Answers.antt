@@ -1,5 +1,6 @@
 use Rattle.std.proofs.Common.{refl, sym, ◌∙◌, ap, subst, ◌+◌, ◌*◌, arith, length, List, ℕ}
 use Rattle.std.specs.Prelude.{IsTrue}
+use Rattle.fc_base.specs.declared.limits.TheConstants.{MAX_JOBS}
 use Rattle.fc_base.specs.JobParts.{is_within_limits}
 use Rattle.fc_base.specs.declared.record.JobParts.{JobParts}
 use Rattle.disk_model.specs.MemDisk.{file_of}
@@ -45,7 +46,7 @@ returns-in-Ok-land c w past stands =
     let k = c.args.write in
     let h = c.in-Ok.ensures w past stands in
     let slot = has_slot s j (length c.args.self.now.files.items) (sym c.has_file.ensures ∙ c.if-not-has_file.false) in
-    let at = node_at c.args.self.now.files.items (16 * s + j) c.place_of.result c.index_mut.result.now c.place_of.ensures slot.1 c.index_mut.ensures.value in
+    let at = node_at c.args.self.now.files.items (MAX_JOBS * s + j) c.place_of.result c.index_mut.result.now c.place_of.ensures slot.1 c.index_mut.ensures.value in
     let held = stands.files_are s j c.index_mut.result.now slot.0 at in
     let e = Land s j k c.args.mask in
     quiet_ends w past s j e (Landed s j k c.args.mask) (with_write k c.args.mask (open_at (trace w past) s j k) (content w past s j)) c.land.new.self c.in-Ok-settle.first c.plain.result c.args.self.now _ stands
@@ -62,7 +63,7 @@ returns c w past stands =
     let s = c.args.server in
     let j = c.args.job in
     let slot = has_slot s j (length c.args.self.now.files.items) (sym c.has_file.ensures ∙ c.if-not-has_file.false) in
-    let at = node_at c.args.self.now.files.items (16 * s + j) c.place_of.result c.index_mut.result.now c.place_of.ensures slot.1 c.index_mut.ensures.value in
+    let at = node_at c.args.self.now.files.items (MAX_JOBS * s + j) c.place_of.result c.index_mut.result.now c.place_of.ensures slot.1 c.index_mut.ensures.value in
     let held = stands.files_are s j c.index_mut.result.now slot.0 at in (
       refl,
       file_kept w past s j c.land.new.self c.args.self.now _ stands

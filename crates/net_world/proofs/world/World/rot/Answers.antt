@@ -1,4 +1,5 @@
 use Rattle.std.proofs.Common.{refl, sym, ◌∙◌, ap, ◌<◌, ◌+◌, ◌*◌, arith, length, List, ℕ}
+use Rattle.fc_base.specs.declared.limits.TheConstants.{MAX_JOBS}
 use Rattle.disk_model.specs.File.{with_sector, put}
 use Rattle.net_world.specs.Happenings.{Rot}
 use Rattle.net_world.specs.Changes.{Rotted}
@@ -34,7 +35,7 @@ returns-in-Ok-rot c w past stands =
     let l = lt_of s (length c.args.self.now.servers.items) (sym c.has_server.ensures ∙ c.if-not-has_server.false) in
     let below : s < w.servers = omega (arith, stands.number, l) in
     let slot = has_slot s j (length c.args.self.now.files.items) (sym c.has_file.ensures ∙ c.if-not-has_file.false) in
-    let at = node_at c.args.self.now.files.items (16 * s + j) c.place_of.result c.index_mut.result.now c.place_of.ensures slot.1 c.index_mut.ensures.value in
+    let at = node_at c.args.self.now.files.items (MAX_JOBS * s + j) c.place_of.result c.index_mut.result.now c.place_of.ensures slot.1 c.index_mut.ensures.value in
     let held = stands.files_are s j c.index_mut.result.now slot.0 at in
     let e = Rot s j c.args.sector c.args.bytes.now in
     quiet_ends w past s j e (Rotted s j c.args.sector c.args.bytes.now) (put c.args.sector c.args.bytes.now (content w past s j)) c.rot.new.self c.in-Ok.first c.plain.result c.args.self.now _ stands
@@ -51,7 +52,7 @@ returns-in-Err c w past stands =
     let s = c.args.server in
     let j = c.args.job in
     let slot = has_slot s j (length c.args.self.now.files.items) (sym c.has_file.ensures ∙ c.if-not-has_file.false) in
-    let at = node_at c.args.self.now.files.items (16 * s + j) c.place_of.result c.index_mut.result.now c.place_of.ensures slot.1 c.index_mut.ensures.value in
+    let at = node_at c.args.self.now.files.items (MAX_JOBS * s + j) c.place_of.result c.index_mut.result.now c.place_of.ensures slot.1 c.index_mut.ensures.value in
     let held = stands.files_are s j c.index_mut.result.now slot.0 at in (
       refl,
       file_kept w past s j c.rot.new.self c.args.self.now _ stands
