@@ -1,6 +1,7 @@
 //! The client is the core of a node.
 
 ghost use Rattle.std.specs.Prelude.{◌≡◌, ◌≤◌};
+ghost use Rattle.fc_base.specs.declared.limits.TheConstants.{MAX_SERVERS};
 ghost use Rattle.client_core.specs.declared.input.Input.{Input as ClientInput};
 ghost use Rattle.client_core.specs.History.{Opening as ClientOpening};
 ghost use Rattle.client_core.specs.Hearing.{FrameEntry};
@@ -9,7 +10,7 @@ ghost use Rattle.node_history.specs.ClientKind.{client_kind, client_has_power};
 use crate::node_core::NodeCore;
 use client_core::Client;
 use disk_model::Notes;
-use fc_base::{Fault, MAX_SERVERS};
+use fc_base::Fault;
 use std::alloc::Global;
 
 impl<N: Notes + Drop> NodeCore<N> for Client<N> {

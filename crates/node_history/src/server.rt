@@ -1,6 +1,7 @@
 //! A server is the core of a node.
 
 ghost use Rattle.std.specs.Prelude.{◌≡◌, ◌<◌};
+ghost use Rattle.fc_base.specs.declared.limits.TheConstants.{MAX_SERVERS};
 ghost use Rattle.server_core.specs.declared.input.Input.{Input as ServerInput};
 ghost use Rattle.server_core.specs.History.{Opening as ServerOpening};
 ghost use Rattle.server_core.specs.Hearing.{FrameEntry};
@@ -8,7 +9,7 @@ ghost use Rattle.node_history.specs.ServerKind.{server_kind, server_has_power};
 
 use crate::node_core::NodeCore;
 use disk_model::Notes;
-use fc_base::{Fault, MAX_SERVERS, ServerNo};
+use fc_base::{Fault, ServerNo};
 use server_core::{Server, one_note};
 use std::alloc::Global;
 

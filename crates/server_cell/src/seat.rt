@@ -31,6 +31,7 @@ impl Drop for Seat {
 
 impl Model for Seat {
     ghost use Rattle.std.specs.Prelude.{◌<◌};
+    ghost use Rattle.fc_base.specs.declared.limits.TheConstants.{MAX_SEATS};
     ghost use Rattle.server_cell.specs.Seated.{Seated};
 
     ghost Value = { Seated };

@@ -17,7 +17,7 @@ use std::sync::{Mutex, Wait};
 /// What a worker has between its turns: the memory for a block, and the write that it carried out last, as
 /// long as its server isn't told of it.
 #[derive(Debug, Drop)]
-pub(crate) struct Hand {
+pub(crate) struct Desk {
     memory: Vec<u8>,
     last: Option<Ended>,
     ghost whole: { length memory.items ≡ BLOCK_SIZE },
@@ -36,10 +36,10 @@ pub(crate) enum Turn {
     Off,
 }
 
-impl Hand {
+impl Desk {
     /// That of a worker which has written nothing yet.
-    pub(crate) fn new(alloc: Global) -> Result<Hand, AllocError> {
-        Ok(Hand {
+    pub(crate) fn new(alloc: Global) -> Result<Desk, AllocError> {
+        Ok(Desk {
             memory: vec![in alloc; 0; MAX_BLOCK_SIZE as usize]?,
             last: None,
         })
@@ -54,12 +54,12 @@ pub(crate) fn take<R: Wait, N: Notes + Drop, D: Disk, G: Gate>(
     job: JobNo,
     file: &Mutex<D>,
     gate: &G,
-    hand: &mut Hand,
+    desk: &mut Desk,
 ) -> Result<Turn, Fault>
     ensures { HasTaken seat.old seat.new result }
 {
-    let asked = tell_and_ask(rt, cell, seat, hand.last, job)?;
-    if let (Some(ended), false) = (hand.last.take(), asked == Asked::Off) {
+    let asked = tell_and_ask(rt, cell, seat, desk.last, job)?;
+    if let (Some(ended), false) = (desk.last.take(), asked == Asked::Off) {
         gate.written(&ended.ticket);
     }
     let (ticket, rec) = match asked {
@@ -74,7 +74,7 @@ pub(crate) fn take<R: Wait, N: Notes + Drop, D: Disk, G: Gate>(
         tell(rt, cell, seat, &Ended { ticket, end })?;
         return Err(Fault::TurnsSpent);
     }
-    let end = carry_out(rt, file, &ticket, rec, &mut hand.memory);
-    hand.last = Some(Ended { ticket, end });
+    let end = carry_out(rt, file, &ticket, rec, &mut desk.memory);
+    desk.last = Some(Ended { ticket, end });
     Ok(Turn::Wrote)
 }

@@ -5,7 +5,7 @@ ghost use Rattle.workers.specs.Seats.{HasWorked, IsSeatOf};
 ghost use Rattle.workers.specs.Turns.{is_over, HasGone, HasTaken};
 
 use crate::gate::Gate;
-use crate::turn::{Hand, Turn, take};
+use crate::turn::{Desk, Turn, take};
 use disk_model::{Disk, Notes};
 use fc_base::{Fault, JobNo};
 use server_cell::{Seat, ServerCell};
@@ -68,11 +68,11 @@ fn work<R: Wait, N: Notes + Drop, D: Disk, G: Gate>(
     ensures worked { IfOk result (λ _. HasWorked seat.old seat.new) }
     ensures refused { IfErr result (λ _. IsSeatOf seat.old seat.new) }
 {
-    let Ok(mut hand) = Hand::new(alloc) else {
+    let Ok(mut desk) = Desk::new(alloc) else {
         return Err(Fault::NoMemory);
     };
     for _ in rt.forever() {
-        match go_round(rt, cell, seat, files, gate, &mut hand)? {
+        match go_round(rt, cell, seat, files, gate, &mut desk)? {
             Round::Over => return Ok(()),
             Round::Idle => thread::yield_now(),
             Round::Busy => {}
@@ -88,7 +88,7 @@ fn go_round<R: Wait, N: Notes + Drop, D: Disk, G: Gate>(
     seat: &mut Seat,
     files: &[Mutex<D>],
     gate: &G,
-    hand: &mut Hand,
+    desk: &mut Desk,
 ) -> Result<Round, Fault>
     requires { 1 ≤ length files.now }
     ensures { HasGone seat.old seat.new result }
@@ -97,7 +97,7 @@ fn go_round<R: Wait, N: Notes + Drop, D: Disk, G: Gate>(
     let first = seat.number() as usize;
     for step in 0..files.len() {
         let place = (first + step) % files.len();
-        match stay(rt, cell, seat, job_at(place), &files[place], gate, hand)? {
+        match stay(rt, cell, seat, job_at(place), &files[place], gate, desk)? {
             Turn::Wrote => round = Round::Busy,
             Turn::Later => round = round.or_idle(),
             Turn::Never => {}
@@ -115,12 +115,12 @@ fn stay<R: Wait, N: Notes + Drop, D: Disk, G: Gate>(
     job: JobNo,
     file: &Mutex<D>,
     gate: &G,
-    hand: &mut Hand,
+    desk: &mut Desk,
 ) -> Result<Turn, Fault>
     ensures { HasTaken seat.old seat.new result }
 {
     for turn in 0..STAY {
-        match take(rt, cell, seat, job, file, gate, hand)? {
+        match take(rt, cell, seat, job, file, gate, desk)? {
             Turn::Wrote => {}
             Turn::Later if turn > 0 => return Ok(Turn::Wrote),
             other => return Ok(other),
