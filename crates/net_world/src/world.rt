@@ -47,6 +47,8 @@ pub struct World {
     mirror: Mirrored,
     files: Vec<MemDisk>,
     sent: Sent,
+    /// The block of the write that landed last, for whose memory the next one needn't ask.
+    block: Vec<u8>,
 }
 
 /// It is written by hand so that it is one function: where it is derived, the proof of each function that
@@ -60,6 +62,7 @@ impl Drop for World {
             mirror: _,
             files: _,
             sent: _,
+            block: _,
         } = self;
         let _notes = client.off(alloc);
     }
@@ -92,6 +95,7 @@ impl World {
             mirror,
             files,
             sent: Sent::new(alloc),
+            block: Vec::new(alloc),
         })
     }
 

@@ -1,6 +1,6 @@
 //! The writes of a world: they are issued, land, and are done or fail.
 
-ghost use Rattle.std.specs.Prelude.{◌≡◌, List, IfOk};
+ghost use Rattle.std.specs.Prelude.{◌≡◌, List, OnOk};
 ghost use Rattle.write_order.specs.Stamps.{written_bytes};
 ghost use Rattle.net_world.specs.Setup.{Setup};
 ghost use Rattle.net_world.specs.Changes.{Change};
@@ -13,7 +13,7 @@ use super::{World, place_of};
 use crate::told::{Answer, Told};
 use fc_base::{Fault, JobNo, JobRecord, Key, MAX_BLOCKS, Seq, ServerNo};
 use server_core::{Input, WriteEnd};
-use std::alloc::{AllocError, Global};
+use std::alloc::AllocError;
 use write_order::{fill_block, writes_fill_their_blocks, writes_stay_in_the_region};
 
 impl World {
@@ -77,10 +77,10 @@ impl World {
         let Ok(first) = self.sent.settle() else {
             return Err(Fault::NoMemory);
         };
-        let Ok(bytes) = bytes_of(self.alloc, ticket.key, &rec, write, ticket.block) else {
+        let Ok(()) = fill(&mut self.block, ticket.key, &rec, write, ticket.block) else {
             return Err(Fault::NoMemory);
         };
-        match self.files[place_of(server, job)].land(ticket.block, &bytes, mask) {
+        match self.files[place_of(server, job)].land(ticket.block, &self.block, mask) {
             Ok(()) => Ok(Told::plain(first)),
             Err(_) => Err(Fault::NoMemory),
         }
@@ -113,17 +113,17 @@ impl World {
     }
 }
 
-/// The bytes of a write.
-fn bytes_of(
-    alloc: Global,
+/// Fills a block with the bytes of a write. Only a longer one than before asks for memory.
+fn fill(
+    bytes: &mut Vec<u8>,
     key: Key,
     rec: &JobRecord,
     write: Seq,
     block: u32,
-) -> Result<Vec<u8>, AllocError>
-    ensures { IfOk result (λ v. v.items ≡ written_bytes key rec.now write block) }
+) -> Result<(), AllocError>
+    ensures { OnOk result (bytes.new.items ≡ written_bytes key rec.now write block) }
 {
-    let mut bytes = vec![in alloc; 0u8; rec.bs() as usize]?;
-    fill_block(key, rec, write, block, &mut bytes);
-    Ok(bytes)
+    bytes.resize(rec.bs() as usize, 0)?;
+    fill_block(key, rec, write, block, bytes);
+    Ok(())
 }

@@ -18,7 +18,7 @@ land-requires c =
     let rec = c.in-Ok.found.1 in
     let limits = subst (λ (r : JobParts). IsTrue (is_within_limits r)) c.parts-within_limits.ensures.value c.parts-within_limits.ensures.limits in
     is_block rec limits c.in-Ok.found.0.block (length c.deref.result.now) (omega (arith, c.if-ticket-ge-MAX_BLOCKS.false))
-    (ap (λ (bs : List ℕ). length bs) (c.deref.ensures.value ∙ c.in-Ok-bytes_of.ensures) ∙ c.writes_fill_their_blocks.ensures c.in-Ok.found.0.key rec limits c.args.write c.in-Ok.found.0.block)
+    (ap (λ (bs : List ℕ). length bs) (c.deref.ensures.value ∙ c.in-Ok-fill.ensures) ∙ c.writes_fill_their_blocks.ensures c.in-Ok.found.0.key rec limits c.args.write c.in-Ok.found.0.block)
 
 pub returns-in-Err : goal.returns-in-Err
 returns-in-Err c w past stands =
@@ -52,14 +52,14 @@ returns-in-Ok-land c w past stands =
     quiet_ends w past s j e (Landed s j k c.args.mask) (with_write k c.args.mask (open_at (trace w past) s j k) (content w past s j)) c.land.new.self c.in-Ok-settle.first c.plain.result c.args.self.now _ stands
     (record { slot = slot.0; there = slot.1; place = c.place_of.result; place_is = c.place_of.ensures; set_is = refl; sent_is = c.settle.ensures.same; client_is = refl; servers_are = refl; mirror_is = refl })
     (lands w past s j k c.args.mask)
-    (landed_is w past s j k c.args.mask c.in-Ok.found.0 c.in-Ok.found.1 c.deref.result.now (file_of c.index_mut.result.now) (file_of c.land.new.self) h held (c.deref.ensures.value ∙ c.in-Ok-bytes_of.ensures) c.in-Ok-land.ensures.ok)
+    (landed_is w past s j k c.args.mask c.in-Ok.found.0 c.in-Ok.found.1 c.deref.result.now (file_of c.index_mut.result.now) (file_of c.land.new.self) h held (c.deref.ensures.value ∙ c.in-Ok-fill.ensures) c.in-Ok-land.ensures.ok)
     (goes w past e h.there)
     refl
     (c.in-Ok-settle.ensures.first ∙ ap (λ (fs : List (List ℕ)). length fs) c.settle.ensures.same)
     c.plain.ensures
 
-pub returns : goal.returns
-returns c w past stands =
+pub returns-in-Err-land : goal.returns-in-Err-land
+returns-in-Err-land c w past stands =
     let s = c.args.server in
     let j = c.args.job in
     let slot = has_slot s j (length c.args.self.now.files.items) (sym c.has_file.ensures ∙ c.if-not-has_file.false) in
