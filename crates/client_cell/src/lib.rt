@@ -1,4 +1,13 @@
 //! The client under its lock, and the history of all that came to it.
+//!
+//! ```text
+//! let mut cell = ClientCell::new(alloc, servers, notes)?;
+//! let told = cell.post(&mut hub, Command::Request(Request::Begin(text)))?;
+//! let told = cell.deliver(&mut hub, position)?;      // as of any `Node`
+//! let told = cell.apply(Task::Cut)?;
+//! ```
+//!
+//! Begin with `cell`; `specs/Cells.antt` says what a cell shows, `specs/Calls.antt` how a task ends.
 #![tactic(auto)]
 
 mod cell;

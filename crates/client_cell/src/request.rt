@@ -12,7 +12,7 @@ use node_history::Came;
 pub enum Request {
     /// Begin a run with this job file.
     Begin(Text),
-    /// Trigger the write states of a run, and then this act.
+    /// Trigger the verify states of a run, and then this act.
     Trigger(RunNo, Act),
     /// Issue no more writes in a run.
     Stop(RunNo),

@@ -1,5 +1,16 @@
 //! What a client answers, read from the list of all that came to it: the words of a client, and the
 //! laws that hold of every list.
+//!
+//! ```text
+//! let mut client = Client::restart(alloc, servers, mirror, notes)?;
+//! let (run, frames) = client.begin(text)?;
+//! let frames = client.deliver(frame)?;               // a state is saved before it is acknowledged
+//! let frames = client.trigger(run, Act::Cut)?;
+//! let (attempt, frames) = client.verify(run, text)?;
+//! ```
+//!
+//! Begin with `client`; `specs/History.antt` says what a list is, `specs/Words.antt` and
+//! `specs/Refusals.antt` what it says, and `specs/FrameEnds.antt` how a call ends.
 #![tactic(auto)]
 
 mod again;

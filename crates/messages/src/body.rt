@@ -35,12 +35,12 @@ pub enum Body {
     Started {
         run: RunNo,
     },
-    /// The client: store the write state of each job, and then act.
+    /// The client: store the verify state of each job, and then act.
     Trigger {
         run: RunNo,
         act: Act,
     },
-    /// A server: the write state of a job, which names the run, the server and the job.
+    /// A server: the verify state of a job, which names the run, the server and the job.
     State {
         jobs: u32,
         state: VerifyState,

@@ -1,4 +1,16 @@
 //! What the client, the servers and the mirror say to each other, and its bytes: packets and their frames.
+//!
+//! ```text
+//! let packet = Packet::make(PacketParts { from, to, body })?;
+//! let frames = frames_of(alloc, &packet)?;    // one, or several of a long body
+//! match decode_frame(alloc, bytes)? {         // at the other end, frame by frame
+//!     Frame::Whole(packet) => ..,
+//!     Frame::Piece(piece) => ..,              // an `Assembly` puts pieces together
+//! }
+//! ```
+//!
+//! Begin with `packet` and `body`; `specs/Bodies.antt` says the bytes of each kind, `specs/Pieces.antt`
+//! how a long body is cut.
 #![tactic(auto)]
 
 mod assembly;

@@ -1,4 +1,11 @@
 //! Scripts of worlds: what they ask for, what comes of it, and what they print.
+//!
+//! ```text
+//! let status = run_script(alloc, &mut reader, &mut writer)?;
+//! ```
+//!
+//! Begin with `running`; `specs/Script.antt` says what the lines of a script come to, `specs/Table.antt`
+//! which commands there are.
 #![tactic(auto)]
 
 mod arguments;

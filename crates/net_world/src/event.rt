@@ -11,7 +11,7 @@ pub enum PlainEvent {
     Begin {
         text: Vec<u8>,
     },
-    /// The client triggers the write states of a run, and then this act.
+    /// The client triggers the verify states of a run, and then this act.
     Trigger {
         run: RunNo,
         act: Act,

@@ -1,6 +1,16 @@
 //! A client, its servers and a mirror or none in one list of steps: what was sent, who holds which
 //! verify state, and that all who hold one of a job hold the same. And the world of what happens to
 //! them and to their files, and what each check tells.
+//!
+//! ```text
+//! let mut world = World::new(alloc, Config { servers: 2, mirror: false })?;
+//! let told = world.apply(&Event::Plain(PlainEvent::Begin { text }))?;
+//! let told = world.apply(&Event::Plain(PlainEvent::Deliver { frame: told.first }))?;
+//! let world = play(alloc, config, &events)?;         // the same of a whole list
+//! ```
+//!
+//! Begin with `playing`, whose contract is the headline; `specs/Headline.antt` has its claims,
+//! `specs/Happenings.antt` what can happen.
 #![tactic(auto)]
 
 mod ask;

@@ -57,7 +57,7 @@ pub enum Came {
     },
     /// The client begins a run with this job file.
     Begin(Text),
-    /// The client triggers the write states of a run, and then this act.
+    /// The client triggers the verify states of a run, and then this act.
     Trigger(RunNo, Act),
     /// The client stops a run.
     Stop(RunNo),

@@ -1,5 +1,16 @@
 //! The history of a node under its lock: what came to it, what it answered and sent, and the rules by
-//! which that history is replayed.
+//! which that history is replayed; and what the cells of servers and of the client have in common.
+//!
+//! ```text
+//! let told = node.deliver(&mut hub, position)?;      // of a `Node`, whichever it is
+//! let told = node.post(&mut hub, command)?;
+//! if let Some(entry) = node.history().get(0) {
+//!     // what came first, and was answered so
+//! }
+//! ```
+//!
+//! Begin with `node`, and with `history`; `specs/Replay.antt` says what a history makes, and
+//! `specs/Calls.antt` what the calls of a node do.
 #![tactic(auto)]
 
 mod answer;

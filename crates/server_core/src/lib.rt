@@ -1,5 +1,16 @@
 //! What a server answers, read from the list of all that came to it: the words of a server, and the
 //! laws that hold of every list; and what a server keeps of these words.
+//!
+//! ```text
+//! let mut server = Server::restart(alloc, me, notes)?;
+//! let outs = server.step(Input::Deliver(frame))?;    // its frames are to be sent
+//! let issue = server.issue(job)?;                    // a worker asks for a write
+//! server.end_write(ticket, WriteEnd::Done)?;         // and has carried it out
+//! let notes = server.off();                          // the power is cut
+//! ```
+//!
+//! Begin with `server`; `specs/History.antt` says what a list is, `specs/Words.antt` and
+//! `specs/Answers.antt` what it says, and `specs/FrameEnds.antt` how a step ends.
 #![tactic(auto)]
 
 mod check_law;

@@ -36,7 +36,7 @@ impl<N: Notes> Client<N> {
         self.core.begin_would_save(text)
     }
 
-    /// Triggers the write states of a run at each server, which then is to do this.
+    /// Triggers the verify states of a run at each server, which then is to do this.
     ///
     /// In this order: `Down`; `NoSuchRun`; `NoMemory`, and nothing changes.
     pub fn trigger(&mut self, run: RunNo, act: Act) -> Result<Frames, Fault>

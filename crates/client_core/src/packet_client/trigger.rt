@@ -16,7 +16,7 @@ use fc_base::{Fault, RunNo};
 use messages::{Act, Body, Frames};
 
 impl<N: Notes> PacketClient<N> {
-    /// Triggers the write states of a run at each server, which then is to do this.
+    /// Triggers the verify states of a run at each server, which then is to do this.
     ///
     /// In this order: `Down`; `NoSuchRun`; `NoMemory`, and nothing changes.
     pub(crate) fn trigger(&mut self, run: RunNo, act: Act) -> Result<Frames, Fault>
