@@ -19,16 +19,16 @@ use crate::power::{deliver, take, tick};
 use crate::request::Request;
 use client_core::packets_are_in_range;
 use disk_model::Notes;
-use fc_base::Fault;
+use fc_base::{Fault, MAX_SERVERS};
 use hub::{Hub, frames_are_spelled};
-use messages::{Frame, Node};
+use messages::{Frame, MAX_FRAMED, MAX_FRAMES, Node};
 use node_history::{Came, Told, enter, make_room};
 
-/// The most frames that the client sends at once, but for a tick, and the most bytes that they have
-/// together.
-const FRAMES: usize = 136;
+/// The most frames that the client sends at once, but for a tick: those of a packet to each server; and the
+/// most bytes that they have together.
+const FRAMES: usize = MAX_SERVERS as usize * MAX_FRAMES;
 
-const BYTES: usize = 137_864;
+const BYTES: usize = MAX_SERVERS as usize * MAX_FRAMED;
 
 impl<N: Notes + Drop> ClientCell<N> {
     /// Takes a frame that came from this position of the hub.

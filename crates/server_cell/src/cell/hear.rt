@@ -16,17 +16,15 @@ ghost use Rattle.server_cell.specs.Stands.{given};
 use super::ServerCell;
 use crate::power::step;
 use disk_model::Notes;
-use fc_base::Fault;
+use fc_base::{Fault, MAX_JOBS};
 use hub::{Hub, frames_are_spelled};
-use messages::{Frames, Node};
+use messages::{Frames, MAX_FRAME, Node};
 use node_history::{Came, Said, Told, enter, make_room};
 use server_core::{Input, Outs, packets_are_in_range};
 use std::alloc::Global;
 
-/// The most frames that a server sends in one event, and the most bytes of each.
-const FRAMES: usize = 16;
-
-const FRAME_BYTES: usize = 1073;
+/// The most frames that a server sends in one event: one for each job.
+const FRAMES: usize = MAX_JOBS as usize;
 
 impl<N: Notes + Drop> ServerCell<N> {
     /// Whether the server is on: not off, and not down.
@@ -57,7 +55,7 @@ impl<N: Notes + Drop> ServerCell<N> {
         if self.power.core().is_none() {
             return Err(Fault::NodeOff);
         }
-        if make_room(&mut self.history, hub, FRAMES, FRAMES * FRAME_BYTES).is_err() {
+        if make_room(&mut self.history, hub, FRAMES, FRAMES * MAX_FRAME).is_err() {
             return Err(Fault::NoMemory);
         }
         let done = outcome(self.alloc, step(&mut self.power, input));
