@@ -1,10 +1,16 @@
 -- What an event's save left in the notes.
-use Rattle.std.specs.Prelude.{◌≡◌, ◌≢◌, Bool, true, false, List, ℕ, Result, Err, is_ok, if◌then◌else◌}
+use Rattle.std.specs.Prelude.{◌≡◌, ◌≢◌, Bool, true, false, if◌then◌else◌, List, ℕ}
+use Rattle.std.specs.Prelude.{Option, Some, None, Result, Err, is_ok}
 use Rattle.fc_base.specs.declared.fault.Fault.{Fault}
 use Rattle.fc_base.specs.declared.fault.Fault.TheVariants.{NoMemory}
 use Rattle.disk_model.specs.Notes.{Note, IsSaved}
 use Rattle.disk_model.specs.declared.left.Left.{Left}
 use Rattle.disk_model.specs.declared.left.Left.TheVariants.{NoSave, Saved, LostNew, LostOld}
+
+-- What the save of an answered event left: none was made, where nothing was due.
+abbrev pub saved_for : {D : Type 0} → Option D → Left
+saved_for None = NoSave
+saved_for (Some addition) = Saved
 
 -- A save answered Ok.
 abbrev pub is_saved : Left → Bool

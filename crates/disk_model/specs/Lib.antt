@@ -10,5 +10,6 @@ pub mod MemNotes
 pub mod Countdown
 pub mod Laws
 pub mod Left
+pub mod Steps
 pub mod FaultNotes
 pub mod FaultDisk

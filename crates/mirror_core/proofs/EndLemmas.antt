@@ -9,8 +9,9 @@ use Rattle.fc_base.specs.Fault.{sort_of}
 use Rattle.fc_base.specs.Faults.{when}
 use Rattle.disk_model.specs.declared.left.Left.{Left}
 use Rattle.disk_model.specs.declared.left.Left.TheVariants.{NoSave, LostNew, LostOld}
-use Rattle.disk_model.specs.Left.{is_lost, has_new, bytes_left}
+use Rattle.disk_model.specs.Left.{saved_for, is_lost, has_new, bytes_left}
 use Rattle.disk_model.specs.Notes.{Note}
+use Rattle.disk_model.specs.Steps.{LeavesNote, Answers, Fails, Faults}
 use Rattle.messages.specs.declared.frame.Frame.{Frame}
 use Rattle.mirror_core.specs.declared.mirror.Mirror.{Mirror}
 use Rattle.mirror_core.specs.declared.noted.Noted.{Noted}
@@ -19,11 +20,11 @@ use Rattle.mirror_core.specs.Note.{IsNoted, Says, SaysWhatIsWritten, spelling}
 use Rattle.mirror_core.specs.History.{Entry, Met}
 use Rattle.mirror_core.specs.Requests.{request_in}
 use Rattle.mirror_core.specs.Refusals.{faults_of, faults_of_request, refusal_by}
-use Rattle.mirror_core.specs.Saves.{Addition, with_addition, addition_by, addition_of, unless_refused, noted_after, left_by, is_answer}
+use Rattle.mirror_core.specs.Saves.{Addition, with_addition, addition_by, addition_of, unless_refused, noted_after, is_answer}
 use Rattle.mirror_core.specs.Words.{is_on, noted, looked, refusal, due, would_save, is_answered}
 use Rattle.mirror_core.specs.Packets.{replies, packets, packets_for, framed}
 use Rattle.mirror_core.specs.Stands.{StandsFor}
-use Rattle.mirror_core.specs.Ends.{answered, Answers, Fails, Faults, Unsaved, Stores}
+use Rattle.mirror_core.specs.Ends.{answered, steps, Unsaved, Stores}
 use Rattle.mirror_core.proofs.Looked.{looks_at_all}
 use Rattle.mirror_core.proofs.RequestLemmas.{refusal_sort}
 
@@ -56,7 +57,7 @@ record Free {T : Type 0} (mirror : Mirror T) (o : Noted) (past : List Entry) (f 
   due_is : due o past f ≡ addition_by mirror.noted r
   sends : framed (replies mirror.noted r) ≡ framed (packets o past (answered o past f))
 
-is_own_answer : (d : Option Addition) → is_answer d (left_by d) ≡ true
+is_own_answer : (d : Option Addition) → is_answer d (saved_for d) ≡ true
 is_own_answer None = refl
 is_own_answer (Some a) = refl
 
@@ -66,7 +67,7 @@ free_now note mirror o past f r up none asked s =
     let knows = stands_known note mirror o past s on in
     let free : refusal o past f ≡ None =
     sym (refusal_is note mirror o past f s) ∙ ap (λ down. refusal_by (not down) mirror.noted f) up ∙ ap (λ q. slice_get (faults_of mirror.noted q) 0) asked ∙ ap (λ fs. slice_get fs 0) none in
-    let answers : is_answered o past f (left_by (due o past f)) ≡ true = ap (λ x. is_none x && is_answer (due o past f) (left_by (due o past f))) free ∙ is_own_answer (due o past f) in
+    let answers : is_answered o past f (saved_for (due o past f)) ≡ true = ap (λ x. is_none x && is_answer (due o past f) (saved_for (due o past f))) free ∙ is_own_answer (due o past f) in
     record {
       on = on;
       knows = knows;
@@ -102,26 +103,26 @@ refused_stands note mirror o past f s = record {
     by_on false y e = refl
 
 pub refuses : {T : Type 0} (note : T → Note) (mirror : Mirror T) (o : Noted) (past : List Entry) (f : Frame) (fault : Fault) → refusal_by (not mirror.down) mirror.noted f ≡ Some fault → StandsFor note mirror o past
-    → Faults note o past f (sort_of fault) fault mirror mirror
+    → Faults (steps note o) past f (sort_of fault) fault mirror mirror
 refuses note mirror o past f fault r s =
     let why = sym (refusal_is note mirror o past f s) ∙ r in
-    subst (λ t. Faults note o past f t fault mirror mirror) (sym (refusal_sort (not mirror.down) mirror.noted (request_in f) fault r))
+    subst (λ t. Faults (steps note o) past f t fault mirror mirror) (sym (refusal_sort (not mirror.down) mirror.noted (request_in f) fault r))
     (record { why = why; same_note = refl; unchanged = s; stands = refused_stands note mirror o past f s })
 
 -- ---- a frame that is answered
 
-not_lost : (d : Option Addition) → is_lost (left_by d) ≡ false
+not_lost : (d : Option Addition) → is_lost (saved_for d) ≡ false
 not_lost None = refl
 not_lost (Some a) = refl
 
-new_noted : (d : Option Addition) (n : Noted) → noted_after (has_new (left_by d)) d n ≡ noted_after true d n
+new_noted : (d : Option Addition) (n : Noted) → noted_after (has_new (saved_for d)) d n ≡ noted_after true d n
 new_noted None n = refl
 new_noted (Some a) n = refl
 
 answered_stands : {T : Type 0} (note : T → Note) (mirror : Mirror T) (o : Noted) (past : List Entry) (f : Frame) → is_on past ≡ true → mirror.down ≡ false
     → Says (note mirror.notes).bytes (noted_after true (due o past f) (noted o past)) → mirror.noted ≡ noted_after true (due o past f) (noted o past) → StandsFor note mirror o (answered o past f ∷ past)
 answered_stands note mirror o past f on up says knows = record {
-  on = up ∙ sym (ap not (ap (λ b. b && not (is_lost (left_by (due o past f)))) on ∙ ap not (not_lost (due o past f))));
+  on = up ∙ sym (ap not (ap (λ b. b && not (is_lost (saved_for (due o past f)))) on ∙ ap not (not_lost (due o past f))));
   durable = subst (Says (note mirror.notes).bytes) (sym noted_is) says;
   knows = knows ∙ sym (ap (noted o) look ∙ noted_is);
 }
@@ -130,35 +131,27 @@ answered_stands note mirror o past f on up says knows = record {
     noted_is = new_noted (due o past f) (noted o past)
 
     look : looked (answered o past f ∷ past) ≡ answered o past f ∷ past
-    look = ap (λ b. if b then (if is_lost (left_by (due o past f)) then past else answered o past f ∷ past) else looked past) on
+    look = ap (λ b. if b then (if is_lost (saved_for (due o past f)) then past else answered o past f ∷ past) else looked past) on
         ∙ ap (λ b. if b then past else answered o past f ∷ past) (not_lost (due o past f))
-
-plain_bytes : (n : Noted) (d : Option Addition) (old : List ℕ) → d ≡ None → bytes_left (left_by d) (spelling (noted_after (has_new (left_by d)) d n)) old ≡ old
-plain_bytes n None old e = refl
-plain_bytes n (Some a) old e = cc
-
-stored_bytes : (n : Noted) (d : Option Addition) (a : Addition) (old : List ℕ) → d ≡ Some a → bytes_left (left_by d) (spelling (noted_after (has_new (left_by d)) d n)) old ≡ spelling (with_addition a n)
-stored_bytes n None a old e = cc
-stored_bytes n (Some b) a old e = let same : b ≡ a = cc in ap (λ x. spelling (with_addition x n)) same
 
 -- A frame is answered without a save.
 pub answers_plain : {T : Type 0} (note : T → Note) (mirror : Mirror T) (o : Noted) (past : List Entry) (f : Frame) (r : Request) (frames : List (List ℕ)) → mirror.down ≡ false → faults_of_request mirror.noted r ≡ [] → request_in f ≡ Some r
-    → addition_by mirror.noted r ≡ None → frames ≡ framed (replies mirror.noted r) → StandsFor note mirror o past → Answers note o past f mirror mirror frames
+    → addition_by mirror.noted r ≡ None → frames ≡ framed (replies mirror.noted r) → StandsFor note mirror o past → Answers (steps note o) past f mirror mirror frames
 answers_plain note mirror o past f r frames up none asked adds sends s =
     let k = free_now note mirror o past f r up none asked s in
     let nothing : due o past f ≡ None = k.due_is ∙ adds in
     let same : noted o past ≡ noted_after true (due o past f) (noted o past) = ap (λ d. noted_after true d (noted o past)) (sym nothing) in
     record {
       free = k.free;
-      frames_are = sends ∙ k.sends;
-      note_is = ap (λ b. record (note mirror.notes) { bytes = b }) (sym (plain_bytes (noted o past) (due o past f) (note mirror.notes).bytes nothing));
+      sends = sends ∙ k.sends;
+      leaves = subst (λ d. LeavesNote d (spelling (noted o (answered o past f ∷ past))) (note mirror.notes) (note mirror.notes)) (sym nothing) refl;
       stands = answered_stands note mirror o past f k.on up (subst (Says (note mirror.notes).bytes) same s.durable) (k.knows ∙ same);
     }
 
 -- A frame is answered with a save.
 pub answers_stored : {T : Type 0} (note : T → Note) (old new : Mirror T) (a : Addition) (o : Noted) (past : List Entry) (f : Frame) (r : Request) (frames : List (List ℕ)) → SaysWhatIsWritten → old.down ≡ false → faults_of_request old.noted r ≡ [] → request_in f ≡ Some r
     → addition_by old.noted r ≡ Some a → (IsNoted old.noted → IsNoted (with_addition a old.noted)) → (u : Unit {0}) → Stores note a old new (Ok u) → frames ≡ framed (replies old.noted r)
-    → StandsFor note old o past → Answers note o past f old new frames
+    → StandsFor note old o past → Answers (steps note o) past f old new frames
 answers_stored note old new a o past f r frames read up none asked adds fits u stored sends s =
     let k = free_now note old o past f r up none asked s in
     let makes_one : due o past f ≡ Some a = k.due_is ∙ adds in
@@ -167,8 +160,9 @@ answers_stored note old new a o past f r frames read up none asked adds fits u s
     let noted_now : IsNoted (with_addition a (noted o past)) = subst IsNoted is (fits (subst IsNoted (sym k.knows) s.durable.note)) in
     record {
       free = k.free;
-      frames_are = sends ∙ k.sends;
-      note_is = stored.0 ∙ ap (λ b. record (note old.notes) { bytes = b }) (ap spelling is ∙ sym (stored_bytes (noted o past) (due o past f) a (note old.notes).bytes makes_one));
+      sends = sends ∙ k.sends;
+      leaves = subst (λ d. LeavesNote d (spelling (noted_after (has_new (saved_for d)) d (noted o past))) (note old.notes) (note new.notes)) (sym makes_one)
+          (stored.0 ∙ ap (λ n. record (note old.notes) { bytes = spelling n }) is);
       stands = answered_stands note new o past f k.on (ap (λ (m : Mirror _). m.down) stored.1 ∙ up)
           (subst (λ bytes. Says bytes (noted_after true (due o past f) (noted o past))) (sym (ap (λ (n : Note). n.bytes) stored.0 ∙ ap spelling is))
           (subst (Says (spelling (with_addition a (noted o past)))) grown (read (with_addition a (noted o past)) noted_now)))
@@ -194,7 +188,7 @@ lost_stands note mirror notes o past f left on lost s says = record {
     look = ap (λ b. if b then (if is_lost left then past else Met f left ∷ past) else looked past) on ∙ ap (λ b. if b then past else Met f left ∷ past) lost
 
 unsaved : {T : Type 0} (note : T → Note) (old new : Mirror T) (a : Addition) (fault : Fault) (o : Noted) (past : List Entry) (f : Frame) (r : Request) → SaysWhatIsWritten → StandsFor note old o past → Free old o past f r
-    → addition_by old.noted r ≡ Some a → IsNoted (with_addition a (noted o past)) → (t : FaultSort) → Unsaved note a t fault old new → Faults note o past f t fault old new
+    → addition_by old.noted r ≡ Some a → IsNoted (with_addition a (noted o past)) → (t : FaultSort) → Unsaved note a t fault old new → Faults (steps note o) past f t fault old new
 unsaved note old new a fault o past f r read s k adds fits sorts.Memory u = record {
   why = u.0;
   same_note = u.1;
@@ -207,7 +201,7 @@ unsaved note old new a fault o past f r read s k adds fits sorts.Save u = by_byt
     makes_one = k.due_is ∙ adds
 
     failed : (left : Left) → is_lost left ≡ true → (note new.notes).bytes ≡ bytes_left left (spelling (noted_after (has_new left) (due o past f) (noted o past))) (note old.notes).bytes
-        → Says (note new.notes).bytes (noted_after (has_new left) (Some a) (noted o past)) → Fails note o past f old new
+        → Says (note new.notes).bytes (noted_after (has_new left) (Some a) (noted o past)) → Fails (steps note o) past f old new
     failed left lost bytes says = record {
       cause = u.0;
       free = k.free;
@@ -220,7 +214,7 @@ unsaved note old new a fault o past f r read s k adds fits sorts.Save u = by_byt
           (lost_stands note old new.notes o past f left k.on lost s (subst (λ d. Says (note new.notes).bytes (noted_after (has_new left) d (noted o past))) (sym makes_one) says));
     }
 
-    by_bytes : ((note new.notes).bytes ≡ (note old.notes).bytes) ⊎ ((note new.notes).bytes ≡ spelling (with_addition a old.noted)) → Fails note o past f old new
+    by_bytes : ((note new.notes).bytes ≡ (note old.notes).bytes) ⊎ ((note new.notes).bytes ≡ spelling (with_addition a old.noted)) → Fails (steps note o) past f old new
     by_bytes (inl e) = failed LostOld refl e (subst (λ bytes. Says bytes (noted o past)) (sym e) s.durable)
     by_bytes (inr e) =
         let is : (note new.notes).bytes ≡ spelling (with_addition a (noted o past)) = e ∙ ap (λ n. spelling (with_addition a n)) k.knows in
@@ -228,7 +222,7 @@ unsaved note old new a fault o past f r read s k adds fits sorts.Save u = by_byt
 
 -- The frame's save fails, or finds no memory.
 pub fails_stored : {T : Type 0} (note : T → Note) (old new : Mirror T) (a : Addition) (fault : Fault) (o : Noted) (past : List Entry) (f : Frame) (r : Request) → SaysWhatIsWritten → old.down ≡ false → faults_of_request old.noted r ≡ [] → request_in f ≡ Some r
-    → addition_by old.noted r ≡ Some a → (IsNoted old.noted → IsNoted (with_addition a old.noted)) → Stores note a old new (Err fault) → StandsFor note old o past → Faults note o past f (sort_of fault) fault old new
+    → addition_by old.noted r ≡ Some a → (IsNoted old.noted → IsNoted (with_addition a old.noted)) → Stores note a old new (Err fault) → StandsFor note old o past → Faults (steps note o) past f (sort_of fault) fault old new
 fails_stored note old new a fault o past f r read up none asked adds fits stored s =
     let k = free_now note old o past f r up none asked s in
     unsaved note old new a fault o past f r read s k adds (subst (λ n. IsNoted (with_addition a n)) k.knows (fits (subst IsNoted (sym k.knows) s.durable.note))) (sort_of fault) stored

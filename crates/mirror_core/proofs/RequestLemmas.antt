@@ -72,10 +72,6 @@ taken_in on n q r h e =
     let p = no_fault on (faults_of n q) h in
     (p.0, sym (ap (faults_of n) e) ∙ p.1)
 
-pub is_up : (down : Bool) → not down ≡ true → down ≡ false
-is_up true e = cc
-is_up false e = refl
-
 pub room_fault : (d full : Bool) → when d Conflict ++ when full TableFull ≡ [] → (d ≡ false) × (full ≡ false)
 room_fault false false h = (refl, refl)
 room_fault false true h = cc

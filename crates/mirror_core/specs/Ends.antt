@@ -1,77 +1,41 @@
 -- How the delivery of a frame ends.
-use Rattle.std.specs.Prelude.{◌≡◌, ◌⊎◌, ℕ, ◌<◌, true, List, ◌∷◌, Some, None, Result, Ok, Err}
+use Rattle.std.specs.Prelude.{◌≡◌, ◌⊎◌, ℕ, ◌<◌, true, List, Result, Ok, Err}
 use Rattle.fc_base.specs.declared.fault.Fault.{Fault}
 use Rattle.fc_base.specs.declared.fault.Fault.TheVariants.{NoMemory}
 use Rattle.fc_base.specs.declared.fault.FaultSort.{FaultSort}
 use Rattle.fc_base.specs.declared.fault.FaultSort.TheVariants as sorts
 use Rattle.fc_base.specs.Fault.{sort_of}
-use Rattle.disk_model.specs.declared.left.Left.{Left}
-use Rattle.disk_model.specs.declared.left.Left.TheVariants.{NoSave}
-use Rattle.disk_model.specs.Left.{is_lost, bytes_left}
+use Rattle.disk_model.specs.Left.{saved_for}
 use Rattle.disk_model.specs.Notes.{Note}
+use Rattle.disk_model.specs.Steps.{Steps}
 use Rattle.messages.specs.declared.frame.Frame.{Frame}
 use Rattle.mirror_core.specs.declared.noted.Noted.{Noted}
 use Rattle.mirror_core.specs.declared.mirror.Mirror.{Mirror}
 use Rattle.mirror_core.specs.History.{Entry, Met}
 use Rattle.mirror_core.specs.Note.{spelling}
-use Rattle.mirror_core.specs.Saves.{Addition, with_addition, left_by}
+use Rattle.mirror_core.specs.Saves.{Addition, with_addition}
 use Rattle.mirror_core.specs.Words.{noted, refusal, due}
 use Rattle.mirror_core.specs.Packets.{packets, framed}
 use Rattle.mirror_core.specs.Stands.{StandsFor}
 
 -- What an answered frame leaves in the list: it saved, where it was due to.
 abbrev pub answered : Noted → List Entry → Frame → Entry
-answered o past f = Met f (left_by (due o past f))
+answered o past f = Met f (saved_for (due o past f))
 
--- The durable bytes behind a frame: where its save left the new ones they are the spelling of what is
--- noted then, else they are what they were.
-abbrev pub bytes_behind : Noted → List Entry → Frame → Left → List ℕ → List ℕ
-bytes_behind o past f left old = bytes_left left (spelling (noted o (Met f left ∷ past))) old
-
--- The frame isn't refused, the mirror sends what the list says, its note is written where something was
--- due, and the frame is added.
-pub record Answers {T : Type 0} (note : T → Note) (o : Noted) (past : List Entry) (f : Frame) (old new : Mirror T) (frames : List (List ℕ)) : Type 0 where
-  pub free : refusal o past f ≡ None
-  pub frames_are : frames ≡ framed (packets o past (answered o past f))
-  pub note_is :
-      note new.notes ≡
-      record (note old.notes) { bytes = bytes_behind o past f (left_by (due o past f)) (note old.notes).bytes }
-  pub stands : StandsFor note new o (answered o past f ∷ past)
-
--- The frame is refused for this reason, and nothing changes; it may also stand in the list.
-pub record Refuses {T : Type 0} (note : T → Note) (o : Noted) (past : List Entry) (f : Frame) (fault : Fault) (old new : Mirror T) : Type 0 where
-  pub why : refusal o past f ≡ Some fault
-  pub same_note : note new.notes ≡ note old.notes
-  pub unchanged : StandsFor note new o past
-  pub stands : StandsFor note new o (Met f NoSave ∷ past)
-
--- The device failed in the save of what was due: it is durable, or it isn't.
-pub record Fails {T : Type 0} (note : T → Note) (o : Noted) (past : List Entry) (f : Frame) (old new : Mirror T) : Type 0 where
-  pub cause : (note old.notes).failures < (note new.notes).failures
-  pub free : refusal o past f ≡ None
-  pub addition : Addition
-  pub makes_one : due o past f ≡ Some addition
-  pub left : Left
-  pub lost : is_lost left ≡ true
-  pub bytes_are : (note new.notes).bytes ≡ bytes_behind o past f left (note old.notes).bytes
-  pub stands : StandsFor note new o (Met f left ∷ past)
-
--- For want of memory nothing changes.
-pub record Lacks {T : Type 0} (note : T → Note) (o : Noted) (past : List Entry) (fault : Fault) (old new : Mirror T) : Type 0 where
-  pub why : fault ≡ NoMemory
-  pub same_note : note new.notes ≡ note old.notes
-  pub unchanged : StandsFor note new o past
-
--- How a delivery that isn't answered ends, by the sort of its fault.
-abbrev pub Faults : {T : Type 0} → (T → Note) → Noted → List Entry → Frame → FaultSort → Fault → Mirror T → Mirror T → Type 0
-Faults note o past f sorts.Memory fault old new = Lacks note o past fault old new
-Faults note o past f sorts.Save fault old new = Fails note o past f old new
-Faults note o past f sorts.Refusal fault old new = Refuses note o past f fault old new
-
--- How a delivery ends.
-abbrev pub Ends : {T : Type 0} → (T → Note) → Noted → List Entry → Frame → Mirror T → Mirror T → Result (List (List ℕ)) Fault → Type 0
-Ends note o past f old new (Ok frames) = Answers note o past f old new frames
-Ends note o past f old new (Err fault) = Faults note o past f (sort_of fault) fault old new
+-- The steps of a mirror: its note, what its list says of a frame, and what is sent. A refused frame
+-- leaves it as it was.
+abbrev pub steps : {T : Type 0} → (T → Note) → Noted →
+    Steps (Mirror T) Frame Entry Addition (List (List ℕ))
+steps note o = record {
+  note = λ mirror. note mirror.notes;
+  StandsFor = λ past mirror. StandsFor note mirror o past;
+  refusal = refusal o;
+  due = due o;
+  met = Met;
+  spelled = λ past. spelling (noted o past);
+  Sends = λ past f frames. frames ≡ framed (packets o past (answered o past f));
+  Stays = λ past f mirror. StandsFor note mirror o past;
+}
 
 -- How the save of an addition ends that isn't answered: memory ran out, and nothing changes; or the device
 -- failed, the durable bytes are the old or the new, and the mirror is down.

@@ -5,6 +5,7 @@ use Rattle.fc_base.specs.declared.record.Kind.TheVariants.{Sequential}
 use Rattle.fc_base.specs.declared.record.Verify.TheVariants.{Stamp}
 use Rattle.disk_model.specs.declared.left.Left.{Left}
 use Rattle.disk_model.specs.declared.left.Left.TheVariants.{LostNew, LostOld}
+use Rattle.disk_model.specs.Left.{saved_for}
 use Rattle.verify_state.specs.State.{State}
 use Rattle.messages.specs.declared.body.Body.{Body}
 use Rattle.messages.specs.declared.body.Body.TheVariants as bodies
@@ -14,7 +15,7 @@ use Rattle.messages.specs.declared.kind.PacketKind.TheVariants as kinds
 use Rattle.messages.specs.declared.node.Node.TheVariants as nodes
 use Rattle.mirror_core.specs.Note.{blank}
 use Rattle.mirror_core.specs.History.{Entry, Met, Cut, Restart}
-use Rattle.mirror_core.specs.Saves.{Grant, Keep, left_by}
+use Rattle.mirror_core.specs.Saves.{Grant, Keep}
 use Rattle.mirror_core.specs.Words.{is_on, refusal, due, generation, kept, looked}
 use Rattle.mirror_core.specs.Packets.{packets}
 
@@ -24,7 +25,7 @@ said body = Whole (record { from = nodes.Client; to = nodes.Mirror; body = body 
 
 -- A frame that is answered: it saves where it has something to save.
 abbrev pub met : List Entry → Frame → Entry
-met past f = Met f (left_by (due blank past f))
+met past f = Met f (saved_for (due blank past f))
 
 -- The list of these frames, the newest first, behind these entries.
 abbrev pub behind : List Entry → List Frame → List Entry

@@ -1,11 +1,12 @@
 //! A frame of the client is delivered.
 
 ghost use Rattle.std.specs.Prelude.{◌≡◌, [], false, List, Some, IsTrue};
+ghost use Rattle.disk_model.specs.Steps.{Ends};
 ghost use Rattle.messages.specs.Ranges.{is_generation};
 ghost use Rattle.messages.specs.declared.frame.Frame.{Frame as SaidFrame};
 ghost use Rattle.mirror_core.specs.declared.noted.Noted.{Noted as Opening};
 ghost use Rattle.mirror_core.specs.declared.request.Request.TheVariants.{Copy, Fetch};
-ghost use Rattle.mirror_core.specs.Ends.{Ends};
+ghost use Rattle.mirror_core.specs.Ends.{steps};
 ghost use Rattle.mirror_core.specs.History.{Entry};
 ghost use Rattle.mirror_core.specs.Refusals.{faults_of_request};
 ghost use Rattle.mirror_core.specs.Requests.{request_in};
@@ -30,7 +31,7 @@ impl<N: Notes> Mirror<N> {
     /// `NoMemory`, and nothing changes; `SaveFault`, and the mirror is down.
     pub fn deliver(&mut self, frame: &Frame) -> Result<Frames, Fault>
         ensures { (o : Opening) (past : List Entry) → StandsFor N.note self.old o past →
-            Ends N.note o past frame.now self.old self.new result }
+            Ends (steps N.note o) past frame.now self.old self.new result }
     {
         let request = self.admit(frame)?;
         match &request {
@@ -44,7 +45,8 @@ impl<N: Notes> Mirror<N> {
         requires up { self.old.down ≡ false }
         requires free { faults_of_request self.old.noted (Copy state.now) ≡ [] }
         ensures { (o : Opening) (past : List Entry) (f : SaidFrame) → request_in f ≡ Some (Copy state.now) →
-            StandsFor N.note self.old o past → Ends N.note o past f self.old self.new result }
+            StandsFor N.note self.old o past →
+            Ends (steps N.note o) past f self.old self.new result }
     {
         notes_are_read_back();
         found_after_a_push();
@@ -65,7 +67,8 @@ impl<N: Notes> Mirror<N> {
         requires up { self.old.down ≡ false }
         requires free { faults_of_request self.old.noted (Fetch generation) ≡ [] }
         ensures { (o : Opening) (past : List Entry) (f : SaidFrame) → request_in f ≡ Some (Fetch generation) →
-            StandsFor N.note self.old o past → Ends N.note o past f self.old self.new result }
+            StandsFor N.note self.old o past →
+            Ends (steps N.note o) past f self.old self.new result }
     {
         notes_are_read_back();
         let Ok(frames) = granted(self.alloc, generation, self.noted.kept.as_slice()) else {
