@@ -6,15 +6,16 @@ use Rattle.std.specs.Result.{is_ok}
 use Rattle.std.proofs.lemmas.List.{map-append}
 use Rattle.std.proofs.lemmas.List.Elements.{All-nil}
 use Rattle.fc_base.specs.declared.fault.Fault.{Fault}
-use Rattle.fc_base.specs.declared.fault.Fault.TheVariants.{NoMemory, Down, Misdirected, FrameBadField}
+use Rattle.fc_base.specs.declared.fault.Fault.TheVariants.{FrameBadField}
 use Rattle.fc_base.specs.declared.fault.FaultSort.{FaultSort}
 use Rattle.fc_base.specs.declared.fault.FaultSort.TheVariants as sorts
 use Rattle.fc_base.specs.Fault.{sort_of}
 use Rattle.messages.specs.declared.limits.TheConstants.{MAX_FRAME}
 use Rattle.disk_model.specs.declared.left.Left.{Left}
 use Rattle.disk_model.specs.declared.left.Left.TheVariants.{NoSave}
-use Rattle.disk_model.specs.Left.{is_lost, bytes_left}
+use Rattle.disk_model.specs.Left.{saved_for, is_lost, bytes_left}
 use Rattle.disk_model.specs.Notes.{Note}
+use Rattle.disk_model.specs.Steps.{LeavesNote, Answers, Faults, Ends}
 use Rattle.messages.specs.declared.packet.PacketParts.{PacketParts}
 use Rattle.messages.specs.declared.piece.PieceParts.{PieceParts}
 use Rattle.messages.specs.declared.frame.Frame.TheVariants.{Piece}
@@ -37,11 +38,10 @@ use Rattle.server_core.specs.Answers as answers
 use Rattle.server_core.specs.Handles.{sent_alone}
 use Rattle.server_core.specs.Serves as whole
 use Rattle.server_core.specs.Note.{spelling}
-use Rattle.server_core.specs.Serves.{LeavesNote, saved_for}
 use Rattle.server_core.specs.Hearing.{FrameEntry, Met, is_piece_for, rules, heard_at, packets_heard, assembly}
-use Rattle.server_core.specs.FrameAnswers.{Sense, Hears, Keeps, Drops, Misses, sense_of, sense, refusal, refusal_in, due, due_in, issue_in, act_in, answered, entry_heard, frames_by}
-use Rattle.server_core.specs.FrameEnds.{StandsFor, Answers, Refuses, Faults, Ends, is_drop}
-use Rattle.server_core.proofs.HearingLemmas.{rows_after, entry_by, entry_is, heard_is, kept_rows, dropped_rows, missed_rows, same_rows, refused_rows, piece_sense, given_gone}
+use Rattle.server_core.specs.FrameAnswers.{Sense, Hears, Keeps, Drops, sense_of, sense, refusal, refusal_in, due, due_in, issue_in, act_in, answered, entry_heard, frames_by}
+use Rattle.server_core.specs.FrameEnds.{StandsFor, steps, is_drop}
+use Rattle.server_core.proofs.HearingLemmas.{rows_after, entry_by, entry_is, heard_is, kept_rows, dropped_rows, same_rows, refused_rows, piece_sense, given_gone}
 
 -- ---- the frames of packets
 
@@ -73,7 +73,7 @@ heard_stands note o past e x left new is h k = record {
 }
 
 heard_answers : {T : Type 0} (note : T → Note) (o : Opening) (past : List FrameEntry) (e : Input) (x : Event) (old new : Server T) (outs : Outs) → sense o past e ≡ Hears x
-    → whole.Answers note o (packets_heard o past) x old.core new.core outs → (words.is_on (packets_heard o past) ≡ true → new.pieces ≡ rows_after o past e NoSave) → Answers note o past e old new outs
+    → Answers (whole.steps note o) (packets_heard o past) x old.core new.core outs → (words.is_on (packets_heard o past) ≡ true → new.pieces ≡ rows_after o past e NoSave) → Answers (steps note o) past e old new outs
 heard_answers note o past e x old new outs is a k =
     let list = packets_heard o past in
     let left = saved_for (words.due o list x) in
@@ -81,24 +81,26 @@ heard_answers note o past e x old new outs is a k =
     let says : entry_heard o past (answered o past e) ≡ Some (history.Met x left) = ap (entry_heard o past) same_entry ∙ entry_is o past e left ∙ ap (λ y. entry_by y left) is in
     record {
       free = ap (refusal_in o list) is ∙ a.free;
-      frames_are = a.frames_are ∙ spelled (answers.packets o list (history.Met x left)) ∙ ap (λ y. map frame_spelling (frames_by o list y)) (sym says);
-      issue_is = a.issue_is ∙ sym (ap (issue_in o list) is);
-      act_is = a.act_is ∙ sym (ap (act_in o list) is);
-      short = a.short;
-      leaves = subst (λ d. LeavesNote d (words.noted o (packets_heard o (answered o past e ∷ past))) (note old.core.notes) (note new.core.notes)) (sym (ap (due_in o list) is))
-          (subst (λ (l : List history.Entry). LeavesNote (words.due o list x) (words.noted o l) (note old.core.notes) (note new.core.notes)) (sym (ap (λ y. packets_heard o (y ∷ past)) same_entry ∙ heard_is o past e left (Hears x) is)) a.leaves);
+      sends = record {
+        frames_are = a.sends.frames_are ∙ spelled (answers.packets o list (history.Met x left)) ∙ ap (λ y. map frame_spelling (frames_by o list y)) (sym says);
+        issue_is = a.sends.issue_is ∙ sym (ap (issue_in o list) is);
+        act_is = a.sends.act_is ∙ sym (ap (act_in o list) is);
+        short = a.sends.short;
+      };
+      leaves = subst (λ d. LeavesNote d (spelling (words.noted o (packets_heard o (answered o past e ∷ past)))) (note old.core.notes) (note new.core.notes)) (sym (ap (due_in o list) is))
+          (subst (λ (l : List history.Entry). LeavesNote (words.due o list x) (spelling (words.noted o l)) (note old.core.notes) (note new.core.notes)) (sym (ap (λ y. packets_heard o (y ∷ past)) same_entry ∙ heard_is o past e left (Hears x) is)) a.leaves);
       stands = subst (λ y. StandsFor note new o (y ∷ past)) (sym same_entry)
           (heard_stands note o past e x left new is a.stands (λ on. k (on_before (words.is_on list) (is_lost left) (sym (on_is o past e x left is) ∙ on)) ∙ same_rows o past e NoSave left));
     }
 
 heard_faults : {T : Type 0} (note : T → Note) (o : Opening) (past : List FrameEntry) (e : Input) (x : Event) (old new : Server T) (fault : Fault) → sense o past e ≡ Hears x → StandsFor note old o past
-    → (sort : FaultSort) → whole.Faults note o (packets_heard o past) x sort fault old.core new.core → new.pieces ≡ old.pieces → Faults note o past e sort fault old new
+    → (sort : FaultSort) → Faults (whole.steps note o) (packets_heard o past) x sort fault old.core new.core → new.pieces ≡ old.pieces → Faults (steps note o) past e sort fault old new
 heard_faults note o past e x old new fault is w sorts.Memory h k =
     record { why = h.why; same_note = h.same_note; unchanged = record { core = h.unchanged; pieces = λ on. k ∙ w.pieces on } }
 heard_faults note o past e x old new fault is w sorts.Save h k = record {
   cause = h.cause;
   free = ap (refusal_in o (packets_heard o past)) is ∙ h.free;
-  began = h.began;
+  addition = h.addition;
   makes_one = ap (due_in o (packets_heard o past)) is ∙ h.makes_one;
   left = h.left;
   lost = h.lost;
@@ -121,7 +123,7 @@ HeardRows o past e old new (Ok outs) = words.is_on (packets_heard o past) ≡ tr
 HeardRows o past e old new (Err fault) = new ≡ old
 
 pub heard_ends : {T : Type 0} (note : T → Note) (o : Opening) (past : List FrameEntry) (e : Input) (x : Event) (old new : Server T) (result : Result Outs Fault) → sense o past e ≡ Hears x → StandsFor note old o past
-    → whole.Ends note o (packets_heard o past) x old.core new.core result → HeardRows o past e old.pieces new.pieces result → Ends note o past e old new result
+    → Ends (whole.steps note o) (packets_heard o past) x old.core new.core result → HeardRows o past e old.pieces new.pieces result → Ends (steps note o) past e old new result
 heard_ends note o past e x old new (Ok outs) is w h k = heard_answers note o past e x old new outs is h k
 heard_ends note o past e x old new (Err fault) is w h k = heard_faults note o past e x old new fault is w (sort_of fault) h k
 
@@ -131,7 +133,7 @@ whole_rows note o past e old (Ok outs) same w = λ on. w.pieces on ∙ sym same
 whole_rows note o past e old (Err fault) same w = refl
 
 pub whole_ends : {T : Type 0} (note : T → Note) (o : Opening) (past : List FrameEntry) (e : Input) (x : Event) (old : Server T) (core : PacketServer T) (result : Result Outs Fault) → sense o past e ≡ Hears x → rows_after o past e NoSave ≡ assembly o past → StandsFor note old o past
-    → whole.Ends note o (packets_heard o past) x old.core core result → Ends note o past e old (record old { core = core }) result
+    → Ends (whole.steps note o) (packets_heard o past) x old.core core result → Ends (steps note o) past e old (record old { core = core }) result
 whole_ends note o past e x old core result is same w h = heard_ends note o past e x old (record old { core = core }) result is w h (whole_rows note o past e old result same w)
 
 -- ---- a piece that says nothing
@@ -149,22 +151,24 @@ silent_stands note o past e s left old rows is none w k =
     }
 
 pub kept_ends : {T : Type 0} (note : T → Note) (o : Opening) (past : List FrameEntry) (e : Input) (q : PieceParts) (old : Server T) → sense o past e ≡ Keeps q → StandsFor note old o past
-    → Ends note o past e old (with_pieces old (taken old.pieces q)) (Ok (sent_alone []))
+    → Ends (steps note o) past e old (with_pieces old (taken old.pieces q)) (Ok (sent_alone []))
 kept_ends note o past e q old is w =
     let list = packets_heard o past in
     let left = saved_for (due o past e) in
     record {
       free = ap (refusal_in o list) is;
-      frames_are = ap (λ y. map frame_spelling (frames_by o list y)) (sym (entry_is o past e left ∙ ap (λ y. entry_by y left) is));
-      issue_is = sym (ap (issue_in o list) is);
-      act_is = sym (ap (act_in o list) is);
-      short = λ i h. record { few = omega arith; short = All-nil (λ (frame : List ℕ). length frame ≤ MAX_FRAME) };
-      leaves = subst (λ d. LeavesNote d (words.noted o (packets_heard o (answered o past e ∷ past))) (note old.core.notes) (note old.core.notes)) (sym (ap (due_in o list) is)) refl;
+      sends = record {
+        frames_are = ap (λ y. map frame_spelling (frames_by o list y)) (sym (entry_is o past e left ∙ ap (λ y. entry_by y left) is));
+        issue_is = sym (ap (issue_in o list) is);
+        act_is = sym (ap (act_in o list) is);
+        short = λ i h. record { few = omega arith; short = All-nil (λ (frame : List ℕ). length frame ≤ MAX_FRAME) };
+      };
+      leaves = subst (λ d. LeavesNote d (spelling (words.noted o (packets_heard o (answered o past e ∷ past)))) (note old.core.notes) (note old.core.notes)) (sym (ap (due_in o list) is)) refl;
       stands = silent_stands note o past e (Keeps q) left old (taken old.pieces q) is refl w (λ r. ap (λ x. taken x q) r ∙ sym (kept_rows o past e q left is));
     }
 
 pub dropped_ends : {T : Type 0} (note : T → Note) (o : Opening) (past : List FrameEntry) (e : Input) (q : PieceParts) (old : Server T) → sense o past e ≡ Drops q → StandsFor note old o past
-    → Ends note o past e old (with_pieces old (taken old.pieces q)) (Err FrameBadField)
+    → Ends (steps note o) past e old (with_pieces old (taken old.pieces q)) (Err FrameBadField)
 dropped_ends note o past e q old is w = record {
   why = ap (refusal_in o (packets_heard o past)) is;
   same_note = refl;
@@ -174,24 +178,6 @@ dropped_ends note o past e q old is w = record {
   where
     no_drop : true ≡ false → ⊥
     no_drop d = cc
-
-missed_refuses : {T : Type 0} (note : T → Note) (o : Opening) (past : List FrameEntry) (e : Input) (old : Server T) (fault : Fault) → sense o past e ≡ Misses → StandsFor note old o past
-    → refusal_in o (packets_heard o past) Misses ≡ Some fault → Refuses note o past e fault old old
-missed_refuses note o past e old fault is w f = record {
-  why = ap (refusal_in o (packets_heard o past)) is ∙ f;
-  same_note = refl;
-  stands = silent_stands note o past e Misses NoSave old old.pieces is refl w (λ r. r ∙ sym (missed_rows o past e NoSave is));
-  unchanged = λ d. w;
-}
-
-pub down_ends : {T : Type 0} (note : T → Note) (o : Opening) (past : List FrameEntry) (e : Input) (old : Server T) → sense o past e ≡ Misses → StandsFor note old o past → words.is_on (packets_heard o past) ≡ false → Ends note o past e old old (Err Down)
-down_ends note o past e old is w off = missed_refuses note o past e old Down is w (ap (λ b. if b then Some Misdirected else Some Down) off)
-
-pub missed_ends : {T : Type 0} (note : T → Note) (o : Opening) (past : List FrameEntry) (e : Input) (old : Server T) → sense o past e ≡ Misses → StandsFor note old o past → words.is_on (packets_heard o past) ≡ true → Ends note o past e old old (Err Misdirected)
-missed_ends note o past e old is w on = missed_refuses note o past e old Misdirected is w (ap (λ b. if b then Some Misdirected else Some Down) on)
-
-pub lacking_ends : {T : Type 0} (note : T → Note) (o : Opening) (past : List FrameEntry) (e : Input) (old : Server T) → StandsFor note old o past → Ends note o past e old old (Err NoMemory)
-lacking_ends note o past e old w = record { why = refl; same_note = refl; unchanged = w }
 
 -- ---- a piece that came
 
@@ -219,14 +205,14 @@ given_rows o past q p rows is free same gives =
 
 -- The packet that a piece completes is answered, and its tag is dropped; or it is refused, and the tag stays.
 pub given_ends : {T : Type 0} (note : T → Note) (old : Server T) (core : PacketServer T) (o : Opening) (past : List FrameEntry) (q : PieceParts) (p : PacketParts) (result : Result Outs Fault) → StandsFor note old o past → words.is_on (packets_heard o past) ≡ true
-    → sense o past (Deliver (Piece q)) ≡ Hears (events.Deliver p) → look old.pieces q ≡ Gives p → whole.Ends note o (packets_heard o past) (events.Deliver p) old.core core result → is_ok result ≡ true
-    → Ends note o past (Deliver (Piece q)) old (record { alloc = old.alloc; core = core; pieces = without q.tag old.pieces }) result
+    → sense o past (Deliver (Piece q)) ≡ Hears (events.Deliver p) → look old.pieces q ≡ Gives p → Ends (whole.steps note o) (packets_heard o past) (events.Deliver p) old.core core result → is_ok result ≡ true
+    → Ends (steps note o) past (Deliver (Piece q)) old (record { alloc = old.alloc; core = core; pieces = without q.tag old.pieces }) result
 given_ends note old core o past q p (Ok outs) w on is gives h ok =
     heard_ends note o past (Deliver (Piece q)) (events.Deliver p) old (record { alloc = old.alloc; core = core; pieces = without q.tag old.pieces }) (Ok outs) is w h (λ up. given_rows o past q p old.pieces is h.free (w.pieces on) gives)
 given_ends note old core o past q p (Err fault) w on is gives h ok = absurd cc
 
 pub refused_ends : {T : Type 0} (note : T → Note) (old : Server T) (core : PacketServer T) (o : Opening) (past : List FrameEntry) (q : PieceParts) (p : PacketParts) (result : Result Outs Fault) → StandsFor note old o past
-    → sense o past (Deliver (Piece q)) ≡ Hears (events.Deliver p) → whole.Ends note o (packets_heard o past) (events.Deliver p) old.core core result → is_ok result ≡ false
-    → Ends note o past (Deliver (Piece q)) old (record old { core = core }) result
+    → sense o past (Deliver (Piece q)) ≡ Hears (events.Deliver p) → Ends (whole.steps note o) (packets_heard o past) (events.Deliver p) old.core core result → is_ok result ≡ false
+    → Ends (steps note o) past (Deliver (Piece q)) old (record old { core = core }) result
 refused_ends note old core o past q p (Ok outs) w is h ok = absurd cc
 refused_ends note old core o past q p (Err fault) w is h ok = heard_ends note o past (Deliver (Piece q)) (events.Deliver p) old (record old { core = core }) (Err fault) is w h refl

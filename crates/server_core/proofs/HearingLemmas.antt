@@ -76,9 +76,6 @@ kept_rows o past e q left is = subst (IsTaken (assembly o past) (rows_after o pa
 pub dropped_rows : (o : Opening) (past : List FrameEntry) (e : Input) (q : PieceParts) (left : Left) → sense o past e ≡ Drops q → rows_after o past e left ≡ taken (assembly o past) q
 dropped_rows o past e q left is = subst (IsTaken (assembly o past) (rows_after o past e left)) is (taken_is o past e left)
 
-pub missed_rows : (o : Opening) (past : List FrameEntry) (e : Input) (left : Left) → sense o past e ≡ Misses → rows_after o past e left ≡ assembly o past
-missed_rows o past e left is = subst (IsTaken (assembly o past) (rows_after o past e left)) is (taken_is o past e left)
-
 -- The save doesn't matter for what has come together.
 pub same_rows : (o : Opening) (past : List FrameEntry) (e : Input) (one other : Left) → rows_after o past e one ≡ rows_after o past e other
 same_rows o past (Deliver (Whole p)) one other = refl
@@ -114,9 +111,6 @@ piece_sense o past q rows l on mine same is =
     ap (λ (b : Bool). sense_of q (if b && is_piece_for o.me q then said_by (look (assembly o past) q) else Strays)) on
     ∙ ap (λ (b : Bool). sense_of q (if b then said_by (look (assembly o past) q) else Strays)) mine
     ∙ ap (λ r. sense_of q (said_by (look r q))) (sym same) ∙ ap (λ x. sense_of q (said_by x)) is
-
-pub piece_misses : (o : Opening) (past : List FrameEntry) (q : PieceParts) → (is_on (packets_heard o past) && is_piece_for o.me q) ≡ false → sense o past (Deliver (Piece q)) ≡ Misses
-piece_misses o past q none = ap (λ (b : Bool). sense_of q (if b then said_by (look (assembly o past) q) else Strays)) none
 
 -- What looking answered is what a piece says.
 one_packet : (x y : PacketParts) → Some x ≡ Some y → x ≡ y

@@ -110,18 +110,6 @@ mark_past kept w i h taken past =
         no : None ≡ Some job → ⊥
         no e = cc
 
-pub mark_untaken : (kept : Kept) (w : Work) (i : ℕ) → RunIs kept w → is_some (act_in kept.end) ≡ false → RunIs kept (and_then w (ToMark w.run i)) × (acts.None ≡ act_of (Some w) (ToMark w.run i))
-mark_untaken kept w i h untaken =
-    let e = ap (λ (k : Kept). is_some (act_in k.end)) (sym h.is) ∙ untaken in (
-      idle kept w (ToMark w.run i) h (or_none (halted w.run w.since)) (λ j job is. refl) (λ j job is. ap (λ ms. has (ms ++ marks w.run w.since) j) (no_mark (halted w.run w.since) w.run i e)),
-      no_act (halted w.run w.since) (not (is_marked w) && is_marked (and_then w (ToMark w.run i))) e,
-    )
-  where
-    no_act : (b : Option Halt) (c : Bool) → is_some (act_in (end_kept b)) ≡ false → acts.None ≡ (if wants_cut b && c then acts.Cut else acts.None)
-    no_act None c e = refl
-    no_act (Some (Triggered act before)) c e = cc
-    no_act (Some Stopped) c e = refl
-
 pub mark_acts : (kept new : Kept) (w : Work) (i : ℕ) (act : Act) (before after : Bool) → RunIs kept w → RunIs new (and_then w (ToMark w.run i)) → act_in kept.end ≡ Some act
     → before ≡ list_all (λ (k : JobRun). k.marked) kept.kept → after ≡ list_all (λ (k : JobRun). k.marked) new.kept
     → (if not before && after then act else acts.None) ≡ act_of (Some w) (ToMark w.run i)

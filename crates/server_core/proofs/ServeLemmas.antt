@@ -7,7 +7,9 @@ use Rattle.fc_base.specs.declared.fault.Fault.TheVariants.{NoMemory, Down}
 use Rattle.fc_base.specs.declared.fault.FaultSort.TheVariants as sorts
 use Rattle.fc_base.specs.Fault.{sort_of}
 use Rattle.disk_model.specs.declared.left.Left.TheVariants.{NoSave}
+use Rattle.disk_model.specs.Left.{saved_for}
 use Rattle.disk_model.specs.Notes.{Note}
+use Rattle.disk_model.specs.Steps.{LeavesNote, Faults, Ends}
 use Rattle.messages.specs.FramesOf.{spelled_frames}
 use Rattle.messages.specs.Laws.{IsPacket}
 use Rattle.server_core.specs.declared.event.Event.{Event}
@@ -15,7 +17,7 @@ use Rattle.server_core.specs.declared.machine.Machine.{Machine}
 use Rattle.server_core.specs.declared.outs.Outs.{Outs}
 use Rattle.server_core.specs.declared.packet_server.PacketServer.{PacketServer}
 use Rattle.server_core.specs.History.{Opening, Entry, Met}
-use Rattle.server_core.specs.Note.{Says}
+use Rattle.server_core.specs.Note.{Says, spelling}
 use Rattle.server_core.specs.Request.{Request, ToStage, ToStart, ToTrigger, ToMark, ToStop, ToVerify, ToHold, ToPassFully, ToIssue, ToEnd, ToReport, ToNobody, asked}
 use Rattle.server_core.specs.Words.{is_on, boot, last_run, noted, due, is_due}
 use Rattle.server_core.specs.Replies.{Now, replies}
@@ -25,7 +27,7 @@ use Rattle.server_core.specs.Stands.{MachineIs, EachNow, IsDueFor, after}
 use Rattle.server_core.specs.Bounds.{AreShort, FramesAreShort}
 use Rattle.server_core.specs.Laws.{PacketsAreInRange}
 use Rattle.server_core.specs.Ranges.{IsInRange, OpensInRange, CameInRange}
-use Rattle.server_core.specs.Serves.{StandsFor, LeavesNote, Faults, Ends, saved_for, answered}
+use Rattle.server_core.specs.Serves.{StandsFor, steps, answered}
 use Rattle.server_core.proofs.WorkLemmas.{unsaved}
 use Rattle.server_core.proofs.Looked.{looked_on}
 use Rattle.server_core.proofs.FollowLemmas.{follows}
@@ -96,7 +98,7 @@ sendable frames ranges o past e h = record {
 -- ---- an event that is not due to record a run
 
 ends : {T : Type 0} (note : T → Note) (server : PacketServer T) (m : Machine) (o : Opening) (past : List Entry) (e : Event) (result : Result Outs Fault) → server.down ≡ false → StandsFor note server o past → is_on past ≡ true → MachineIs server.machine (now o past)
-    → due o past e ≡ None → IsSendable o past e → Handled (now o past) (asked o.me e) server.machine m result → Ends note o past e server (record { notes = server.notes; down = server.down; machine = m }) result
+    → due o past e ≡ None → IsSendable o past e → Handled (now o past) (asked o.me e) server.machine m result → Ends (steps note o) past e server (record { notes = server.notes; down = server.down; machine = m }) result
 ends note server m o past e (Ok outs) up s on k none can a =
     let free : refusal o past e ≡ None = ap (λ b. if b then refusal_of (now o past) (asked o.me e) else Some Down) on ∙ a.free in
     let frames : outs.frames ≡ flat_map spelled_frames (packets o past (answered o past e)) =
@@ -104,12 +106,14 @@ ends note server m o past e (Ok outs) up s on k none can a =
     ∙ ap (λ d. flat_map spelled_frames (packets o past (Met e (saved_for d)))) (sym none) in
     record {
       free = free;
-      frames_are = frames;
-      issue_is = a.issue_is;
-      act_is = a.act_is;
-      short = λ i h. subst AreShort (sym frames) (can.short i h);
-      ranges = can.ranges;
-      leaves = subst (λ d. LeavesNote d (noted o (answered o past e ∷ past)) (note server.notes) (note server.notes)) (sym none) refl;
+      sends = record {
+        frames_are = frames;
+        issue_is = a.issue_is;
+        act_is = a.act_is;
+        short = λ i h. subst AreShort (sym frames) (can.short i h);
+        ranges = can.ranges;
+      };
+      leaves = subst (λ d. LeavesNote d (spelling (noted o (answered o past e ∷ past))) (note server.notes) (note server.notes)) (sym none) refl;
       stands = subst (λ d. StandsFor note (record { notes = server.notes; down = server.down; machine = m }) o (Met e (saved_for d) ∷ past)) (sym none) (stands_with note server m o past e up s on none a.left);
     }
 ends note server m o past e (Err fault) up s on k none can u = by_why u.why
@@ -117,10 +121,10 @@ ends note server m o past e (Err fault) up s on k none can u = by_why u.why
     unchanged : StandsFor note (record { notes = server.notes; down = server.down; machine = m }) o past
     unchanged = record { on = s.on; durable = s.durable; keeps = subst (λ x. MachineIs x (now o (looked past))) (sym u.same) s.keeps }
 
-    by_why : (fault ≡ NoMemory) ⊎ (refusal_of (now o past) (asked o.me e) ≡ Some fault) → Faults note o past e (sort_of fault) fault server (record { notes = server.notes; down = server.down; machine = m })
-    by_why (inl w) = subst (λ t. Faults note o past e t fault server (record { notes = server.notes; down = server.down; machine = m })) (sym (ap sort_of w)) (record { why = w; same_note = refl; unchanged = unchanged })
+    by_why : (fault ≡ NoMemory) ⊎ (refusal_of (now o past) (asked o.me e) ≡ Some fault) → Faults (steps note o) past e (sort_of fault) fault server (record { notes = server.notes; down = server.down; machine = m })
+    by_why (inl w) = subst (λ t. Faults (steps note o) past e t fault server (record { notes = server.notes; down = server.down; machine = m })) (sym (ap sort_of w)) (record { why = w; same_note = refl; unchanged = unchanged })
     by_why (inr w) =
-        subst (λ t. Faults note o past e t fault server (record { notes = server.notes; down = server.down; machine = m })) (sym (refusal_sort (now o past) (asked o.me e) fault w))
+        subst (λ t. Faults (steps note o) past e t fault server (record { notes = server.notes; down = server.down; machine = m })) (sym (refusal_sort (now o past) (asked o.me e) fault w))
         (record {
           why = ap (λ b. if b then refusal_of (now o past) (asked o.me e) else Some Down) on ∙ w;
           same_note = refl;
@@ -131,7 +135,7 @@ ends note server m o past e (Err fault) up s on k none can u = by_why u.why
 pub taken : {T : Type 0} (note : T → Note) (server : PacketServer T) (m : Machine) (o : Opening) (past : List Entry) (e : Event) (result : Result Outs Fault) → server.down ≡ false → StandsFor note server o past
     → EachNow server.machine (λ words. IsDueFor words (asked server.machine.me e) None)
     → EachUndue server.machine (asked server.machine.me e) (λ words. Handled words (asked server.machine.me e) server.machine m result)
-    → ((o : Opening) (past : List Entry) → IsSendable o past e) → Ends note o past e server (record { notes = server.notes; down = server.down; machine = m }) result
+    → ((o : Opening) (past : List Entry) → IsSendable o past e) → Ends (steps note o) past e server (record { notes = server.notes; down = server.down; machine = m }) result
 taken note server m o past e result up s undue handled can =
     let k = keeps_now note server o past up s in
     let me = k.1.me in

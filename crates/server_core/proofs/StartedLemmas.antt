@@ -10,8 +10,9 @@ use Rattle.fc_base.specs.declared.fault.FaultSort.TheVariants as sorts
 use Rattle.fc_base.specs.Fault.{sort_of}
 use Rattle.disk_model.specs.declared.left.Left.{Left}
 use Rattle.disk_model.specs.declared.left.Left.TheVariants.{NoSave, Saved, LostNew, LostOld}
-use Rattle.disk_model.specs.Left.{has_new}
+use Rattle.disk_model.specs.Left.{saved_for, has_new}
 use Rattle.disk_model.specs.Notes.{Note}
+use Rattle.disk_model.specs.Steps.{LeavesNote, Answers, Fails, Faults, Ends}
 use Rattle.messages.specs.FramesOf.{spelled_frames}
 use Rattle.messages.specs.Ranges.{is_run, is_word}
 use Rattle.server_core.specs.declared.event.Event.{Event}
@@ -28,7 +29,7 @@ use Rattle.server_core.specs.Answers.{now, refusal, refusal_of, packets, to_clie
 use Rattle.server_core.specs.Framed.{framed}
 use Rattle.server_core.specs.Stands.{MachineIs, EachNow, IsDueFor}
 use Rattle.server_core.specs.Bounds.{AreShort}
-use Rattle.server_core.specs.Serves.{StandsFor, Starts, Unstarted, LeavesNote, Answers, Fails, Faults, Ends, saved_for, answered}
+use Rattle.server_core.specs.Serves.{StandsFor, steps, Starts, Unstarted, answered}
 use Rattle.server_core.proofs.Due.{rests}
 use Rattle.server_core.proofs.FollowLemmas.{starts_follow}
 use Rattle.server_core.proofs.UndueLemmas.{no_act}
@@ -74,7 +75,7 @@ to_note o past e run s mine left new same d =
     by_left NoSave h = cc
 
 begun : {T : Type 0} (note : T → Note) (old new : PacketServer T) (o : Opening) (past : List Entry) (e : Event) (run : ℕ) (s : Staged) (outs : Outs) → old.down ≡ false → StandsFor note old o past → MachineIs old.machine (now o past) → run < 2 ^ 64 → IsStart o past e run s
-    → IsSendable o past e → Starts note run old new (Ok outs) → Answers note o past e old new outs
+    → IsSendable o past e → Starts note run old new (Ok outs) → Answers (steps note o) past e old new outs
 begun note old new o past e run s outs up stands k fits d can p =
     let q = p.2 (now o past) s k d.words in
     let free = free_of o past e run s d in
@@ -87,13 +88,15 @@ begun note old new o past e run s outs up stands k fits d can p =
     ∙ ap (λ x. flat_map spelled_frames (packets o past (Met e (saved_for x)))) (sym d.is) in
     record {
       free = free;
-      frames_are = frames;
-      short = λ i h. subst AreShort (sym frames) (can.short i h);
-      ranges = can.ranges;
-      leaves = subst (λ x. LeavesNote x (noted o (Met e (saved_for x) ∷ past)) (note old.notes) (note new.notes)) (sym d.is)
+      sends = record {
+        frames_are = frames;
+        issue_is = ap (λ (x : Outs). x.issue) q.0 ∙ ap (issue_for (work o past)) (sym d.asks);
+        act_is = ap (λ (x : Outs). x.act) q.0 ∙ no_act (work o past) run ∙ ap (act_of (work o past)) (sym d.asks);
+        short = λ i h. subst AreShort (sym frames) (can.short i h);
+        ranges = can.ranges;
+      };
+      leaves = subst (λ x. LeavesNote x (spelling (noted o (Met e (saved_for x) ∷ past))) (note old.notes) (note new.notes)) (sym d.is)
           (p.0 ∙ ap (λ n. record (note old.notes) { bytes = spelling n }) (to_note o past e run s old.machine.boot Saved refl k.boot_is d));
-      issue_is = ap (λ (x : Outs). x.issue) q.0 ∙ ap (issue_for (work o past)) (sym d.asks);
-      act_is = ap (λ (x : Outs). x.act) q.0 ∙ no_act (work o past) run ∙ ap (act_of (work o past)) (sym d.asks);
       stands = subst (λ x. StandsFor note new o (Met e (saved_for x) ∷ past)) (sym d.is)
           (record {
             on = p.1 ∙ up ∙ sym (ap (λ b. not (b && true)) d.on);
@@ -103,7 +106,7 @@ begun note old new o past e run s outs up stands k fits d can p =
     }
 
 unbegun : {T : Type 0} (note : T → Note) (old new : PacketServer T) (o : Opening) (past : List Entry) (e : Event) (run : ℕ) (s : Staged) (t : FaultSort) (fault : Fault) → old.down ≡ false → StandsFor note old o past → MachineIs old.machine (now o past) → run < 2 ^ 64 → IsStart o past e run s
-    → Unstarted note run t fault old new → Faults note o past e t fault old new
+    → Unstarted note run t fault old new → Faults (steps note o) past e t fault old new
 unbegun note old new o past e run s sorts.Memory fault up stands k fits d u = record {
   why = u.0;
   same_note = u.1;
@@ -116,11 +119,11 @@ unbegun note old new o past e run s sorts.Memory fault up stands k fits d u = re
 unbegun note old new o past e run s sorts.Refusal fault up stands k fits d u = absurd u
 unbegun note old new o past e run s sorts.Save fault up stands k fits d u = by_bytes u.1
   where
-    by_bytes : ((note new.notes).bytes ≡ (note old.notes).bytes) ⊎ ((note new.notes).bytes ≡ spelling (record { boot = old.machine.boot; last_run = run })) → Fails note o past e old new
+    by_bytes : ((note new.notes).bytes ≡ (note old.notes).bytes) ⊎ ((note new.notes).bytes ≡ spelling (record { boot = old.machine.boot; last_run = run })) → Fails (steps note o) past e old new
     by_bytes (inl same) = record {
       cause = u.0;
       free = free_of o past e run s d;
-      began = s;
+      addition = s;
       makes_one = d.is;
       left = LostOld;
       lost = refl;
@@ -135,7 +138,7 @@ unbegun note old new o past e run s sorts.Save fault up stands k fits d u = by_b
     by_bytes (inr new_bytes) = record {
       cause = u.0;
       free = free_of o past e run s d;
-      began = s;
+      addition = s;
       makes_one = d.is;
       left = LostNew;
       lost = refl;
@@ -149,12 +152,12 @@ unbegun note old new o past e run s sorts.Save fault up stands k fits d u = by_b
     }
 
 ends : {T : Type 0} (note : T → Note) (old new : PacketServer T) (o : Opening) (past : List Entry) (e : Event) (run : ℕ) (s : Staged) (result : Result Outs Fault) → old.down ≡ false → StandsFor note old o past → MachineIs old.machine (now o past) → run < 2 ^ 64 → IsStart o past e run s
-    → IsSendable o past e → Starts note run old new result → Ends note o past e old new result
+    → IsSendable o past e → Starts note run old new result → Ends (steps note o) past e old new result
 ends note old new o past e run s (Ok outs) up stands k fits d can p = begun note old new o past e run s outs up stands k fits d can p
 ends note old new o past e run s (Err fault) up stands k fits d can u = unbegun note old new o past e run s (sort_of fault) fault up stands k fits d u
 
 pub started : {T : Type 0} (note : T → Note) (old new : PacketServer T) (o : Opening) (past : List Entry) (e : Event) (run : ℕ) (result : Result Outs Fault) → old.down ≡ false → StandsFor note old o past → is_run run ≡ true
-    → EachNow old.machine (λ words. IsDueFor words (asked old.machine.me e) (Some run)) → Starts note run old new result → IsSendable o past e → Ends note o past e old new result
+    → EachNow old.machine (λ words. IsDueFor words (asked old.machine.me e) (Some run)) → Starts note run old new result → IsSendable o past e → Ends (steps note o) past e old new result
 started note old new o past e run result up stands range is p can =
     let k = keeps_now note old o past up stands in
     let words = now o past in

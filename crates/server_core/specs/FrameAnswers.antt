@@ -3,6 +3,7 @@ use Rattle.std.specs.Prelude.{Bool, if◌then◌else◌, List, [], Option, Some,
 use Rattle.std.specs.List.{flat_map}
 use Rattle.fc_base.specs.declared.fault.Fault.{Fault}
 use Rattle.fc_base.specs.declared.fault.Fault.TheVariants.{Down, Misdirected, FrameBadField}
+use Rattle.disk_model.specs.Left.{saved_for}
 use Rattle.engine.specs.declared.issue.Issue.{Issue as Answer}
 use Rattle.messages.specs.declared.refusal.Act.{Act}
 use Rattle.messages.specs.declared.refusal.Act.TheVariants as acts
@@ -20,7 +21,6 @@ use Rattle.server_core.specs.History.{Opening}
 use Rattle.server_core.specs.Words as words
 use Rattle.server_core.specs.Words.{Staged}
 use Rattle.server_core.specs.Answers as answers
-use Rattle.server_core.specs.Serves.{saved_for}
 use Rattle.server_core.specs.Hearing.{FrameEntry, Met, rules, coming, heard_at, packets_heard}
 
 -- What comes is, to a server that hears packets: an event; a piece that is kept, and gives nothing

@@ -1,14 +1,9 @@
 -- Which lists of frames a server stands for, and how its step ends.
-use Rattle.std.specs.Prelude.{◌≡◌, ℕ, ◌+◌, ◌<◌, Bool, true, false, List, ◌∷◌, map, None, Some, Result, Ok, Err}
+use Rattle.std.specs.Prelude.{◌≡◌, ℕ, ◌+◌, Bool, true, false, List, ◌∷◌, map, Result, Ok, Err}
 use Rattle.fc_base.specs.declared.fault.Fault.{Fault}
-use Rattle.fc_base.specs.declared.fault.Fault.TheVariants.{NoMemory}
-use Rattle.fc_base.specs.declared.fault.FaultSort.{FaultSort}
-use Rattle.fc_base.specs.declared.fault.FaultSort.TheVariants as sorts
-use Rattle.fc_base.specs.Fault.{sort_of}
-use Rattle.disk_model.specs.declared.left.Left.{Left}
-use Rattle.disk_model.specs.declared.left.Left.TheVariants.{NoSave, Saved}
-use Rattle.disk_model.specs.Left.{is_lost, bytes_left}
+use Rattle.disk_model.specs.declared.left.Left.TheVariants.{Saved}
 use Rattle.disk_model.specs.Notes.{Note}
+use Rattle.disk_model.specs.Steps.{Steps}
 use Rattle.messages.specs.FrameBytes.{frame_spelling}
 use Rattle.server_core.specs.declared.input.Input.{Input}
 use Rattle.server_core.specs.declared.outs.Outs.{Outs}
@@ -21,7 +16,6 @@ use Rattle.server_core.specs.Words.{Staged}
 use Rattle.server_core.specs.Bounds.{AreShort}
 use Rattle.server_core.specs.Ranges.{OpensInRange, CameInRange}
 use Rattle.server_core.specs.Serves as whole
-use Rattle.server_core.specs.Serves.{LeavesNote}
 use Rattle.server_core.specs.Hearing.{FrameEntry, Met, Restart, packets_heard, assembly}
 use Rattle.server_core.specs.FrameAnswers.{Sense, Hears, Keeps, Drops, Misses, sense, frames, refusal, due, issue, act, answered}
 
@@ -31,16 +25,13 @@ pub record StandsFor {T : Type 0} (note : T → Note) (server : Server T) (o : O
   pub core : whole.StandsFor note server.core o (packets_heard o past)
   pub pieces : words.is_on (packets_heard o past) ≡ true → server.pieces ≡ assembly o past
 
--- What comes isn't refused, its answers are those of the list, what is due is left in the note, and it is
--- added; and where the packets that were heard keep their ranges, the frames are few and short.
-pub record Answers {T : Type 0} (note : T → Note) (o : Opening) (past : List FrameEntry) (e : Input) (old new : Server T) (outs : Outs) : Type 0 where
-  pub free : refusal o past e ≡ None
+-- What is answered and sent is what the list says; and where the packets that were heard keep their
+-- ranges, the frames are few and short.
+pub record Sends (o : Opening) (past : List FrameEntry) (e : Input) (outs : Outs) : Type 0 where
   pub frames_are : outs.frames ≡ map frame_spelling (frames o past (answered o past e))
   pub issue_is : outs.issue ≡ issue o past e
   pub act_is : outs.act ≡ act o past e
   pub short : OpensInRange o → CameInRange (packets_heard o past) → AreShort outs.frames
-  pub leaves : LeavesNote (due o past e) (words.noted o (packets_heard o (answered o past e ∷ past))) (note old.core.notes) (note new.core.notes)
-  pub stands : StandsFor note new o (answered o past e ∷ past)
 
 -- A tag is dropped.
 abbrev pub is_drop : Sense → Bool
@@ -49,44 +40,20 @@ is_drop (Keeps q) = false
 is_drop (Drops q) = true
 is_drop Misses = false
 
--- What comes is refused for this reason, and stands in the list without a save. It may also be left
--- out, but where it drops a tag: that alone changes.
-pub record Refuses {T : Type 0} (note : T → Note) (o : Opening) (past : List FrameEntry) (e : Input) (fault : Fault) (old new : Server T) : Type 0 where
-  pub why : refusal o past e ≡ Some fault
-  pub same_note : note new.core.notes ≡ note old.core.notes
-  pub stands : StandsFor note new o (Met e NoSave ∷ past)
-  pub unchanged : is_drop (sense o past e) ≡ false → StandsFor note new o past
-
--- The device failed in the save of a run that was due: the bytes are the old ones, or the spelling of what
--- was to be noted.
-pub record Fails {T : Type 0} (note : T → Note) (o : Opening) (past : List FrameEntry) (e : Input) (old new : Server T) : Type 0 where
-  pub cause : (note old.core.notes).failures < (note new.core.notes).failures
-  pub free : refusal o past e ≡ None
-  pub began : Staged
-  pub makes_one : due o past e ≡ Some began
-  pub left : Left
-  pub lost : is_lost left ≡ true
-  pub bytes_are :
-      (note new.core.notes).bytes
-      ≡ bytes_left left (spelling (words.noted o (packets_heard o (Met e left ∷ past)))) (note old.core.notes).bytes
-  pub stands : StandsFor note new o (Met e left ∷ past)
-
--- For want of memory nothing changes.
-pub record Lacks {T : Type 0} (note : T → Note) (o : Opening) (past : List FrameEntry) (fault : Fault) (old new : Server T) : Type 0 where
-  pub why : fault ≡ NoMemory
-  pub same_note : note new.core.notes ≡ note old.core.notes
-  pub unchanged : StandsFor note new o past
-
--- How a step that isn't answered ends, by the sort of its fault.
-abbrev pub Faults : {T : Type 0} → (T → Note) → Opening → List FrameEntry → Input → FaultSort → Fault → Server T → Server T → Type 0
-Faults note o past e sorts.Memory fault old new = Lacks note o past fault old new
-Faults note o past e sorts.Save fault old new = Fails note o past e old new
-Faults note o past e sorts.Refusal fault old new = Refuses note o past e fault old new
-
--- How a step ends.
-abbrev pub Ends : {T : Type 0} → (T → Note) → Opening → List FrameEntry → Input → Server T → Server T → Result Outs Fault → Type 0
-Ends note o past e old new (Ok outs) = Answers note o past e old new outs
-Ends note o past e old new (Err fault) = Faults note o past e (sort_of fault) fault old new
+-- The steps of a server: its note, what its list says of what comes, and what is answered and sent.
+-- What is refused leaves it as it was, but where it drops a tag: that alone changes.
+abbrev pub steps : {T : Type 0} → (T → Note) → Opening →
+    Steps (Server T) Input FrameEntry Staged Outs
+steps note o = record {
+  note = λ server. note server.core.notes;
+  StandsFor = λ past server. StandsFor note server o past;
+  refusal = refusal o;
+  due = due o;
+  met = Met;
+  spelled = λ past. spelling (words.noted o (packets_heard o past));
+  Sends = Sends o;
+  Stays = λ past e server. is_drop (sense o past e) ≡ false → StandsFor note server o past;
+}
 
 -- For each list whose words the note said, the server stands for it with the restart. The note said
 -- something, so there is such a list: the empty one. Now it has the next boot.

@@ -1,15 +1,16 @@
 -- Which lists a server that takes packets stands for, and how its step ends.
-use Rattle.std.specs.Prelude.{◌≡◌, ◌⊎◌, ℕ, ◌+◌, ◌-◌, ◌^◌, ◌<◌, true, not, List, ◌∷◌, Option, Some, None, Result, Ok, Err}
+use Rattle.std.specs.Prelude.{◌≡◌, ◌⊎◌, ℕ, ◌+◌, ◌-◌, ◌^◌, ◌<◌, true, not}
+use Rattle.std.specs.Prelude.{List, ◌∷◌, Some, Result, Ok, Err}
 use Rattle.std.specs.List.{AllByRecursion, flat_map}
 use Rattle.fc_base.specs.declared.fault.Fault.{Fault}
 use Rattle.fc_base.specs.declared.fault.Fault.TheVariants.{NoMemory, LoadFault, SaveFault, BadNote, NumbersSpent}
 use Rattle.fc_base.specs.declared.fault.FaultSort.{FaultSort}
 use Rattle.fc_base.specs.declared.fault.FaultSort.TheVariants as sorts
 use Rattle.fc_base.specs.Fault.{sort_of}
-use Rattle.disk_model.specs.declared.left.Left.{Left}
-use Rattle.disk_model.specs.declared.left.Left.TheVariants.{NoSave, Saved}
-use Rattle.disk_model.specs.Left.{is_lost, bytes_left}
+use Rattle.disk_model.specs.declared.left.Left.TheVariants.{Saved}
+use Rattle.disk_model.specs.Left.{saved_for}
 use Rattle.disk_model.specs.Notes.{Note}
+use Rattle.disk_model.specs.Steps.{Steps}
 use Rattle.messages.specs.FramesOf.{spelled_frames}
 use Rattle.messages.specs.Laws.{IsPacket}
 use Rattle.server_core.specs.declared.event.Event.{Event}
@@ -58,71 +59,33 @@ Starts note run old new (Ok outs) =
     × MachineIs new.machine (begun_by words s))
 Starts note run old new (Err fault) = Unstarted note run (sort_of fault) fault old new
 
--- What an answered event's save left: none was made, where nothing was due.
-abbrev pub saved_for : Option Staged → Left
-saved_for None = NoSave
-saved_for (Some s) = Saved
-
 -- What an answered event leaves in the list: a Start that is due was saved.
 abbrev pub answered : Opening → List Entry → Event → Entry
 answered o past e = Met e (saved_for (due o past e))
 
--- What an answered event leaves of the note: all of it where nothing was due, else the bytes are the
--- spelling of what is noted then.
-abbrev pub LeavesNote : Option Staged → Noted → Note → Note → Type 0
-LeavesNote None after old new = new ≡ old
-LeavesNote (Some began) after old new = new ≡ record old { bytes = spelling after }
-
--- The event isn't refused, its answers are those of the list, it leaves the note as told, and it is
--- added; and where what came before keeps its ranges, the packets that are sent keep theirs, and their
--- frames are few and short.
-pub record Answers {T : Type 0} (note : T → Note) (o : Opening) (past : List Entry) (e : Event) (old new : PacketServer T) (outs : Outs) : Type 0 where
-  pub free : refusal o past e ≡ None
+-- What is answered and sent is what the list says; and where what came before keeps its ranges, the
+-- packets that are sent keep theirs, and their frames are few and short.
+pub record Sends (o : Opening) (past : List Entry) (e : Event) (outs : Outs) : Type 0 where
   pub frames_are : outs.frames ≡ flat_map spelled_frames (packets o past (answered o past e))
   pub issue_is : outs.issue ≡ issue o past e
   pub act_is : outs.act ≡ act o past e
   pub short : OpensInRange o → CameInRange past → AreShort outs.frames
   pub ranges : OpensInRange o → CameInRange past → AllByRecursion IsPacket (packets o past (answered o past e))
-  pub leaves : LeavesNote (due o past e) (noted o (answered o past e ∷ past)) (note old.notes) (note new.notes)
-  pub stands : StandsFor note new o (answered o past e ∷ past)
 
--- The event is refused for this reason, and nothing changes; the refused event may also stand in the list.
-pub record Refuses {T : Type 0} (note : T → Note) (o : Opening) (past : List Entry) (e : Event) (fault : Fault) (old new : PacketServer T) : Type 0 where
-  pub why : refusal o past e ≡ Some fault
-  pub same_note : note new.notes ≡ note old.notes
-  pub unchanged : StandsFor note new o past
-  pub stands : StandsFor note new o (Met e NoSave ∷ past)
-
--- The device failed in the save of a run that was due: the bytes are the old ones, or the spelling of what
--- was to be noted.
-pub record Fails {T : Type 0} (note : T → Note) (o : Opening) (past : List Entry) (e : Event) (old new : PacketServer T) : Type 0 where
-  pub cause : (note old.notes).failures < (note new.notes).failures
-  pub free : refusal o past e ≡ None
-  pub began : Staged
-  pub makes_one : due o past e ≡ Some began
-  pub left : Left
-  pub lost : is_lost left ≡ true
-  pub bytes_are :
-      (note new.notes).bytes
-      ≡ bytes_left left (spelling (noted o (Met e left ∷ past))) (note old.notes).bytes
-  pub stands : StandsFor note new o (Met e left ∷ past)
-
--- For want of memory nothing changes.
-pub record Lacks {T : Type 0} (note : T → Note) (o : Opening) (past : List Entry) (fault : Fault) (old new : PacketServer T) : Type 0 where
-  pub why : fault ≡ NoMemory
-  pub same_note : note new.notes ≡ note old.notes
-  pub unchanged : StandsFor note new o past
-
--- How an event that isn't answered ends, by the sort of its fault.
-abbrev pub Faults : {T : Type 0} → (T → Note) → Opening → List Entry → Event → FaultSort → Fault → PacketServer T → PacketServer T → Type 0
-Faults note o past e sorts.Memory fault old new = Lacks note o past fault old new
-Faults note o past e sorts.Save fault old new = Fails note o past e old new
-Faults note o past e sorts.Refusal fault old new = Refuses note o past e fault old new
-
--- How a step ends.
-abbrev pub Ends : {T : Type 0} → (T → Note) → Opening → List Entry → Event → PacketServer T → PacketServer T → Result Outs Fault → Type 0
-Ends note o past e old new (Ok outs) = Answers note o past e old new outs
-Ends note o past e old new (Err fault) = Faults note o past e (sort_of fault) fault old new
+-- The steps of a server that takes packets: its note, what its list says of an event, and what is
+-- answered and sent. A refused event leaves it as it was.
+abbrev pub steps : {T : Type 0} → (T → Note) → Opening →
+    Steps (PacketServer T) Event Entry Staged Outs
+steps note o = record {
+  note = λ server. note server.notes;
+  StandsFor = λ past server. StandsFor note server o past;
+  refusal = refusal o;
+  due = due o;
+  met = Met;
+  spelled = λ past. spelling (noted o past);
+  Sends = Sends o;
+  Stays = λ past e server. StandsFor note server o past;
+}
 
 -- For each list whose words the note said, the server stands for it with the restart. The note said
 -- something, so there is such a list: the empty one. Now it has the next boot.

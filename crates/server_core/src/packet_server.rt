@@ -41,7 +41,8 @@ impl<N: Notes> PacketServer<N> {
     ghost use Rattle.server_core.specs.OpenWrites.{open_write};
     ghost use Rattle.server_core.specs.Memory.{TakesNone};
     ghost use Rattle.server_core.specs.Handles.{issued, ended};
-    ghost use Rattle.server_core.specs.Serves.{StandsFor, Starts, Ends, Opens};
+    ghost use Rattle.disk_model.specs.Steps.{Ends};
+    ghost use Rattle.server_core.specs.Serves.{StandsFor, steps, Starts, Opens};
 
     /// Opens the server with this number over its note, where it saves the next boot before it answers;
     /// a blank note has none yet. Where it isn't opened, the notes come back.
@@ -170,7 +171,7 @@ impl<N: Notes> PacketServer<N> {
     /// refusal, which changes nothing.
     pub(crate) fn step(&mut self, event: Event) -> Result<Outs, Fault>
         ensures { (o : Opening) (past : List Entry) → StandsFor N.note self.old o past →
-            Ends N.note o past event self.old self.new result }
+            Ends (steps N.note o) past event self.old self.new result }
     {
         if self.down {
             return Err(Fault::Down);
@@ -188,7 +189,7 @@ impl<N: Notes> PacketServer<N> {
     #[inline(always)]
     pub(crate) fn issue(&mut self, job: JobNo) -> Result<Issue, Fault>
         ensures ends { (o : Opening) (past : List Entry) → StandsFor N.note self.old o past →
-            Ends N.note o past (ToIssue job) self.old self.new (issued result) }
+            Ends (steps N.note o) past (ToIssue job) self.old self.new (issued result) }
         ensures memory { TakesNone result }
     {
         if self.down {
@@ -203,7 +204,7 @@ impl<N: Notes> PacketServer<N> {
     #[inline(always)]
     pub(crate) fn end_write(&mut self, ticket: Ticket, end: WriteEnd) -> Result<(), Fault>
         ensures ends { (o : Opening) (past : List Entry) → StandsFor N.note self.old o past →
-            Ends N.note o past (ToEnd ticket end) self.old self.new (ended result) }
+            Ends (steps N.note o) past (ToEnd ticket end) self.old self.new (ended result) }
         ensures memory { TakesNone result }
     {
         if self.down {

@@ -40,7 +40,8 @@ impl<N: Notes> Server<N> {
     ghost use Rattle.server_core.specs.OpenWrites.{open_write};
     ghost use Rattle.server_core.specs.Hearing.{FrameEntry, packets_heard};
     ghost use Rattle.server_core.specs.FrameAnswers.{would_save};
-    ghost use Rattle.server_core.specs.FrameEnds.{StandsFor, Ends, Opens};
+    ghost use Rattle.disk_model.specs.Steps.{Ends};
+    ghost use Rattle.server_core.specs.FrameEnds.{StandsFor, steps, Opens};
     ghost use Rattle.server_core.specs.Memory.{TakesNone, WritesTakeNone};
     ghost use Rattle.server_core.specs.Handles.{issued, ended};
     ghost use Rattle.server_core.specs.HeardRange.{HearsInRange};
@@ -170,7 +171,7 @@ impl<N: Notes> Server<N> {
     #[inline(always)]
     pub fn step(&mut self, input: Input) -> Result<Outs, Fault>
         ensures ends { (o : Opening) (past : List FrameEntry) → StandsFor N.note self.old o past →
-            Ends N.note o past input self.old self.new result }
+            Ends (steps N.note o) past input self.old self.new result }
         ensures ranges { (o : Opening) (past : List FrameEntry) → StandsFor N.note self.old o past →
             HearsInRange o past input result }
         ensures memory { WritesTakeNone input result }
@@ -187,7 +188,7 @@ impl<N: Notes> Server<N> {
     #[inline(always)]
     pub fn issue(&mut self, job: JobNo) -> Result<Issue, Fault>
         ensures ends { (o : Opening) (past : List FrameEntry) → StandsFor N.note self.old o past →
-            Ends N.note o past (ToIssue job) self.old self.new (issued result) }
+            Ends (steps N.note o) past (ToIssue job) self.old self.new (issued result) }
         ensures ranges { (o : Opening) (past : List FrameEntry) → StandsFor N.note self.old o past →
             HearsInRange o past (ToIssue job) (issued result) }
         ensures memory { TakesNone result }
@@ -199,7 +200,7 @@ impl<N: Notes> Server<N> {
     #[inline(always)]
     pub fn end_write(&mut self, ticket: Ticket, end: WriteEnd) -> Result<(), Fault>
         ensures ends { (o : Opening) (past : List FrameEntry) → StandsFor N.note self.old o past →
-            Ends N.note o past (ToEnd ticket end) self.old self.new (ended result) }
+            Ends (steps N.note o) past (ToEnd ticket end) self.old self.new (ended result) }
         ensures ranges { (o : Opening) (past : List FrameEntry) → StandsFor N.note self.old o past →
             HearsInRange o past (ToEnd ticket end) (ended result) }
         ensures memory { TakesNone result }
@@ -211,7 +212,7 @@ impl<N: Notes> Server<N> {
     #[inline(never)]
     fn take(&mut self, input: Input) -> Result<Outs, Fault>
         ensures ends { (o : Opening) (past : List FrameEntry) → StandsFor N.note self.old o past →
-            Ends N.note o past input self.old self.new result }
+            Ends (steps N.note o) past input self.old self.new result }
         ensures ranges { (o : Opening) (past : List FrameEntry) → StandsFor N.note self.old o past →
             HearsInRange o past input result }
     {
@@ -239,7 +240,7 @@ impl<N: Notes> Server<N> {
     /// Takes a frame.
     fn deliver(&mut self, frame: Frame) -> Result<Outs, Fault>
         ensures ends { (o : Opening) (past : List FrameEntry) → StandsFor N.note self.old o past →
-            Ends N.note o past (Deliver frame) self.old self.new result }
+            Ends (steps N.note o) past (Deliver frame) self.old self.new result }
         ensures ranges { (o : Opening) (past : List FrameEntry) → StandsFor N.note self.old o past →
             HearsInRange o past (Deliver frame) result }
     {
@@ -255,7 +256,7 @@ impl<N: Notes> Server<N> {
     /// Takes a piece: the packet that it completes, or else the piece alone.
     fn join(&mut self, piece: &Piece) -> Result<Outs, Fault>
         ensures ends { (o : Opening) (past : List FrameEntry) → StandsFor N.note self.old o past →
-            Ends N.note o past (Deliver (OfPiece piece.now)) self.old self.new result }
+            Ends (steps N.note o) past (Deliver (OfPiece piece.now)) self.old self.new result }
         ensures ranges { (o : Opening) (past : List FrameEntry) → StandsFor N.note self.old o past →
             HearsInRange o past (Deliver (OfPiece piece.now)) result }
     {

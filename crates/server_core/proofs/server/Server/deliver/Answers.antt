@@ -1,10 +1,11 @@
 -- A whole packet is heard as it comes.
 use Rattle.std.proofs.Common.{refl, sym, subst}
+use Rattle.disk_model.specs.Steps.{Ends}
 use Rattle.messages.specs.declared.frame.Frame.TheVariants.{Whole}
 use Rattle.server_core.specs.declared.event.Event.TheVariants as events
 use Rattle.server_core.specs.declared.input.Input.TheVariants.{Deliver}
 use Rattle.server_core.specs.Hearing.{packets_heard}
-use Rattle.server_core.specs.FrameEnds.{Ends}
+use Rattle.server_core.specs.FrameEnds.{steps}
 use Rattle.server_core.proofs.FrameEndLemmas.{whole_ends}
 use Rattle.server_core.proofs.server.Server.deliver.Goals as goal
 
@@ -14,5 +15,5 @@ returns-in-Whole-clause-ends g c o past s =
     let old = c.args.self.now in
     let new = record old { core = c.step.new.self } in
     let packet = c.in-Whole.packet in
-    subst (λ f. Ends note o past (Deliver f) old new c.step.result) (sym c.in-Whole.is)
+    subst (λ f. Ends (steps note o) past (Deliver f) old new c.step.result) (sym c.in-Whole.is)
     (whole_ends note o past (Deliver (Whole packet)) (events.Deliver packet) old c.step.new.self c.step.result refl refl s (c.step.ensures o (packets_heard o past) s.core))

@@ -1,13 +1,14 @@
 -- A piece is taken by what it says to the server.
 use Rattle.std.proofs.Common.{sym, ap, subst, ◌∙◌, Ok, Err}
 use Rattle.fc_base.specs.declared.fault.Fault.TheVariants.{FrameBadField}
+use Rattle.disk_model.specs.Steps.{Ends}
 use Rattle.messages.specs.declared.frame.Frame.TheVariants.{Piece}
 use Rattle.messages.specs.Assemblies.{Row, Look, Gives, look, without, taken}
 use Rattle.messages.specs.Assemblies as looks
 use Rattle.server_core.specs.declared.input.Input.TheVariants.{Deliver}
 use Rattle.server_core.specs.Hearing.{packets_heard}
 use Rattle.server_core.specs.Handles.{sent_alone}
-use Rattle.server_core.specs.FrameEnds.{Ends}
+use Rattle.server_core.specs.FrameEnds.{steps}
 use Rattle.server_core.proofs.HearingLemmas.{gave, waited, spoiled, spoiled_gone}
 use Rattle.server_core.specs.FrameAnswers.{Hears, Keeps}
 use Rattle.server_core.specs.declared.event.Event.TheVariants as events
@@ -25,7 +26,7 @@ returns-then-is_ok-clause-ends g c o past s =
     let gives = gave c.look.result (look old.pieces q) p c.look.ensures (c.in-Ok-Some.is ∙ ap Ok c.in-Ok-Some.field-0-is) in
     let on = sym (c.on.ensures o (packets_heard o past) s.core) ∙ c.if-not-on.false in
     let is = arrives note old o past q c.me.result s on (c.me.ensures o (packets_heard o past) s.core) (sym c.is_piece_for.ensures ∙ c.if-not-is_piece_for.false) (Gives p) gives in
-    subst (λ rows. Ends note o past (Deliver (Piece q)) old (record { alloc = old.alloc; core = c.step-outs.new.self; pieces = rows }) c.step-outs.result) (sym (c.drop.ensures ∙ ap (λ t. without t old.pieces) c.tag.ensures))
+    subst (λ rows. Ends (steps note o) past (Deliver (Piece q)) old (record { alloc = old.alloc; core = c.step-outs.new.self; pieces = rows }) c.step-outs.result) (sym (c.drop.ensures ∙ ap (λ t. without t old.pieces) c.tag.ensures))
     (given_ends note old c.step-outs.new.self o past q p c.step-outs.result s on is gives (c.step-outs.ensures o (packets_heard o past) s.core) (sym c.is_ok.ensures.value ∙ c.if-is_ok.true))
 
 pub returns-else-is_ok-clause-ends : goal.returns-else-is_ok-clause-ends
@@ -47,8 +48,8 @@ returns-in-Ok-clause-ends g c o past s =
     let waits = waited c.look.result (look old.pieces q) c.look.ensures (c.in-Ok-None.is ∙ ap Ok c.in-Ok-None.field-0-is) in
     let on = sym (c.on.ensures o (packets_heard o past) s.core) ∙ c.if-not-on.false in
     let is = arrives note old o past q c.me.result s on (c.me.ensures o (packets_heard o past) s.core) (sym c.is_piece_for.ensures ∙ c.if-not-is_piece_for.false) looks.Waits waits in
-    subst (λ rows. Ends note o past (Deliver (Piece q)) old (record old { pieces = rows }) (Ok c.sent.result)) (sym c.in-Ok.ensures.taken)
-    (subst (λ outs. Ends note o past (Deliver (Piece q)) old (record old { pieces = taken old.pieces q }) (Ok outs)) (sym (c.sent.ensures ∙ ap sent_alone c.new.ensures)) (kept_ends note o past (Deliver (Piece q)) q old is s))
+    subst (λ rows. Ends (steps note o) past (Deliver (Piece q)) old (record old { pieces = rows }) (Ok c.sent.result)) (sym c.in-Ok.ensures.taken)
+    (subst (λ outs. Ends (steps note o) past (Deliver (Piece q)) old (record old { pieces = taken old.pieces q }) (Ok outs)) (sym (c.sent.ensures ∙ ap sent_alone c.new.ensures)) (kept_ends note o past (Deliver (Piece q)) q old is s))
 
 pub returns-in-Err-FrameBadField-clause-ends : goal.returns-in-Err-FrameBadField-clause-ends
 returns-in-Err-FrameBadField-clause-ends g c o past s =
@@ -58,7 +59,7 @@ returns-in-Err-FrameBadField-clause-ends g c o past s =
     let spoils = spoiled c.look.result (look old.pieces q) c.look.ensures (c.in-Err-FrameBadField.is ∙ ap Err c.in-Err-FrameBadField.field-0-is) in
     let on = sym (c.on.ensures o (packets_heard o past) s.core) ∙ c.if-not-on.false in
     let is = arrives note old o past q c.me.result s on (c.me.ensures o (packets_heard o past) s.core) (sym c.is_piece_for.ensures ∙ c.if-not-is_piece_for.false) looks.NoPacket spoils in
-    subst (λ rows. Ends note o past (Deliver (Piece q)) old (record old { pieces = rows }) (Err FrameBadField))
+    subst (λ rows. Ends (steps note o) past (Deliver (Piece q)) old (record old { pieces = rows }) (Err FrameBadField))
     (sym (c.drop-in-Err-FrameBadField.ensures ∙ ap (λ t. without t old.pieces) c.tag-in-Err-FrameBadField.ensures ∙ sym (spoiled_gone old.pieces q spoils)))
     (dropped_ends note o past (Deliver (Piece q)) q old is s)
 
