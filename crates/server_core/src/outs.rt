@@ -35,14 +35,12 @@ impl Outs {
     pub(crate) fn issued(alloc: Global, answer: Result<Issue, Fault>) -> Result<Outs, Fault>
         ensures { result ≡ issued answer }
     {
-        match answer {
-            Ok(issue) => Ok(Outs {
-                frames: Frames::new(alloc),
-                issue: Some(issue),
-                act: Act::None,
-            }),
-            Err(fault) => Err(fault),
-        }
+        let issue = answer?;
+        Ok(Outs {
+            frames: Frames::new(alloc),
+            issue: Some(issue),
+            act: Act::None,
+        })
     }
 
     /// That the end of a write was heard, and nothing else.
@@ -50,9 +48,7 @@ impl Outs {
     pub(crate) fn ended(alloc: Global, answer: Result<(), Fault>) -> Result<Outs, Fault>
         ensures { result ≡ ended answer }
     {
-        match answer {
-            Ok(()) => Ok(Outs::sent(Frames::new(alloc))),
-            Err(fault) => Err(fault),
-        }
+        answer?;
+        Ok(Outs::sent(Frames::new(alloc)))
     }
 }

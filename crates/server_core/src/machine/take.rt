@@ -123,10 +123,8 @@ impl Machine {
             (λ now. Handled now (ToEnd ticket end) self.old self.new (ended result)) }
         ensures memory { TakesNone result }
     {
-        match self.end_write(ticket, end) {
-            Ok(()) => Ok(()),
-            Err(fault) => Err(fault),
-        }
+        self.end_write(ticket, end)?;
+        Ok(())
     }
 
     /// A worker tells what a check found.
