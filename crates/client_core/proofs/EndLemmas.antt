@@ -9,8 +9,9 @@ use Rattle.fc_base.specs.declared.fault.FaultSort.TheVariants as sorts
 use Rattle.fc_base.specs.Fault.{sort_of}
 use Rattle.disk_model.specs.declared.left.Left.{Left}
 use Rattle.disk_model.specs.declared.left.Left.TheVariants.{NoSave, LostNew, LostOld}
-use Rattle.disk_model.specs.Left.{is_lost, has_new}
+use Rattle.disk_model.specs.Left.{saved_for, is_lost, has_new, bytes_left}
 use Rattle.disk_model.specs.Notes.{Note}
+use Rattle.disk_model.specs.Steps.{LeavesNote, Fails, Faults}
 use Rattle.client_core.specs.declared.call.Call.{Call}
 use Rattle.client_core.specs.declared.packet_client.PacketClient.{PacketClient}
 use Rattle.client_core.specs.declared.life.Life.{Life}
@@ -21,12 +22,12 @@ use Rattle.client_core.specs.Framed.{framed}
 use Rattle.client_core.specs.Life.{life, deeds_of}
 use Rattle.client_core.specs.Lives.{LifeIs, EachLife}
 use Rattle.client_core.specs.Refusals.{refusal_by}
-use Rattle.client_core.specs.Saves.{Addition, with_addition, addition_of, unless_refused, noted_after, left_by, is_answer}
+use Rattle.client_core.specs.Saves.{Addition, with_addition, addition_of, unless_refused, noted_after, is_answer}
 use Rattle.client_core.specs.declared.peers.Peers.{Peers}
 use Rattle.client_core.specs.Words.{is_on, granted_by, noted, looked, refusal, due, is_answered, peers}
 use Rattle.client_core.specs.Packets.{packets, packets_for}
 use Rattle.client_core.specs.Stands.{StandsFor}
-use Rattle.client_core.specs.Ends.{answered, LeavesNote, lost_bytes, Fails, Faults, Unsaved, Stores}
+use Rattle.client_core.specs.Ends.{answered, steps, Unsaved, Stores}
 use Rattle.client_core.proofs.Looked.{looks_at_all}
 use Rattle.client_core.proofs.PeersLemmas.{peers_stay, refused_peers}
 use Rattle.client_core.proofs.RefusalLemmas.{refusal_is, refusal_sort}
@@ -90,16 +91,16 @@ refused_stands note client o past c fault r s = record {
     by_on true f y e = e refl
     by_on false f y e = refl
 
-is_own_answer : (d : Option Addition) → is_answer d (left_by d) ≡ true
+is_own_answer : (d : Option Addition) → is_answer d (saved_for d) ≡ true
 is_own_answer None = refl
 is_own_answer (Some a) = refl
 
-not_lost : (d : Option Addition) → is_lost (left_by d) ≡ false
+not_lost : (d : Option Addition) → is_lost (saved_for d) ≡ false
 not_lost None = refl
 not_lost (Some a) = refl
 
-pub is_answered_now : (o : Opening) (past : List Entry) (c : Call) → refusal o past c ≡ None → is_answered o past c (left_by (due o past c)) ≡ true
-is_answered_now o past c free = ap (λ r. is_none r && is_answer (due o past c) (left_by (due o past c))) free ∙ is_own_answer (due o past c)
+pub is_answered_now : (o : Opening) (past : List Entry) (c : Call) → refusal o past c ≡ None → is_answered o past c (saved_for (due o past c)) ≡ true
+is_answered_now o past c free = ap (λ r. is_none r && is_answer (due o past c) (saved_for (due o past c))) free ∙ is_own_answer (due o past c)
 
 pub due_now : (o : Opening) (past : List Entry) (c : Call) → refusal o past c ≡ None → due o past c ≡ addition_of (noted o past) c
 due_now o past c free = ap (λ r. unless_refused r (addition_of (noted o past) c)) free
@@ -108,7 +109,7 @@ due_now o past c free = ap (λ r. unless_refused r (addition_of (noted o past) c
 pub sends_now : (o : Opening) (past : List Entry) (c : Call) → refusal o past c ≡ None → framed (packets_for (peers o past) (noted o past) (life o past) c) ≡ framed (packets o past (answered o past c))
 sends_now o past c free = ap (λ b. framed (if b then packets_for (peers o past) (noted o past) (life o past) c else [])) (sym (is_answered_now o past c free))
 
-new_noted : (d : Option Addition) (n : Noted) → noted_after (has_new (left_by d)) d n ≡ noted_after true d n
+new_noted : (d : Option Addition) (n : Noted) → noted_after (has_new (saved_for d)) d n ≡ noted_after true d n
 new_noted None n = refl
 new_noted (Some a) n = refl
 
@@ -117,7 +118,7 @@ pub answered_stands : {T : Type 0} (note : T → Note) (client : PacketClient T)
     → Says (note client.notes).bytes (noted_after true (addition_of (noted o past) c) (noted o past)) → client.noted ≡ noted_after true (addition_of (noted o past) c) (noted o past) → LifeIs client.life (deeds_of (noted o past) c ++ life o past)
     → StandsFor note client o (answered o past c ∷ past)
 answered_stands note client o past c free on up with few says knows lives = record {
-  on = up ∙ sym (ap not (ap (λ b. b && not (is_lost (left_by (due o past c)))) on ∙ ap not (not_lost (due o past c))));
+  on = up ∙ sym (ap not (ap (λ b. b && not (is_lost (saved_for (due o past c)))) on ∙ ap not (not_lost (due o past c))));
   peers = with ∙ sym (ap (peers o) look);
   few = few;
   durable = subst (Says (note client.notes).bytes) (sym noted_is) says;
@@ -132,23 +133,23 @@ answered_stands note client o past c free on up with few says knows lives = reco
     life_is = ap (λ b. if b then deeds_of (noted o past) c ++ life o past else life o past) (is_answered_now o past c free)
 
     look : looked (answered o past c ∷ past) ≡ answered o past c ∷ past
-    look = ap (λ b. if b then (if is_lost (left_by (due o past c)) then past else answered o past c ∷ past) else looked past) on
+    look = ap (λ b. if b then (if is_lost (saved_for (due o past c)) then past else answered o past c ∷ past) else looked past) on
         ∙ ap (λ b. if b then past else answered o past c ∷ past) (not_lost (due o past c))
 
 -- ---- calls that aren't answered
 
 pub refuses : {T : Type 0} (note : T → Note) (client : PacketClient T) (o : Opening) (past : List Entry) (c : Call) (fault : Fault) → refusal_by (not client.down) client.peers client.noted c ≡ Some fault → StandsFor note client o past
-    → Faults note o past c (sort_of fault) fault client client
+    → Faults (steps note o) past c (sort_of fault) fault client client
 refuses note client o past c fault r s =
     let why = sym (refusal_is note client o past c s) ∙ r in
-    subst (λ t. Faults note o past c t fault client client) (sym (refusal_sort (not client.down) client.peers client.noted c fault r))
+    subst (λ t. Faults (steps note o) past c t fault client client) (sym (refusal_sort (not client.down) client.peers client.noted c fault r))
     (record { why = why; same_note = refl; unchanged = s; stands = refused_stands note client o past c fault why s })
 
 pub with_life : {T : Type 0} (note : T → Note) (client : PacketClient T) (kept : Life) (o : Opening) (past : List Entry) → EachLife client.life (LifeIs kept) → StandsFor note client o past → StandsFor note (record client { life = kept }) o past
 with_life note client kept o past same s = record { on = s.on; peers = s.peers; few = s.few; durable = s.durable; knows = s.knows; lives = same (life o (looked past)) s.lives }
 
 pub lacks : {T : Type 0} (note : T → Note) (client : PacketClient T) (kept : Life) (o : Opening) (past : List Entry) (c : Call) → EachLife client.life (LifeIs kept) → StandsFor note client o past
-    → Faults note o past c sorts.Memory NoMemory client (record client { life = kept })
+    → Faults (steps note o) past c sorts.Memory NoMemory client (record client { life = kept })
 lacks note client kept o past c same s = record { why = refl; same_note = refl; unchanged = with_life note client kept o past same s }
 
 -- ---- a save
@@ -174,7 +175,7 @@ lost_stands note client notes o past c left on lost s says = record {
 
 -- A call whose save isn't answered.
 pub unsaved : {T : Type 0} (note : T → Note) (old new : PacketClient T) (kept : Life) (a : Addition) (fault : Fault) (o : Opening) (past : List Entry) (c : Call) → SaysWhatIsWritten → old.down ≡ false → StandsFor note old o past → refusal o past c ≡ None
-    → addition_of (noted o past) c ≡ Some a → IsNoted (with_addition a (noted o past)) → EachLife old.life (LifeIs kept) → (t : FaultSort) → Unsaved note a t fault (record old { life = kept }) new → Faults note o past c t fault old new
+    → addition_of (noted o past) c ≡ Some a → IsNoted (with_addition a (noted o past)) → EachLife old.life (LifeIs kept) → (t : FaultSort) → Unsaved note a t fault (record old { life = kept }) new → Faults (steps note o) past c t fault old new
 unsaved note old new kept a fault o past c read up s free adds fits same sorts.Memory u = record {
   why = u.0;
   same_note = u.1;
@@ -190,7 +191,7 @@ unsaved note old new kept a fault o past c read up s free adds fits same sorts.S
     makes_one : due o past c ≡ Some a
     makes_one = due_now o past c free ∙ adds
 
-    failed : (left : Left) → is_lost left ≡ true → (note new.notes).bytes ≡ lost_bytes left (noted_after (has_new left) (Some a) (noted o past)) (note old.notes).bytes → Says (note new.notes).bytes (noted_after (has_new left) (Some a) (noted o past)) → Fails note o past c old new
+    failed : (left : Left) → is_lost left ≡ true → (note new.notes).bytes ≡ bytes_left left (spelling (noted_after (has_new left) (Some a) (noted o past))) (note old.notes).bytes → Says (note new.notes).bytes (noted_after (has_new left) (Some a) (noted o past)) → Fails (steps note o) past c old new
     failed left lost bytes says = record {
       cause = u.0;
       free = free;
@@ -198,37 +199,28 @@ unsaved note old new kept a fault o past c read up s free adds fits same sorts.S
       makes_one = makes_one;
       left = left;
       lost = lost;
-      bytes_are = subst (λ d. (note new.notes).bytes ≡ lost_bytes left (noted_after (has_new left) d (noted o past)) (note old.notes).bytes) (sym makes_one) bytes;
+      bytes_are = subst (λ d. (note new.notes).bytes ≡ bytes_left left (spelling (noted_after (has_new left) d (noted o past))) (note old.notes).bytes) (sym makes_one) bytes;
       stands = subst (λ x. StandsFor note x o (Met c left ∷ past)) (sym u.2)
           (lost_stands note (record old { life = kept }) new.notes o past c left k.on lost (with_life note old kept o past same s)
           (subst (λ d. Says (note new.notes).bytes (noted_after (has_new left) d (noted o past))) (sym makes_one) says));
     }
 
-    by_bytes : ((note new.notes).bytes ≡ (note old.notes).bytes) ⊎ ((note new.notes).bytes ≡ spelling (with_addition a old.noted)) → Fails note o past c old new
+    by_bytes : ((note new.notes).bytes ≡ (note old.notes).bytes) ⊎ ((note new.notes).bytes ≡ spelling (with_addition a old.noted)) → Fails (steps note o) past c old new
     by_bytes (inl e) = failed LostOld refl e (subst (λ bytes. Says bytes (noted o past)) (sym e) s.durable)
     by_bytes (inr e) =
         let is : (note new.notes).bytes ≡ spelling (with_addition a (noted o past)) = e ∙ ap (λ n. spelling (with_addition a n)) k.knows in
         failed LostNew refl is (subst (λ bytes. Says bytes (with_addition a (noted o past))) (sym is) (read (with_addition a (noted o past)) fits))
 
 -- What a call leaves of the note.
-leaves_none : (d : Option Addition) (after : Noted) (old : Note) → d ≡ None → LeavesNote d after old old
-leaves_none None after old e = refl
-leaves_none (Some a) after old e = cc
-
-leaves_some : (d : Option Addition) (a : Addition) (after : Noted) (old new : Note) → d ≡ Some a → new ≡ record old { bytes = spelling after } → LeavesNote d after old new
-leaves_some None a after old new e h = cc
-leaves_some (Some b) a after old new e h = h
-
 pub leaves_plain : {T : Type 0} (note : T → Note) (notes : T) (o : Opening) (past : List Entry) (c : Call) → refusal o past c ≡ None → addition_of (noted o past) c ≡ None
-    → LeavesNote (due o past c) (noted o (answered o past c ∷ past)) (note notes) (note notes)
-leaves_plain note notes o past c free adds = leaves_none (due o past c) (noted o (answered o past c ∷ past)) (note notes) (due_now o past c free ∙ adds)
+    → LeavesNote (due o past c) (spelling (noted o (answered o past c ∷ past))) (note notes) (note notes)
+leaves_plain note notes o past c free adds = subst (λ d. LeavesNote d (spelling (noted o (answered o past c ∷ past))) (note notes) (note notes)) (sym (due_now o past c free ∙ adds)) refl
 
 pub leaves_stored : {T : Type 0} (note : T → Note) (old new : PacketClient T) (kept : Life) (a : Addition) (o : Opening) (past : List Entry) (c : Call) → old.noted ≡ noted o past → refusal o past c ≡ None → addition_of (noted o past) c ≡ Some a
-    → (r : Unit {0}) → Stores note a (record old { life = kept }) new (Ok r) → LeavesNote (due o past c) (noted o (answered o past c ∷ past)) (note old.notes) (note new.notes)
+    → (r : Unit {0}) → Stores note a (record old { life = kept }) new (Ok r) → LeavesNote (due o past c) (spelling (noted o (answered o past c ∷ past))) (note old.notes) (note new.notes)
 leaves_stored note old new kept a o past c knows free adds r stored =
-    let makes_one : due o past c ≡ Some a = due_now o past c free ∙ adds in
-    let after : noted o (answered o past c ∷ past) ≡ with_addition a old.noted = ap (λ d. noted_after (has_new (left_by d)) d (noted o past)) makes_one ∙ ap (with_addition a) (sym knows) in
-    leaves_some (due o past c) a (noted o (answered o past c ∷ past)) (note old.notes) (note new.notes) makes_one (stored.0 ∙ ap (λ n. record (note old.notes) { bytes = spelling n }) (sym after))
+    subst (λ d. LeavesNote d (spelling (noted_after (has_new (saved_for d)) d (noted o past))) (note old.notes) (note new.notes)) (sym (due_now o past c free ∙ adds))
+    (stored.0 ∙ ap (λ n. record (note old.notes) { bytes = spelling (with_addition a n) }) knows)
 
 -- A call that is answered with a save.
 pub stored_stands : {T : Type 0} (note : T → Note) (old new : PacketClient T) (kept after : Life) (a : Addition) (o : Opening) (past : List Entry) (c : Call) → SaysWhatIsWritten → old.down ≡ false → StandsFor note old o past → refusal o past c ≡ None
@@ -239,7 +231,7 @@ stored_stands note old new kept after a o past c read up s free adds fits r stor
     let is : with_addition a old.noted ≡ with_addition a (noted o past) = ap (with_addition a) k.knows in
     let grown : with_addition a (noted o past) ≡ noted_after true (addition_of (noted o past) c) (noted o past) = ap (λ d. noted_after true d (noted o past)) (sym adds) in
     answered_stands note (record new { life = after }) o past c free k.on
-    (ap (λ (m : PacketClient _). m.down) stored.1 ∙ up) (ap (λ (m : PacketClient _). m.peers) stored.1 ∙ (k.peers ∙ sym (peers_stay o past c (left_by (due o past c)) plain))) s.few
+    (ap (λ (m : PacketClient _). m.down) stored.1 ∙ up) (ap (λ (m : PacketClient _). m.peers) stored.1 ∙ (k.peers ∙ sym (peers_stay o past c (saved_for (due o past c)) plain))) s.few
     (subst (λ bytes. Says bytes (noted_after true (addition_of (noted o past) c) (noted o past))) (sym (ap (λ (n : Note). n.bytes) stored.0 ∙ ap spelling is))
     (subst (Says (spelling (with_addition a (noted o past)))) grown (read (with_addition a (noted o past)) fits)))
     (ap (λ (m : PacketClient _). m.noted) stored.1 ∙ is ∙ grown) lives

@@ -137,10 +137,6 @@ whole_gone q fs rows (Some bytes) ne = refl
 gone : (rows : List Row) (q : PieceParts) → (look rows q ≡ looks.Waits → ⊥) → taken rows q ≡ without q.tag rows
 gone rows q ne = whole_gone q (with_piece rows q) rows (completed rows q) ne
 
--- A piece that says a packet comes to a client that is on, and takes its tag out where the packet is answered.
-pub says_on : (o : Opening) (past : List FrameEntry) (q : PieceParts) (p : PacketParts) → sense o past (Deliver (Piece q)) ≡ Hears (calls.Deliver p) → is_on (packets_heard o past) ≡ true
-says_on o past q p is = (gave (is_on (packets_heard o past)) (is_piece_for o.servers q) q p (look (assembly o past) q) is).up
-
 pub said_rows : (o : Opening) (past : List FrameEntry) (q : PieceParts) (p : PacketParts) (left : Left) → sense o past (Deliver (Piece q)) ≡ Hears (calls.Deliver p) → words.refusal o (packets_heard o past) (calls.Deliver p) ≡ None
     → rows_after o past (Deliver (Piece q)) left ≡ without q.tag (assembly o past)
 said_rows o past q p left is free =
@@ -173,31 +169,3 @@ dropped_rows o past q left is =
     waits_no e = cc
 
 -- ---- what looking answers
-
-pub strays : (o : Opening) (past : List FrameEntry) (q : PieceParts) → (is_on (packets_heard o past) && is_piece_for o.servers q) ≡ false → sense o past (Deliver (Piece q)) ≡ Misses
-strays o past q none = ap (λ (b : Bool). sense_of q (if b then said_by (look (assembly o past) q) else Strays)) none
-
-pub arrives : (o : Opening) (past : List FrameEntry) (q : PieceParts) (rows : List Row) → is_on (packets_heard o past) ≡ true → is_piece_for o.servers q ≡ true → rows ≡ assembly o past → sense o past (Deliver (Piece q)) ≡ sense_of q (said_by (look rows q))
-arrives o past q rows on mine same =
-    ap (λ (b : Bool). sense_of q (if b && is_piece_for o.servers q then said_by (look (assembly o past) q) else Strays)) on
-    ∙ ap (λ (b : Bool). sense_of q (if b then said_by (look (assembly o past) q) else Strays)) mine
-    ∙ ap (λ r. sense_of q (said_by (look r q))) (sym same)
-
--- Looking answers what the piece is to the client.
-pub looked_ok : (o : Opening) (past : List FrameEntry) (q : PieceParts) (l : Look) (x : Option PacketParts) → sense o past (Deliver (Piece q)) ≡ sense_of q (said_by l) → LookAnswers (Ok x) l → IsSensed o past q (Ok x)
-looked_ok o past q looks.Waits None is a = is
-looked_ok o past q looks.Waits (Some p) is a = absurd cc
-looked_ok o past q (Gives p) None is a = absurd cc
-looked_ok o past q (Gives p) (Some r) is a = is ∙ ap (λ (x : PacketParts). Hears (calls.Deliver x)) (one p r a)
-  where
-    one : (p r : PacketParts) → Some r ≡ Some p → p ≡ r
-    one p r e = cc
-looked_ok o past q looks.NoPacket x is a = absurd a
-
-pub looked_bad : (o : Opening) (past : List FrameEntry) (q : PieceParts) (l : Look) → sense o past (Deliver (Piece q)) ≡ sense_of q (said_by l) → LookAnswers (Err FrameBadField) l → IsSensed o past q (Err FrameBadField)
-looked_bad o past q looks.Waits is a = absurd a
-looked_bad o past q (Gives p) is a = absurd (no_memory a)
-  where
-    no_memory : FrameBadField ≡ NoMemory → ⊥
-    no_memory e = cc
-looked_bad o past q looks.NoPacket is a = is

@@ -84,10 +84,6 @@ all_came o (Lose ∷ past) = tt
 pub reports_came : ReportsCame
 reports_came o past r h = All-contains (Came (came past)) (reports (life o past)) r (All-from_recursion (Came (came past)) (reports (life o past)) (all_came o past)) h
 
--- one more report that isn't there
-is_of : ℕ → ℕ → ℕ → Received → Bool
-is_of a s j r = (r.attempt == a) && ((r.server == s) && (r.job == j))
-
 apart : (r x : Received) → ((x.attempt == r.attempt) && ((x.server == r.server) && (x.job == r.job))) ≡ false → ((r.attempt == x.attempt) && ((r.server == x.server) && (r.job == x.job))) ≡ false
 apart r x h =
     let a : (x.attempt == r.attempt) ≡ (r.attempt == x.attempt) = grind (arith, nat_tests) in

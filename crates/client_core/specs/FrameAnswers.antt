@@ -3,6 +3,7 @@ use Rattle.std.specs.Prelude.{Bool, false, true, if◌then◌else◌, List, [], 
 use Rattle.std.specs.List.{flat_map}
 use Rattle.fc_base.specs.declared.fault.Fault.{Fault}
 use Rattle.fc_base.specs.declared.fault.Fault.TheVariants.{Down, Misdirected, FrameBadField}
+use Rattle.disk_model.specs.Left.{saved_for}
 use Rattle.messages.specs.declared.piece.PieceParts.{PieceParts}
 use Rattle.messages.specs.declared.frame.Frame.{Frame}
 use Rattle.messages.specs.declared.frame.Frame.TheVariants.{Whole, Piece}
@@ -14,7 +15,7 @@ use Rattle.client_core.specs.declared.input.Input.{Input}
 use Rattle.client_core.specs.declared.input.Input.TheVariants.{Begin, Trigger, Stop, Verify, Deliver, Tick}
 use Rattle.client_core.specs.History as history
 use Rattle.client_core.specs.History.{Opening}
-use Rattle.client_core.specs.Saves.{Addition, left_by}
+use Rattle.client_core.specs.Saves.{Addition}
 use Rattle.client_core.specs.Words as words
 use Rattle.client_core.specs.Packets.{packets}
 use Rattle.client_core.specs.Hearing.{FrameEntry, Met, rules, coming, heard_at, packets_heard}
@@ -81,7 +82,7 @@ IsPiece (Piece q) = Unit {0}
 
 -- What an answered input leaves in the list: it saved, where it was due to.
 abbrev pub answered : Opening → List FrameEntry → Input → FrameEntry
-answered o past e = Met e (left_by (due o past e))
+answered o past e = Met e (saved_for (due o past e))
 
 -- The entry that is heard of what happens.
 abbrev pub entry_heard : Opening → List FrameEntry → FrameEntry → Option history.Entry

@@ -59,11 +59,6 @@ abbrev pub noted_after : Bool → Option Addition → Noted → Noted
 noted_after new None n = n
 noted_after new (Some addition) n = if new then with_addition addition n else n
 
--- What an answered call leaves: it saves where it adds something.
-abbrev pub left_by : Option Addition → Left
-left_by None = NoSave
-left_by (Some addition) = Saved
-
 -- The call left what an answered call leaves.
 abbrev pub is_answer : Option Addition → Left → Bool
 is_answer None NoSave = true

@@ -1,12 +1,13 @@
 //! What a client asks of its servers, and of its mirror.
 
 ghost use Rattle.std.specs.Prelude.{◌≡◌, List, is_some};
+ghost use Rattle.disk_model.specs.Steps.{Ends, Gives};
 ghost use Rattle.client_core.specs.declared.input.Input.TheVariants as inputs;
 ghost use Rattle.client_core.specs.History.{Opening};
 ghost use Rattle.client_core.specs.Words.{noted};
 ghost use Rattle.client_core.specs.Hearing.{FrameEntry, packets_heard};
 ghost use Rattle.client_core.specs.FrameAnswers.{due};
-ghost use Rattle.client_core.specs.FrameEnds.{StandsFor, Ends, Gives};
+ghost use Rattle.client_core.specs.FrameEnds.{StandsFor, steps};
 
 use super::Client;
 use crate::law::frames_are_short;
@@ -21,8 +22,8 @@ impl<N: Notes> Client<N> {
     /// granted in this life; `NoMemory`, and nothing changes; `SaveFault`, and the client is down.
     pub fn begin(&mut self, text: &[u8]) -> Result<(RunNo, Frames), Fault>
         ensures { (o : Opening) (past : List FrameEntry) → StandsFor N.note self.old o past →
-            Gives N.note o past (inputs.Begin text.now) (noted o (packets_heard o past)).runs
-            self.old self.new result }
+            Gives (steps N.note o) past (inputs.Begin text.now)
+            (noted o (packets_heard o past)).runs self.old self.new result }
     {
         frames_are_short();
         self.core.begin(text)
@@ -41,7 +42,7 @@ impl<N: Notes> Client<N> {
     /// In this order: `Down`; `NoSuchRun`; `NoMemory`, and nothing changes.
     pub fn trigger(&mut self, run: RunNo, act: Act) -> Result<Frames, Fault>
         ensures { (o : Opening) (past : List FrameEntry) → StandsFor N.note self.old o past →
-            Ends N.note o past (inputs.Trigger run act) self.old self.new result }
+            Ends (steps N.note o) past (inputs.Trigger run act) self.old self.new result }
     {
         frames_are_short();
         self.core.trigger(run, act)
@@ -52,7 +53,7 @@ impl<N: Notes> Client<N> {
     /// In this order: `Down`; `NoSuchRun`; `NoMemory`, and nothing changes.
     pub fn stop(&mut self, run: RunNo) -> Result<Frames, Fault>
         ensures { (o : Opening) (past : List FrameEntry) → StandsFor N.note self.old o past →
-            Ends N.note o past (inputs.Stop run) self.old self.new result }
+            Ends (steps N.note o) past (inputs.Stop run) self.old self.new result }
     {
         frames_are_short();
         self.core.stop(run)
@@ -65,7 +66,7 @@ impl<N: Notes> Client<N> {
     /// nothing changes; `SaveFault`, and the client is down.
     pub fn verify(&mut self, run: RunNo, text: &[u8]) -> Result<(Attempt, Frames), Fault>
         ensures { (o : Opening) (past : List FrameEntry) → StandsFor N.note self.old o past →
-            Gives N.note o past (inputs.Verify run text.now)
+            Gives (steps N.note o) past (inputs.Verify run text.now)
             (noted o (packets_heard o past)).attempts self.old self.new result }
     {
         frames_are_short();
@@ -87,7 +88,7 @@ impl<N: Notes> Client<N> {
     /// In this order: `Down`; `NoMemory`.
     pub fn tick(&self) -> Result<Frames, Fault>
         ensures { (o : Opening) (past : List FrameEntry) → StandsFor N.note self.now o past →
-            Ends N.note o past inputs.Tick self.now self.now result }
+            Ends (steps N.note o) past inputs.Tick self.now self.now result }
     {
         frames_are_short();
         self.core.tick()

@@ -1,12 +1,13 @@
 //! A frame of a server, or of the mirror, is delivered.
 
 ghost use Rattle.std.specs.Prelude.{◌≡◌, List, IfOk, OnErr};
+ghost use Rattle.disk_model.specs.Steps.{Ends};
 ghost use Rattle.messages.specs.declared.frame.Frame.TheVariants.{Whole, Piece as OfPiece};
 ghost use Rattle.client_core.specs.declared.input.Input.TheVariants.{Deliver};
 ghost use Rattle.client_core.specs.History.{Opening};
 ghost use Rattle.client_core.specs.Hearing.{FrameEntry, is_piece_for};
 ghost use Rattle.client_core.specs.FrameAnswers.{would_save, IsPiece};
-ghost use Rattle.client_core.specs.FrameEnds.{StandsFor, Ends};
+ghost use Rattle.client_core.specs.FrameEnds.{StandsFor, steps};
 ghost use Rattle.client_core.specs.HeardRange.{HearsInRange};
 ghost use Rattle.client_core.specs.Sensing.{IsSensed};
 
@@ -53,7 +54,7 @@ impl<N: Notes> Client<N> {
     /// and nothing changes; `SaveFault`, and the client is down.
     pub fn deliver(&mut self, frame: Frame) -> Result<Frames, Fault>
         ensures ends { (o : Opening) (past : List FrameEntry) → StandsFor N.note self.old o past →
-            Ends N.note o past (Deliver frame) self.old self.new result }
+            Ends (steps N.note o) past (Deliver frame) self.old self.new result }
         ensures ranges { (o : Opening) (past : List FrameEntry) → StandsFor N.note self.old o past →
             HearsInRange o past (Deliver frame) result }
     {
@@ -66,7 +67,7 @@ impl<N: Notes> Client<N> {
     /// Takes a packet.
     fn take(&mut self, packet: Packet) -> Result<Frames, Fault>
         ensures ends { (o : Opening) (past : List FrameEntry) → StandsFor N.note self.old o past →
-            Ends N.note o past (Deliver (Whole packet)) self.old self.new result }
+            Ends (steps N.note o) past (Deliver (Whole packet)) self.old self.new result }
         ensures ranges { (o : Opening) (past : List FrameEntry) → StandsFor N.note self.old o past →
             HearsInRange o past (Deliver (Whole packet)) result }
     {
@@ -78,7 +79,7 @@ impl<N: Notes> Client<N> {
     /// Takes a piece: the packet that it completes, or else the piece alone.
     fn join(&mut self, piece: &Piece) -> Result<Frames, Fault>
         ensures ends { (o : Opening) (past : List FrameEntry) → StandsFor N.note self.old o past →
-            Ends N.note o past (Deliver (OfPiece piece.now)) self.old self.new result }
+            Ends (steps N.note o) past (Deliver (OfPiece piece.now)) self.old self.new result }
         ensures ranges { (o : Opening) (past : List FrameEntry) → StandsFor N.note self.old o past →
             HearsInRange o past (Deliver (OfPiece piece.now)) result }
     {

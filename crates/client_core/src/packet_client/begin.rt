@@ -2,8 +2,9 @@
 
 ghost use Rattle.std.specs.Prelude.{◌≡◌, ◌≤◌, not, List, IsTrue, IfOk};
 ghost use Rattle.fc_base.specs.declared.limits.TheConstants.{MAX_SERVERS};
+ghost use Rattle.disk_model.specs.Steps.{Gives};
 ghost use Rattle.client_core.specs.declared.call.Call.TheVariants.{Begin};
-ghost use Rattle.client_core.specs.Ends.{Gives};
+ghost use Rattle.client_core.specs.Ends.{steps};
 ghost use Rattle.messages.specs.Ranges.{is_run, is_text};
 ghost use Rattle.messages.specs.declared.body.Body.TheVariants.{Jobs};
 ghost use Rattle.client_core.specs.Framed.{framed};
@@ -29,7 +30,8 @@ impl<N: Notes> PacketClient<N> {
     /// and the client is down.
     pub(crate) fn begin(&mut self, text: &[u8]) -> Result<(RunNo, Frames), Fault>
         ensures { (o : Opening) (past : List Entry) → StandsFor N.note self.old o past →
-            Gives N.note o past (Begin text.now) (noted o past).runs self.old self.new result }
+            Gives (steps N.note o) past (Begin text.now) (noted o past).runs
+            self.old self.new result }
     {
         notes_are_read_back();
         if let Some(fault) = self.begin_refusal(text) {
@@ -43,13 +45,9 @@ impl<N: Notes> PacketClient<N> {
         if self.life.make_room_for_run(run).is_err() {
             return Err(Fault::NoMemory);
         }
-        match self.use_run() {
-            Ok(()) => {
-                self.life.begin(run, text);
-                Ok((run, frames))
-            }
-            Err(fault) => Err(fault),
-        }
+        self.use_run()?;
+        self.life.begin(run, text);
+        Ok((run, frames))
     }
 
     /// Whether a run with this job file would be begun, and so make a save.

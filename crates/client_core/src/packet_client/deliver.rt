@@ -2,13 +2,14 @@
 
 ghost use Rattle.std.specs.Prelude.{◌≡◌, ◌<◌, [], not, false, true, List, None, IsTrue};
 ghost use Rattle.fc_base.specs.declared.limits.TheConstants.{MAX_SERVERS};
+ghost use Rattle.disk_model.specs.Steps.{Ends};
 ghost use Rattle.messages.specs.declared.packet.PacketParts.{PacketParts as Parts};
 ghost use Rattle.messages.specs.Nodes.{node_number, is_client, is_mirror};
 ghost use Rattle.messages.specs.Ranges.{is_body, KeepsState};
 ghost use Rattle.messages.specs.Bodies.{kind_of};
 ghost use Rattle.messages.specs.Kinds.{is_of_mirror};
 ghost use Rattle.client_core.specs.declared.call.Call.TheVariants.{Deliver};
-ghost use Rattle.client_core.specs.Ends.{Ends};
+ghost use Rattle.client_core.specs.Ends.{steps};
 ghost use Rattle.client_core.specs.History.{Opening, Entry};
 ghost use Rattle.client_core.specs.Refusals.{refusal_by, faults_of_body};
 ghost use Rattle.client_core.specs.Stands.{StandsFor};
@@ -29,7 +30,7 @@ impl<N: Notes> PacketClient<N> {
     /// `NoMemory`, and nothing changes; `SaveFault`, and the client is down.
     pub(crate) fn deliver(&mut self, packet: Packet) -> Result<Frames, Fault>
         ensures { (o : Opening) (past : List Entry) → StandsFor N.note self.old o past →
-            Ends N.note o past (Deliver packet) self.old self.new result }
+            Ends (steps N.note o) past (Deliver packet) self.old self.new result }
     {
         if let Some(fault) = self.refusal(&packet) {
             return Err(fault);
@@ -55,7 +56,7 @@ impl<N: Notes> PacketClient<N> {
             node_number p.from ≡ server →
             refusal_by (not self.old.down) self.old.peers self.old.noted (Deliver p) ≡ None →
             StandsFor N.note self.old o past →
-            Ends N.note o past (Deliver p) self.old self.new result }
+            Ends (steps N.note o) past (Deliver p) self.old self.new result }
     {
         notes_are_read_back();
         found_after_a_push();
@@ -95,7 +96,7 @@ impl<N: Notes> PacketClient<N> {
             IsTrue (is_mirror p.from) → IsTrue (is_client p.to) →
             refusal_by (not self.old.down) self.old.peers self.old.noted (Deliver p) ≡ None →
             StandsFor N.note self.old o past →
-            Ends N.note o past (Deliver p) self.old self.new result }
+            Ends (steps N.note o) past (Deliver p) self.old self.new result }
     {
         notes_are_read_back();
         found_after_a_push();

@@ -1,8 +1,9 @@
 //! What isn't answered is asked for again.
 
 ghost use Rattle.std.specs.Prelude.{List};
+ghost use Rattle.disk_model.specs.Steps.{Ends};
 ghost use Rattle.client_core.specs.declared.call.Call.TheVariants.{Tick};
-ghost use Rattle.client_core.specs.Ends.{Ends};
+ghost use Rattle.client_core.specs.Ends.{steps};
 ghost use Rattle.client_core.specs.History.{Opening, Entry};
 ghost use Rattle.client_core.specs.Stands.{StandsFor};
 
@@ -19,7 +20,7 @@ impl<N: Notes> PacketClient<N> {
     /// In this order: `Down`; `NoMemory`.
     pub(crate) fn tick(&self) -> Result<Frames, Fault>
         ensures { (o : Opening) (past : List Entry) → StandsFor N.note self.now o past →
-            Ends N.note o past Tick self.now self.now result }
+            Ends (steps N.note o) past Tick self.now self.now result }
     {
         if self.down {
             return Err(Fault::Down);

@@ -1,8 +1,9 @@
 //! A run is triggered, or stopped.
 
 ghost use Rattle.std.specs.Prelude.{◌≡◌, not, List, None, IsTrue};
+ghost use Rattle.disk_model.specs.Steps.{Ends};
 ghost use Rattle.client_core.specs.declared.call.Call.TheVariants.{Trigger, Stop};
-ghost use Rattle.client_core.specs.Ends.{Ends};
+ghost use Rattle.client_core.specs.Ends.{steps};
 ghost use Rattle.messages.specs.Ranges.{is_run};
 ghost use Rattle.client_core.specs.History.{Opening, Entry};
 ghost use Rattle.client_core.specs.Refusals.{refusal_by};
@@ -21,7 +22,7 @@ impl<N: Notes> PacketClient<N> {
     /// In this order: `Down`; `NoSuchRun`; `NoMemory`, and nothing changes.
     pub(crate) fn trigger(&mut self, run: RunNo, act: Act) -> Result<Frames, Fault>
         ensures { (o : Opening) (past : List Entry) → StandsFor N.note self.old o past →
-            Ends N.note o past (Trigger run act) self.old self.new result }
+            Ends (steps N.note o) past (Trigger run act) self.old self.new result }
     {
         if let Some(fault) = self.run_refusal(run) {
             return Err(fault);
@@ -45,7 +46,7 @@ impl<N: Notes> PacketClient<N> {
     /// In this order: `Down`; `NoSuchRun`; `NoMemory`, and nothing changes.
     pub(crate) fn stop(&mut self, run: RunNo) -> Result<Frames, Fault>
         ensures { (o : Opening) (past : List Entry) → StandsFor N.note self.old o past →
-            Ends N.note o past (Stop run) self.old self.new result }
+            Ends (steps N.note o) past (Stop run) self.old self.new result }
     {
         if let Some(fault) = self.run_refusal(run) {
             return Err(fault);

@@ -2,8 +2,9 @@
 
 ghost use Rattle.std.specs.Prelude.{◌≡◌, ◌≤◌, ◌∷◌, not, List, None, IsTrue, IfOk};
 ghost use Rattle.fc_base.specs.declared.limits.TheConstants.{MAX_SERVERS};
+ghost use Rattle.disk_model.specs.Steps.{Gives};
 ghost use Rattle.client_core.specs.declared.call.Call.TheVariants.{Verify as Verifying};
-ghost use Rattle.client_core.specs.Ends.{Gives};
+ghost use Rattle.client_core.specs.Ends.{steps};
 ghost use Rattle.messages.specs.Ranges.{is_attempt, is_run, is_text};
 ghost use Rattle.messages.specs.declared.body.Body.TheVariants.{Verify};
 ghost use Rattle.client_core.specs.Framed.{framed};
@@ -33,7 +34,8 @@ impl<N: Notes> PacketClient<N> {
     /// `SaveFault`, and the client is down.
     pub(crate) fn verify(&mut self, run: RunNo, text: &[u8]) -> Result<(Attempt, Frames), Fault>
         ensures { (o : Opening) (past : List Entry) → StandsFor N.note self.old o past →
-            Gives N.note o past (Verifying run text.now) (noted o past).attempts self.old self.new result }
+            Gives (steps N.note o) past (Verifying run text.now) (noted o past).attempts
+            self.old self.new result }
     {
         notes_are_read_back();
         if let Some(fault) = self.verify_refusal(run, text) {
@@ -47,13 +49,9 @@ impl<N: Notes> PacketClient<N> {
         if self.life.make_room_for_attempt(attempt).is_err() {
             return Err(Fault::NoMemory);
         }
-        match self.use_attempt() {
-            Ok(()) => {
-                self.life.verify(attempt, asked);
-                Ok((attempt, frames))
-            }
-            Err(fault) => Err(fault),
-        }
+        self.use_attempt()?;
+        self.life.verify(attempt, asked);
+        Ok((attempt, frames))
     }
 
     /// Whether a run would be verified by this job file, and so make a save.

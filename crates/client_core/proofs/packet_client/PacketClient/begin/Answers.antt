@@ -1,9 +1,9 @@
 use Rattle.std.proofs.Common.{refl, sym, subst, ◌∙◌, ap, ◌+◌, ◌∷◌, true, arith}
+use Rattle.std.proofs.lemmas.Result.{err_from_is_err_and}
 use Rattle.client_core.specs.declared.call.Call.TheVariants.{Begin}
 use Rattle.client_core.specs.declared.packet_client.PacketClient.{PacketClient}
 use Rattle.client_core.specs.declared.noted.Noted.{Noted}
 use Rattle.messages.specs.declared.body.Body.TheVariants.{Jobs}
-use Rattle.client_core.specs.Ends.{Stores}
 use Rattle.client_core.specs.Framed.{framed}
 use Rattle.client_core.specs.Packets.{to_all}
 use Rattle.client_core.specs.Life.{Begins}
@@ -31,25 +31,26 @@ make_room_for_run-requires g c = next_in_range c.args.self.now.peers c.args.self
 pub use_run-requires : goal.use_run-requires
 use_run-requires g c = next_left c.args.self.now.peers c.args.self.now.noted.generation c.args.self.now.noted.runs (begin_free _ _ _ (sym c.begin_refusal.ensures ∙ c.in_default.is)).2
 
-pub returns-in-Err : goal.returns-in-Err
-returns-in-Err g c o past s =
+pub returns-in_err-use_run : goal.returns-in_err-use_run
+returns-in_err-use_run g c = λ o past s.
     let call = Begin c.args.text.now in
     let old = c.args.self.now in
     let free = sym c.begin_refusal.ensures ∙ c.in_default.is in
     let f = begin_free _ _ _ free in
-    fails_stored g.N.Notes.note old c.use_run.new.self c.make_room_for_run.new.self NextRun c.in-Err.fault o past call c.notes_are_read_back.ensures f.0 free refl
-    (one_run true old.noted (next_left old.peers old.noted.generation old.noted.runs f.2)) c.make_room_for_run.ensures.same (subst (Stores g.N.Notes.note NextRun _ c.use_run.new.self) c.in-Err.is c.use_run.ensures) s
+    let p = err_from_is_err_and c.from_residual.result c.from_residual.ensures.1 in
+    rw (p.1, p.2) (fails_stored g.N.Notes.note old c.use_run.new.self c.make_room_for_run.new.self NextRun c.in_err-use_run.field-0.0 o past call c.notes_are_read_back.ensures f.0 free refl
+    (one_run true old.noted (next_left old.peers old.noted.generation old.noted.runs f.2)) c.make_room_for_run.ensures.same c.in_err-use_run.ensures s)
 
-pub returns-in-Ok-use_run : goal.returns-in-Ok-use_run
-returns-in-Ok-use_run g c o past s =
+pub returns : goal.returns
+returns g c = λ o past s.
     let call = Begin c.args.text.now in
     let old = c.args.self.now in
     let free = sym c.begin_refusal.ensures ∙ c.in_default.is in
     let f = begin_free _ _ _ free in
-    let stored = subst (Stores g.N.Notes.note NextRun _ c.use_run.new.self) c.in-Ok-use_run.is c.use_run.ensures in (
+    let stored = c.in_ok-use_run.ensures in (
       ap (λ (n : Noted). n.runs + 1) (sym (free_now g.N.Notes.note old o past call f.0 s free).1),
       answers_stored g.N.Notes.note old c.use_run.new.self c.make_room_for_run.new.self c.begin.new.self NextRun o past call c.in-Ok.frames c.notes_are_read_back.ensures f.0 free refl
-          (one_run true old.noted (next_left old.peers old.noted.generation old.noted.runs f.2)) _ stored
+          (one_run true old.noted (next_left old.peers old.noted.generation old.noted.runs f.2)) c.in_ok-use_run.field-0 stored
           (λ deeds h. c.in-Ok.ensures.frames ∙ ap (λ n. framed (to_all n (Jobs (old.noted.runs + 1) c.args.text.now))) c.count.ensures.count)
           (λ deeds h. subst (λ t. LifeIs c.begin.new.self (Begins (old.noted.runs + 1) t ∷ deeds)) c.in-Ok.ensures.text (c.begin.ensures deeds (subst (λ l. LifeIs l deeds) (sym (ap (λ (m : PacketClient _). m.life) stored.1)) (c.make_room_for_run.ensures.same deeds h)))) refl s,
     )

@@ -1,9 +1,9 @@
 use Rattle.std.proofs.Common.{refl, sym, subst, ◌∙◌, ap, ◌+◌, ◌∷◌, true, arith}
+use Rattle.std.proofs.lemmas.Result.{err_from_is_err_and}
 use Rattle.messages.specs.declared.body.Body.TheVariants.{Verify}
 use Rattle.client_core.specs.declared.call.Call.TheVariants.{Verify as Verifying}
 use Rattle.client_core.specs.declared.packet_client.PacketClient.{PacketClient}
 use Rattle.client_core.specs.declared.noted.Noted.{Noted}
-use Rattle.client_core.specs.Ends.{Stores}
 use Rattle.client_core.specs.Framed.{framed}
 use Rattle.client_core.specs.Life.{Verifies}
 use Rattle.client_core.specs.Lives.{LifeIs, AttemptIs}
@@ -36,26 +36,27 @@ verify-requires-clause-asked g c deeds =
     subst (λ r. AttemptIs (c.args.self.now.noted.attempts + 1) (Verifies r (c.args.self.now.noted.attempts + 1) c.in-Ok.asked.text ∷ deeds) c.in-Ok.asked) (sym c.in-Ok.ensures.run_is)
     (subst (λ t. AttemptIs (c.args.self.now.noted.attempts + 1) (Verifies c.args.run (c.args.self.now.noted.attempts + 1) t ∷ deeds) c.in-Ok.asked) (sym c.in-Ok.ensures.text_is) (c.in-Ok.ensures.asked deeds))
 
-pub returns-in-Err : goal.returns-in-Err
-returns-in-Err g c o past s =
+pub returns-in_err-use_attempt : goal.returns-in_err-use_attempt
+returns-in_err-use_attempt g c = λ o past s.
     let call = Verifying c.args.run c.args.text.now in
     let old = c.args.self.now in
     let free = sym c.verify_refusal.ensures.why ∙ c.in_default.is in
     let f = verify_free _ _ _ _ free in
-    fails_stored g.N.Notes.note old c.use_attempt.new.self c.make_room_for_attempt.new.self NextAttempt c.in-Err.fault o past call c.notes_are_read_back.ensures f.0 free refl
-    (one_attempt true old.noted (next_left old.peers old.noted.generation old.noted.attempts f.3)) c.make_room_for_attempt.ensures.same (subst (Stores g.N.Notes.note NextAttempt _ c.use_attempt.new.self) c.in-Err.is c.use_attempt.ensures) s
+    let p = err_from_is_err_and c.from_residual.result c.from_residual.ensures.1 in
+    rw (p.1, p.2) (fails_stored g.N.Notes.note old c.use_attempt.new.self c.make_room_for_attempt.new.self NextAttempt c.in_err-use_attempt.field-0.0 o past call c.notes_are_read_back.ensures f.0 free refl
+    (one_attempt true old.noted (next_left old.peers old.noted.generation old.noted.attempts f.3)) c.make_room_for_attempt.ensures.same c.in_err-use_attempt.ensures s)
 
-pub returns-in-Ok-use_attempt : goal.returns-in-Ok-use_attempt
-returns-in-Ok-use_attempt g c o past s =
+pub returns : goal.returns
+returns g c = λ o past s.
     let call = Verifying c.args.run c.args.text.now in
     let old = c.args.self.now in
     let attempt = old.noted.attempts + 1 in
     let free = sym c.verify_refusal.ensures.why ∙ c.in_default.is in
     let f = verify_free _ _ _ _ free in
-    let stored = subst (Stores g.N.Notes.note NextAttempt _ c.use_attempt.new.self) c.in-Ok-use_attempt.is c.use_attempt.ensures in (
+    let stored = c.in_ok-use_attempt.ensures in (
       ap (λ (n : Noted). n.attempts + 1) (sym (free_now g.N.Notes.note old o past call f.0 s free).1),
       answers_stored g.N.Notes.note old c.use_attempt.new.self c.make_room_for_attempt.new.self c.verify.new.self NextAttempt o past call c.in-Ok.frames c.notes_are_read_back.ensures f.0 free refl
-          (one_attempt true old.noted (next_left old.peers old.noted.generation old.noted.attempts f.3)) _ stored
+          (one_attempt true old.noted (next_left old.peers old.noted.generation old.noted.attempts f.3)) c.in_ok-use_attempt.field-0 stored
           (λ deeds h. c.in-Ok.ensures.frames ∙ ap (λ n. framed (to_all n (Verify c.args.run attempt c.args.text.now))) c.count-servers.ensures.count)
           (λ deeds h. subst (λ r. LifeIs c.verify.new.self (Verifies r attempt c.args.text.now ∷ deeds)) c.in-Ok.ensures.run_is
           (subst (λ t. LifeIs c.verify.new.self (Verifies c.in-Ok.asked.run attempt t ∷ deeds)) c.in-Ok.ensures.text_is
