@@ -10,6 +10,7 @@ use Rattle.fc_base.specs.Fault.{sort_of}
 use Rattle.disk_model.specs.declared.left.Left.{Left}
 use Rattle.disk_model.specs.declared.left.Left.TheVariants as lefts
 use Rattle.disk_model.specs.Notes.{Note}
+use Rattle.disk_model.specs.Steps as steps
 use Rattle.messages.specs.declared.frame.Frame.TheVariants.{Whole, Piece}
 use Rattle.messages.specs.Hearing.{Meaning, Says as Speaks, Waits, Spoils, Strays, meaning, heard_by, with_entry}
 use Rattle.client_core.specs.declared.client.Client.{Client}
@@ -59,7 +60,7 @@ came_after o past inputs.Tick left h came = came
 -- ---- a step
 
 answers_step : {T : Type 0} (note : T → Note) (o : Opening) (past : List FrameEntry) (e : Input) (old client : Client T) (outs : Outs) → is_up o past ≡ true
-    → outs.answer ≡ answer_to o past e → ends.Answers note o past e old client outs.frames → SenseInRange (sense o past e) → StepEnds (ways note o) past e (On client) (given (Ok outs))
+    → outs.answer ≡ answer_to o past e → steps.Answers (ends.steps note o) past e old client outs.frames → SenseInRange (sense o past e) → StepEnds (ways note o) past e (On client) (given (Ok outs))
 answers_step note o past e old client outs on said a h = record {
   moves = record {
     after = answers.answered o past e ∷ past;
@@ -68,13 +69,13 @@ answers_step note o past e old client outs on said a h = record {
       said_is = rw said refl;
       entry = answers.answered o past e;
       entry_is = refl;
-      sent_are = a.frames_are;
+      sent_are = a.sends.frames_are;
       after_is = refl;
     };
     stands = a.stands;
     ranges = came_after o past e _ h;
   };
-  short = a.short;
+  short = a.sends.short;
 }
 
 no_drop : (o : Opening) (past : List FrameEntry) (s : Sense) (fault : Fault) → answers.refusal_in o (packets_heard o past) s ≡ Some fault → (fault ≡ FrameBadField → ⊥) → is_drop s ≡ false
@@ -87,7 +88,7 @@ no_drop o past (Drops q) fault h k = absurd (k (same FrameBadField fault h))
 no_drop o past Misses fault h k = refl
 
 faults_step : {T : Type 0} (note : T → Note) (o : Opening) (past : List FrameEntry) (e : Input) (old client : Client T) (fault : Fault) → is_up o past ≡ true
-    → (sort : FaultSort) → ends.Faults note o past e sort fault old client → UnlessMemory sort (sense o past e) → sort_of fault ≡ sort → Faults (ways note o) past e sort fault (On client)
+    → (sort : FaultSort) → steps.Faults (ends.steps note o) past e sort fault old client → UnlessMemory sort (sense o past e) → sort_of fault ≡ sort → Faults (ways note o) past e sort fault (On client)
 faults_step note o past e old client fault on sorts.Memory f h is = (f.why, f.unchanged)
 faults_step note o past e old client fault on sorts.Save f h is =
     let l = left_is f.left f.lost in
@@ -103,7 +104,7 @@ off_ends note o past e power off s = moves.off_ends (ways note o) past e power (
 
 -- A client that is on takes a frame.
 pub deliver_ends : {T : Type 0} (note : T → Note) (o : Opening) (past : List FrameEntry) (frame : _) (old client : Client T) (sent : Result (List (List ℕ)) Fault) → is_up o past ≡ true
-    → ends.Ends note o past (inputs.Deliver frame) old client sent → HearsInRange o past (inputs.Deliver frame) sent → StepEnds (ways note o) past (inputs.Deliver frame) (On client) (given (outs_of sent))
+    → steps.Ends (ends.steps note o) past (inputs.Deliver frame) old client sent → HearsInRange o past (inputs.Deliver frame) sent → StepEnds (ways note o) past (inputs.Deliver frame) (On client) (given (outs_of sent))
 deliver_ends note o past frame old client (Ok sent) on a h = answers_step note o past (inputs.Deliver frame) old client (record { answer = Plain; frames = sent }) on refl a h
 deliver_ends note o past frame old client (Err fault) on f h = faults_step note o past (inputs.Deliver frame) old client fault on (sort_of fault) f h refl
 
@@ -115,45 +116,45 @@ unasked o past e sorts.Refusal h = h
 
 -- A call that is not answered.
 pub not_answered : {T : Type 0} (note : T → Note) (o : Opening) (past : List FrameEntry) (e : Input) (old client : Client T) (fault : Fault) → is_up o past ≡ true
-    → SenseInRange (sense o past e) → ends.Faults note o past e (sort_of fault) fault old client → StepEnds (ways note o) past e (On client) (Err fault)
+    → SenseInRange (sense o past e) → steps.Faults (ends.steps note o) past e (sort_of fault) fault old client → StepEnds (ways note o) past e (On client) (Err fault)
 not_answered note o past e old client fault on h f = faults_step note o past e old client fault on (sort_of fault) f (unasked o past e (sort_of fault) h) refl
 
 -- A call that has no number.
 pub plain_ends : {T : Type 0} (note : T → Note) (o : Opening) (past : List FrameEntry) (e : Input) (old client : Client T) (sent : Result (List (List ℕ)) Fault) → is_up o past ≡ true
-    → SenseInRange (sense o past e) → Plain ≡ answer_to o past e → ends.Ends note o past e old client sent → StepEnds (ways note o) past e (On client) (given (outs_of sent))
+    → SenseInRange (sense o past e) → Plain ≡ answer_to o past e → steps.Ends (ends.steps note o) past e old client sent → StepEnds (ways note o) past e (On client) (given (outs_of sent))
 plain_ends note o past e old client (Ok sent) on h said a = answers_step note o past e old client (record { answer = Plain; frames = sent }) on said a h
 plain_ends note o past e old client (Err fault) on h said f = not_answered note o past e old client fault on h f
 
 -- A call that gives a number.
 pub begin_ends : {T : Type 0} (note : T → Note) (o : Opening) (past : List FrameEntry) (text : List ℕ) (old client : Client T) (got : Result (ℕ × List (List ℕ)) Fault) → is_up o past ≡ true
-    → ends.Gives note o past (inputs.Begin text) (noted o (packets_heard o past)).runs old client got → StepEnds (ways note o) past (inputs.Begin text) (On client) (given (outs_of_run got))
+    → steps.Gives (ends.steps note o) past (inputs.Begin text) (noted o (packets_heard o past)).runs old client got → StepEnds (ways note o) past (inputs.Begin text) (On client) (given (outs_of_run got))
 begin_ends note o past text old client (Ok got) on a = answers_step note o past (inputs.Begin text) old client (record { answer = Run got.0; frames = got.1 }) on (ap Run a.0) a.1 tt
 begin_ends note o past text old client (Err fault) on f = not_answered note o past (inputs.Begin text) old client fault on tt f
 
 pub verify_ends : {T : Type 0} (note : T → Note) (o : Opening) (past : List FrameEntry) (run : ℕ) (text : List ℕ) (old client : Client T) (got : Result (ℕ × List (List ℕ)) Fault) → is_up o past ≡ true
-    → ends.Gives note o past (inputs.Verify run text) (noted o (packets_heard o past)).attempts old client got → StepEnds (ways note o) past (inputs.Verify run text) (On client) (given (outs_of_attempt got))
+    → steps.Gives (ends.steps note o) past (inputs.Verify run text) (noted o (packets_heard o past)).attempts old client got → StepEnds (ways note o) past (inputs.Verify run text) (On client) (given (outs_of_attempt got))
 verify_ends note o past run text old client (Ok got) on a = answers_step note o past (inputs.Verify run text) old client (record { answer = Attempt got.0; frames = got.1 }) on (ap Attempt a.0) a.1 tt
 verify_ends note o past run text old client (Err fault) on f = not_answered note o past (inputs.Verify run text) old client fault on tt f
 
 -- ---- the device's failures
 
-faults_count : {T : Type 0} (note : T → Note) (o : Opening) (past : List FrameEntry) (e : Input) (old client : Client T) (fault : Fault) (sort : FaultSort) → ends.Faults note o past e sort fault old client → CountsBy (is_save sort || (is_load fault && false)) (note old.core.notes).failures (note client.core.notes).failures
+faults_count : {T : Type 0} (note : T → Note) (o : Opening) (past : List FrameEntry) (e : Input) (old client : Client T) (fault : Fault) (sort : FaultSort) → steps.Faults (ends.steps note o) past e sort fault old client → CountsBy (is_save sort || (is_load fault && false)) (note old.core.notes).failures (note client.core.notes).failures
 faults_count note o past e old client fault sorts.Memory f = no_load fault (note old.core.notes).failures (note client.core.notes).failures (ap (λ (n : Note). n.failures) f.same_note)
 faults_count note o past e old client fault sorts.Save f = f.cause
 faults_count note o past e old client fault sorts.Refusal f = no_load fault (note old.core.notes).failures (note client.core.notes).failures (ap (λ (n : Note). n.failures) f.same_note)
 
 -- A call counts a failed save.
-pub sent_counts : {T : Type 0} (note : T → Note) (o : Opening) (past : List FrameEntry) (e : Input) (old client : Client T) (sent : Result (List (List ℕ)) Fault) (result : Result Outs Fault) → result ≡ outs_of sent → ends.Ends note o past e old client sent
+pub sent_counts : {T : Type 0} (note : T → Note) (o : Opening) (past : List FrameEntry) (e : Input) (old client : Client T) (sent : Result (List (List ℕ)) Fault) (result : Result Outs Fault) → result ≡ outs_of sent → steps.Ends (ends.steps note o) past e old client sent
     → Counts false (note old.core.notes).failures (note client.core.notes).failures (given result)
 sent_counts note o past e old client (Ok sent) result is a = subst (λ (r : Result Outs Fault). Counts false (note old.core.notes).failures (note client.core.notes).failures (given r)) (sym is) tt
 sent_counts note o past e old client (Err fault) result is f = subst (λ (r : Result Outs Fault). Counts false (note old.core.notes).failures (note client.core.notes).failures (given r)) (sym is) (faults_count note o past e old client fault (sort_of fault) f)
 
-pub run_counts : {T : Type 0} (note : T → Note) (o : Opening) (past : List FrameEntry) (e : Input) (used : ℕ) (old client : Client T) (got : Result (ℕ × List (List ℕ)) Fault) (result : Result Outs Fault) → result ≡ outs_of_run got → ends.Gives note o past e used old client got
+pub run_counts : {T : Type 0} (note : T → Note) (o : Opening) (past : List FrameEntry) (e : Input) (used : ℕ) (old client : Client T) (got : Result (ℕ × List (List ℕ)) Fault) (result : Result Outs Fault) → result ≡ outs_of_run got → steps.Gives (ends.steps note o) past e used old client got
     → Counts false (note old.core.notes).failures (note client.core.notes).failures (given result)
 run_counts note o past e used old client (Ok got) result is a = subst (λ (r : Result Outs Fault). Counts false (note old.core.notes).failures (note client.core.notes).failures (given r)) (sym is) tt
 run_counts note o past e used old client (Err fault) result is f = subst (λ (r : Result Outs Fault). Counts false (note old.core.notes).failures (note client.core.notes).failures (given r)) (sym is) (faults_count note o past e old client fault (sort_of fault) f)
 
-pub attempt_counts : {T : Type 0} (note : T → Note) (o : Opening) (past : List FrameEntry) (e : Input) (used : ℕ) (old client : Client T) (got : Result (ℕ × List (List ℕ)) Fault) (result : Result Outs Fault) → result ≡ outs_of_attempt got → ends.Gives note o past e used old client got
+pub attempt_counts : {T : Type 0} (note : T → Note) (o : Opening) (past : List FrameEntry) (e : Input) (used : ℕ) (old client : Client T) (got : Result (ℕ × List (List ℕ)) Fault) (result : Result Outs Fault) → result ≡ outs_of_attempt got → steps.Gives (ends.steps note o) past e used old client got
     → Counts false (note old.core.notes).failures (note client.core.notes).failures (given result)
 attempt_counts note o past e used old client (Ok got) result is a = subst (λ (r : Result Outs Fault). Counts false (note old.core.notes).failures (note client.core.notes).failures (given r)) (sym is) tt
 attempt_counts note o past e used old client (Err fault) result is f = subst (λ (r : Result Outs Fault). Counts false (note old.core.notes).failures (note client.core.notes).failures (given r)) (sym is) (faults_count note o past e old client fault (sort_of fault) f)

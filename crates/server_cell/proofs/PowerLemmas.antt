@@ -10,8 +10,9 @@ use Rattle.fc_base.specs.declared.fault.FaultSort.TheVariants as sorts
 use Rattle.fc_base.specs.Fault.{sort_of}
 use Rattle.disk_model.specs.declared.left.Left.{Left}
 use Rattle.disk_model.specs.declared.left.Left.TheVariants as lefts
-use Rattle.disk_model.specs.Left.{is_lost}
+use Rattle.disk_model.specs.Left.{saved_for, is_lost}
 use Rattle.disk_model.specs.Notes.{Note}
+use Rattle.disk_model.specs.Steps as steps
 use Rattle.engine.specs.declared.issue.Ticket.{Ticket}
 use Rattle.messages.specs.declared.frame.Frame.TheVariants.{Whole, Piece}
 use Rattle.messages.specs.FrameBytes.{frame_spelling}
@@ -27,7 +28,6 @@ use Rattle.server_core.specs.Answers.{sent_by, to_client, refusal}
 use Rattle.server_core.specs.declared.event.Event.TheVariants as events
 use Rattle.server_core.specs.History.{Opening}
 use Rattle.server_core.specs.Ranges.{CameInRange}
-use Rattle.server_core.specs.Serves.{saved_for}
 use Rattle.server_core.specs.Hearing.{FrameEntry, Met, packets_heard, heard_at, rules as hearing}
 use Rattle.server_core.specs.FrameAnswers as answers
 use Rattle.server_core.specs.FrameAnswers.{Sense, Hears, Keeps, Drops, Misses, sense, sense_of}
@@ -63,22 +63,22 @@ came_after o past (inputs.CheckDone now a j report) left h came = (h, came)
 -- ---- a step
 
 answers_step : {T : Type 0} (note : T → Note) (o : Opening) (past : List FrameEntry) (e : Input) (old server : Server T) (outs : Outs) → is_up o past ≡ true
-    → ends.Answers note o past e old server outs → SenseInRange (sense o past e) → StepEnds (ways note o) past e (On server) (given (Ok outs))
+    → steps.Answers (ends.steps note o) past e old server outs → SenseInRange (sense o past e) → StepEnds (ways note o) past e (On server) (given (Ok outs))
 answers_step note o past e old server outs on a h = record {
   moves = record {
     after = answers.answered o past e ∷ past;
     ends = record {
       free = up (is_up o past) (answers.refusal o past e) (Some NodeOff) on ∙ a.free;
-      said_is = rw (a.issue_is, a.act_is) refl;
+      said_is = rw (a.sends.issue_is, a.sends.act_is) refl;
       entry = answers.answered o past e;
       entry_is = refl;
-      sent_are = a.frames_are;
+      sent_are = a.sends.frames_are;
       after_is = refl;
     };
     stands = a.stands;
     ranges = came_after o past e _ h;
   };
-  short = a.short;
+  short = a.sends.short;
 }
 
 no_drop : (o : Opening) (past : List FrameEntry) (s : Sense) (fault : Fault) → answers.refusal_in o (packets_heard o past) s ≡ Some fault → (fault ≡ FrameBadField → ⊥) → is_drop s ≡ false
@@ -91,19 +91,19 @@ no_drop o past (Drops q) fault h k = absurd (k (same FrameBadField fault h))
 no_drop o past Misses fault h k = refl
 
 faults_step : {T : Type 0} (note : T → Note) (o : Opening) (past : List FrameEntry) (e : Input) (old server : Server T) (fault : Fault) → is_up o past ≡ true
-    → (sort : FaultSort) → ends.Faults note o past e sort fault old server → UnlessMemory sort (sense o past e) → sort_of fault ≡ sort → Faults (ways note o) past e sort fault (On server)
+    → (sort : FaultSort) → steps.Faults (ends.steps note o) past e sort fault old server → UnlessMemory sort (sense o past e) → sort_of fault ≡ sort → Faults (ways note o) past e sort fault (On server)
 faults_step note o past e old server fault on sorts.Memory f h is = (f.why, f.unchanged)
 faults_step note o past e old server fault on sorts.Save f h is =
     let l = left_is f.left f.lost in
     lost (ways note o) past (Meets e) fault l.0 (Met e f.left) (On server) is (up (is_up o past) (answers.refusal o past e) (Some NodeOff) on ∙ f.free)
-    (ap (option_map (λ began. Met e (left_by l.0))) f.makes_one ∙ ap (λ left. Some (Met e left)) l.1) f.stands (came_after o past e f.left h)
+    (ap (option_map (λ addition. Met e (left_by l.0))) f.makes_one ∙ ap (λ left. Some (Met e left)) l.1) f.stands (came_after o past e f.left h)
 faults_step note o past e old server fault on sorts.Refusal f h is =
     refused_step (ways note o) past e (Met e lefts.NoSave) fault (On server) is (up (is_up o past) (answers.refusal o past e) (Some NodeOff) on ∙ f.why) refl
     f.stands (λ k. f.unchanged (no_drop o past (sense o past e) fault f.why k)) (came_after o past e lefts.NoSave h)
 
 -- A server that is on takes what comes.
 pub step_ends : {T : Type 0} (note : T → Note) (o : Opening) (past : List FrameEntry) (e : Input) (old server : Server T) (result : Result Outs Fault) → is_up o past ≡ true
-    → ends.Ends note o past e old server result → HearsInRange o past e result → StepEnds (ways note o) past e (On server) (given result)
+    → steps.Ends (ends.steps note o) past e old server result → HearsInRange o past e result → StepEnds (ways note o) past e (On server) (given result)
 step_ends note o past e old server (Ok outs) on a h = answers_step note o past e old server outs on a h
 step_ends note o past e old server (Err fault) on f h = faults_step note o past e old server fault on (sort_of fault) f h refl
 
@@ -135,11 +135,11 @@ end_task note o past ticket end new result h = silent (ways note o) past (inputs
 -- ---- the device's failures
 
 -- A step counts a failed save.
-pub step_counts : {T : Type 0} (note : T → Note) (o : Opening) (past : List FrameEntry) (e : Input) (old server : Server T) (result : Result Outs Fault) → ends.Ends note o past e old server result → Counts false (note old.core.notes).failures (note server.core.notes).failures (given result)
+pub step_counts : {T : Type 0} (note : T → Note) (o : Opening) (past : List FrameEntry) (e : Input) (old server : Server T) (result : Result Outs Fault) → steps.Ends (ends.steps note o) past e old server result → Counts false (note old.core.notes).failures (note server.core.notes).failures (given result)
 step_counts note o past e old server (Ok outs) a = tt
 step_counts note o past e old server (Err fault) f = by_sort (sort_of fault) f
   where
-    by_sort : (sort : FaultSort) → ends.Faults note o past e sort fault old server → CountsBy (is_save sort || (is_load fault && false)) (note old.core.notes).failures (note server.core.notes).failures
+    by_sort : (sort : FaultSort) → steps.Faults (ends.steps note o) past e sort fault old server → CountsBy (is_save sort || (is_load fault && false)) (note old.core.notes).failures (note server.core.notes).failures
     by_sort sorts.Memory f = no_load fault (note old.core.notes).failures (note server.core.notes).failures (ap (λ (n : Note). n.failures) f.same_note)
     by_sort sorts.Save f = f.cause
     by_sort sorts.Refusal f = no_load fault (note old.core.notes).failures (note server.core.notes).failures (ap (λ (n : Note). n.failures) f.same_note)
