@@ -6,6 +6,7 @@ use Rattle.fc_base.specs.declared.fault.FaultSort.{FaultSort}
 use Rattle.fc_base.specs.declared.fault.FaultSort.TheVariants as sorts
 use Rattle.fc_base.specs.Fault.{sort_of}
 use Rattle.disk_model.specs.declared.left.Left.{Left}
+use Rattle.disk_model.specs.Left.{saved_for}
 use Rattle.messages.specs.declared.node.Node.TheVariants.{Client}
 use Rattle.messages.specs.declared.refusal.Act.{Act}
 use Rattle.messages.specs.declared.refusal.Act.TheVariants as acts
@@ -15,7 +16,7 @@ use Rattle.client_core.specs.declared.call.Call.TheVariants as calls
 use Rattle.client_core.specs.declared.input.Input.{Input}
 use Rattle.client_core.specs.declared.input.Input.TheVariants as inputs
 use Rattle.client_core.specs.History as client
-use Rattle.client_core.specs.Saves.{Addition, left_by}
+use Rattle.client_core.specs.Saves.{Addition}
 use Rattle.client_core.specs.Words as words
 use Rattle.client_core.specs.Hearing.{coming, packets_heard}
 use Rattle.client_core.specs.FrameAnswers.{is_drop, sense, refusal, answered}
@@ -43,20 +44,20 @@ use Rattle.net_world.proofs.EndsLemmas.{goes, stops, does, refusing}
 
 -- ---- what comes of a call
 
-pub left_same : (x : Option Addition) → left_for x ≡ left_by x
+pub left_same : (x : Option Addition) → left_for x ≡ saved_for x
 left_same None = refl
 left_same (Some a) = refl
 
 met_here : (w : Setup) (t : List Step) (c : Call) → words.refusal (client_opening w) (of_client w t) c ≡ None
-    → met_by_client w t c ≡ Ok (OfClient (Happens (client.Met c (left_by (words.due (client_opening w) (of_client w t) c)))))
+    → met_by_client w t c ≡ Ok (OfClient (Happens (client.Met c (saved_for (words.due (client_opening w) (of_client w t) c)))))
 met_here w t c h =
     rw h refl
     ∙ ap (λ left. Ok (OfClient (Happens (client.Met c left)))) (left_same (words.due (client_opening w) (of_client w t) c))
 
 pub met_ok : (w : Setup) (t : List Step) (c : Call) (list : List client.Entry) → list ≡ of_client w t → words.refusal (client_opening w) list c ≡ None
-    → met_by_client w t c ≡ Ok (OfClient (Happens (client.Met c (left_by (words.due (client_opening w) list c)))))
+    → met_by_client w t c ≡ Ok (OfClient (Happens (client.Met c (saved_for (words.due (client_opening w) list c)))))
 met_ok w t c list is =
-    subst (λ l. words.refusal (client_opening w) l c ≡ None → met_by_client w t c ≡ Ok (OfClient (Happens (client.Met c (left_by (words.due (client_opening w) l c)))))) (sym is) (met_here w t c)
+    subst (λ l. words.refusal (client_opening w) l c ≡ None → met_by_client w t c ≡ Ok (OfClient (Happens (client.Met c (saved_for (words.due (client_opening w) l c)))))) (sym is) (met_here w t c)
 
 err_here : (w : Setup) (t : List Step) (c : Call) (fault : Fault) → words.refusal (client_opening w) (of_client w t) c ≡ Some fault → met_by_client w t c ≡ Err fault
 err_here w t c fault h = rw h refl
@@ -119,7 +120,7 @@ module _ (w : Setup) (past : List Change) where
   here = heard_is w past
 
   ok_by : (e : Happening) (c : Call) → brings w past e ≡ stepped (met_by_client w (trace w past) c) → words.refusal (client_opening w) (packets_heard (client_opening w) (entries w past)) c ≡ None
-      → brings w past e ≡ Does (Met (OfClient (Happens (client.Met c (left_by (words.due (client_opening w) (packets_heard (client_opening w) (entries w past)) c))))))
+      → brings w past e ≡ Does (Met (OfClient (Happens (client.Met c (saved_for (words.due (client_opening w) (packets_heard (client_opening w) (entries w past)) c))))))
   ok_by e c is free = is ∙ ap stepped (met_ok w (trace w past) c (packets_heard (client_opening w) (entries w past)) here free)
 
   err_by : (e : Happening) (c : Call) → brings w past e ≡ stepped (met_by_client w (trace w past) c) → (fault : Fault)

@@ -9,7 +9,7 @@ use Rattle.fc_base.specs.Fault.{sort_of}
 use Rattle.disk_model.specs.MemNotes.{note_of}
 use Rattle.disk_model.specs.declared.left.Left.{Left}
 use Rattle.disk_model.specs.declared.left.Left.TheVariants.{Saved, LostNew, LostOld}
-use Rattle.disk_model.specs.Left.{is_lost, has_new}
+use Rattle.disk_model.specs.Left.{saved_for, is_lost, has_new}
 use Rattle.messages.specs.declared.frame.Frame.TheVariants.{Whole, Piece}
 use Rattle.messages.specs.declared.piece.PieceParts.{PieceParts}
 use Rattle.messages.specs.Hearing.{Meaning, Says, Waits, Spoils, Strays, meaning, heard_by, with_entry}
@@ -24,7 +24,7 @@ use Rattle.client_core.specs.History.{Opening}
 use Rattle.client_core.specs.Note.{Says as NoteSays}
 use Rattle.client_core.specs.Words as words
 use Rattle.client_core.specs.Words.{noted}
-use Rattle.client_core.specs.Saves.{Addition, unless_refused, due_by, left_by, noted_after}
+use Rattle.client_core.specs.Saves.{Addition, unless_refused, due_by, noted_after}
 use Rattle.client_core.specs.Hearing.{FrameEntry, Met, Cut, rules, heard_at, packets_heard}
 use Rattle.client_core.specs.FrameAnswers.{Sense, Hears, Keeps, Drops, Misses, sense, sense_of, refusal, refusal_in, due, due_in, answered}
 use Rattle.net_world.specs.declared.asked.Asked.{Asked}
@@ -113,7 +113,7 @@ off_again o a b (Off notes) s up off same = (
   subst (λ n. IsEmptyIfBlank (note_of notes).bytes n) same s.2,
 )
 
-saves : (x : Option Addition) → is_some x ≡ true → left_by x ≡ Saved
+saves : (x : Option Addition) → is_some x ≡ true → saved_for x ≡ Saved
 saves None h = cc
 saves (Some a) h = refl
 
@@ -122,7 +122,7 @@ pub landed_new : (o : Opening) (past : List FrameEntry) (e : Input) (node : Clie
 unfolding said
 landed_new o past e node d s =
     off_again o (Cut ∷ answered o past e ∷ past) (Met e LostNew ∷ past) node s refl (down o past e LostNew refl d)
-    (same_left o past e (left_by (due o past e)) LostNew (ap has_new (saves (due o past e) d)))
+    (same_left o past e (saved_for (due o past e)) LostNew (ap has_new (saves (due o past e) d)))
 
 -- They haven't.
 pub landed_old : (o : Opening) (past : List FrameEntry) (e : Input) (node : ClientNode) → is_some (due o past e) ≡ true → Stands o (Cut ∷ past) node → Stands o (Met e LostOld ∷ past) node

@@ -8,6 +8,7 @@ use Rattle.fc_base.specs.declared.fault.FaultSort.TheVariants as sorts
 use Rattle.fc_base.specs.Fault.{sort_of}
 use Rattle.disk_model.specs.declared.left.Left.{Left}
 use Rattle.disk_model.specs.declared.left.Left.TheVariants.{NoSave}
+use Rattle.disk_model.specs.Left.{saved_for}
 use Rattle.messages.specs.declared.piece.PieceParts.{PieceParts}
 use Rattle.messages.specs.declared.packet.PacketParts.{PacketParts}
 use Rattle.messages.specs.declared.frame.Frame.{Frame}
@@ -17,7 +18,6 @@ use Rattle.messages.specs.Hearing.{Heard, Meaning, Says, Waits, Spoils, Strays, 
 use Rattle.client_core.specs.declared.call.Call.TheVariants as calls
 use Rattle.client_core.specs.declared.input.Input.TheVariants as inputs
 use Rattle.client_core.specs.History as client
-use Rattle.client_core.specs.Saves.{left_by}
 use Rattle.client_core.specs.Words as words
 use Rattle.client_core.specs.Hearing.{rules, heard_at, packets_heard}
 use Rattle.client_core.specs.FrameAnswers as framed
@@ -48,15 +48,15 @@ come : Frame → Left → Outcome
 come f left = Does (Met (OfClient (Comes f left)))
 
 says_here : (w : Setup) (t : List Step) (f : Frame) (p : PacketParts) → words.refusal (client_opening w) (of_client w t) (calls.Deliver p) ≡ None
-    → comes_to_client w t f (Says p) ≡ come f (left_by (words.due (client_opening w) (of_client w t) (calls.Deliver p)))
+    → comes_to_client w t f (Says p) ≡ come f (saved_for (words.due (client_opening w) (of_client w t) (calls.Deliver p)))
 unfolding come
 says_here w t f p h =
     rw h refl ∙ ap (λ left. Does (Met (OfClient (Comes f left)))) (left_same (words.due (client_opening w) (of_client w t) (calls.Deliver p)))
 
 says_ok : (w : Setup) (t : List Step) (f : Frame) (p : PacketParts) (list : List client.Entry) → list ≡ of_client w t → words.refusal (client_opening w) list (calls.Deliver p) ≡ None
-    → comes_to_client w t f (Says p) ≡ come f (left_by (words.due (client_opening w) list (calls.Deliver p)))
+    → comes_to_client w t f (Says p) ≡ come f (saved_for (words.due (client_opening w) list (calls.Deliver p)))
 says_ok w t f p list is =
-    subst (λ l. words.refusal (client_opening w) l (calls.Deliver p) ≡ None → comes_to_client w t f (Says p) ≡ come f (left_by (words.due (client_opening w) l (calls.Deliver p)))) (sym is) (says_here w t f p)
+    subst (λ l. words.refusal (client_opening w) l (calls.Deliver p) ≡ None → comes_to_client w t f (Says p) ≡ come f (saved_for (words.due (client_opening w) l (calls.Deliver p)))) (sym is) (says_here w t f p)
 
 refused_here : (w : Setup) (t : List Step) (f : Frame) (p : PacketParts) (fault : Fault) → words.refusal (client_opening w) (of_client w t) (calls.Deliver p) ≡ Some fault → comes_to_client w t f (Says p) ≡ Refuses fault
 refused_here w t f p fault h = rw h refl
@@ -74,7 +74,7 @@ misdirected true fault h k = cc
 misdirected false fault h k = cc
 
 piece_ok : (w : Setup) (t : List Step) (q : PieceParts) (list : List client.Entry) → list ≡ of_client w t → (m : Meaning) → refusal_in (client_opening w) list (sense_of q m) ≡ None
-    → comes_to_client w t (Piece q) m ≡ come (Piece q) (left_by (due_in (client_opening w) list (sense_of q m)))
+    → comes_to_client w t (Piece q) m ≡ come (Piece q) (saved_for (due_in (client_opening w) list (sense_of q m)))
 unfolding come
 piece_ok w t q list is (Says p) h = says_ok w t (Piece q) p list is h
 piece_ok w t q list is Waits h = refl

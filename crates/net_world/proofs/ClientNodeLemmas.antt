@@ -8,7 +8,8 @@ use Rattle.fc_base.specs.Fault.{sort_of}
 use Rattle.disk_model.specs.MemNotes.{Saved as Kept, note_of}
 use Rattle.disk_model.specs.declared.left.Left.{Left}
 use Rattle.disk_model.specs.declared.left.Left.TheVariants.{NoSave}
-use Rattle.disk_model.specs.Left.{is_lost}
+use Rattle.disk_model.specs.Left.{saved_for, is_lost}
+use Rattle.disk_model.specs.Steps as steps
 use Rattle.messages.specs.declared.frame.Frame.TheVariants.{Whole, Piece}
 use Rattle.messages.specs.Hearing.{Meaning, Says, Waits, Spoils, Strays, meaning, heard_by, with_entry}
 use Rattle.client_core.specs.declared.client.Client.{Client}
@@ -18,7 +19,7 @@ use Rattle.client_core.specs.History as client
 use Rattle.client_core.specs.History.{Opening}
 use Rattle.client_core.specs.Note.{Says as NoteSays, blank}
 use Rattle.client_core.specs.Words as words
-use Rattle.client_core.specs.Saves.{Addition, left_by}
+use Rattle.client_core.specs.Saves.{Addition}
 use Rattle.client_core.specs.Hearing.{FrameEntry, Met, rules, heard_at, packets_heard}
 use Rattle.client_core.specs.FrameAnswers.{due}
 use Rattle.client_core.specs.FrameEnds as ends
@@ -48,14 +49,14 @@ on_behind o past (inputs.Deliver (Whole p)) left h k = stays (is_up o past) (is_
 on_behind o past (inputs.Deliver (Piece q)) left h k = piece_stays o (packets_heard o past) left (meaning (rules o) (heard_at o past) (Piece q)) h k
 on_behind o past inputs.Tick left h k = stays (is_up o past) (is_lost left) h k
 
-not_lost : (x : Option Addition) → is_lost (left_by x) ≡ false
+not_lost : (x : Option Addition) → is_lost (saved_for x) ≡ false
 not_lost None = refl
 not_lost (Some addition) = refl
 
 -- ---- a call
 
 by_sort : (o : Opening) (past : List FrameEntry) (e : Input) (fault : Fault) (old new : Client Kept) → is_up o past ≡ true → (sort : FaultSort)
-    → ends.Faults note_of o past e sort fault old new → Faults o past e sort fault (On new)
+    → steps.Faults (ends.steps note_of o) past e sort fault old new → Faults o past e sort fault (On new)
 by_sort o past e fault old new on sorts.Memory h = (h.why, (h.unchanged, on))
 by_sort o past e fault old new on sorts.Save h = absurd (omega (arith, h.cause))
 by_sort o past e fault old new on sorts.Refusal h =
@@ -63,18 +64,18 @@ by_sort o past e fault old new on sorts.Refusal h =
 
 -- A call that is answered, and told so.
 pub answers : (o : Opening) (past : List FrameEntry) (e : Input) (old new : Client Kept) (asked : Asked) → is_up o past ≡ true → asked.answer ≡ answer_to o past e
-    → ends.Answers note_of o past e old new asked.frames → Asks o past e (On new) (Ok asked)
+    → steps.Answers (ends.steps note_of o) past e old new asked.frames → Asks o past e (On new) (Ok asked)
 answers o past e old new asked on is h = record {
   on = on;
   free = h.free;
   answer_is = is;
-  frames_are = h.frames_are;
-  stands = (h.stands, on_behind o past e (left_by (due o past e)) on (not_lost (due o past e)));
+  frames_are = h.sends.frames_are;
+  stands = (h.stands, on_behind o past e (saved_for (due o past e)) on (not_lost (due o past e)));
 }
 
 -- A call that isn't answered.
 pub fails : (o : Opening) (past : List FrameEntry) (e : Input) (fault : Fault) (old new : Client Kept) → is_up o past ≡ true
-    → ends.Faults note_of o past e (sort_of fault) fault old new → Asks o past e (On new) (Err fault)
+    → steps.Faults (ends.steps note_of o) past e (sort_of fault) fault old new → Asks o past e (On new) (Err fault)
 fails o past e fault old new on h = by_sort o past e fault old new on (sort_of fault) h
 
 -- No bytes at all are a blank note.

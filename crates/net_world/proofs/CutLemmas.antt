@@ -10,7 +10,7 @@ use Rattle.fc_base.specs.Fault.{sort_of}
 use Rattle.disk_model.specs.MemNotes.{Saved as Kept, note_of}
 use Rattle.disk_model.specs.declared.left.Left.{Left}
 use Rattle.disk_model.specs.declared.left.Left.TheVariants.{Saved, LostNew, LostOld}
-use Rattle.disk_model.specs.Left.{has_new}
+use Rattle.disk_model.specs.Left.{saved_for, has_new}
 use Rattle.messages.specs.declared.frame.Frame.{Frame}
 use Rattle.messages.specs.declared.frame.Frame.TheVariants.{Whole, Piece}
 use Rattle.messages.specs.declared.piece.PieceParts.{PieceParts}
@@ -29,7 +29,6 @@ use Rattle.server_core.specs.Words.{Staged, is_on, boot, last_run, staged, work,
 use Rattle.server_core.specs.Words as words
 use Rattle.server_core.specs.Answers.{now, refusal_of}
 use Rattle.server_core.specs.Answers as answers
-use Rattle.server_core.specs.Serves.{saved_for}
 use Rattle.server_core.specs.Hearing.{FrameEntry, Met, Cut, Restart, rules, heard_at, packets_heard}
 use Rattle.server_core.specs.FrameAnswers.{sense_of, refusal, refusal_in, due, due_in, would_save, answered}
 use Rattle.net_world.specs.declared.server_node.ServerNode.{ServerNode}

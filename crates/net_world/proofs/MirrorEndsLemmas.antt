@@ -12,6 +12,7 @@ use Rattle.fc_base.specs.declared.fault.FaultSort.{FaultSort}
 use Rattle.fc_base.specs.declared.fault.FaultSort.TheVariants as sorts
 use Rattle.fc_base.specs.Fault.{sort_of}
 use Rattle.disk_model.specs.declared.mem_disk.MemDisk.{MemDisk}
+use Rattle.disk_model.specs.Left.{saved_for}
 use Rattle.messages.specs.FrameBytes.{frame_spelling}
 use Rattle.messages.specs.FramesOf.{spelled_frames}
 use Rattle.messages.specs.Pieces.{frames_of}
@@ -22,7 +23,7 @@ use Rattle.messages.specs.declared.refusal.Act.TheVariants as acts
 use Rattle.mirror_core.specs.History.{Entry, Met, Cut, Restart}
 use Rattle.mirror_core.specs.Words as words
 use Rattle.mirror_core.specs.Words.{refusal, due}
-use Rattle.mirror_core.specs.Saves.{Addition, left_by, is_answer}
+use Rattle.mirror_core.specs.Saves.{Addition, is_answer}
 use Rattle.mirror_core.specs.Packets.{packets, packets_for, framed}
 use Rattle.mirror_core.specs.Requests.{request_in}
 use Rattle.mirror_core.specs.Ends.{answered}
@@ -184,7 +185,7 @@ frame_bar w past number f g = ap (unsent w (trace w past)) g.is_sent ∙ ap (off
 frame_brings : (w : Setup) (past : List Change) (number : ℕ) (f : Frame) → GoesTo w past number f → brings w past (Deliver number) ≡ stepped (comes_to_mirror (trace w past) f)
 frame_brings w past number f g = ap (delivered w past) g.is_sent ∙ ap (λ node. comes_to w past node f) g.goes_to
 
-left_same : (x : Option Addition) → left_for x ≡ left_by x
+left_same : (x : Option Addition) → left_for x ≡ saved_for x
 left_same None = refl
 left_same (Some a) = refl
 

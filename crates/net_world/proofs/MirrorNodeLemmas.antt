@@ -8,13 +8,14 @@ use Rattle.fc_base.specs.declared.fault.FaultSort.TheVariants as sorts
 use Rattle.fc_base.specs.Fault.{sort_of}
 use Rattle.disk_model.specs.MemNotes.{Saved as Kept, note_of}
 use Rattle.disk_model.specs.declared.left.Left.TheVariants.{LostNew, LostOld}
-use Rattle.disk_model.specs.Left.{has_new, is_lost}
+use Rattle.disk_model.specs.Left.{saved_for, has_new, is_lost}
+use Rattle.disk_model.specs.Steps as steps
 use Rattle.messages.specs.declared.frame.Frame.{Frame}
 use Rattle.mirror_core.specs.declared.noted.Noted.{Noted}
 use Rattle.mirror_core.specs.declared.mirror.Mirror.{Mirror}
 use Rattle.mirror_core.specs.History.{Entry, Met, Cut}
 use Rattle.mirror_core.specs.Note.{Says, blank}
-use Rattle.mirror_core.specs.Saves.{Addition, addition_of, unless_refused, noted_after, left_by}
+use Rattle.mirror_core.specs.Saves.{Addition, addition_of, unless_refused, noted_after}
 use Rattle.mirror_core.specs.Requests.{request_in}
 use Rattle.mirror_core.specs.Words.{is_on, noted, refusal, due}
 use Rattle.mirror_core.specs.Ends as ends
@@ -30,28 +31,28 @@ stays true false h k = refl
 stays true true h k = cc
 stays false lost h k = cc
 
-not_lost : (x : Option Addition) → is_lost (left_by x) ≡ false
+not_lost : (x : Option Addition) → is_lost (saved_for x) ≡ false
 not_lost None = refl
 not_lost (Some addition) = refl
 
 -- It is answered.
-pub answers : (o : Noted) (past : List Entry) (f : Frame) (old new : Mirror Kept) (frames : List (List ℕ)) → is_on past ≡ true → ends.Answers note_of o past f old new frames → Hears o past f (On new) (Ok frames)
+pub answers : (o : Noted) (past : List Entry) (f : Frame) (old new : Mirror Kept) (frames : List (List ℕ)) → is_on past ≡ true → steps.Answers (ends.steps note_of o) past f old new frames → Hears o past f (On new) (Ok frames)
 answers o past f old new frames on h = record {
   on = on;
   free = h.free;
-  frames_are = h.frames_are;
-  stands = (h.stands, stays (is_on past) (is_lost (left_by (due o past f))) on (not_lost (due o past f)));
+  frames_are = h.sends;
+  stands = (h.stands, stays (is_on past) (is_lost (saved_for (due o past f))) on (not_lost (due o past f)));
 }
 
 by_sort : (o : Noted) (past : List Entry) (f : Frame) (fault : Fault) (old new : Mirror Kept) → is_on past ≡ true → (sort : FaultSort)
-    → ends.Faults note_of o past f sort fault old new → Faults o past f sort fault (On new)
+    → steps.Faults (ends.steps note_of o) past f sort fault old new → Faults o past f sort fault (On new)
 by_sort o past f fault old new on sorts.Memory h = (h.why, (h.unchanged, on))
 by_sort o past f fault old new on sorts.Save h = absurd (omega (arith, h.cause))
 by_sort o past f fault old new on sorts.Refusal h = inr (record { on = on; why = h.why; unchanged = (h.unchanged, on) })
 
 -- It isn't answered.
 pub fails : (o : Noted) (past : List Entry) (f : Frame) (fault : Fault) (old new : Mirror Kept) → is_on past ≡ true
-    → ends.Faults note_of o past f (sort_of fault) fault old new → Hears o past f (On new) (Err fault)
+    → steps.Faults (ends.steps note_of o) past f (sort_of fault) fault old new → Hears o past f (On new) (Err fault)
 fails o past f fault old new on h = by_sort o past f fault old new on (sort_of fault) h
 
 -- No bytes at all are a blank note.
@@ -67,7 +68,7 @@ and_false : (b : Bool) → (b && false) ≡ false
 and_false true = refl
 and_false false = refl
 
-saved_new : (x : Option Addition) (n : Noted) → is_some x ≡ true → noted_after (has_new (left_by x)) x n ≡ noted_after true x n
+saved_new : (x : Option Addition) (n : Noted) → is_some x ≡ true → noted_after (has_new (saved_for x)) x n ≡ noted_after true x n
 saved_new None n h = cc
 saved_new (Some a) n h = refl
 

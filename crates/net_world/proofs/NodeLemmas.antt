@@ -8,7 +8,8 @@ use Rattle.fc_base.specs.Fault.{sort_of}
 use Rattle.disk_model.specs.MemNotes.{Saved as Kept, note_of}
 use Rattle.disk_model.specs.declared.left.Left.{Left}
 use Rattle.disk_model.specs.declared.left.Left.TheVariants.{NoSave}
-use Rattle.disk_model.specs.Left.{is_lost}
+use Rattle.disk_model.specs.Left.{saved_for, is_lost}
+use Rattle.disk_model.specs.Steps as steps
 use Rattle.messages.specs.declared.frame.Frame.TheVariants.{Whole, Piece}
 use Rattle.messages.specs.Hearing.{Meaning, Says, Waits, Spoils, Strays, meaning, heard_by, with_entry}
 use Rattle.server_core.specs.declared.input.Input.{Input}
@@ -19,7 +20,6 @@ use Rattle.server_core.specs.History as server
 use Rattle.server_core.specs.History.{Opening}
 use Rattle.server_core.specs.Words.{Staged}
 use Rattle.server_core.specs.Words as words
-use Rattle.server_core.specs.Serves.{saved_for}
 use Rattle.server_core.specs.Hearing.{FrameEntry, Met, rules, heard_at, packets_heard}
 use Rattle.server_core.specs.FrameAnswers.{due}
 use Rattle.server_core.specs.FrameEnds as ends
@@ -54,19 +54,19 @@ not_lost (Some s) = refl
 -- ---- a step
 
 by_sort : (o : Opening) (past : List FrameEntry) (e : Input) (fault : Fault) (old new : Server Kept) → is_up o past ≡ true → (sort : FaultSort)
-    → ends.Faults note_of o past e sort fault old new → Faults o past e sort fault (On new)
+    → steps.Faults (ends.steps note_of o) past e sort fault old new → Faults o past e sort fault (On new)
 by_sort o past e fault old new on sorts.Memory h = (h.why, (h.unchanged, on))
 by_sort o past e fault old new on sorts.Save h = absurd (omega (arith, h.cause))
 by_sort o past e fault old new on sorts.Refusal h =
     inr (record { on = on; why = h.why; stands = (h.stands, on_behind o past e NoSave on refl); unchanged = λ d. (h.unchanged d, on) })
 
-pub step_ends : (o : Opening) (past : List FrameEntry) (e : Input) (old new : Server Kept) (result : Result Outs Fault) → is_up o past ≡ true → ends.Ends note_of o past e old new result → Steps o past e (On new) result
+pub step_ends : (o : Opening) (past : List FrameEntry) (e : Input) (old new : Server Kept) (result : Result Outs Fault) → is_up o past ≡ true → steps.Ends (ends.steps note_of o) past e old new result → Steps o past e (On new) result
 step_ends o past e old new (Ok outs) on h = record {
   on = on;
   free = h.free;
-  frames_are = h.frames_are;
-  issue_is = h.issue_is;
-  act_is = h.act_is;
+  frames_are = h.sends.frames_are;
+  issue_is = h.sends.issue_is;
+  act_is = h.sends.act_is;
   stands = (h.stands, on_behind o past e (saved_for (due o past e)) on (not_lost (due o past e)));
 }
 step_ends o past e old new (Err fault) on h = by_sort o past e fault old new on (sort_of fault) h

@@ -6,7 +6,7 @@ use Rattle.fc_base.specs.declared.fault.Fault.{Fault}
 use Rattle.fc_base.specs.declared.fault.Fault.TheVariants.{Misdirected, Down, FrameBadField}
 use Rattle.disk_model.specs.declared.left.Left.{Left}
 use Rattle.disk_model.specs.declared.left.Left.TheVariants.{NoSave}
-use Rattle.disk_model.specs.Left.{is_lost}
+use Rattle.disk_model.specs.Left.{saved_for, is_lost}
 use Rattle.messages.specs.declared.piece.PieceParts.{PieceParts}
 use Rattle.messages.specs.declared.packet.PacketParts.{PacketParts}
 use Rattle.messages.specs.declared.frame.Frame.{Frame}
@@ -22,7 +22,6 @@ use Rattle.server_core.specs.History.{Opening}
 use Rattle.server_core.specs.Words as words
 use Rattle.server_core.specs.Words.{Staged}
 use Rattle.server_core.specs.Answers as answers
-use Rattle.server_core.specs.Serves.{saved_for}
 use Rattle.server_core.specs.Hearing.{rules, heard_at, packets_heard}
 use Rattle.server_core.specs.FrameAnswers as framed
 use Rattle.server_core.specs.FrameAnswers.{sense_of, sense, refusal_in, due_in, act_in}
