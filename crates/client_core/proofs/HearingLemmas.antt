@@ -1,14 +1,13 @@
 -- What is heard of an input, and what it leaves together, by what it is to the client.
-use Rattle.std.proofs.Common.{◌≡◌, refl, sym, ◌∙◌, ap, subst, ℕ, Bool, true, false, ◌&&◌, List, ◌∷◌, Option, Some, None, Ok, Err}
+use Rattle.std.proofs.Common.{◌≡◌, refl, sym, ◌∙◌, ap, subst, ℕ, Bool, true, false, ◌&&◌, List, ◌∷◌, Option, Some, None}
 use Rattle.std.specs.Prelude.{if◌then◌else◌, is_some}
 use Rattle.fc_base.specs.declared.fault.Fault.{Fault}
-use Rattle.fc_base.specs.declared.fault.Fault.TheVariants.{FrameBadField, NoMemory}
 use Rattle.disk_model.specs.declared.left.Left.{Left}
 use Rattle.messages.specs.declared.packet.PacketParts.{PacketParts}
 use Rattle.messages.specs.declared.piece.PieceParts.{PieceParts}
 use Rattle.messages.specs.declared.frame.Frame.TheVariants.{Whole, Piece}
 use Rattle.messages.specs.Assemblies as looks
-use Rattle.messages.specs.Assemblies.{Row, Look, Gives, look, look_at, completed, with_piece, taken, taken_at, without, LookAnswers}
+use Rattle.messages.specs.Assemblies.{Row, Look, Gives, look, look_at, completed, with_piece, taken, taken_at, without}
 use Rattle.messages.specs.declared.places.Filled.{Filled}
 use Rattle.messages.specs.Hearing.{Meaning, Says, Waits, Spoils, Strays, meaning, said_by, heard_by, rows_by, rows_of, with_entry}
 use Rattle.client_core.specs.declared.call.Call.TheVariants as calls
@@ -20,7 +19,6 @@ use Rattle.client_core.specs.Words as words
 use Rattle.client_core.specs.Words.{is_on}
 use Rattle.client_core.specs.Hearing.{FrameEntry, Met, is_piece_for, rules, coming, heard_at, packets_heard, assembly}
 use Rattle.client_core.specs.FrameAnswers.{Sense, Hears, Keeps, Drops, Misses, sense_of, sense, is_drop, refusal_in, entry_heard}
-use Rattle.client_core.specs.Sensing.{IsSensed}
 
 -- What has come together behind an input.
 abbrev pub rows_after : Opening → List FrameEntry → Input → Left → List Row
@@ -167,5 +165,3 @@ dropped_rows o past q left is =
   where
     waits_no : looks.NoPacket ≡ looks.Waits → ⊥
     waits_no e = cc
-
--- ---- what looking answers
