@@ -51,7 +51,8 @@ pub rest_of : (older marks : List Mark) (event : Option Mark) → GoesOn older m
 rest_of older marks None e = ([], e)
 rest_of older marks (Some m) e = (e.0 ++ m ∷ [], e.1 ∙ sym (append_assoc e.0 (m ∷ []) older))
 
-at_place : (h : List Logged) (at : ℕ) → at < length h → (l : Logged) × (slice_get (reverse h) at ≡ Some l)
+-- The event at a place of a history.
+pub at_place : (h : List Logged) (at : ℕ) → at < length h → (l : Logged) × (slice_get (reverse h) at ≡ Some l)
 at_place h at low = by (slice_get_cases (reverse h) at).1
   where
     by : ((l : Logged) × (at < length (reverse h)) × (slice_get (reverse h) at ≡ Some l) × (get_or (reverse h) at l ≡ l)) ⊎ ((length (reverse h) ≤ at) × (slice_get (reverse h) at ≡ None)) → (l : Logged) × (slice_get (reverse h) at ≡ Some l)

@@ -1,18 +1,22 @@
 -- Following a node, event by event.
-use Rattle.std.proofs.Common.{◌≡◌, ◌≢◌, refl, sym, ◌∙◌, ap, subst, inl, inr, ℕ, ◌+◌, ◌≤◌, ◌<◌, arith, Bool, true, false, List, [], ◌∷◌, ◌++◌, length, Some}
+use Rattle.std.proofs.Common.{◌≡◌, ◌≢◌, refl, sym, ◌∙◌, ap, subst, inl, inr, ℕ, ◌+◌, ◌==◌, ◌≤◌, ◌<◌, arith, Bool, true, false, not, ◌&&◌, List, [], ◌∷◌, ◌++◌, length, Option, Some, None}
 use Rattle.std.specs.Prelude.{reverse, if◌then◌else◌, slice_get}
+use Rattle.std.specs.Option.{ForSome}
+use Rattle.std.proofs.lemmas.Bool.Decides.{nat_tests}
 use Rattle.std.proofs.lemmas.List.{append_assoc, append-nil, reverse-append, length-reverse}
 use Rattle.messages.specs.declared.node.Node.{Node}
+use Rattle.node_history.specs.declared.came.Came.{Came}
+use Rattle.node_history.specs.declared.came.Came.TheVariants as came
 use Rattle.node_history.specs.declared.logged.Logged.{Logged}
-use Rattle.node_history.specs.AtHub.{is_left_out}
+use Rattle.node_history.specs.AtHub.{is_frame, is_left_out, is_quiet}
 use Rattle.node_traces.specs.declared.place.Place.{Place}
-use Rattle.node_traces.specs.Marks.{Mark, mark_of}
+use Rattle.node_traces.specs.Marks.{Mark, frame_of, mark_of, marks_if}
 use Rattle.node_traces.specs.Orders.{between}
 use Rattle.node_traces.specs.Rising.{HistoriesRise, marks_before}
 use Rattle.assembly.specs.declared.fault.AssembleFault.{AssembleFault}
 use Rattle.assembly.specs.declared.fault.AssembleFault.TheVariants.{Unlike, NoMemory}
 use Rattle.assembly.specs.Order.{Followed, next_of, with_next, whole_mark, IsPassed, IsMarkedAt, IsStopped, IsTold, IsOther, IsUntold}
-use Rattle.assembly.proofs.MarkLemmas.{OneMark, one_mark, comes_next, stands, other_before, other_behind, other_than, other_than_none}
+use Rattle.assembly.proofs.MarkLemmas.{OneMark, at_place, one_mark, comes_next, stands, other_before, other_behind, other_than, other_than_none}
 
 -- The place of an event, and its place alone where it stands.
 abbrev pub place_at : Node → ℕ → Place
@@ -45,6 +49,66 @@ event_added : (b : Bool) (mid : List Place) (place : Place) → (if b then mid e
 event_added true mid place = refl
 event_added false mid place = refl
 
+-- ---- an event that is quiet: it stands, and neither took nor sent a frame
+
+no_frame : (c : Came) → is_frame c ≡ false → frame_of c ≡ None
+no_frame (came.Frame bytes) h = absurd (cc)
+no_frame (came.Issue j) h = refl
+no_frame (came.WriteDone ticket end) h = refl
+no_frame (came.CheckDone boot a j report) h = refl
+no_frame (came.Begin text) h = refl
+no_frame (came.Trigger run act) h = refl
+no_frame (came.Stop run) h = refl
+no_frame (came.Verify run text) h = refl
+no_frame came.Tick h = refl
+no_frame came.Cut h = refl
+no_frame came.Restart h = refl
+
+-- What a test for it says, where it is left out or not, has a frame or none, and sent these.
+abbrev quiet_if : Bool → Bool → List (List ℕ) → Bool
+quiet_if out frame sent = not out && not frame && (length sent == 0)
+
+sent_none : (at : ℕ) (sent : List (List ℕ)) → (length sent == 0) ≡ true → marks_if at None sent ≡ []
+sent_none at [] h = refl
+sent_none at (f ∷ fs) h = absurd (grind (arith, nat_tests))
+
+unmarked_if : (at : ℕ) (out frame : Bool) (taken : Option (List ℕ)) (sent : List (List ℕ)) → (frame ≡ false → taken ≡ None) → quiet_if out frame sent ≡ true
+    → (out ≡ false) × ((if out then [] else marks_if at taken sent) ≡ [])
+unmarked_if at true frame taken sent none h = absurd (cc)
+unmarked_if at false true taken sent none h = absurd (cc)
+unmarked_if at false false taken sent none h = (refl, rw (none refl) (sent_none at sent h))
+
+pub quiet_stands : (at : ℕ) (l : Logged) → is_quiet l ≡ true → (is_left_out l.answer ≡ false) × (mark_of at l ≡ [])
+quiet_stands at l h = unmarked_if at (is_left_out l.answer) (is_frame l.came) (frame_of l.came) l.sent (no_frame l.came) h
+
+some_frame : (c : Came) → is_frame c ≡ true → frame_of c ≢ None
+some_frame (came.Frame bytes) h = λ e. cc
+some_frame (came.Issue j) h = absurd (cc)
+some_frame (came.WriteDone ticket end) h = absurd (cc)
+some_frame (came.CheckDone boot a j report) h = absurd (cc)
+some_frame (came.Begin text) h = absurd (cc)
+some_frame (came.Trigger run act) h = absurd (cc)
+some_frame (came.Stop run) h = absurd (cc)
+some_frame (came.Verify run text) h = absurd (cc)
+some_frame came.Tick h = absurd (cc)
+some_frame came.Cut h = absurd (cc)
+some_frame came.Restart h = absurd (cc)
+
+taken_or_sent : (at : ℕ) (frame : Bool) (taken : Option (List ℕ)) (sent : List (List ℕ)) → (frame ≡ true → taken ≢ None) → quiet_if false frame sent ≡ false → marks_if at taken sent ≢ []
+taken_or_sent at frame (Some bytes) sent some h = λ e. cc
+taken_or_sent at true None sent some h = absurd (some refl refl)
+taken_or_sent at false None [] some h = absurd (cc)
+taken_or_sent at false None (f ∷ fs) some h = λ e. cc
+
+left_out_if : (at : ℕ) (out frame : Bool) (taken : Option (List ℕ)) (sent : List (List ℕ)) → (frame ≡ true → taken ≢ None) → quiet_if out frame sent ≡ false
+    → (if out then [] else marks_if at taken sent) ≡ [] → out ≡ true
+left_out_if at true frame taken sent some h none = refl
+left_out_if at false frame taken sent some h none = absurd (taken_or_sent at frame taken sent some h none)
+
+-- What isn't quiet, and isn't marked, is left out.
+pub is_out : (at : ℕ) (l : Logged) → is_quiet l ≡ false → mark_of at l ≡ [] → is_left_out l.answer ≡ true
+is_out at l h none = left_out_if at (is_left_out l.answer) (is_frame l.came) (frame_of l.came) l.sent (some_frame l.came) h none
+
 -- Nothing was passed yet.
 pub passed_none : HistoriesRise → (node : Node) (h : List Logged) (from : ℕ) (old : List Place) → IsPassed node h from from old old
 passed_none rise node h from old = record {
@@ -72,6 +136,28 @@ passed_more rise node h from at l old mid new low is none passed e = record {
   places = e ∙ (event_added (is_left_out l.answer) mid (place_at node at) ∙ places_with rise node h from at l old mid low is passed.places);
   unmarked = (rise node h).1.more at l is ∙ (ap (λ (ms : List Mark). ms ++ marks_before at h) none ∙ passed.unmarked);
 }
+
+added_by : (out : Bool) (mid : List Place) (place : Place) → out ≡ false → mid ++ place ∷ [] ≡ (if out then mid else mid ++ place ∷ [])
+added_by out mid place h = rw h refl
+
+kept_by : (out : Bool) (mid : List Place) (place : Place) → out ≡ true → mid ≡ (if out then mid else mid ++ place ∷ [])
+kept_by out mid place h = rw h refl
+
+-- So was one more that is quiet, which is added.
+pub passed_quiet : HistoriesRise → (node : Node) (history h : List Logged) (from at : ℕ) (quiet : Bool) (old mid new : List Place) → history ≡ reverse h → from ≤ at → at < length h
+    → ForSome (slice_get history at) (λ l. quiet ≡ is_quiet l) → quiet ≡ true → IsPassed node h from at old mid → new ≡ mid ++ place_at node at ∷ [] → IsPassed node h from (at + 1) old new
+passed_quiet rise node history h from at quiet old mid new e low within test is passed added =
+    let event = at_place h at within in
+    let l = event.0 in
+    let q = quiet_stands at l (sym (test l (ap (λ (ls : List Logged). slice_get ls at) e ∙ event.1)) ∙ is) in
+    passed_more rise node h from at l old mid new low event.1 q.1 passed (added ∙ added_by (is_left_out l.answer) mid (place_at node at) q.0)
+
+-- So was one more that isn't, and isn't marked: it is left out.
+pub passed_by : HistoriesRise → (node : Node) (history h : List Logged) (from at : ℕ) (l : Logged) (quiet : Bool) (old mid : List Place) → history ≡ reverse h → from ≤ at → slice_get history at ≡ Some l
+    → ForSome (slice_get history at) (λ l. quiet ≡ is_quiet l) → quiet ≡ false → mark_of at l ≡ [] → IsPassed node h from at old mid → IsPassed node h from (at + 1) old mid
+passed_by rise node history h from at l quiet old mid e low is test loud none passed =
+    passed_more rise node h from at l old mid mid low (read_there history h at l e is) none passed
+    (kept_by (is_left_out l.answer) mid (place_at node at) (is_out at l (sym (test l is) ∙ loud) none))
 
 -- The next event is marked.
 pub stopped_at : HistoriesRise → (node : Node) (h : List Logged) (from to at : ℕ) (l : Logged) (old mid : List Place) → at < to → at < length h → slice_get (reverse h) at ≡ Some l

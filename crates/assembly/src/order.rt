@@ -1,8 +1,7 @@
 //! The order of all events, and how far each node was followed.
 
-ghost use Rattle.std.specs.Prelude.{◌≡◌, ◌+◌, ◌<◌, ◌≤◌, ◌^◌, ◌++◌, ◌∷◌, [], List, length, reverse, if◌then◌else◌, IfErr, OnOk};
+ghost use Rattle.std.specs.Prelude.{◌≡◌, ◌+◌, ◌<◌, ◌≤◌, ◌^◌, ◌++◌, ◌∷◌, [], List, length, reverse, IfErr, OnOk};
 ghost use Rattle.node_history.specs.declared.logged.Logged.{Logged as Event};
-ghost use Rattle.node_history.specs.AtHub.{is_left_out};
 ghost use Rattle.node_traces.specs.Marks.{mark_of_line};
 ghost use Rattle.assembly.specs.declared.fault.AssembleFault.TheVariants.{Unlike, NoMemory};
 ghost use Rattle.assembly.specs.Order.{nothing_followed, next_of, with_next, IsPassed, IsStopped, IsTold, IsUntold};
@@ -11,7 +10,7 @@ use crate::fault::AssembleFault;
 use crate::marks::{is_marked, is_told_by};
 use hub::{Hub, Line};
 use messages::Node;
-use node_history::{History, Logged, is_left_out};
+use node_history::History;
 use node_traces::{Place, histories_rise};
 use std::alloc::Global;
 use std::marker::Model;
@@ -69,12 +68,15 @@ impl Order {
     {
         histories_rise();
         for at in self.next_of(node)..to {
+            if history.is_quiet(at as usize) {
+                self.add(*node, at)?;
+                continue;
+            }
             let lent = history.at(at as usize);
-            let event = lent.as_logged();
-            if is_marked(event) {
+            if is_marked(lent.as_logged()) {
                 return Err(AssembleFault::Unlike { node: *node, at });
             }
-            self.add_standing(*node, at, event)?;
+            // It is left out.
         }
         Ok(())
     }
@@ -114,18 +116,6 @@ impl Order {
         self.add(line.node, at)?;
         self.set_next(&line.node, at + 1);
         Ok(())
-    }
-
-    /// Adds an event, if it stands.
-    fn add_standing(&mut self, node: Node, at: u64, event: &Logged) -> Result<(), AssembleFault>
-        ensures places { OnOk result (self.new.places ≡ (if is_left_out event.now.answer then self.old.places else self.old.places ++ record { node = node; at = at } ∷ [])) }
-        ensures next { self.new.next ≡ self.old.next }
-        ensures memory { IfErr result (λ fault. fault ≡ NoMemory) }
-    {
-        if is_left_out(&event.answer) {
-            return Ok(());
-        }
-        self.add(node, at)
     }
 
     /// Adds an event.

@@ -206,6 +206,7 @@ impl Engine {
     }
 
     /// What `issue` answers now.
+    #[inline(always)]
     fn next(&self) -> Issue
         ensures { result ≡ answer_of self.now }
     {

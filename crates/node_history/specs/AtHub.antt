@@ -1,5 +1,5 @@
 -- How an event of a node at the hub ends: what it does to the network and to the node's history.
-use Rattle.std.specs.Prelude.{◌≡◌, ℕ, Bool, true, false, not, ◌||◌, List, ◌∷◌, ◌++◌, length, Option, Some, None, Result, Ok, Err, slice_get}
+use Rattle.std.specs.Prelude.{◌≡◌, ℕ, ◌==◌, Bool, true, false, not, ◌||◌, ◌&&◌, List, ◌∷◌, ◌++◌, length, Option, Some, None, Result, Ok, Err, slice_get}
 use Rattle.fc_base.specs.declared.fault.Fault.{Fault}
 use Rattle.fc_base.specs.declared.fault.Fault.TheVariants.{NoMemory, NoFrame, FrameBadField}
 use Rattle.fc_base.specs.declared.fault.FaultSort.{FaultSort}
@@ -41,6 +41,15 @@ is_drop _ = false
 abbrev pub is_left_out : Result Said Fault → Bool
 is_left_out (Ok said) = false
 is_left_out (Err fault) = not (is_save (sort_of fault) || is_drop fault)
+
+-- A frame came.
+abbrev pub is_frame : Came → Bool
+is_frame (came.Frame bytes) = true
+is_frame _ = false
+
+-- An event stands, and neither took nor sent a frame.
+abbrev pub is_quiet : Logged → Bool
+is_quiet l = not (is_left_out l.answer) && not (is_frame l.came) && (length l.sent == 0)
 
 -- What is told of an answer, with so many frames behind so many.
 abbrev pub told_at : ℕ → ℕ → Result Said Fault → Result Told Fault

@@ -1,10 +1,11 @@
 //! What comes to a node from the hub, and what its history keeps of it.
 
 ghost use Rattle.std.specs.Prelude.{◌≡◌, ◌≤◌, ◌∷◌, [], IfOk, Err};
-ghost use Rattle.node_history.specs.AtHub.{is_left_out, is_save, is_drop, lacks_memory, told_at, Comes};
+ghost use Rattle.node_history.specs.AtHub.{is_left_out, is_save, is_drop, is_frame, is_quiet, lacks_memory, told_at, Comes};
 
 use crate::answer::{Said, Told};
 use crate::came::{Came, FrameBytes};
+use crate::logged::Logged;
 use fc_base::{Fault, FaultSort};
 use hub::Hub;
 use messages::{Frame, decode_frame};
@@ -59,6 +60,20 @@ fn is_drop(fault: Fault) -> bool
     ensures { result ≡ is_drop fault }
 {
     matches!(fault, Fault::FrameBadField)
+}
+
+/// Whether an entry stands, and neither took nor sent a frame.
+pub(crate) fn is_quiet(entry: &Logged) -> bool
+    ensures { result ≡ is_quiet entry.now }
+{
+    !is_left_out(&entry.answer) && !is_frame(&entry.came) && entry.sent.len() == 0
+}
+
+/// Whether a frame came.
+fn is_frame(came: &Came) -> bool
+    ensures { result ≡ is_frame came.now }
+{
+    matches!(came, Came::Frame(_))
 }
 
 /// Whether memory ran out.

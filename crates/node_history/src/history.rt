@@ -1,11 +1,14 @@
 //! The history of a node, which is mostly made of what workers ask and tell.
 
 ghost use Rattle.std.specs.Prelude.{◌≡◌, ◌≤◌, ◌<◌, ◌^◌, ◌∷◌, ◌++◌, [], length, slice_get, Some, IfSome, MatchOption, OnOk};
+ghost use Rattle.std.specs.Option.{ForSome};
 ghost use Rattle.node_history.specs.declared.came.Came.TheVariants as came;
+ghost use Rattle.node_history.specs.AtHub.{is_quiet};
 ghost use Rattle.node_history.specs.Histories.{lent};
 ghost use Rattle.node_history.specs.Shorts.{entry_of, turn_entry};
 
 use crate::answer::{Answer, Said};
+use crate::at_hub::is_quiet;
 use crate::came::Came;
 use crate::logged::{Logged, Turn};
 use crate::short::Short;
@@ -117,6 +120,17 @@ impl History {
         match &self.rows.as_slice()[at] {
             Row::Short(short) => Lent::Made(short.logged(self.alloc)),
             Row::Other(place) => Lent::Kept(&self.others.as_slice()[*place]),
+        }
+    }
+
+    /// Whether the entry at this place, from 0 on, stands, and neither took nor sent a frame, in constant time.
+    pub fn is_quiet(&self, at: usize) -> bool
+        requires { at < length self.now.items }
+        ensures { ForSome (slice_get self.now.items at) (λ entry. result ≡ is_quiet entry) }
+    {
+        match &self.rows.as_slice()[at] {
+            Row::Short(_) => true,
+            Row::Other(place) => is_quiet(&self.others.as_slice()[*place]),
         }
     }
 

@@ -85,6 +85,7 @@ impl Seat {
     }
 
     /// It has applied one event more, with this answer.
+    #[inline(always)]
     pub(crate) fn advance(&mut self, answer: &Result<Said, Fault>)
         requires { self.old.applied + 1 < 2 ^ 64 }
         ensures { self.new ≡ record self.old { applied = self.old.applied + 1; last = Some answer.now } }

@@ -20,6 +20,8 @@ impl<N: Notes + Drop> ServerCell<N> {
     /// it as it has applied; and `NoMemory`: nothing changes. The others are entered: `NodeOff` of a server
     /// that isn't on, and `NodeOn` of a restart of one that is; the server's own of a write that ended; and
     /// of a restart `NumbersSpent`, `LoadFault` and `SaveFault`.
+    // Inlined, so that a caller that asks for one thing alone makes no room for the others.
+    #[inline(always)]
     pub fn apply(&mut self, seat: &mut Seat, task: Task) -> Result<Told, Fault>
         ensures ends { Applies self.old seat.old task self.new seat.new result }
         ensures replay { (past : List FrameEntry) × IsReplay self.new past }
@@ -42,6 +44,7 @@ impl<N: Notes + Drop> ServerCell<N> {
     }
 
     /// Whether the seat is of this server, which has just as many events of it as it has applied.
+    #[inline(always)]
     pub fn is_right(&self, seat: &Seat) -> bool
         ensures { result ≡ is_right self.now seat.now }
     {
