@@ -48,7 +48,7 @@ fn write_answer<W: Write>(writer: &mut W, answer: &Answer) -> io::Result<()>
         Answer::Run(run) => writeln!(writer, "ok run {}", run.0),
         Answer::Attempt(attempt) => writeln!(writer, "ok attempt {}", attempt.0),
         Answer::Issued(issue) => write_issue(writer, issue),
-        Answer::Checked(report) => write_report(writer, report),
+        Answer::Checked(report) => write_report(writer, report.as_report()),
     }
 }
 
@@ -124,7 +124,7 @@ pub(crate) fn has_faults(answer: &Answer) -> bool
     ensures { result ≡ has_faults answer.now }
 {
     match answer {
-        Answer::Checked(report) => report.faults() > 0,
+        Answer::Checked(report) => report.as_report().faults() > 0,
         _ => false,
     }
 }

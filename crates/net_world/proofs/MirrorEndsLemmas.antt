@@ -106,17 +106,9 @@ pub record HasHeard (node : MirrorNode) (sent : List (List ℕ)) (old new : Worl
   pub client_is : new.client ≡ old.client
   pub files_are : new.files ≡ old.files
 
--- The mirror of this world is another node, and no frame was added.
-pub quiet : (was node : MirrorNode) (sent : Sent) (old : World) → old.mirror.node ≡ Some was → sent_in sent ≡ sent_in old.sent → HasHeard node [] old (record old { sent = sent; mirror = record { node = Some node; greatest = old.mirror.greatest } })
-quiet was node sent old is same = record {
-  has = λ w past h. (there w past old.mirror.node was is h.mirror_is).0;
-  node_is = refl;
-  greatest_is = refl;
-  sent_is = same ∙ sym (append-nil (sent_in old.sent));
-  servers_are = refl;
-  client_is = refl;
-  files_are = refl;
-}
+-- There is a mirror, by every list for which a world stands that has this node.
+pub is_had : (was : MirrorNode) (now : World) → now.mirror.node ≡ Some was → (w : Setup) (past : List Change) → StandsFor w past now → w.mirror ≡ true
+is_had was now is w past h = (there w past now.mirror.node was is h.mirror_is).0
 
 -- The mirror has made a step, for which its node stands and whose frames were added.
 pub mirror_stepped : (w : Setup) (past : List Change) (e : Entry) (node : MirrorNode) (sent : List (List ℕ)) (old new : World) → StandsFor w past old → HasHeard node sent old new

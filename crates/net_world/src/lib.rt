@@ -50,7 +50,7 @@ pub use passes::{
 pub use playing::play;
 pub use put_in::{with_cut, with_stop};
 pub use sent::Sent;
-pub use told::{Answer, Told};
+pub use told::{Answer, BoxedReport, Told};
 pub use verdict::one_state_of_each_job;
 pub use world::World;
 pub use world_law::{

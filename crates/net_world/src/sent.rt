@@ -54,8 +54,10 @@ impl Sent {
         ensures none { OnOk result (self.new.last ≡ []) }
         ensures first { IfOk result (λ first. first ≡ length (sent_in self.new)) }
     {
-        self.older.append(&self.last)?;
-        self.last = Frames::new(self.alloc);
+        if self.last.len() > 0 {
+            self.older.append(&self.last)?;
+            self.last = Frames::new(self.alloc);
+        }
         Ok(self.older.len())
     }
 

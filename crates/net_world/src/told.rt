@@ -1,11 +1,13 @@
 //! What is told of what happens in a world.
 
-ghost use Rattle.std.specs.Prelude.{◌≡◌};
+ghost use Rattle.std.specs.Prelude.{◌≡◌, IfOk};
 ghost use Rattle.net_world.specs.Telling.{plainly_told};
 
 use engine::Issue;
 use fc_base::{Attempt, CheckReport, RunNo};
 use messages::Act;
+use std::alloc::{AllocError, Global};
+use std::marker::Model;
 
 /// What is answered.
 #[derive(Debug, Drop)]
@@ -19,7 +21,40 @@ pub enum Answer {
     /// What a worker is told that asks for a write.
     Issued(Issue),
     /// The report of a check.
-    Checked(CheckReport),
+    Checked(BoxedReport),
+}
+
+/// The report of a check, in memory of its own, since it is much larger than any other answer.
+#[derive(Debug, Drop)]
+pub struct BoxedReport {
+    report: Box<CheckReport>,
+}
+
+impl Model for BoxedReport {
+    ghost use Rattle.fc_base.specs.declared.report.ReportParts.{ReportParts};
+
+    ghost Value = { ReportParts };
+
+    ghost view = { λ b. b.report.value };
+}
+
+impl BoxedReport {
+    /// This report.
+    pub(crate) fn new(alloc: Global, report: CheckReport) -> Result<BoxedReport, AllocError>
+        ensures { IfOk result (λ boxed. boxed ≡ report) }
+    {
+        match Box::new(alloc, report) {
+            Ok(report) => Ok(BoxedReport { report }),
+            Err(_) => Err(AllocError),
+        }
+    }
+
+    /// The report.
+    pub fn as_report(&self) -> &CheckReport
+        ensures { result.now ≡ self.now }
+    {
+        &self.report
+    }
 }
 
 /// What is told of what has happened: what is answered, how many frames were sent, which are numbered

@@ -49,6 +49,8 @@ pub struct World {
     sent: Sent,
     /// The block of the write that landed last, for whose memory the next one needn't ask.
     block: Vec<u8>,
+    ghost some: { 1 ≤ length servers.items },
+    ghost few: { length servers.items ≤ MAX_SERVERS },
 }
 
 /// It is written by hand so that it is one function: where it is derived, the proof of each function that
@@ -206,6 +208,15 @@ impl World {
             Some(core) => Some(core.status()),
             None => None,
         }
+    }
+
+    /// How many servers it has.
+    fn count(&self) -> u32
+        ensures value { result ≡ length self.now.servers.items }
+        ensures some { 1 ≤ result }
+        ensures few { result ≤ MAX_SERVERS }
+    {
+        self.servers.as_slice().len() as u32
     }
 
     /// Whether it has this server.

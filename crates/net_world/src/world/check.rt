@@ -8,7 +8,7 @@ ghost use Rattle.net_world.specs.Happenings.{Check};
 ghost use Rattle.net_world.specs.Stands.{StandsFor};
 
 use super::{World, place_of};
-use crate::told::{Answer, Told};
+use crate::told::{Answer, BoxedReport, Told};
 use fc_base::{Fault, JobNo, ServerNo};
 use recheck::check_disk;
 use server_core::Input;
@@ -21,10 +21,7 @@ impl World {
         ensures { (w : Setup) (past : List Change) → StandsFor w past self.old →
             Ends w past (Check server job) self.new result }
     {
-        let ready = match self.ready(server, job) {
-            Ok(ready) => ready,
-            Err(fault) => return Err(fault),
-        };
+        let ready = self.ready(server, job)?;
         // A job that is ready has a file.
         if !self.has_file(server, job) {
             return Err(Fault::NotInFlight);
@@ -39,6 +36,9 @@ impl World {
         ) else {
             return Err(Fault::NoMemory);
         };
+        let Ok(told) = BoxedReport::new(self.alloc, report) else {
+            return Err(Fault::NoMemory);
+        };
         let done = Input::CheckDone {
             boot: ready.boot,
             attempt: ready.attempt,
@@ -46,7 +46,7 @@ impl World {
             report,
         };
         match self.serve(server, done) {
-            Ok(served) => Ok(served.told(Answer::Checked(report))),
+            Ok(served) => Ok(served.told(Answer::Checked(told))),
             Err(fault) => Err(fault),
         }
     }

@@ -23,10 +23,8 @@ impl World {
         let Ok(first) = self.sent.settle() else {
             return Err(Fault::NoMemory);
         };
-        match self.client.cut_in_begin(self.alloc, landed, text) {
-            Ok(()) => Ok(Told::plain(first)),
-            Err(fault) => Err(fault),
-        }
+        self.client.cut_in_begin(self.alloc, landed, text)?;
+        Ok(Told::plain(first))
     }
 
     /// It loses its power within the save of an attempt's number.
@@ -42,10 +40,8 @@ impl World {
         let Ok(first) = self.sent.settle() else {
             return Err(Fault::NoMemory);
         };
-        match self.client.cut_in_verify(self.alloc, landed, run, text) {
-            Ok(()) => Ok(Told::plain(first)),
-            Err(fault) => Err(fault),
-        }
+        self.client.cut_in_verify(self.alloc, landed, run, text)?;
+        Ok(Told::plain(first))
     }
 
     /// It loses its power within the save that a frame would make.
@@ -61,9 +57,7 @@ impl World {
         let Ok(first) = self.sent.settle() else {
             return Err(Fault::NoMemory);
         };
-        match self.client.cut_in_delivery(self.alloc, landed, frame) {
-            Ok(()) => Ok(Told::plain(first)),
-            Err(fault) => Err(fault),
-        }
+        self.client.cut_in_delivery(self.alloc, landed, frame)?;
+        Ok(Told::plain(first))
     }
 }

@@ -10,7 +10,7 @@ ghost use Rattle.net_world.specs.Stands.{StandsFor};
 
 use super::World;
 use crate::told::Told;
-use fc_base::{Fault, MAX_SERVERS};
+use fc_base::Fault;
 
 impl World {
     /// The client loses its power.
@@ -33,20 +33,12 @@ impl World {
         ensures { (w : Setup) (past : List Change) → StandsFor w past self.old →
             Ends w past (Restart OfClient) self.new result }
     {
-        let servers = self.servers.as_slice().len();
-        if servers < 1 {
-            return Err(Fault::NoServer);
-        }
-        if servers > MAX_SERVERS as usize {
-            return Err(Fault::NoServer);
-        }
+        let servers = self.count();
         let Ok(first) = self.sent.settle() else {
             return Err(Fault::NoMemory);
         };
         let mirror = self.mirror.node.is_some();
-        match self.client.restart(self.alloc, servers as u32, mirror) {
-            Ok(()) => Ok(Told::plain(first)),
-            Err(fault) => Err(fault),
-        }
+        self.client.restart(self.alloc, servers, mirror)?;
+        Ok(Told::plain(first))
     }
 }

@@ -16,7 +16,7 @@ use super::bar::no_save;
 use super::deliver::to_of;
 use crate::event::PlainEvent;
 use crate::told::Told;
-use fc_base::{Fault, MAX_SERVERS, ServerNo};
+use fc_base::{Fault, ServerNo};
 use messages::{Frame, Node};
 
 impl World {
@@ -73,10 +73,7 @@ impl World {
         ensures { (w : Setup) (events : List Happening) → StandsFor w (world w events) self.old →
             Ends w (world w events) (CutIn landed (Deliver number)) self.new result }
     {
-        let frame = match self.frame(number) {
-            Ok(frame) => frame,
-            Err(fault) => return Err(fault),
-        };
+        let frame = self.frame(number)?;
         match to_of(&frame) {
             Node::Server(server) => self.cut_in_at_server(landed, server, frame),
             Node::Client => self.cut_in_client_delivery(landed, frame),
@@ -125,10 +122,8 @@ impl World {
         let Ok(first) = self.sent.settle() else {
             return Err(Fault::NoMemory);
         };
-        match self.servers[server.0 as usize].cut_in_delivery(self.alloc, landed, frame) {
-            Ok(()) => Ok(Told::plain(first)),
-            Err(fault) => Err(fault),
-        }
+        self.servers[server.0 as usize].cut_in_delivery(self.alloc, landed, frame)?;
+        Ok(Told::plain(first))
     }
 
     /// A server loses its power within the save of its boot.
@@ -136,18 +131,13 @@ impl World {
         ensures { (w : Setup) (past : List Change) → StandsFor w past self.old →
             Ends w past (CutIn landed (Restart (OfServer server))) self.new result }
     {
-        if server.0 >= MAX_SERVERS {
-            return Err(Fault::NoServer);
-        }
         if !self.has_server(server) {
             return Err(Fault::NoServer);
         }
         let Ok(first) = self.sent.settle() else {
             return Err(Fault::NoMemory);
         };
-        match self.servers[server.0 as usize].cut_in_restart(self.alloc, landed, server) {
-            Ok(()) => Ok(Told::plain(first)),
-            Err(fault) => Err(fault),
-        }
+        self.servers[server.0 as usize].cut_in_restart(self.alloc, landed, server)?;
+        Ok(Told::plain(first))
     }
 }

@@ -25,10 +25,7 @@ impl World {
         ensures { (w : Setup) (events : List Happening) → StandsFor w (world w events) self.old →
             Ends w (world w events) (Deliver number) self.new result }
     {
-        let frame = match self.frame(number) {
-            Ok(frame) => frame,
-            Err(fault) => return Err(fault),
-        };
+        let frame = self.frame(number)?;
         match to_of(&frame) {
             Node::Server(server) => self.deliver_to_server(server, frame),
             Node::Client => self.ask(Ask::Deliver(frame)),

@@ -29,13 +29,9 @@ impl World {
         let Some(node) = &mut self.mirror.node else {
             return Err(Fault::NoMirror);
         };
-        match node.deliver(frame) {
-            Ok(frames) => {
-                let answer = Answer::Plain;
-                Ok(self.send(first, Asked { answer, frames }))
-            }
-            Err(fault) => Err(fault),
-        }
+        let frames = node.deliver(frame)?;
+        let answer = Answer::Plain;
+        Ok(self.send(first, Asked { answer, frames }))
     }
 
     /// It loses its power.
@@ -67,10 +63,8 @@ impl World {
         let Some(node) = &mut self.mirror.node else {
             return Err(Fault::NoMirror);
         };
-        match node.restart(self.alloc) {
-            Ok(()) => Ok(Told::plain(first)),
-            Err(fault) => Err(fault),
-        }
+        node.restart(self.alloc)?;
+        Ok(Told::plain(first))
     }
 
     /// It loses its power within the save that a frame would make.
@@ -89,9 +83,7 @@ impl World {
         let Some(node) = &mut self.mirror.node else {
             return Err(Fault::NoMirror);
         };
-        match node.cut_in_delivery(self.alloc, landed, frame) {
-            Ok(()) => Ok(Told::plain(first)),
-            Err(fault) => Err(fault),
-        }
+        node.cut_in_delivery(self.alloc, landed, frame)?;
+        Ok(Told::plain(first))
     }
 }

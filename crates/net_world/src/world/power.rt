@@ -10,7 +10,7 @@ ghost use Rattle.net_world.specs.Stands.{StandsFor};
 
 use super::World;
 use crate::told::Told;
-use fc_base::{Fault, MAX_SERVERS, ServerNo};
+use fc_base::{Fault, ServerNo};
 use messages::Node;
 
 impl World {
@@ -61,18 +61,13 @@ impl World {
         ensures { (w : Setup) (past : List Change) → StandsFor w past self.old →
             Ends w past (Restart (OfServer server)) self.new result }
     {
-        if server.0 >= MAX_SERVERS {
-            return Err(Fault::NoServer);
-        }
         if !self.has_server(server) {
             return Err(Fault::NoServer);
         }
         let Ok(first) = self.sent.settle() else {
             return Err(Fault::NoMemory);
         };
-        match self.servers[server.0 as usize].restart(self.alloc, server) {
-            Ok(()) => Ok(Told::plain(first)),
-            Err(fault) => Err(fault),
-        }
+        self.servers[server.0 as usize].restart(self.alloc, server)?;
+        Ok(Told::plain(first))
     }
 }

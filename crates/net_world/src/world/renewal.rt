@@ -9,7 +9,7 @@ ghost use Rattle.net_world.specs.Stands.{StandsFor};
 
 use super::World;
 use crate::told::Told;
-use fc_base::{Fault, Generation, MAX_SERVERS};
+use fc_base::{Fault, Generation};
 
 /// `NoMirror`: there is none; `NodeOn`: the client is on.
 impl World {
@@ -24,10 +24,8 @@ impl World {
         let Ok(first) = self.sent.settle() else {
             return Err(Fault::NoMemory);
         };
-        match self.client.lose(self.alloc) {
-            Ok(()) => Ok(Told::plain(first)),
-            Err(fault) => Err(fault),
-        }
+        self.client.lose(self.alloc)?;
+        Ok(Told::plain(first))
     }
 
     /// It is started in this generation.
@@ -40,20 +38,13 @@ impl World {
         if let Some(fault) = self.unrenewable(generation) {
             return Err(fault);
         }
-        let servers = self.servers.as_slice().len();
-        if servers < 1 || servers > MAX_SERVERS as usize {
-            return Err(Fault::NoServer);
-        }
+        let servers = self.count();
         let Ok(first) = self.sent.settle() else {
             return Err(Fault::NoMemory);
         };
-        match self.client.renew(self.alloc, servers as u32, generation) {
-            Ok(()) => {
-                self.mirror.greatest = generation.0;
-                Ok(Told::plain(first))
-            }
-            Err(fault) => Err(fault),
-        }
+        self.client.renew(self.alloc, servers, generation)?;
+        self.mirror.greatest = generation.0;
+        Ok(Told::plain(first))
     }
 
     /// It loses its power within the save of its generation.
@@ -68,22 +59,13 @@ impl World {
         if let Some(fault) = self.unrenewable(generation) {
             return Err(fault);
         }
-        let servers = self.servers.as_slice().len();
-        if servers < 1 || servers > MAX_SERVERS as usize {
-            return Err(Fault::NoServer);
-        }
+        let servers = self.count();
         let Ok(first) = self.sent.settle() else {
             return Err(Fault::NoMemory);
         };
-        match self
-            .client
-            .cut_in_renewal(self.alloc, servers as u32, landed, generation)
-        {
-            Ok(()) => {
-                self.mirror.greatest = generation.0;
-                Ok(Told::plain(first))
-            }
-            Err(fault) => Err(fault),
-        }
+        self.client
+            .cut_in_renewal(self.alloc, servers, landed, generation)?;
+        self.mirror.greatest = generation.0;
+        Ok(Told::plain(first))
     }
 }

@@ -29,6 +29,7 @@ impl World {
     }
 
     /// An open write has ended.
+    #[inline(always)]
     pub(super) fn end(
         &mut self,
         server: ServerNo,
@@ -39,11 +40,8 @@ impl World {
         ensures { (w : Setup) (past : List Change) → StandsFor w past self.old →
             Ends w past (ending end server job write) self.new result }
     {
-        let ticket = match self.open_write(server, job, write) {
-            Ok((ticket, _)) => ticket,
-            Err(fault) => return Err(fault),
-        };
-        match self.serve(server, Input::WriteDone(ticket, end)) {
+        let found = self.open_write(server, job, write)?;
+        match self.serve(server, Input::WriteDone(found.0, end)) {
             Ok(served) => Ok(served.told(Answer::Plain)),
             Err(fault) => Err(fault),
         }
@@ -62,10 +60,8 @@ impl World {
     {
         writes_stay_in_the_region();
         writes_fill_their_blocks();
-        let (ticket, rec) = match self.open_write(server, job, write) {
-            Ok(found) => found,
-            Err(fault) => return Err(fault),
-        };
+        let found = self.open_write(server, job, write)?;
+        let (ticket, rec) = found;
         let _within_limits = rec.parts();
         // No open write lies past these ends.
         if !self.has_file(server, job) {

@@ -1,4 +1,5 @@
 use Rattle.std.proofs.Common.{refl, sym, ◌∙◌, ap, ◌<◌, arith, length, append-nil, List, ℕ}
+use Rattle.std.proofs.lemmas.Result.{err_from_is_err_and}
 use Rattle.server_core.specs.declared.input.Input.TheVariants as inputs
 use Rattle.server_core.specs.Hearing as hearing
 use Rattle.net_world.specs.Trace.{opening_of}
@@ -22,13 +23,13 @@ returns-then-not-has_server c w past number stands is goes =
 pub returns-in_default : goal.returns-in_default
 returns-in_default c w past number stands is goes = (refl, settled w past c.args.self.now _ stands c.settle.ensures.same refl refl refl refl)
 
-pub returns-in-Ok-cut_in_delivery : goal.returns-in-Ok-cut_in_delivery
-returns-in-Ok-cut_in_delivery c w past number stands is goes =
+pub returns : goal.returns
+returns c w past number stands is goes =
     let s = c.args.server in
     let l = lt_of s (length c.args.self.now.servers.items) (sym c.has_server.ensures ∙ c.if-not-has_server.false) in
     let below : s < w.servers = omega (arith, stands.number, l) in
     let at = node_at c.args.self.now.servers.items s c.server.inside.0 c.index_mut.result.now c.server.view_is l c.index_mut.ensures.value in
-    let h = c.in-Ok-cut_in_delivery.ensures (opening_of s) (entries past s) (stands.servers_are s c.index_mut.result.now at) in
+    let h = c.in_ok-cut_in_delivery.ensures (opening_of s) (entries past s) (stands.servers_are s c.index_mut.result.now at) in
     plain_ends w past s (CutIn c.args.landed (Deliver number)) (hearing.Met (inputs.Deliver c.args.frame) (lost_by c.args.landed)) c.cut_in_delivery.new.self c.in-Ok.first c.plain.result c.args.self.now _ stands
     (record { there = l; place = c.server.inside.0; place_is = c.server.view_is; set_is = refl; sent_is = c.settle.ensures.same ∙ sym (append-nil (sent_in c.args.self.now.sent)); client_is = refl; files_are = refl; mirror_is = refl })
     h.2
@@ -36,12 +37,14 @@ returns-in-Ok-cut_in_delivery c w past number stands is goes =
     (c.in-Ok.ensures.first ∙ ap (λ (fs : List (List ℕ)). length fs) c.settle.ensures.same)
     c.plain.ensures
 
-pub returns-in-Err : goal.returns-in-Err
-returns-in-Err c w past number stands is goes =
+pub returns-in_err-cut_in_delivery : goal.returns-in_err-cut_in_delivery
+returns-in_err-cut_in_delivery c w past number stands is goes =
     let s = c.args.server in
     let l = lt_of s (length c.args.self.now.servers.items) (sym c.has_server.ensures ∙ c.if-not-has_server.false) in
     let at = node_at c.args.self.now.servers.items s c.server.inside.0 c.index_mut.result.now c.server.view_is l c.index_mut.ensures.value in
-    frame_cut_ends w past number c.args.landed c.args.frame s c.cut_in_delivery.new.self c.in-Err.fault c.args.self.now _ stands
+    let p = err_from_is_err_and c.from_residual.result c.from_residual.ensures.1 in
+    rw (p.1, p.2)
+    (frame_cut_ends w past number c.args.landed c.args.frame s c.cut_in_delivery.new.self c.in_err-cut_in_delivery.field-0.0 c.args.self.now _ stands
     (record { there = l; place = c.server.inside.0; place_is = c.server.view_is; set_is = refl; sent_is = c.settle.ensures.same ∙ sym (append-nil (sent_in c.args.self.now.sent)); client_is = refl; files_are = refl; mirror_is = refl })
     (omega (arith, stands.number, l)) (record { is_sent = is; goes_to = goes })
-    (c.in-Err.ensures (opening_of s) (entries past s) (stands.servers_are s c.index_mut.result.now at))
+    (c.in_err-cut_in_delivery.ensures (opening_of s) (entries past s) (stands.servers_are s c.index_mut.result.now at)))

@@ -1,4 +1,5 @@
 use Rattle.std.proofs.Common.{refl, sym, ◌∙◌, ap, length, append-nil, List, ℕ}
+use Rattle.std.proofs.lemmas.Result.{err_from_is_err_and}
 use Rattle.client_core.specs.declared.input.Input.TheVariants as inputs
 use Rattle.net_world.specs.Trace.{client_opening}
 use Rattle.net_world.specs.Happenings.{Deliver, CutIn}
@@ -11,18 +12,20 @@ use Rattle.net_world.proofs.world.World.cut_in_client_delivery.Goals as goal
 pub returns-in_default : goal.returns-in_default
 returns-in_default c w past number stands is goes = (refl, settled w past c.args.self.now _ stands c.settle.ensures.same refl refl refl refl)
 
-pub returns-in-Ok-cut_in_delivery : goal.returns-in-Ok-cut_in_delivery
-returns-in-Ok-cut_in_delivery c w past number stands is goes =
+pub returns : goal.returns
+returns c w past number stands is goes =
     cut_ends w past c.args.landed (CutIn c.args.landed (Deliver number)) (inputs.Deliver c.args.frame) c.in-Ok.first c.plain.result c.args.self.now _ stands
     (record { sent_is = c.settle.ensures.same ∙ sym (append-nil (sent_in c.args.self.now.sent)); servers_are = refl; files_are = refl; mirror_is = refl })
     (cuts_delivery w past c.args.landed number c.args.frame (record { is_sent = is; goes_to = goes }))
-    (c.in-Ok-cut_in_delivery.ensures (client_opening w) (entries w past) stands.client_is)
+    (c.in_ok-cut_in_delivery.ensures (client_opening w) (entries w past) stands.client_is)
     (c.in-Ok.ensures.first ∙ ap (λ (fs : List (List ℕ)). length fs) c.settle.ensures.same)
     c.plain.ensures
 
-pub returns-in-Err : goal.returns-in-Err
-returns-in-Err c w past number stands is goes =
-    uncut_ends w past c.args.landed (CutIn c.args.landed (Deliver number)) (inputs.Deliver c.args.frame) c.in-Err.fault c.args.self.now _ stands
+pub returns-in_err-cut_in_delivery : goal.returns-in_err-cut_in_delivery
+returns-in_err-cut_in_delivery c w past number stands is goes =
+    let p = err_from_is_err_and c.from_residual.result c.from_residual.ensures.1 in
+    rw (p.1, p.2)
+    (uncut_ends w past c.args.landed (CutIn c.args.landed (Deliver number)) (inputs.Deliver c.args.frame) c.in_err-cut_in_delivery.field-0.0 c.args.self.now _ stands
     (record { sent_is = c.settle.ensures.same ∙ sym (append-nil (sent_in c.args.self.now.sent)); servers_are = refl; files_are = refl; mirror_is = refl })
     (cuts_delivery w past c.args.landed number c.args.frame (record { is_sent = is; goes_to = goes }))
-    (c.in-Err.ensures (client_opening w) (entries w past) stands.client_is)
+    (c.in_err-cut_in_delivery.ensures (client_opening w) (entries w past) stands.client_is))

@@ -1,4 +1,5 @@
 use Rattle.std.proofs.Common.{refl, sym, ◌∙◌, ap, length, append-nil, List, ℕ}
+use Rattle.std.proofs.lemmas.Result.{err_from_is_err_and}
 use Rattle.net_world.specs.declared.server_node.ServerNode.{ServerNode}
 use Rattle.net_world.specs.Happenings.{Renew, CutIn}
 use Rattle.net_world.specs.Outcomes.{lost_by}
@@ -8,9 +9,9 @@ use Rattle.net_world.specs.Asking.{entries}
 use Rattle.net_world.proofs.RenewalEndsLemmas.{cut_in, renewal_ends, uncut_ends}
 use Rattle.net_world.proofs.world.World.cut_in_renewal.Goals as goal
 
-pub returns-in-Ok-cut_in_renewal : goal.returns-in-Ok-cut_in_renewal
-returns-in-Ok-cut_in_renewal c w past stands =
-    let h = c.in-Ok-cut_in_renewal.ensures (client_opening w) (entries w past) (sym (ap (λ (xs : List ServerNode). length xs) c.as_slice-servers.ensures.value ∙ stands.number)) stands.client_is in
+pub returns : goal.returns
+returns c w past stands =
+    let h = c.in_ok-cut_in_renewal.ensures (client_opening w) (entries w past) (sym (c.count-servers.ensures.value ∙ stands.number)) stands.client_is in
     renewal_ends w past c.args.generation (lost_by c.args.landed) (CutIn c.args.landed (Renew c.args.generation)) c.in-Ok.first c.plain.result c.args.self.now _ (cut_in w past c.args.generation c.args.landed) stands
     (record { sent_is = c.settle.ensures.same ∙ sym (append-nil (sent_in c.args.self.now.sent)); servers_are = refl; files_are = refl; node_is = refl })
     c.generation.view_is
@@ -20,9 +21,11 @@ returns-in-Ok-cut_in_renewal c w past stands =
     (c.in-Ok.ensures.first ∙ ap (λ (fs : List (List ℕ)). length fs) c.settle.ensures.same)
     c.plain.ensures
 
-pub returns-in-Err : goal.returns-in-Err
-returns-in-Err c w past stands =
-    uncut_ends w past c.args.generation c.args.landed c.in-Err.fault c.args.self.now _ stands
+pub returns-in_err-cut_in_renewal : goal.returns-in_err-cut_in_renewal
+returns-in_err-cut_in_renewal c w past stands =
+    let p = err_from_is_err_and c.from_residual.result c.from_residual.ensures.1 in
+    rw (p.1, p.2)
+    (uncut_ends w past c.args.generation c.args.landed c.in_err-cut_in_renewal.field-0.0 c.args.self.now _ stands
     (record { sent_is = c.settle.ensures.same ∙ sym (append-nil (sent_in c.args.self.now.sent)); servers_are = refl; files_are = refl; mirror_is = refl })
     (sym (c.unrenewable.ensures.why w past stands) ∙ c.in_default.is)
-    (c.in-Err.ensures (client_opening w) (entries w past) (sym (ap (λ (xs : List ServerNode). length xs) c.as_slice-servers.ensures.value ∙ stands.number)) stands.client_is)
+    (c.in_err-cut_in_renewal.ensures (client_opening w) (entries w past) (sym (c.count-servers.ensures.value ∙ stands.number)) stands.client_is))

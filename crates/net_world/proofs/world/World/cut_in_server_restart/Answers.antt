@@ -1,4 +1,5 @@
 use Rattle.std.proofs.Common.{refl, sym, ◌∙◌, ap, ◌<◌, arith, length, append-nil, List, ℕ}
+use Rattle.std.proofs.lemmas.Result.{err_from_is_err_and}
 use Rattle.messages.specs.declared.node.Node.TheVariants as nodes
 use Rattle.server_core.specs.Hearing as hearing
 use Rattle.net_world.specs.Trace.{opening_of}
@@ -12,11 +13,6 @@ use Rattle.net_world.proofs.PlainLemmas.{plain_ends, none_on, may_restart}
 use Rattle.net_world.proofs.CutEndsLemmas.{restart_cut_plain, restart_cut_ends}
 use Rattle.net_world.proofs.world.World.cut_in_server_restart.Goals as goal
 
-pub returns-then-server-ge-MAX_SERVERS : goal.returns-then-server-ge-MAX_SERVERS
-returns-then-server-ge-MAX_SERVERS c w past stands =
-    let e = CutIn c.args.landed (Restart (nodes.Server c.args.server)) in
-    refuses w past e _ c.args.self.now refl (stops w past e _ (none_on w past c.args.server (omega (arith, stands.few, c.server.view_is, c.if-server-ge-MAX_SERVERS.true)))) stands
-
 pub returns-then-not-has_server : goal.returns-then-not-has_server
 returns-then-not-has_server c w past stands =
     let l = le_of c.args.server (length c.args.self.now.servers.items) (sym c.has_server.ensures ∙ c.if-not-has_server.true) in
@@ -26,26 +22,28 @@ returns-then-not-has_server c w past stands =
 pub returns-in_default : goal.returns-in_default
 returns-in_default c w past stands = (refl, settled w past c.args.self.now _ stands c.settle.ensures.same refl refl refl refl)
 
-pub returns-in-Ok-cut_in_restart : goal.returns-in-Ok-cut_in_restart
-returns-in-Ok-cut_in_restart c w past stands =
+pub returns : goal.returns
+returns c w past stands =
     let s = c.args.server in
     let l = lt_of s (length c.args.self.now.servers.items) (sym c.has_server.ensures ∙ c.if-not-has_server.false) in
     let below : s < w.servers = omega (arith, stands.number, l) in
-    let at = node_at c.args.self.now.servers.items s c.server-2.inside.0 c.index_mut.result.now c.server-2.view_is l c.index_mut.ensures.value in
-    let h = c.in-Ok-cut_in_restart.ensures (opening_of s) (entries past s) refl (stands.servers_are s c.index_mut.result.now at) in
+    let at = node_at c.args.self.now.servers.items s c.server.inside.0 c.index_mut.result.now c.server.view_is l c.index_mut.ensures.value in
+    let h = c.in_ok-cut_in_restart.ensures (opening_of s) (entries past s) refl (stands.servers_are s c.index_mut.result.now at) in
     plain_ends w past s (CutIn c.args.landed (Restart (nodes.Server s))) (hearing.Restart (lost_by c.args.landed)) c.cut_in_restart.new.self c.in-Ok.first c.plain.result c.args.self.now _ stands
-    (record { there = l; place = c.server-2.inside.0; place_is = c.server-2.view_is; set_is = refl; sent_is = c.settle.ensures.same ∙ sym (append-nil (sent_in c.args.self.now.sent)); client_is = refl; files_are = refl; mirror_is = refl })
+    (record { there = l; place = c.server.inside.0; place_is = c.server.view_is; set_is = refl; sent_is = c.settle.ensures.same ∙ sym (append-nil (sent_in c.args.self.now.sent)); client_is = refl; files_are = refl; mirror_is = refl })
     h.2
     (restart_cut_plain w past s c.args.landed (may_restart w past s below h.0) h.1)
     (c.in-Ok.ensures.first ∙ ap (λ (fs : List (List ℕ)). length fs) c.settle.ensures.same)
     c.plain.ensures
 
-pub returns-in-Err : goal.returns-in-Err
-returns-in-Err c w past stands =
+pub returns-in_err-cut_in_restart : goal.returns-in_err-cut_in_restart
+returns-in_err-cut_in_restart c w past stands =
     let s = c.args.server in
     let l = lt_of s (length c.args.self.now.servers.items) (sym c.has_server.ensures ∙ c.if-not-has_server.false) in
-    let at = node_at c.args.self.now.servers.items s c.server-2.inside.0 c.index_mut.result.now c.server-2.view_is l c.index_mut.ensures.value in
-    restart_cut_ends w past s c.args.landed c.cut_in_restart.new.self c.in-Err.fault c.args.self.now _ stands
-    (record { there = l; place = c.server-2.inside.0; place_is = c.server-2.view_is; set_is = refl; sent_is = c.settle.ensures.same ∙ sym (append-nil (sent_in c.args.self.now.sent)); client_is = refl; files_are = refl; mirror_is = refl })
+    let at = node_at c.args.self.now.servers.items s c.server.inside.0 c.index_mut.result.now c.server.view_is l c.index_mut.ensures.value in
+    let p = err_from_is_err_and c.from_residual.result c.from_residual.ensures.1 in
+    rw (p.1, p.2)
+    (restart_cut_ends w past s c.args.landed c.cut_in_restart.new.self c.in_err-cut_in_restart.field-0.0 c.args.self.now _ stands
+    (record { there = l; place = c.server.inside.0; place_is = c.server.view_is; set_is = refl; sent_is = c.settle.ensures.same ∙ sym (append-nil (sent_in c.args.self.now.sent)); client_is = refl; files_are = refl; mirror_is = refl })
     (omega (arith, stands.number, l))
-    (c.in-Err.ensures (opening_of s) (entries past s) refl (stands.servers_are s c.index_mut.result.now at))
+    (c.in_err-cut_in_restart.ensures (opening_of s) (entries past s) refl (stands.servers_are s c.index_mut.result.now at)))

@@ -1,30 +1,34 @@
-use Rattle.std.proofs.Common.{◌∙◌, ap, ◌++◌, length, List, ℕ}
+use Rattle.std.proofs.Common.{◌∙◌, ap, ◌++◌, length, List, ℕ, refl, sym, append-nil}
+use Rattle.std.proofs.lemmas.Result.{err_from_is_err_and}
 use Rattle.net_world.specs.Trace.{mirror_opening}
 use Rattle.net_world.specs.Frames.{of_mirror}
 use Rattle.net_world.specs.Changes.{steps}
-use Rattle.net_world.proofs.MirrorEndsLemmas.{there, quiet, heard_ends, unheard_ends}
+use Rattle.net_world.specs.Sending.{sent_in}
+use Rattle.net_world.proofs.MirrorEndsLemmas.{there, is_had, heard_ends, unheard_ends}
 use Rattle.net_world.proofs.world.World.deliver_to_mirror.Goals as goal
 
-pub returns-in-Ok-deliver : goal.returns-in-Ok-deliver
-returns-in-Ok-deliver c w past number stands is goes =
-    heard_ends w past number c.args.frame.now c.deliver.new.self c.in-Ok-deliver.frames c.in-Ok.first c.send.result c.args.self.now c.send.new.self stands
+pub returns : goal.returns
+returns c w past number stands is goes =
+    heard_ends w past number c.args.frame.now c.deliver.new.self c.in_ok-frames.frames c.in-Ok.first c.send.result c.args.self.now c.send.new.self stands
     (record {
       has = λ v list h. (there v list c.args.self.now.mirror.node _ c.in-Some.is h.mirror_is).0;
       node_is = ap (λ x. x.mirror.node) c.send.ensures.rest;
       greatest_is = ap (λ x. x.mirror.greatest) c.send.ensures.rest;
-      sent_is = c.send.ensures.sent ∙ ap (λ fs. fs ++ c.in-Ok-deliver.frames) c.settle.ensures.same;
+      sent_is = c.send.ensures.sent ∙ ap (λ fs. fs ++ c.in_ok-frames.frames) c.settle.ensures.same;
       servers_are = ap (λ x. x.servers) c.send.ensures.rest;
       client_is = ap (λ x. x.client) c.send.ensures.rest;
       files_are = ap (λ x. x.files) c.send.ensures.rest;
     })
     (record { is_sent = is; goes_to = goes })
-    (c.in-Ok-deliver.ensures mirror_opening (of_mirror (steps past)) (there w past c.args.self.now.mirror.node _ c.in-Some.is stands.mirror_is).1)
+    (c.in_ok-frames.ensures mirror_opening (of_mirror (steps past)) (there w past c.args.self.now.mirror.node _ c.in-Some.is stands.mirror_is).1)
     (c.in-Ok.ensures.first ∙ ap (λ (fs : List (List ℕ)). length fs) c.settle.ensures.same)
     c.send.ensures.told
 
-pub returns-in-Err : goal.returns-in-Err
-returns-in-Err c w past number stands is goes =
-    unheard_ends w past number c.args.frame.now c.deliver.new.self c.in-Err.fault c.args.self.now _ stands
-    (quiet _ _ _ c.args.self.now c.in-Some.is c.settle.ensures.same)
+pub returns-in_err-frames : goal.returns-in_err-frames
+returns-in_err-frames c w past number stands is goes =
+    let p = err_from_is_err_and c.from_residual.result c.from_residual.ensures.1 in
+    rw (p.1, p.2)
+    (unheard_ends w past number c.args.frame.now c.deliver.new.self c.in_err-frames.field-0.0 c.args.self.now _ stands
+    (record { has = is_had _ c.args.self.now c.in-Some.is; node_is = refl; greatest_is = refl; sent_is = c.settle.ensures.same ∙ sym (append-nil (sent_in c.args.self.now.sent)); servers_are = refl; client_is = refl; files_are = refl })
     (record { is_sent = is; goes_to = goes })
-    (c.in-Err.ensures mirror_opening (of_mirror (steps past)) (there w past c.args.self.now.mirror.node _ c.in-Some.is stands.mirror_is).1)
+    (c.in_err-frames.ensures mirror_opening (of_mirror (steps past)) (there w past c.args.self.now.mirror.node _ c.in-Some.is stands.mirror_is).1))

@@ -1,4 +1,5 @@
 use Rattle.std.proofs.Common.{refl, sym, ◌∙◌, ap, length, append-nil, List, ℕ}
+use Rattle.std.proofs.lemmas.Result.{err_from_is_err_and}
 use Rattle.client_core.specs.Hearing as hearing
 use Rattle.net_world.specs.Happenings.{LoseNote}
 use Rattle.net_world.specs.Trace.{client_opening}
@@ -8,20 +9,22 @@ use Rattle.net_world.proofs.ClientPlainLemmas.{plain_ends}
 use Rattle.net_world.proofs.RenewalEndsLemmas.{loss_plain, loss_ends}
 use Rattle.net_world.proofs.world.World.lose_note.Goals as goal
 
-pub returns-in-Ok-lose : goal.returns-in-Ok-lose
-returns-in-Ok-lose c w past stands =
+pub returns : goal.returns
+returns c w past stands =
     let free = sym (c.unlosable.ensures.why w past stands) ∙ c.in_default.is in
     plain_ends w past LoseNote hearing.Lose c.in-Ok.first c.plain.result c.args.self.now _ stands
     (record { sent_is = c.settle.ensures.same ∙ sym (append-nil (sent_in c.args.self.now.sent)); servers_are = refl; files_are = refl; mirror_is = refl })
-    (c.in-Ok-lose.ensures (client_opening w) (entries w past) stands.client_is).1
+    (c.in_ok-lose.ensures (client_opening w) (entries w past) stands.client_is).1
     (loss_plain w past free)
     refl
     (c.in-Ok.ensures.first ∙ ap (λ (fs : List (List ℕ)). length fs) c.settle.ensures.same)
     c.plain.ensures
 
-pub returns-in-Err : goal.returns-in-Err
-returns-in-Err c w past stands =
-    loss_ends w past c.in-Err.fault c.args.self.now _ stands
+pub returns-in_err-lose : goal.returns-in_err-lose
+returns-in_err-lose c w past stands =
+    let p = err_from_is_err_and c.from_residual.result c.from_residual.ensures.1 in
+    rw (p.1, p.2)
+    (loss_ends w past c.in_err-lose.field-0.0 c.args.self.now _ stands
     (record { sent_is = c.settle.ensures.same ∙ sym (append-nil (sent_in c.args.self.now.sent)); servers_are = refl; files_are = refl; mirror_is = refl })
     (sym (c.unlosable.ensures.why w past stands) ∙ c.in_default.is)
-    (c.in-Err.ensures (client_opening w) (entries w past) stands.client_is)
+    (c.in_err-lose.ensures (client_opening w) (entries w past) stands.client_is))

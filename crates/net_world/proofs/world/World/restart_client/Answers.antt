@@ -1,4 +1,5 @@
 use Rattle.std.proofs.Common.{refl, sym, ◌∙◌, ap, subst, length, append-nil, arith, List, ℕ, Ok, Err}
+use Rattle.std.proofs.lemmas.Result.{err_from_is_err_and}
 use Rattle.messages.specs.declared.node.Node.TheVariants.{Client}
 use Rattle.client_core.specs.Hearing as hearing
 use Rattle.net_world.specs.declared.server_node.ServerNode.{ServerNode}
@@ -15,10 +16,10 @@ use Rattle.net_world.proofs.world.World.restart_client.Goals as goal
 pub returns-in_default : goal.returns-in_default
 returns-in_default c w past stands = (refl, settled w past c.args.self.now _ stands c.settle.ensures.same refl refl refl refl)
 
-pub returns-in-Ok-restart : goal.returns-in-Ok-restart
-returns-in-Ok-restart c w past stands =
+pub returns : goal.returns
+returns c w past stands =
     let h = subst (λ mirror. Restarts (client_opening w) (entries w past) mirror c.restart.new.self (Ok tt)) (c.is_some-mirror.ensures ∙ mirror_word w past c.args.self.now.mirror.node stands.mirror_is)
-    (c.in-Ok-restart.ensures (client_opening w) (entries w past) (sym (ap (λ (xs : List ServerNode). length xs) c.as_slice-servers.ensures.value ∙ stands.number)) stands.client_is) in
+    (c.in_ok-restart.ensures (client_opening w) (entries w past) (sym (c.count-servers.ensures.value ∙ stands.number)) stands.client_is) in
     plain_ends w past (Restart Client) (hearing.Restart w.mirror) c.in-Ok.first c.plain.result c.args.self.now _ stands
     (record { sent_is = c.settle.ensures.same ∙ sym (append-nil (sent_in c.args.self.now.sent)); servers_are = refl; files_are = refl; mirror_is = refl })
     h.2
@@ -27,12 +28,11 @@ returns-in-Ok-restart c w past stands =
     (c.in-Ok.ensures.first ∙ ap (λ (fs : List (List ℕ)). length fs) c.settle.ensures.same)
     c.plain.ensures
 
-pub returns-in-Err : goal.returns-in-Err
-returns-in-Err c w past stands =
-    restart_ends w past c.in-Err.fault c.args.self.now _ stands
+pub returns-in_err-restart : goal.returns-in_err-restart
+returns-in_err-restart c w past stands =
+    let p = err_from_is_err_and c.from_residual.result c.from_residual.ensures.1 in
+    rw (p.1, p.2)
+    (restart_ends w past c.in_err-restart.field-0.0 c.args.self.now _ stands
     (record { sent_is = c.settle.ensures.same ∙ sym (append-nil (sent_in c.args.self.now.sent)); servers_are = refl; files_are = refl; mirror_is = refl })
-    (subst (λ mirror. Restarts (client_opening w) (entries w past) mirror c.restart.new.self (Err c.in-Err.fault)) (c.is_some-mirror.ensures ∙ mirror_word w past c.args.self.now.mirror.node stands.mirror_is)
-    (c.in-Err.ensures (client_opening w) (entries w past) (sym (ap (λ (xs : List ServerNode). length xs) c.as_slice-servers.ensures.value ∙ stands.number)) stands.client_is))
-
-pub returns-then-servers-lt1 : goal.returns-then-servers-lt1
-returns-then-servers-lt1 c w past stands = absurd (omega (arith, stands.some, ap (λ (xs : List ServerNode). length xs) c.as_slice-servers.ensures.value ∙ stands.number, c.if-servers-lt1.true))
+    (subst (λ mirror. Restarts (client_opening w) (entries w past) mirror c.restart.new.self (Err c.in_err-restart.field-0.0)) (c.is_some-mirror.ensures ∙ mirror_word w past c.args.self.now.mirror.node stands.mirror_is)
+    (c.in_err-restart.ensures (client_opening w) (entries w past) (sym (c.count-servers.ensures.value ∙ stands.number)) stands.client_is)))

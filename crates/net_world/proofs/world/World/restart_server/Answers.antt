@@ -1,4 +1,5 @@
 use Rattle.std.proofs.Common.{refl, sym, ◌∙◌, ap, ◌<◌, arith, length, append-nil, List, ℕ}
+use Rattle.std.proofs.lemmas.Result.{err_from_is_err_and}
 use Rattle.net_world.specs.Trace.{opening_of}
 use Rattle.net_world.specs.Happenings.{Restart}
 use Rattle.net_world.specs.Sending.{sent_in}
@@ -20,31 +21,28 @@ returns-then-not-has_server c w past stands =
 pub returns-in_default : goal.returns-in_default
 returns-in_default c w past stands = (refl, settled w past c.args.self.now _ stands c.settle.ensures.same refl refl refl refl)
 
-pub returns-in-Ok-restart : goal.returns-in-Ok-restart
-returns-in-Ok-restart c w past stands =
+pub returns : goal.returns
+returns c w past stands =
     let s = c.args.server in
     let l = lt_of s (length c.args.self.now.servers.items) (sym c.has_server.ensures ∙ c.if-not-has_server.false) in
     let below : s < w.servers = omega (arith, stands.number, l) in
-    let at = node_at c.args.self.now.servers.items s c.server-2.inside.0 c.index_mut.result.now c.server-2.view_is l c.index_mut.ensures.value in
-    let h = c.in-Ok-restart.ensures (opening_of s) (entries past s) refl (stands.servers_are s c.index_mut.result.now at) in
+    let at = node_at c.args.self.now.servers.items s c.server.inside.0 c.index_mut.result.now c.server.view_is l c.index_mut.ensures.value in
+    let h = c.in_ok-restart.ensures (opening_of s) (entries past s) refl (stands.servers_are s c.index_mut.result.now at) in
     plain_ends w past s (Restart (nodes.Server s)) (hearing.Restart Saved) c.restart.new.self c.in-Ok.first c.plain.result c.args.self.now _ stands
-    (record { there = l; place = c.server-2.inside.0; place_is = c.server-2.view_is; set_is = refl; sent_is = c.settle.ensures.same ∙ sym (append-nil (sent_in c.args.self.now.sent)); client_is = refl; files_are = refl; mirror_is = refl })
+    (record { there = l; place = c.server.inside.0; place_is = c.server.view_is; set_is = refl; sent_is = c.settle.ensures.same ∙ sym (append-nil (sent_in c.args.self.now.sent)); client_is = refl; files_are = refl; mirror_is = refl })
     h.2
     (restart_plain w past s (may_restart w past s below h.0) h.1)
     (c.in-Ok.ensures.first ∙ ap (λ (fs : List (List ℕ)). length fs) c.settle.ensures.same)
     c.plain.ensures
 
-pub returns-in-Err : goal.returns-in-Err
-returns-in-Err c w past stands =
+pub returns-in_err-restart : goal.returns-in_err-restart
+returns-in_err-restart c w past stands =
     let s = c.args.server in
     let l = lt_of s (length c.args.self.now.servers.items) (sym c.has_server.ensures ∙ c.if-not-has_server.false) in
-    let at = node_at c.args.self.now.servers.items s c.server-2.inside.0 c.index_mut.result.now c.server-2.view_is l c.index_mut.ensures.value in
-    restart_ends w past s c.restart.new.self c.in-Err.fault c.args.self.now _ stands
-    (record { there = l; place = c.server-2.inside.0; place_is = c.server-2.view_is; set_is = refl; sent_is = c.settle.ensures.same ∙ sym (append-nil (sent_in c.args.self.now.sent)); client_is = refl; files_are = refl; mirror_is = refl })
+    let at = node_at c.args.self.now.servers.items s c.server.inside.0 c.index_mut.result.now c.server.view_is l c.index_mut.ensures.value in
+    let p = err_from_is_err_and c.from_residual.result c.from_residual.ensures.1 in
+    rw (p.1, p.2)
+    (restart_ends w past s c.restart.new.self c.in_err-restart.field-0.0 c.args.self.now _ stands
+    (record { there = l; place = c.server.inside.0; place_is = c.server.view_is; set_is = refl; sent_is = c.settle.ensures.same ∙ sym (append-nil (sent_in c.args.self.now.sent)); client_is = refl; files_are = refl; mirror_is = refl })
     (omega (arith, stands.number, l))
-    (c.in-Err.ensures (opening_of s) (entries past s) refl (stands.servers_are s c.index_mut.result.now at))
-
-pub returns-then-server-ge-MAX_SERVERS : goal.returns-then-server-ge-MAX_SERVERS
-returns-then-server-ge-MAX_SERVERS c w past stands =
-    let e = Restart (nodes.Server c.args.server) in
-    refuses w past e _ c.args.self.now refl (stops w past e _ (none_on w past c.args.server (omega (arith, stands.few, c.server.view_is, c.if-server-ge-MAX_SERVERS.true)))) stands
+    (c.in_err-restart.ensures (opening_of s) (entries past s) refl (stands.servers_are s c.index_mut.result.now at)))
