@@ -1,0 +1,5 @@
+pub mod CameLemmas
+pub mod KeptLemmas
+pub mod Losses
+pub mod OneByOne
+pub mod WorldLemmas

@@ -1,0 +1,17 @@
+use Rattle.std.proofs.Common.{[], refl, sym, ◌∙◌}
+use Rattle.net_world.specs.Claims.{happened, played}
+use Rattle.net_world.specs.Setup.{setup_of}
+use Rattle.uses.proofs.WorldLemmas.{if_some, shown_is_held}
+use Rattle.uses.proofs.worlds.kept_state.Goals as goal
+
+pub returns : goal.returns
+returns c =
+    let w = setup_of c.args.config in
+    let past = played c.args.config c.args.events.now in
+    let now = happened c.args.events.now in
+    let key = c.args.key in
+    let shown = c.copied.ensures ∙ c.saved.ensures w past c.in_ok-world.ensures.stands in
+    record {
+      taken = if_some c.copied.result _ (λ state is. c.in_ok-world.ensures.one_state [] now refl key state (shown_is_held w past key state (sym shown ∙ is)));
+      counts = if_some c.copied.result _ (λ state is. c.in_ok-world.ensures.counts [] now refl key state (shown_is_held w past key state (sym shown ∙ is)));
+    }

@@ -1,0 +1,27 @@
+//! Uses of fiocut's libraries, as a crate of one's own has them: short functions over the calls
+//! that each library's page begins with. Their contracts say what such a caller wants, and follow
+//! from the contracts of what they call, which so can be used from outside.
+//!
+//! A job file is read (`jobs`), its writes go to a disk and its state is taken (`writes`), the state
+//! is kept as bytes (`states`), a disk is checked by it (`checks`), behind a cut of the power, too
+//! (`cuts`); packets come out of frames (`packets`), a server takes a frame (`servers`), and events
+//! come to a world (`worlds`).
+#![tactic(auto)]
+
+mod checks;
+mod cuts;
+mod jobs;
+mod packets;
+mod servers;
+mod states;
+mod worlds;
+mod writes;
+
+pub use checks::count_losses;
+pub use cuts::write_cut_check;
+pub use jobs::first_job;
+pub use packets::first_packet;
+pub use servers::first_answer;
+pub use states::write_and_read;
+pub use worlds::kept_state;
+pub use writes::write_job;

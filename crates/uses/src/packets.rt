@@ -1,0 +1,54 @@
+//! Packets come out of frames.
+
+ghost use Rattle.std.specs.Prelude.{◌≡◌, List, Ok, Some, Contains, IfOk, IfSome, IfNone, map};
+ghost use Rattle.messages.specs.declared.frame.Frame.{Frame};
+ghost use Rattle.messages.specs.declared.packet.PacketParts.{PacketParts};
+ghost use Rattle.messages.specs.Assemblies.{given, LookAnswers};
+ghost use Rattle.messages.specs.FrameBytes.{frame_at};
+ghost use Rattle.messages.specs.PieceLaws.{left_by, ArePackets, AreFramesOf, OneBodyOfEachTag};
+
+use fc_base::Fault;
+use messages::{Assembly, Frame, Frames, Packet, decode_frame, only_sent_comes_together};
+use std::alloc::Global;
+
+/// The first packet that comes together of frames, if one does. Where they are frames of some
+/// packets, in whatever order, some lost and some repeated, it is one of these packets.
+pub fn first_packet(alloc: Global, frames: &Frames) -> Result<Option<Packet>, Fault>
+    ensures { (sent : List PacketParts) (came : List Frame) →
+        ArePackets sent → OneBodyOfEachTag sent
+        → map frame_at frames.now ≡ map Some came → AreFramesOf sent came
+        → IfOk result (λ packet. IfSome packet (Contains sent)) }
+{
+    only_sent_comes_together();
+    let mut assembly = Assembly::new(alloc);
+    for index in 0..frames.len() {
+        let Some(bytes) = frames.get(index) else {
+            return Ok(None);
+        };
+        let frame = decode_frame(alloc, bytes)?;
+        if let Some(packet) = take_frame(&mut assembly, frame)? {
+            return Ok(Some(packet));
+        }
+    }
+    Ok(None)
+}
+
+/// Takes a frame: the packet that it gives, or what has come together with it.
+fn take_frame(assembly: &mut Assembly, frame: Frame) -> Result<Option<Packet>, Fault>
+    ensures given { IfOk result (λ packet. LookAnswers (Ok packet) (given assembly.old frame)) }
+    ensures left { IfOk result (λ packet.
+        IfNone packet (assembly.new ≡ left_by assembly.old frame)) }
+{
+    match frame {
+        Frame::Whole(packet) => Ok(Some(packet)),
+        Frame::Piece(piece) => {
+            if let Some(packet) = assembly.look(&piece)? {
+                return Ok(Some(packet));
+            }
+            let Ok(()) = assembly.take(&piece) else {
+                return Err(Fault::NoMemory);
+            };
+            Ok(None)
+        }
+    }
+}
