@@ -2,6 +2,7 @@
 //! answers where memory is there.
 
 mod commands;
+mod frames;
 mod lines;
 mod looks;
 mod played;

@@ -1,5 +1,6 @@
 //! What a world shows, and what rows say of it.
 
+use super::frames::named;
 use super::lines::frame_at;
 use super::same::key;
 use super::trouble::Trouble;
@@ -19,7 +20,7 @@ pub fn shows(world: &World, look: &str, wanted: &str) -> Result<bool, Trouble> {
     let mut words = look.split_whitespace();
     match words.next() {
         Some("frame") => Ok(match frame_at(world, number(&mut words)?) {
-            Some(bytes) => are_spelled(bytes, wanted),
+            Some(bytes) => are_spelled(bytes, named(wanted).unwrap_or(wanted)),
             None => false,
         }),
         Some("frames") => Ok(wanted.parse::<usize>().ok() == Some(world.frames().len())),

@@ -1,10 +1,11 @@
 //! Stories: a row for each command, and behind `=>` the lines that it is answered, joined by `+`.
 //!
-//! The commands are those of a script: `servers N` or `servers N mirror`, the first row, makes the world, `begin TEXT` and `verify R TEXT` name
-//! a job file that `texts` has, `land S J K all` or `first N` lands sectors, and `cutold` and `cutnew`
-//! stand before a command in whose save the power goes. Looks: `frame I` has its bytes in hexadecimal,
-//! where `78*3` is a byte three times over; `frames` how many there are; `status S` what a server shows of
-//! itself, or `off`; `saved R S J` the state that the client keeps of a job, or `none`.
+//! The commands are those of a script: `servers N` or `servers N mirror`, the first row, makes the
+//! world, `begin TEXT` and `verify R TEXT` name a job file that `texts` has, `land S J K all` or
+//! `first N` lands sectors, and `cutold` and `cutnew` stand before a command in whose save the power
+//! goes. Looks: `frame I` is the one that `frames` has under a name, or has its bytes in hexadecimal,
+//! where `78*3` is a byte three times over; `frames` how many there are; `status S` what a server shows
+//! of itself, or `off`; `saved R S J` the state that the client keeps of a job, or `none`.
 
 pub mod disks;
 pub mod mirrors;

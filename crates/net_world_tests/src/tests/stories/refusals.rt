@@ -10,7 +10,7 @@ servers 1
 begin writing => ok run 1 + sent 0 client 0 Jobs 62
 land 0 0 5 all => refused 83 NoWrite
 cutold deliver 0 => refused 84 NoSave
-frame 0 => 4643010100000008000000000000002e00000000000000015b615d0a72773d77726974650a62733d3531320a73697a653d316b0a696f64657074683d320a
+frame 0 => Jobs of writing
 status 0 => boot=1 last_run=0 staged=0 run=0 stage=Idle attempt=0
 ",
     ),
