@@ -1,5 +1,5 @@
 -- How nodes were opened, and their seats.
-use Rattle.std.proofs.Common.{◌≡◌, refl, sym, ◌∙◌, ap, subst, ℕ, ◌+◌, ◌≤◌, ◌<◌, arith, Bool, true, false, ◌==◌, ◌&&◌, List, [], length, get_or, Option, Some, None}
+use Rattle.std.proofs.Common.{◌≡◌, refl, sym, ◌∙◌, ap, subst, ℕ, ◌+◌, ◌≤◌, ◌<◌, arith, Bool, true, false, ◌==◌, List, [], length, get_or, Option, Some, None}
 use Rattle.std.specs.Prelude.{slice_get, All, Decides}
 use Rattle.std.specs.Option.{ForSome, option_map_or}
 use Rattle.std.proofs.lemmas.Bool.Decides.{nat_tests}
@@ -10,7 +10,7 @@ use Rattle.node_history.specs.declared.logged.Logged.{Logged}
 use Rattle.server_cell.specs.Seated.{Seated}
 use Rattle.node_history.specs.Seats.{times}
 use Rattle.server_core.specs.History.{Opening}
-use Rattle.server_cell.specs.Cells.{ServerLog, is_blank}
+use Rattle.server_cell.specs.Cells.{ServerLog}
 use Rattle.server_cell.specs.Calls.{is_right}
 use Rattle.client_core.specs.Note.{is_blank as says_nothing}
 use Rattle.client_cell.specs.Cells.{ClientLog}
@@ -19,29 +19,6 @@ use Rattle.assembly.specs.Ran.{Ran, ran, history_of}
 use Rattle.assembly.specs.Agrees.{IsOpened, IsSeatOf}
 
 -- ---- openings
-
-same_opening : (o : Opening) (number : ℕ) → o.me ≡ number → o.boot ≡ 0 → o.last ≡ 0 → o ≡ opening_of number
-same_opening o number me boot last =
-    ap (λ (n : ℕ). record { me = n; boot = o.boot; last = o.last }) me
-    ∙ (ap (λ (n : ℕ). record { me = number; boot = n; last = o.last }) boot ∙ ap (λ (n : ℕ). record { me = number; boot = 0; last = n }) last)
-
-opened_by : (o : Opening) (number : ℕ) → ((o.me == number) && ((o.boot == 0) && (o.last == 0))) ≡ true → o ≡ opening_of number
-opened_by o number e =
-    let me : o.me ≡ number = grind (arith, nat_tests) in
-    let boot : o.boot ≡ 0 = grind (arith, nat_tests) in
-    let last : o.last ≡ 0 = grind (arith, nat_tests) in
-    same_opening o number me boot last
-
-tests_by : (o : Opening) (number : ℕ) → o ≡ opening_of number → ((o.me == number) && ((o.boot == 0) && (o.last == 0))) ≡ true
-tests_by o number e =
-    let me : o.me ≡ number = ap (λ (k : Opening). k.me) e in
-    let boot : o.boot ≡ 0 = ap (λ (k : Opening). k.boot) e in
-    let last : o.last ≡ 0 = ap (λ (k : Opening). k.last) e in
-    grind (arith, nat_tests)
-
--- The tests of a cell's opening tell whether it is that of a number.
-pub opened_as : (o : Opening) (number : ℕ) → Decides ((o.me == number) && is_blank o) (o ≡ opening_of number)
-opened_as o number = (opened_by o number, tests_by o number)
 
 -- The first servers are opened rightly.
 abbrev pub AreOpened : List ServerLog → ℕ → Type 0

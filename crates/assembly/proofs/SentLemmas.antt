@@ -1,16 +1,13 @@
 -- The frames that an event sent, and those of the hub.
-use Rattle.std.proofs.Common.{◌≡◌, ◌≢◌, refl, sym, ◌∙◌, ap, ℕ, ◌+◌, ◌≤◌, ◌<◌, arith, List, [], ◌∷◌, ◌++◌, length, take, drop, get_or, Some}
+use Rattle.std.proofs.Common.{◌≡◌, sym, ◌∙◌, ap, ℕ, ◌+◌, ◌≤◌, ◌<◌, arith, List, [], ◌∷◌, ◌++◌, length, take, drop, get_or, Some}
 use Rattle.std.specs.Prelude.{slice_get}
-use Rattle.std.proofs.lemmas.List.{length-take, length-drop, take_more, take_all, get_or-take, get_or-drop}
-use Rattle.std.proofs.lemmas.Option.{slice_get_within, get_or_from_slice_get, slice_get-get_or}
+use Rattle.std.proofs.lemmas.List.{length-drop, take_more, take_all, get_or-drop}
+use Rattle.std.proofs.lemmas.Option.{slice_get_within, get_or_from_slice_get}
 
 -- The first i frames of an event are those of the hub behind so many.
 pub record AreSame (frames : List (List ℕ)) (before : ℕ) (sent : List (List ℕ)) (i : ℕ) : Type 0 where
   pub within : i ≤ length sent
   pub same : take i sent ≡ take i (drop before frames)
-
-pub same_none : (frames : List (List ℕ)) (before : ℕ) (sent : List (List ℕ)) → AreSame frames before sent 0
-same_none frames before sent = record { within = omega arith; same = refl }
 
 -- The frame behind so many more.
 there : (frames : List (List ℕ)) (before i : ℕ) (f : List ℕ) → slice_get frames (before + i) ≡ Some f → (i < length (drop before frames)) × (get_or (drop before frames) i [] ≡ f)
@@ -36,17 +33,3 @@ all_same frames before count sent i same end long =
     let all : i ≡ length sent = omega (arith, same.within, end) in
     sym (take_all (length sent) sent (omega arith))
     ∙ (ap (λ (n : ℕ). take n sent) (sym all) ∙ (same.same ∙ ap (λ (n : ℕ). take n (drop before frames)) (all ∙ long)))
-
--- One of them isn't.
-pub one_other : (frames : List (List ℕ)) (before count : ℕ) (sent : List (List ℕ)) (i : ℕ) (f : List ℕ) → before + count ≤ length frames → length sent ≡ count → slice_get sent i ≡ Some f
-    → (slice_get frames (before + i) ≡ Some f → ⊥) → sent ≡ take count (drop before frames) → ⊥
-one_other frames before count sent i f within long is other same =
-    let low : i < count = omega (arith, slice_get_within sent i f is, long) in
-    let here : get_or frames (before + i) [] ≡ f =
-    sym (get_or-drop before frames i []) ∙ (sym (get_or-take count (drop before frames) i [] low) ∙ (ap (λ (xs : List (List ℕ)). get_or xs i []) (sym same) ∙ get_or_from_slice_get sent i f [] is)) in
-    other (slice_get-get_or frames (before + i) [] (omega (arith, low, within)) ∙ ap Some here)
-
--- There are more or fewer.
-pub other_count : (frames : List (List ℕ)) (before count : ℕ) (sent : List (List ℕ)) → before + count ≤ length frames → length sent ≢ count → sent ≡ take count (drop before frames) → ⊥
-other_count frames before count sent within long same =
-    long (ap (λ (xs : List (List ℕ)). length xs) same ∙ omega (arith, within, length-drop before frames, length-take count (drop before frames)))

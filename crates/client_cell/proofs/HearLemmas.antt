@@ -1,9 +1,9 @@
 -- What comes to the client at the hub is entered, or left out.
-use Rattle.std.proofs.Common.{◌≡◌, refl, sym, ◌∙◌, ap, subst, ℕ, ◌+◌, ◌≤◌, arith, Bool, true, false, List, [], ◌∷◌, ◌++◌, length, take, Option, Some, None, Result, Ok, Err}
+use Rattle.std.proofs.Common.{◌≡◌, refl, sym, ◌∙◌, ap, subst, ℕ, ◌+◌, arith, Bool, true, false, List, [], ◌∷◌, ◌++◌, length, take, Option, Some, None, Result, Ok, Err}
 use Rattle.std.specs.Prelude.{map, not, slice_get, is_some, All, IfErr, IfSome}
 use Rattle.std.specs.Borrow.{Bor}
 use Rattle.std.specs.List.{sum_by}
-use Rattle.std.proofs.lemmas.List.{take_more, take_all}
+use Rattle.std.proofs.lemmas.List.{take_more}
 use Rattle.std.proofs.lemmas.List.Elements.{All-nil}
 use Rattle.std.proofs.lemmas.List.Sums.{sum_by-append, sum_by-cons}
 use Rattle.std.proofs.lemmas.Option.{slice_get_within, get_or_from_slice_get}
@@ -86,9 +86,6 @@ one_more sent i f bytes more is so_far sum =
 
     alone : sum_by (λ (frame : List ℕ). length frame) (f ∷ []) ≡ length f
     alone = omega (arith, sum_by-cons (λ (frame : List ℕ). length frame) f [])
-
-pub all_summed : (sent : List (List ℕ)) (i bytes : ℕ) → length sent ≤ i → bytes ≡ sum_by (λ (frame : List ℕ). length frame) (take i sent) → bytes ≡ sum_by (λ (frame : List ℕ). length frame) sent
-all_summed sent i bytes h s = s ∙ ap (sum_by (λ (frame : List ℕ). length frame)) (take_all i sent h)
 
 -- ---- its frames are spelled
 

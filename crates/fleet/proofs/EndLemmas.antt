@@ -6,12 +6,11 @@ use Rattle.std.proofs.lemmas.List.{map-append}
 use Rattle.std.proofs.lemmas.List.Elements.{All-append}
 use Rattle.fc_base.specs.Counted.{numbers_below}
 use Rattle.server_cell.specs.Cells.{ServerLog}
-use Rattle.server_core.specs.Answers.{check_job, job_of_check}
+use Rattle.server_core.specs.Answers.{job_of_check}
 use Rattle.server_core.specs.Check.{Check, check}
-use Rattle.server_core.specs.History.{Opening, Entry}
 use Rattle.client_core.specs.declared.received.Received.{Received}
 use Rattle.fleet.specs.declared.ends.End.{End}
-use Rattle.fleet.specs.Ends.{AddsEnds, AreEnds, Checks, IsEnd, IsAt, IsEndAt, jobs_of, jobs_by_server, jobs_checked, place_of}
+use Rattle.fleet.specs.Ends.{AddsEnds, AreEnds, Checks, IsEnd, IsAt, IsEndAt, jobs_of, jobs_by_server, place_of}
 
 -- The jobs of one server more stand behind those of the others.
 jobs_more : (first : ℕ) (counts : List ℕ) (server count : ℕ) → server ≡ first + length counts → jobs_by_server first (counts ++ count ∷ []) ≡ jobs_by_server first counts ++ jobs_of server count
@@ -72,10 +71,6 @@ end_more cells came attempt cell before end at is all =
 job_in : (c : Option Check) (j : ℕ) → job_of_check c j ≡ slice_get (option_map_or (λ c. c.jobs) c []) j
 job_in None j = refl
 job_in (Some c) j = refl
-
--- A job of the open check is one of its jobs.
-pub job_checked : (o : Opening) (past : List Entry) (j : ℕ) → check_job o past j ≡ slice_get (jobs_checked o past) j
-job_checked o past j = job_in (check o past) j
 
 -- Of no server there are no ends.
 pub no_ends : (cells : List ServerLog) (came : List Received) (attempt : ℕ) → AreEnds cells came attempt 0 []

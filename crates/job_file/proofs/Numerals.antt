@@ -1,10 +1,10 @@
 -- What the digits that are left come to, and when a numeral is none.
-use Rattle.std.proofs.Common.{◌≡◌, ℕ, ◌+◌, ◌*◌, ◌^◌, ◌<◌, ◌≤◌, Bool, true, false, cond, ◌&&◌, List, [], ◌∷◌, length, get_or, drop, Some, None, refl, sym, ◌∙◌, ap, inl, inr, ◌⊎◌, arith}
+use Rattle.std.proofs.Common.{◌≡◌, ℕ, ◌+◌, ◌*◌, ◌^◌, ◌<◌, ◌≤◌, Bool, true, false, cond, ◌&&◌, List, [], ◌∷◌, length, get_or, drop, None, refl, sym, ◌∙◌, ap, inl, inr, ◌⊎◌, arith}
 use Rattle.std.specs.Char.{is_digit, digit_value}
 use Rattle.std.specs.List.{list_all}
 use Rattle.std.specs.Str.Parse.{digits_value, digits_value_after}
 use Rattle.std.proofs.lemmas.Bool.Decides.{nat_tests}
-use Rattle.std.proofs.lemmas.List.{at_drop_more, at_drop_all}
+use Rattle.std.proofs.lemmas.List.{at_drop_more}
 use Rattle.std.proofs.Math.Nat.{mul-le-mul_left}
 use Rattle.job_file.specs.Number.{numeral, fitting, with_digit}
 
@@ -21,10 +21,6 @@ numeral_past radix ds past = grind (arith, nat_tests)
 -- What has another character than digits is none.
 numeral_other : (radix : ℕ) (ds : List ℕ) → list_all (λ c. is_digit c radix) ds ≡ false → numeral radix ds ≡ None
 numeral_other radix ds other = grind (arith, nat_tests)
-
--- Digits that 64 bits hold are a numeral.
-numeral_is : (radix : ℕ) (ds : List ℕ) (n : ℕ) → 0 < length ds → list_all (λ c. is_digit c radix) ds ≡ true → n ≡ digits_value radix ds → n < 2 ^ 64 → numeral radix ds ≡ Some n
-numeral_is radix ds n some all is fits = grind (arith, nat_tests)
 
 -- The digits from some one on, behind the value so far, come to what all of them come to.
 pub record IsSoFar (radix : ℕ) (ds : List ℕ) (i n : ℕ) : Type 0 where
@@ -50,10 +46,3 @@ numeral_stops radix ds i n low more so_far none =
       | inl other ↦ numeral_other radix ds (sym so_far.digits ∙ all ∙ ap (λ b. b && list_all (λ d. is_digit d radix) (drop (i + 1) ds)) other)
       | inr past ↦ numeral_past radix ds (omega (arith, so_far.value, value, digits_value_after-ge radix (n * radix + digit_value c) (drop (i + 1) ds) low))
     ]
-
--- After all digits the value is the numeral's.
-pub numeral_ends : (radix : ℕ) (ds : List ℕ) (i n : ℕ) → 0 < length ds → length ds ≤ i → IsSoFar radix ds i n → numeral radix ds ≡ Some n
-numeral_ends radix ds i n some end so_far =
-    let value = at_drop_all (digits_value_after radix n) ds i end in
-    let all = at_drop_all (list_all (λ c. is_digit c radix)) ds i end in
-    numeral_is radix ds n some (sym so_far.digits ∙ all) (sym value ∙ so_far.value) so_far.fits

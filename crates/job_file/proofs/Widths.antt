@@ -25,7 +25,7 @@ use Rattle.job_file.specs.Line.{is_skipped, is_section_name, section_named, sect
 use Rattle.job_file.specs.Bytes.{trimmed}
 use Rattle.job_file.specs.Section.{Section, own_options, sections_of, defaults_in, global_options, drafts_below, drafts_of}
 use Rattle.job_file.specs.Draft as drafts
-use Rattle.job_file.specs.Draft.{pattern_under, seed_of, job_of, with_copies, jobs_from}
+use Rattle.job_file.specs.Draft.{pattern_under, job_of, with_copies, jobs_from}
 use Rattle.job_file.specs.Laws.{FitsItsWidths, JobsFit}
 
 -- ---- lists
@@ -179,15 +179,6 @@ own_fit (Faulty fault ∷ ls) h = own_fit ls h.1
 
 abbrev SectionFits : Section → Type 0
 SectionFits s = AllByRecursion SettingFits s.options
-
-sections_fit : (ls : List Line) → AllByRecursion LineFits ls → AllByRecursion SectionFits (sections_of ls)
-sections_fit [] h = tt
-sections_fit (Blank ∷ ls) h = sections_fit ls h.1
-sections_fit (Global ∷ ls) h = (own_fit ls h.1, sections_fit ls h.1)
-sections_fit (Job name ∷ ls) h = (own_fit ls h.1, sections_fit ls h.1)
-sections_fit (Set s ∷ ls) h = sections_fit ls h.1
-sections_fit (Ignored name ∷ ls) h = sections_fit ls h.1
-sections_fit (Faulty fault ∷ ls) h = sections_fit ls h.1
 
 defaults_fit : (job : Option (List ℕ)) (options : List Setting) → AllByRecursion SettingFits options → AllByRecursion SettingFits (defaults_in job options)
 defaults_fit None options h = h

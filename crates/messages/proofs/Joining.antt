@@ -96,10 +96,6 @@ pub record IsJoining (fs : List Filled) (len at : ℕ) (out : List ℕ) : Type 0
   pub enough : len ≤ at + left
   pub same : after_these (Some out) (joined fs (places_from left at len)) ≡ joined fs (places len)
 
-after_nothing : (o : Option (List ℕ)) → after_these (Some []) o ≡ o
-after_nothing None = refl
-after_nothing (Some x) = refl
-
 after_both : (out x : List ℕ) (o : Option (List ℕ)) → after_these (Some (out ++ x)) o ≡ after_these (Some out) (after_these (Some x) o)
 after_both out x None = refl
 after_both out x (Some y) = ap (λ (z : List ℕ). Some z) (append_assoc out x y)

@@ -1,11 +1,10 @@
 -- The rows of tags: what looking a tag up, and changing or removing its row, makes of them.
-use Rattle.std.proofs.Common.{rules, ◌≡◌, refl, sym, ◌∙◌, ap, subst, not, ℕ, suc, ◌+◌, ◌-◌, ◌<◌, ◌≤◌, arith, Bool, true, false, ◌&&◌, ◌==◌, cond, Option, Some, None, List, [], ◌∷◌, ◌++◌, length, drop, get_or}
+use Rattle.std.proofs.Common.{rules, ◌≡◌, refl, sym, ◌∙◌, ap, subst, not, ℕ, suc, ◌+◌, ◌-◌, ◌<◌, arith, Bool, true, false, ◌&&◌, ◌==◌, cond, Option, Some, None, List, [], ◌∷◌, ◌++◌, length, get_or}
 use Rattle.std.specs.Prelude.{is_some, nat_lt, slice_set, Result, Ok, Err, OnOk, OnErr}
 use Rattle.std.specs.List.{remove, position, position_or_len}
 use Rattle.std.proofs.lemmas.Bool.{eqb-true, eq-eqb}
 use Rattle.std.proofs.lemmas.Bool.Decides.{nat_tests}
 use Rattle.std.proofs.lemmas.List.{length-append}
-use Rattle.messages.specs.declared.limits.TheConstants.{MAX_TAGS}
 use denote.Enum.Bare.{sameb, same_true, true_same}
 use Rattle.messages.specs.declared.kind.PacketKind.{PacketKind}
 use Rattle.messages.specs.contracts.kind.PacketKind.{the_type}
@@ -163,13 +162,6 @@ on_err (Ok x) f a = tt
 on_err (Err e) f a = f a
 
 -- Past 128 rows the oldest goes.
-
-pub newest_all : (rows : List Row) → length rows ≤ MAX_TAGS → newest rows ≡ rows
-newest_all rows h = let e : length rows - MAX_TAGS ≡ 0 = omega arith in ap (λ (n : ℕ). drop n rows) e
-
-pub newest_rest : (rows : List Row) → length rows ≡ 129 → newest rows ≡ remove rows 0
-newest_rest [] h = absurd (omega (arith, h))
-newest_rest (row ∷ rows) h = let n : length (row ∷ rows) - MAX_TAGS ≡ 1 = omega (arith, h) in ap (λ (n : ℕ). drop n (row ∷ rows)) n
 
 pub one_more : (rows : List Row) (row : Row) → length (rows ++ row ∷ []) ≡ length rows + 1
 one_more rows row = omega (arith, length-append rows (row ∷ []))

@@ -1,5 +1,5 @@
 -- A run of a script's commands, as far as it has come.
-use Rattle.std.proofs.Common.{◌≡◌, inl, inr, ℕ, Bool, true, false, ◌||◌, cond, List, [], ◌∷◌, ◌++◌, Option, append_assoc, append-nil, refl, sym, ◌∙◌, ap, subst}
+use Rattle.std.proofs.Common.{◌≡◌, inr, ℕ, Bool, true, false, ◌||◌, cond, List, [], ◌∷◌, ◌++◌, Option, append_assoc, append-nil, refl, sym, ◌∙◌, ap, subst}
 use Rattle.std.specs.List.{flat_map}
 use Rattle.std.specs.Io.KnownBytes.{Appends}
 use Rattle.std.proofs.KnownBytes.{Appends-nil, Appends-trans}
@@ -15,7 +15,7 @@ use Rattle.net_script.specs.declared.running.commands.Ran.TheVariants.{Answered}
 use Rattle.net_script.specs.Commands.{happens}
 use Rattle.printed.specs.Words.{ended}
 use Rattle.net_script.specs.Orders.{Order, Asks}
-use Rattle.net_script.specs.Printed.{lines_at, bad_line, refusal_line}
+use Rattle.net_script.specs.Printed.{lines_at, refusal_line}
 use Rattle.net_script.specs.Script.{lines_in, are_commands, some_faults, finds_fault, status_by, status_in}
 use Rattle.net_script.specs.Runs.{RunOrders}
 use Rattle.net_script.specs.Running.{HasCome}
@@ -81,16 +81,6 @@ command_run setup before all left w new old mid now faults more_faults line comm
     asked_lines : lines_in setup before (s.asked ++ o ∷ []) ≡ lines_in setup before s.asked ++ lines_at setup (world setup s.behind) e
     asked_lines = s.lines (o ∷ []) ∙ ap (λ l. lines_in setup before s.asked ++ l) (append-nil (lines_at setup (world setup s.behind) e))
 
--- No order is left.
-pub all_run : (setup : Setup) (before : List Happening) (all left : List Order) (w : World) (old now : Option (List ℕ)) (faults : Bool) (status : ℕ)
-    → RunSoFar setup before all left w old now faults → left ≡ [] → status ≡ cond faults 1 0
-    → RunOrders (lines_in setup before) are_commands (status_in setup before) all old now status
-all_run setup before all left w old now faults status s none ends =
-    inl (subst (λ l. Appends old now (flat_map ended l)) (sym lines_are) s.written, ends ∙ sym status_is)
-  where
-    whole : all ≡ s.asked ++ []
-    whole = s.split ∙ ap (λ l. s.asked ++ l) none
-
     lines_are : lines_in setup before all ≡ lines_in setup before s.asked
     lines_are = ap (lines_in setup before) whole ∙ s.lines [] ∙ append-nil (lines_in setup before s.asked)
 
@@ -104,21 +94,6 @@ all_run setup before all left w old now faults status s none ends =
         ∙ ap (λ b. status_by b (some_faults setup before (s.asked ++ []))) (s.commands [])
         ∙ ap (status_by true) (s.found [])
         ∙ by_faults faults
-
--- A line is bad.
-pub bad_run : (setup : Setup) (before : List Happening) (all left : List Order) (w : World) (old mid now : Option (List ℕ)) (faults : Bool) (status number : ℕ)
-    → (s : RunSoFar setup before all left w old mid faults) → are_commands left ≡ false → ((behind : List Happening) → lines_in setup behind left ≡ bad_line number ∷ [])
-    → Appends mid now (ended (bad_line number)) → status ≡ 2
-    → RunOrders (lines_in setup before) are_commands (status_in setup before) all old now status
-bad_run setup before all left w old mid now faults status number s bad prints wrote ends =
-    inl (subst (Appends old now) (sym lines_are) (Appends-trans old mid now _ _ s.written wrote), ends ∙ sym status_is)
-  where
-    lines_are : flat_map ended (lines_in setup before all) ≡ flat_map ended (lines_in setup before s.asked) ++ ended (bad_line number)
-    lines_are =
-        ap (λ os. flat_map ended (lines_in setup before os)) s.split
-        ∙ ap (flat_map ended) (s.lines left ∙ ap (λ l. lines_in setup before s.asked ++ l) (prints s.behind))
-        ∙ flat_map-append ended (lines_in setup before s.asked) (bad_line number ∷ [])
-        ∙ ap (λ l. flat_map ended (lines_in setup before s.asked) ++ l) (append-nil (ended (bad_line number)))
 
     status_is : status_in setup before all ≡ 2
     status_is =

@@ -2,7 +2,7 @@
 use Rattle.std.proofs.Common.{◌≡◌, inl, inr, ◌≤◌, ◌<◌, ℕ, true, false, cond, List, [], ◌∷◌, ◌++◌, length, Option, Some, None, IfSome, Result, Ok, Err, OnOk, IfOk, codes, append-nil, length-append, refl, sym, ◌∙◌, ap, subst, arith}
 use Rattle.std.specs.List.{flat_map}
 use Rattle.std.specs.Io.KnownBytes.{Appends, Keeps}
-use Rattle.std.proofs.KnownBytes.{Appends-nil, Appends-trans, Appends-kept}
+use Rattle.std.proofs.KnownBytes.{Appends-trans, Appends-kept}
 use Rattle.std.proofs.lemmas.Bool.{cases_lt}
 use Rattle.std.proofs.lemmas.Bool.Decides.{nat_tests}
 use Rattle.fc_base.specs.declared.fault.Fault.TheVariants.{NoMemory}
@@ -10,13 +10,9 @@ use Rattle.bounded_input.specs.Input.{IsRead}
 use Rattle.net_world.specs.Setup.{Setup}
 use Rattle.printed.specs.Words.{ended}
 use Rattle.net_script.specs.Orders.{Order, Opens, orders_of}
-use Rattle.net_script.specs.Printed.{bad_line, refusal_line}
-use Rattle.net_script.specs.Script.{are_commands, lines_in, lines_of_orders, status_by, status_in, status_of_orders, reads_well, finds_faults, is_too_long, text_of, status_of}
+use Rattle.net_script.specs.Printed.{refusal_line}
+use Rattle.net_script.specs.Script.{are_commands, lines_in, lines_of_orders, status_in, status_of_orders, reads_well, is_too_long, text_of, status_of}
 use Rattle.net_script.specs.Runs.{RunOrders, HasRun}
-
--- No order.
-pub nothing_run : (orders : List Order) (old : Option (List ℕ)) → orders ≡ [] → RunOrders lines_of_orders reads_well status_of_orders orders old old 0
-nothing_run orders old none = inl (subst (λ os. Appends old old (flat_map ended (lines_of_orders os))) (sym none) (Appends-nil old), ap status_of_orders (sym none))
 
 -- The world is made, and the orders behind have run in it.
 pub opened : (line : ℕ) (setup : Setup) (orders : List Order) (old mid new : Option (List ℕ)) (status : ℕ) → Appends old mid (codes "ok\n")
@@ -44,20 +40,6 @@ no_world line setup orders old new wrote = inr (record {
   finishes = (wrote, refl);
 })
 
--- The first order isn't `servers`.
-pub refused_first : (all : List Order) (o : Order) (orders : List Order) (line : ℕ) (old new : Option (List ℕ)) (status : ℕ) → all ≡ o ∷ orders
-    → lines_of_orders (o ∷ orders) ≡ bad_line line ∷ [] → reads_well (o ∷ orders) ≡ false
-    → Appends old new (ended (bad_line line)) → status ≡ 2
-    → RunOrders lines_of_orders reads_well status_of_orders all old new status
-refused_first all o orders line old new status is prints bad wrote two =
-    inl (
-      subst (Appends old new) (sym (append-nil (ended (bad_line line))) ∙ ap (flat_map ended) (sym prints) ∙ ap (λ os. flat_map ended (lines_of_orders os)) (sym is)) wrote,
-      two ∙ status_is bad ∙ ap status_of_orders (sym is),
-    )
-  where
-    status_is : reads_well (o ∷ orders) ≡ false → 2 ≡ status_of_orders (o ∷ orders)
-    status_is bad = sym (ap (λ b. status_by b (finds_faults (o ∷ orders))) bad)
-
 -- Fewer bytes than are asked for are the whole script.
 whole : (script : List ℕ) (new : Option (List ℕ)) (bytes : List ℕ) → IsRead 1048577 (Some script) new bytes → length bytes ≤ 1048576 → bytes ≡ script
 whole script None bytes read short = absurd read.taken
@@ -71,15 +53,6 @@ no_more script (Some rest) bytes read = omega (arith, length-append bytes rest, 
 not_long : (script : List ℕ) → length script ≤ 1048576 → is_too_long script ≡ false
 not_long script short = grind (arith, nat_tests)
 
-pub has_run : (script : List ℕ) (old new : Option (List ℕ)) (status : ℕ) → length script ≤ 1048576
-    → RunOrders lines_of_orders reads_well status_of_orders (orders_of script) old new status → HasRun script old new status
-has_run script old new status short (inl ran) =
-    inl (
-      subst (Appends old new) (sym (ap (λ b. cond b (codes "too long\n") (flat_map ended (lines_of_orders (orders_of script)))) (not_long script short))) ran.0,
-      ran.1 ∙ sym (ap (λ b. cond b 2 (status_of_orders (orders_of script))) (not_long script short)),
-    )
-has_run script old new status short (inr soon) = inr (not_long script short, soon)
-
 is_long : (script : List ℕ) → 1048576 < length script → is_too_long script ≡ true
 is_long script long = grind (arith, nat_tests)
 
@@ -88,10 +61,6 @@ text_of_long script long = ap (λ b. cond b (codes "too long\n") (flat_map ended
 
 status_of_long : (script : List ℕ) → 1048576 < length script → status_of script ≡ 2
 status_of_long script long = ap (λ b. cond b 2 (status_of_orders (orders_of script))) (is_long script long)
-
--- It is too long.
-pub long_run : (script : List ℕ) (old new : Option (List ℕ)) → 1048576 < length script → Appends old new (codes "too long\n") → HasRun script old new 2
-long_run script old new long wrote = inl (subst (Appends old new) (sym (text_of_long script long)) wrote, sym (status_of_long script long))
 
 long_answered : (bytes script : List ℕ) (old new : Option (List ℕ)) (status : ℕ) → 1048576 < length bytes → 1048576 < length script → HasRun bytes old new status → HasRun script old new status
 long_answered bytes script old new status long longer (inl ran) =

@@ -1,5 +1,5 @@
 -- The text of the lines below a command, as far as it is read.
-use Rattle.std.proofs.Common.{◌≡◌, ◌⊎◌, inl, inr, ℕ, ◌+◌, true, false, cond, not, ◌||◌, List, [], ◌∷◌, ◌++◌, take, append_assoc, append-nil, refl, sym, ◌∙◌, ap, suc, arith}
+use Rattle.std.proofs.Common.{◌≡◌, ◌⊎◌, inl, inr, ℕ, ◌+◌, true, false, cond, not, ◌||◌, List, [], ◌∷◌, ◌++◌, take, append_assoc, append-nil, sym, ◌∙◌, ap, suc, arith}
 use Rattle.std.specs.List.{list_any, flat_map, position_or_len}
 use Rattle.net_script.specs.Words.{lines_of}
 use Rattle.printed.specs.Words.{ended}
@@ -12,9 +12,6 @@ pub record Below (below rest : List ℕ) : Type 0 where
   pub any : list_any closes (lines_of below) ≡ list_any closes (lines_of rest)
   pub text : list_any closes (lines_of rest) ≡ true → text_in (lines_of below) ≡ front ++ text_in (lines_of rest)
 
-pub none_read : (below : List ℕ) → Below below below
-none_read below = record { front = []; split = refl; any = refl; text = λ h. refl }
-
 -- A line that doesn't close the text is the first of it.
 any_behind : (line : List ℕ) (more : List (List ℕ)) → closes line ≡ false → list_any closes (line ∷ more) ≡ list_any closes more
 any_behind line more opens = ap (λ t. t || list_any closes more) opens
@@ -26,9 +23,6 @@ text_behind : (line : List ℕ) (more : List (List ℕ)) → closes line ≡ fal
 text_behind line more opens =
     ap (λ t. flat_map ended (take (cond (not t) (1 + position_or_len closes more) 0) (line ∷ more))) opens
     ∙ ap (flat_map ended) (one_more line more (position_or_len closes more))
-
-text_ends : (line : List ℕ) (more : List (List ℕ)) → closes line ≡ true → text_in (line ∷ more) ≡ []
-text_ends line more shut = ap (λ t. flat_map ended (take (cond (not t) (1 + position_or_len closes more) 0) (line ∷ more))) shut
 
 pub line_read : (below rest line more : List ℕ) → Below below rest → lines_of rest ≡ line ∷ lines_of more
     → (rest ≡ ended line ++ more) ⊎ (more ≡ []) → closes line ≡ false → Below below more
@@ -51,10 +45,3 @@ line_read below rest line more b lines (inr none) opens = record {
   where
     never : ¬ (false ≡ true)
     never e = cc
-
--- The text ends at the line that closes it.
-pub text_closed : (below rest line more : List ℕ) (b : Below below rest) → lines_of rest ≡ line ∷ lines_of more → closes line ≡ true
-    → (list_any closes (lines_of below) ≡ true) × (text_in (lines_of below) ≡ b.front)
-text_closed below rest line more b lines shut =
-    let some : list_any closes (lines_of rest) ≡ true = ap (list_any closes) lines ∙ ap (λ t. t || list_any closes (lines_of more)) shut in
-    (b.any ∙ some, b.text some ∙ ap (λ ls. b.front ++ text_in ls) lines ∙ ap (λ l. b.front ++ l) (text_ends line (lines_of more) shut) ∙ append-nil b.front)

@@ -81,12 +81,6 @@ pub record IsLost (o : Opening) (past : List FrameEntry) (f : Frame) : Type 0 wh
   pub new : noted o (packets_heard o (Met (inputs.Deliver f) Saved ∷ past)) ≡ noted o (packets_heard o (Met (inputs.Deliver f) LostNew ∷ past))
   pub old : noted o (packets_heard o past) ≡ noted o (packets_heard o (Met (inputs.Deliver f) LostOld ∷ past))
 
-lost_whole : (o : Opening) (list : List server.Entry) (e : Event) → (is_on (server.Met e LostNew ∷ list) ≡ false) × (is_on (server.Met e LostOld ∷ list) ≡ false)
-lost_whole o list e = (and_false (is_on list), and_false (is_on list))
-
-nothing_due : (x : Option Staged) → x ≡ None → is_some x ≡ true → ⊥
-nothing_due x e h = false_true (sym (ap is_some e) ∙ h)
-
 heard_list : Opening → List server.Entry → Left → Meaning → List server.Entry
 heard_list o list left m = with_entry (heard_by (rules o) left m) list
 

@@ -69,10 +69,6 @@ pub record IsOfFile (w : Setup) (past : List Change) (s j : ℕ) (change : Chang
 same_file : (s j t i : ℕ) → s ≡ t → j ≡ i → is_file s j t i ≡ true
 same_file s j t i h k = rw (eq-eqb s t h, eq-eqb j i k) refl
 
-other_file : (s j t i : ℕ) → ((s ≡ t) × (j ≡ i) → ⊥) → (b : Bool) → is_file s j t i ≡ b → b ≡ false
-other_file s j t i ne true h = let p = and_parts (s == t) (j == i) h in absurd (ne (eqb-true s t p.0, eqb-true j i p.1))
-other_file s j t i ne false h = refl
-
 file_by : (w : Setup) (past : List Change) (s j : ℕ) (change : Change) (held : ℕ → List ℕ) → IsOfFile w past s j change held → (t i : ℕ) (b : Bool) → is_file s j t i ≡ b → content w (change ∷ past) t i ≡ (if b then held else content w past t i)
 file_by w past s j change held f t i b h = f.content_is t i ∙ ap (λ x. if x then held else content w past t i) h
 

@@ -1,19 +1,15 @@
 -- A cut within the save of what makes none.
-use Rattle.std.proofs.Common.{◌≡◌, refl, sym, ◌∙◌, ap, subst, ℕ, Bool, true, false, List, Option, Some, None, Err}
-use Rattle.std.specs.Prelude.{not, unwrap_or, IfSome}
+use Rattle.std.proofs.Common.{◌≡◌, refl, sym, ◌∙◌, ap, ℕ, Bool, true, false, List, Some, None, Err}
+use Rattle.std.specs.Prelude.{not}
 use Rattle.fc_base.specs.declared.fault.Fault.{Fault}
 use Rattle.fc_base.specs.declared.fault.Fault.TheVariants.{NodeOff, NodeOn, NoSave, NoFrame, NoMemory}
-use Rattle.fc_base.specs.declared.fault.FaultSort.TheVariants.{Refusal}
-use Rattle.fc_base.specs.Fault.{sort_of}
 use Rattle.messages.specs.declared.node.Node.TheVariants.{Client}
 use Rattle.net_world.specs.declared.world.World.{World}
 use Rattle.net_world.specs.Setup.{Setup}
-use Rattle.net_world.specs.Happenings.{Happening, Deliver, Restart, CutIn}
+use Rattle.net_world.specs.Happenings.{Deliver, Restart, CutIn}
 use Rattle.net_world.specs.Trace.{client_opening}
-use Rattle.net_world.specs.Frames.{frames_sent}
-use Rattle.net_world.specs.Changes.{Change, steps, trace}
-use Rattle.net_world.specs.Barred.{unless, is_on, off, unsent, barred}
-use Rattle.net_world.specs.Outcomes.{stepped, cut_in}
+use Rattle.net_world.specs.Changes.{Change, trace}
+use Rattle.net_world.specs.Barred.{unless, is_on, off, unsent}
 use Rattle.net_world.specs.ClientNodes.{is_up}
 use Rattle.net_world.specs.Asking.{entries}
 use Rattle.net_world.specs.Delivering.{FindsFrame}
@@ -34,14 +30,6 @@ client_there w past h = up_off (is_on w (trace w past) Client) (sym (up_is w pas
 
 pub client_gone : (w : Setup) (past : List Change) → is_up (client_opening w) (entries w past) ≡ false → off w (trace w past) Client ≡ Some NodeOff
 client_gone w past h = down_off (is_on w (trace w past) Client) (sym (up_is w past) ∙ h)
-
--- What makes no save is refused as the world refuses it, and else as no save.
-pub no_save_ends : (w : Setup) (past : List Change) (landed : Bool) (e : Happening) (now : World) (why : Option Fault) → StandsFor w past now → barred w (trace w past) (frames_sent w (steps past)) (CutIn landed e) ≡ why
-    → cut_in w past landed e ≡ Err NoSave → IfSome why (λ fault. sort_of fault ≡ Refusal) → (result : Fault) → result ≡ unwrap_or why NoSave → Ends w past (CutIn landed e) now (Err result)
-no_save_ends w past landed e now None stands bar none sort result is =
-    subst (λ x. Ends w past (CutIn landed e) now (Err x)) (sym is) (refuses w past (CutIn landed e) NoSave now refl (goes w past (CutIn landed e) bar ∙ ap stepped none) stands)
-no_save_ends w past landed e now (Some fault) stands bar none sort result is =
-    subst (λ x. Ends w past (CutIn landed e) now (Err x)) (sym is) (refuses w past (CutIn landed e) fault now sort (stops w past (CutIn landed e) fault bar) stands)
 
 -- There is no such frame, or memory has run out.
 pub lost_cut : (w : Setup) (past : List Change) (landed : Bool) (now : World) (number : ℕ) (fault : Fault) → StandsFor w past now → FindsFrame w past number (Err fault) → Ends w past (CutIn landed (Deliver number)) now (Err fault)

@@ -7,7 +7,6 @@ use Rattle.std.proofs.lemmas.List.{length-append}
 use Rattle.fc_base.specs.declared.limits.TheConstants.{MAX_JOBS, MAX_SERVERS}
 use Rattle.disk_model.specs.MemDisk.{file_of}
 use Rattle.disk_model.specs.declared.mem_disk.MemDisk.{MemDisk}
-use Rattle.disk_model.specs.declared.left.Left.TheVariants.{Saved}
 use Rattle.server_core.specs.Hearing.{Restart}
 use Rattle.mirror_core.specs.History as mirror
 use Rattle.messages.specs.Hearing.{Happens}
@@ -15,10 +14,9 @@ use Rattle.messages.specs.Ranges.{is_generation}
 use Rattle.net_world.specs.declared.config.Config.{Config}
 use Rattle.net_world.specs.declared.mirror_node.MirrorNode.{MirrorNode}
 use Rattle.net_world.specs.declared.mirror_node.Mirrored.{Mirrored}
-use Rattle.net_world.specs.declared.server_node.ServerNode.{ServerNode}
 use Rattle.net_world.specs.declared.world.World.{World}
 use Rattle.net_world.specs.Setup.{Setup, setup_of}
-use Rattle.net_world.specs.Trace.{opening_of, client_opening, first_entry}
+use Rattle.net_world.specs.Trace.{client_opening, first_entry}
 use Rattle.net_world.specs.Frames.{frames_sent, client_entries, client_frame_entry}
 use Rattle.net_world.specs.World.{frames}
 use Rattle.net_world.specs.Sending.{sent_in}
@@ -43,29 +41,6 @@ pushed (z ∷ zs) x y (suc i) h = elim (pushed zs x y i h) [ inl e ↦ inl e | i
 
 more : {X : Type 0} (xs : List X) (x : X) (k : ℕ) → length xs ≡ k → length (xs ++ x ∷ []) ≡ k + 1
 more xs x k h = omega (arith, length-append xs (x ∷ []), h)
-
-pub none_opened : AreOpened 0 []
-none_opened = record { number = refl; each = λ s node h. absurd (none_some node h) }
-  where
-    none_some : (node : ServerNode) → None ≡ Some node → ⊥
-    none_some node e = cc
-
-pub one_opened : (k : ℕ) (nodes now : List ServerNode) (node : ServerNode) → AreOpened k nodes → Stands (opening_of k) (Restart Saved ∷ []) node → now ≡ nodes ++ node ∷ [] → AreOpened (k + 1) now
-one_opened k nodes now node all one is =
-    subst (AreOpened (k + 1)) (sym is)
-    (record {
-      number = more nodes node k all.number;
-      each = λ s x h. elim (pushed nodes node x s h) [
-        | inl e ↦ all.each s x e
-        | inr e ↦ subst (λ t. Stands (opening_of t) (Restart Saved ∷ []) x) (sym (e.0 ∙ all.number)) (subst (Stands (opening_of k) (Restart Saved ∷ [])) e.1 one)
-      ];
-    })
-
-pub none_blank : AreBlank 0 []
-none_blank = record { number = refl; each = λ i disk h. absurd (none_some disk h) }
-  where
-    none_some : (disk : MemDisk) → None ≡ Some disk → ⊥
-    none_some disk e = cc
 
 pub one_blank : (k : ℕ) (disks now : List MemDisk) (disk : MemDisk) → AreBlank k disks → file_of disk ≡ blank → now ≡ disks ++ disk ∷ [] → AreBlank (k + 1) now
 one_blank k disks now disk all one is =

@@ -1,8 +1,8 @@
 -- Rows keep the entries that they stand for where one more comes.
-use Rattle.std.proofs.Common.{◌≡◌, refl, sym, ◌∙◌, ap, subst, ℕ, ◌+◌, arith, List, [], ◌∷◌, ◌++◌, length}
+use Rattle.std.proofs.Common.{◌≡◌, refl, ◌∙◌, ap, ◌+◌, List, [], ◌∷◌, ◌++◌, length}
 use Rattle.std.specs.Prelude.{map, All, slice_index_or}
-use Rattle.std.proofs.lemmas.List.{map-append, get_or_append_left, get_or_push, length_push}
-use Rattle.std.proofs.lemmas.List.Elements.{All-head, All-tail, All-weaker, All-push}
+use Rattle.std.proofs.lemmas.List.{map-append, get_or_append_left, get_or_push}
+use Rattle.std.proofs.lemmas.List.Elements.{All-head, All-tail}
 use Rattle.node_history.specs.declared.history.Row.{Row}
 use Rattle.node_history.specs.declared.history.Row.TheVariants.{Short, Other}
 use Rattle.node_history.specs.declared.logged.Logged.{Logged}
@@ -24,12 +24,3 @@ other_stands others entry rows h =
     map-append (entry_at (others ++ entry ∷ [])) rows (Other (length others) ∷ [])
     ∙ ap (λ xs. xs ++ slice_index_or (others ++ entry ∷ []) (length others) no_entry ∷ []) (all_stay others entry rows h)
     ∙ ap (λ x. map (entry_at others) rows ++ x ∷ []) (get_or_push others entry no_entry (length others) refl)
-
-placed_more : (count : ℕ) (row : Row) → IsPlaced count row → IsPlaced (count + 1) row
-placed_more count (Short short) h = tt
-placed_more count (Other place) h = omega (arith, h)
-
-pub other_is_placed : (others : List Logged) (entry : Logged) (rows : List Row) → All (IsPlaced (length others)) rows → All (IsPlaced (length (others ++ entry ∷ []))) (rows ++ Other (length others) ∷ [])
-other_is_placed others entry rows h =
-    subst (λ n. All (IsPlaced n) (rows ++ Other (length others) ∷ [])) (sym (length_push others entry))
-    (All-push (IsPlaced (length others + 1)) rows (Other (length others)) (All-weaker (IsPlaced (length others)) (IsPlaced (length others + 1)) (placed_more (length others)) rows h) (omega arith))

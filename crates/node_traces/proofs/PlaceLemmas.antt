@@ -144,9 +144,6 @@ spans_meet top from to (x ∷ xs) l h = by_tests (spans_meet x from to xs l h.1)
 
 -- ---- the places of a node in an order
 
-at_node : Node → List ℕ → List Place
-at_node node xs = map (λ at. record { node = node; at = at }) xs
-
 pub own_places : (own node : Node) (xs : List ℕ) (order : List Place) → is_same_node own node ≡ true → places_of node (map (λ at. record { node = own; at = at }) xs ++ order) ≡ xs ++ places_of node order
 own_places own node [] order h = refl
 own_places own node (x ∷ xs) order h = rw h (ap (λ ys. x ∷ ys) (own_places own node xs order h))

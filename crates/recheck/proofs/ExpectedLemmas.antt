@@ -1,9 +1,9 @@
 -- What the blocks are checked against, write by write.
-use Rattle.std.proofs.Common.{◌≡◌, ℕ, zero, suc, ◌+◌, ◌<◌, ◌≤◌, Bool, true, false, ◌&&◌, ◌||◌, eqb, List, [], ◌∷◌, ◌++◌, length, get_or, take, not, map, filter, set, replicate, refl, sym, ap, subst, inl, inr, ◌∙◌, arith, add-one, get_or-set_same, get_or-set_other}
+use Rattle.std.proofs.Common.{◌≡◌, ℕ, zero, suc, ◌+◌, ◌<◌, ◌≤◌, Bool, true, false, ◌&&◌, ◌||◌, eqb, List, [], ◌∷◌, ◌++◌, length, get_or, take, not, map, filter, set, refl, sym, ap, subst, inl, inr, ◌∙◌, arith, add-one, get_or-set_same, get_or-set_other}
 use Rattle.std.specs.Prelude.{Option, Some, None}
 use Rattle.std.specs.List.{range_with_len}
 use Rattle.std.proofs.Math.ListN.{length-set}
-use Rattle.std.proofs.lemmas.List.{length-replicate, get_or-replicate, map-append}
+use Rattle.std.proofs.lemmas.List.{map-append}
 use Rattle.std.proofs.lemmas.List.FromFn.{fill_by_all}
 use Rattle.std.proofs.lemmas.Bool.{eq-eqb, ne_eqb, lt-ltb, cases_eq, or_right}
 use Rattle.std.proofs.lemmas.List.{take_all}
@@ -53,13 +53,6 @@ pub record Gone (job : JobParts) (state : Option State) (n : ℕ) (last : List (
   pub all : length last ≡ job.blocks
   pub each : (b : ℕ) → b < job.blocks → get_or last b None ≡ greatest_below (λ k. counts state k && eqb (block_of job k) b) n
   pub in_flight : open_writes ≡ map (placed job) (filter (λ k. not (counts state k)) (numbers_below n))
-
-pub gone_none : (job : JobParts) (state : Option State) (last : List (Option ℕ)) → last ≡ replicate job.blocks None → Gone job state 0 last []
-gone_none job state last is = record {
-  all = ap length is ∙ length-replicate job.blocks None;
-  each = λ b lt. ap (λ xs. get_or xs b None) is ∙ get_or-replicate job.blocks b None None lt;
-  in_flight = refl;
-}
 
 -- A completed write is the last one to its block.
 pub gone_counted : (job : JobParts) (state : Option State) (n : ℕ) (last : List (Option ℕ)) (open_writes : List Placed) → counts state n ≡ true → Gone job state n last open_writes → Gone job state (n + 1) (set last (block_of job n) (Some n)) open_writes

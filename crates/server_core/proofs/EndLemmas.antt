@@ -1,5 +1,5 @@
 -- What is kept of a run behind the end of a write.
-use Rattle.std.proofs.Common.{◌≡◌, ◌≢◌, refl, sym, ap, ◌∙◌, ℕ, zero, suc, ◌≤◌, Bool, true, false, ◌&&◌, ◌==◌, List, [], ◌∷◌, ◌++◌, length, Option, None, Some}
+use Rattle.std.proofs.Common.{◌≡◌, ◌≢◌, refl, sym, ap, ◌∙◌, ℕ, ◌≤◌, Bool, true, false, ◌&&◌, ◌==◌, List, [], ◌∷◌, ◌++◌, length, Option, None, Some}
 use Rattle.std.specs.Prelude.{if◌then◌else◌, not, set, slice_get, Result, Ok, Err}
 use Rattle.std.proofs.lemmas.Bool.{ne_eqb, eq-eqb}
 use Rattle.fc_base.specs.Counted.{has}
@@ -48,14 +48,6 @@ other_job w ticket end j job ne =
 
 same_boot : (origin : Origin) (writes : List ℕ) (ticket : Ticket) → origin.boot ≡ ticket.boot → ticket_answer origin writes ticket ≡ open_answer (names_one_of origin writes ticket)
 same_boot origin writes ticket e = ap (λ b. if not b then Err OldBoot else (if names_one_of origin writes ticket then Ok tt else Err NotInFlight)) (eq-eqb ticket.boot origin.boot (sym e))
-
-pub set_same : {A : Type 0} (xs : List A) (i : ℕ) (x : A) → slice_get xs i ≡ Some x → set xs i x ≡ xs
-set_same [] i x is = refl
-set_same (y ∷ ys) zero x is = ap (λ z. z ∷ ys) (first is)
-  where
-    first : Some y ≡ Some x → x ≡ y
-    first e = cc
-set_same (y ∷ ys) (suc i) x is = ap (λ zs. y ∷ zs) (set_same ys i x is)
 
 pub end_step : HistoriesAreLegal → (kept : Kept) (w : Work) (ticket : Ticket) (end : WriteEnd) (old new : JobRun) (result : Result (Unit {0}) Fault) → RunIs kept w → slice_get kept.kept ticket.key.job ≡ Some old
     → result ≡ ticket_answer old.engine.origin old.engine.kept.open_writes ticket

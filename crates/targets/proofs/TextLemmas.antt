@@ -1,5 +1,5 @@
 -- A text that comes behind its length, part by part.
-use Rattle.std.proofs.Common.{◌≡◌, ◌<◌, ◌+◌, ℕ, List, ◌++◌, length, min, get_or, take, Option, Some, None, Err, append-nil, sym, ap, ◌∙◌, subst, inl, inr, arith}
+use Rattle.std.proofs.Common.{◌≡◌, ◌<◌, ◌+◌, ℕ, List, ◌++◌, length, min, get_or, take, Option, Some, None, Err, append-nil, sym, ap, ◌∙◌, subst, inr, arith}
 use Rattle.std.specs.Int.{w32, from_be_bytes}
 use Rattle.std.specs.Io.KnownBytes.{Consumes, IsAtEnd}
 use Rattle.std.proofs.KnownBytes.{Consumes-trans}
@@ -40,14 +40,6 @@ is_text most n old mid new told text first is second len = record {
 all_that : (input : List ℕ) (new : Option (List ℕ)) (bytes : List ℕ) → Consumes (Some input) new bytes → IsAtEnd new → input ≡ bytes
 all_that input None bytes read end = absurd read
 all_that input (Some rest) bytes read end = read ∙ ap (λ l. bytes ++ l) end ∙ append-nil bytes
-
--- There is no text where its length isn't whole.
-pub no_length : (most : ℕ) (old new : Option (List ℕ)) (buffer : List ℕ) (fault : Fault) → length buffer ≡ 4 → FillsAll old new buffer (Err fault) → HasNoText most old fault
-no_length most None new buffer faults.EndOfInput len why = tt
-no_length most (Some input) new buffer faults.EndOfInput len (bytes, read, short, end) =
-    inl (omega (arith, ap length (all_that input new bytes read end), short, len))
-no_length most old new buffer faults.ReadError len why = tt
-no_length most old new buffer _ len why = absurd why
 
 -- Nor where the text isn't.
 pub no_text : (most n : ℕ) (old mid new : Option (List ℕ)) (told buffer : List ℕ) (fault : Fault) → Consumes old mid told → told ≡ bytes_of w32 n → length buffer ≡ min n (most + 1)

@@ -6,6 +6,5 @@ pub mod LimitLemmas
 pub mod FieldLemmas
 pub mod PieceLemmas
 pub mod RangeLemmas
-pub mod SameLemmas
 pub mod SpellingLemmas
 pub mod WritingLemmas

@@ -8,7 +8,7 @@ use Rattle.server_cell.specs.Seated.{Seated}
 use Rattle.server_cell.specs.declared.task.Task.{Task}
 use Rattle.server_cell.specs.Cells.{ServerLog}
 use Rattle.server_cell.specs.Calls.{is_right, lacks_memory, told_by, Enters, AppliesBy, Applies}
-use Rattle.workers.specs.Seats.{IsSeatOf, says_final, is_off, ends_with, HasWorked}
+use Rattle.workers.specs.Seats.{IsSeatOf, says_final, is_off, ends_with}
 use Rattle.workers.specs.Turns.{WorkedIf}
 
 -- ---- one call behind another
@@ -16,31 +16,9 @@ use Rattle.workers.specs.Turns.{WorkedIf}
 pub same_seat : (seat : Seated) → IsSeatOf seat seat
 same_seat seat = record { server = refl; number = refl; grown = omega arith }
 
-pub still_seat : (a b c : Seated) → IsSeatOf a b → IsSeatOf b c → IsSeatOf a c
-still_seat a b c p q = record {
-  server = q.server ∙ p.server;
-  number = q.number ∙ p.number;
-  grown = omega (arith, p.grown, q.grown);
-}
-
-pub then_worked : (a b c : Seated) → IsSeatOf a b → HasWorked b c → HasWorked a c
-then_worked a b c p q = record {
-  same = still_seat a b c p q.same;
-  more = omega (arith, p.grown, q.more);
-  ended = q.ended;
-}
-
 pub seat_worked : (is : Bool) (a b : Seated) → WorkedIf is a b → IsSeatOf a b
 seat_worked true a b h = h.same
 seat_worked false a b h = h
-
-pub worked_at_least : (is : Bool) (a b : Seated) → HasWorked a b → WorkedIf is a b
-worked_at_least true a b h = h
-worked_at_least false a b h = h.same
-
-pub then_worked_if : (is : Bool) (a b c : Seated) → IsSeatOf a b → WorkedIf is b c → WorkedIf is a c
-then_worked_if true a b c p q = then_worked a b c p q
-then_worked_if false a b c p q = still_seat a b c p q
 
 -- ---- an answer of the server
 
