@@ -214,12 +214,15 @@ unsaved note old new kept a fault o past c read up s free adds fits same sorts.S
 -- What a call leaves of the note.
 pub leaves_plain : {T : Type 0} (note : T → Note) (notes : T) (o : Opening) (past : List Entry) (c : Call) → refusal o past c ≡ None → addition_of (noted o past) c ≡ None
     → LeavesNote (due o past c) (spelling (noted o (answered o past c ∷ past))) (note notes) (note notes)
-leaves_plain note notes o past c free adds = subst (λ d. LeavesNote d (spelling (noted o (answered o past c ∷ past))) (note notes) (note notes)) (sym (due_now o past c free ∙ adds)) refl
+leaves_plain note notes o past c free adds =
+    subst (λ d. LeavesNote d (spelling (noted o (answered o past c ∷ past))) (note notes) (note notes)) (sym (due_now o past c free ∙ adds)) refl
 
 pub leaves_stored : {T : Type 0} (note : T → Note) (old new : PacketClient T) (kept : Life) (a : Addition) (o : Opening) (past : List Entry) (c : Call) → old.noted ≡ noted o past → refusal o past c ≡ None → addition_of (noted o past) c ≡ Some a
-    → (r : Unit {0}) → Stores note a (record old { life = kept }) new (Ok r) → LeavesNote (due o past c) (spelling (noted o (answered o past c ∷ past))) (note old.notes) (note new.notes)
+    → (r : Unit {0}) → Stores note a (record old { life = kept }) new (Ok r)
+    → LeavesNote (due o past c) (spelling (noted o (answered o past c ∷ past))) (note old.notes) (note new.notes)
 leaves_stored note old new kept a o past c knows free adds r stored =
-    subst (λ d. LeavesNote d (spelling (noted_after (has_new (saved_for d)) d (noted o past))) (note old.notes) (note new.notes)) (sym (due_now o past c free ∙ adds))
+    subst (λ d. LeavesNote d (spelling (noted_after (has_new (saved_for d)) d (noted o past))) (note old.notes) (note new.notes))
+    (sym (due_now o past c free ∙ adds))
     (stored.0 ∙ ap (λ n. record (note old.notes) { bytes = spelling (with_addition a n) }) knows)
 
 -- A call that is answered with a save.
