@@ -13,6 +13,7 @@ mod spelling;
 mod states;
 mod telling;
 mod trouble;
+mod vectors;
 mod words;
 
 pub use changes::{Reader, first_note, first_unlike_field, is_changed_note};

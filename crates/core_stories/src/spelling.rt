@@ -3,6 +3,7 @@
 use crate::draft::Draft;
 use crate::named::put_word;
 use crate::trouble::Trouble;
+use crate::vectors::digits;
 use crate::words::{first_word, next_u64};
 use std::alloc::Global;
 use std::str::SplitWhitespace;
@@ -68,8 +69,9 @@ impl Spelling {
         self.frame.bytes()
     }
 
-    /// Spells the frame that these words say: its bytes in hexadecimal, or the name of its kind, its
-    /// numbers and its text or state. Where memory runs out, it is tried again.
+    /// Spells the frame that these words say: its bytes in hexadecimal; `bytes of` one that `vectors`
+    /// has, by its name; or the name of its kind, its numbers and its text or state. Where memory runs
+    /// out, it is tried again.
     pub fn spell(&mut self, ends: Ends, words: &str) -> Result<(), Trouble> {
         match self.spell_once(ends, words) {
             Err(Trouble::NoMemory) => self.spell_once(ends, words),
@@ -83,10 +85,20 @@ impl Spelling {
         if words.starts_with("4643") {
             self.frame.put_hex(words);
         } else {
-            self.put_frame(ends, words);
+            match words.strip_prefix("bytes of ") {
+                Some(name) => self.put_vector(name),
+                None => self.put_frame(ends, words),
+            }
         }
         self.body.told()?;
         self.frame.told()
+    }
+
+    fn put_vector(&mut self, name: &str) {
+        match digits(name) {
+            Some(digits) => self.frame.put_hex(digits),
+            None => self.frame.give_up(),
+        }
     }
 
     fn put_frame(&mut self, ends: Ends, words: &str) {
@@ -116,7 +128,7 @@ impl Spelling {
 /// Whether words say a frame.
 pub fn is_frame(words: &str) -> bool {
     let (word, _) = first_word(words);
-    word == "piece" || word == "to" || word.starts_with("4643") || layout(word).is_some()
+    matches!(word, "piece" | "to" | "bytes") || word.starts_with("4643") || layout(word).is_some()
 }
 
 /// Puts the body of a packet, and gives the number of its kind.
