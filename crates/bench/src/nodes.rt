@@ -135,6 +135,7 @@ impl Begun {
 }
 
 /// The next write of job 0 is asked for.
+#[inline(always)]
 pub fn issue(server: &mut Server, seat: &mut Seat) -> Result<Ticket, Trouble> {
     match server.apply(seat, Task::Issue(JobNo(0)))?.answer {
         Answer::Issued(answer) => issued(answer),
@@ -143,6 +144,7 @@ pub fn issue(server: &mut Server, seat: &mut Seat) -> Result<Ticket, Trouble> {
 }
 
 /// A write is done.
+#[inline(always)]
 pub fn end(server: &mut Server, seat: &mut Seat, ticket: Ticket) -> Result<(), Trouble> {
     told(server.apply(seat, Task::WriteDone(ticket, WriteEnd::Done)))
 }
