@@ -11,7 +11,7 @@ use Rattle.hub.specs.Waiting.{is_same_node}
 use Rattle.hub.specs.Journal.{count_sent}
 use Rattle.node_history.specs.declared.logged.Logged.{Logged}
 use Rattle.node_traces.specs.Marks.{Mark, mark_of_line, marks_in, marks_of}
-use Rattle.node_traces.specs.Orders.{between, next_place, up_to_last}
+use Rattle.node_traces.specs.Orders.{places_between, next_place, up_to_last}
 use Rattle.node_traces.specs.Rising.{HistoriesRise, marks_before}
 use Rattle.assembly.specs.declared.fault.AssembleFault.{AssembleFault}
 use Rattle.assembly.specs.declared.fault.AssembleFault.TheVariants.{Unlike, NoMemory}
@@ -117,9 +117,9 @@ followed_more r net older l before old new few sent followed told =
     from_is : next_of old.next l.node ≡ next_place l.node older
     from_is = followed.next l.node
 
-    order_more : old.places ++ reverse (between l.node (next_of old.next l.node) (l.at + 1) (ran l.node)) ≡ reverse (up_to_last ran (l ∷ older))
+    order_more : old.places ++ reverse (places_between l.node (next_of old.next l.node) (l.at + 1) (ran l.node)) ≡ reverse (up_to_last ran (l ∷ older))
     order_more =
-        rw (from_is, followed.places) (sym (reverse-append (between l.node (next_place l.node older) (l.at + 1) (ran l.node)) (up_to_last ran older)))
+        rw (from_is, followed.places) (sym (reverse-append (places_between l.node (next_place l.node older) (l.at + 1) (ran l.node)) (up_to_last ran older)))
 
     next_by : is_node l.node ≡ true → (node : Node) (b : Bool) → is_same_node l.node node ≡ b → next_of new.next node ≡ next_place node (l ∷ older)
     next_by valid node true e =

@@ -15,7 +15,7 @@ use Rattle.server_cell.specs.Calls.{is_right}
 use Rattle.client_core.specs.Note.{is_blank as says_nothing}
 use Rattle.client_cell.specs.Cells.{ClientLog}
 use Rattle.net_world.specs.Trace.{opening_of}
-use Rattle.assembly.specs.Ran.{Ran, ran, history_of}
+use Rattle.assembly.specs.Ran.{Ran, ran_of, history_of}
 use Rattle.assembly.specs.Agrees.{IsOpened, IsSeatOf}
 
 -- ---- openings
@@ -38,13 +38,13 @@ opened_more servers n cell opened is e s low = by (s == n) refl
 
 -- All are, and the client.
 pub all_opened : (client : ClientLog) (servers : List ServerLog) (n : ℕ) → says_nothing client.opening.noted ≡ true → client.opening.servers ≡ length servers → length servers ≤ 8 → length servers ≤ n → AreOpened servers n
-    → (node : Node) → IsOpened (ran client servers) node
+    → (node : Node) → IsOpened (ran_of client servers) node
 all_opened client servers n blank drives few all opened Client = (blank, drives, few)
 all_opened client servers n blank drives few all opened Mirror = tt
 all_opened client servers n blank drives few all opened (Server s) = λ cell is. opened s (omega (arith, all, slice_get_within servers s cell is)) cell is
 
 -- One isn't.
-pub not_opened : (client : ClientLog) (servers : List ServerLog) (n : ℕ) (cell : ServerLog) → slice_get servers n ≡ Some cell → (cell.opening ≡ opening_of n → ⊥) → IsOpened (ran client servers) (Server n) → ⊥
+pub not_opened : (client : ClientLog) (servers : List ServerLog) (n : ℕ) (cell : ServerLog) → slice_get servers n ≡ Some cell → (cell.opening ≡ opening_of n → ⊥) → IsOpened (ran_of client servers) (Server n) → ⊥
 not_opened client servers n cell is wrong opened = wrong (opened cell is)
 
 -- ---- seats

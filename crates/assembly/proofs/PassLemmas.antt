@@ -11,7 +11,7 @@ use Rattle.node_history.specs.declared.logged.Logged.{Logged}
 use Rattle.node_history.specs.AtHub.{is_frame, is_left_out, is_quiet}
 use Rattle.node_traces.specs.declared.place.Place.{Place}
 use Rattle.node_traces.specs.Marks.{Mark, frame_of, mark_of, marks_if}
-use Rattle.node_traces.specs.Orders.{between}
+use Rattle.node_traces.specs.Orders.{places_between}
 use Rattle.node_traces.specs.Rising.{HistoriesRise, marks_before}
 use Rattle.assembly.specs.declared.fault.AssembleFault.{AssembleFault}
 use Rattle.assembly.specs.declared.fault.AssembleFault.TheVariants.{Unlike, NoMemory}
@@ -118,9 +118,9 @@ passed_none rise node h from old = record {
 
 -- The places up to the event at a place and with it, if it stands.
 pub places_with : HistoriesRise → (node : Node) (h : List Logged) (from at : ℕ) (l : Logged) (old mid : List Place) → from ≤ at → slice_get (reverse h) at ≡ Some l
-    → mid ≡ old ++ reverse (between node from at h) → with_event (is_left_out l.answer) mid (place_at node at) ≡ old ++ reverse (between node from (at + 1) h)
+    → mid ≡ old ++ reverse (places_between node from at h) → with_event (is_left_out l.answer) mid (place_at node at) ≡ old ++ reverse (places_between node from (at + 1) h)
 places_with rise node h from at l old mid low is e =
-    more_places node from at (is_left_out l.answer) old mid (between node from at h) (between node from (at + 1) h) e ((rise node h).0.more from at l low is)
+    more_places node from at (is_left_out l.answer) old mid (places_between node from at h) (places_between node from (at + 1) h) e ((rise node h).0.more from at l low is)
 
 -- The event at a place of the history, as it is read.
 pub read_there : (history h : List Logged) (at : ℕ) (l : Logged) → history ≡ reverse h → slice_get history at ≡ Some l → slice_get (reverse h) at ≡ Some l

@@ -12,7 +12,7 @@ use Rattle.server_cell.specs.Cells.{ServerLog}
 use Rattle.node_history.specs.declared.logged.Logged.{Logged}
 use Rattle.node_traces.specs.declared.place.Place.{Place}
 use Rattle.node_traces.specs.Marks.{marks_in, marks_of}
-use Rattle.node_traces.specs.Orders.{next_place, up_to_last, left_of, left_below, merged}
+use Rattle.node_traces.specs.Orders.{next_place, up_to_last, left_of, left_below, merged_order}
 use Rattle.node_traces.specs.Rising.{HistoriesRise, marks_before}
 use Rattle.assembly.specs.declared.fault.AssembleFault.{AssembleFault}
 use Rattle.assembly.specs.declared.fault.AssembleFault.TheVariants.{Unlike, NoMemory}
@@ -143,9 +143,9 @@ ok_marked rise r net start n now new list (Err _) followed added all e passed = 
 pub ok_merged : (r : Ran) (net : Network) (start : Followed) (n : ℕ) (now : Followed) (new : List Place) (list : List Logged) (result : Result (Unit {0}) AssembleFault) → IsFollowed r net net.journal start
     → AreAdded r net start n now → n ≡ length r.servers → list ≡ reverse (history_of r Client)
     → OnOk result (IsPassed Client (history_of r Client) (next_of now.next Client) (length list) now.places new)
-    → OnOk result (new ≡ reverse (merged (length r.servers) (history_of r) net.journal))
+    → OnOk result (new ≡ reverse (merged_order (length r.servers) (history_of r) net.journal))
 ok_merged r net start n now new list (Ok _) followed added all e passed =
-    subst (λ (m : ℕ). new ≡ reverse (merged m (history_of r) net.journal)) all
+    subst (λ (m : ℕ). new ≡ reverse (merged_order m (history_of r) net.journal)) all
     (left_added r net Client start (left_below (history_of r) net.journal n ++ up_to_last (history_of r) net.journal) now.places new followed added.1
     (rest_passed r Client start now.next list now.places new added.2 e passed))
 ok_merged r net start n now new list (Err _) followed added all e passed = tt

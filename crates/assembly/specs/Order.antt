@@ -8,7 +8,7 @@ use Rattle.hub.specs.Network.{Network}
 use Rattle.node_history.specs.declared.logged.Logged.{Logged}
 use Rattle.node_traces.specs.declared.place.Place.{Place}
 use Rattle.node_traces.specs.Marks.{Mark, frame_of, marks_in, marks_of}
-use Rattle.node_traces.specs.Orders.{between, next_place, up_to_last}
+use Rattle.node_traces.specs.Orders.{places_between, next_place, up_to_last}
 use Rattle.node_traces.specs.Rising.{marks_before}
 use Rattle.assembly.specs.declared.fault.AssembleFault.{AssembleFault}
 use Rattle.assembly.specs.declared.fault.AssembleFault.TheVariants.{Unlike, NoMemory}
@@ -35,7 +35,7 @@ whole_mark at l = record { at = at; taken = frame_of l.came; sent = l.sent }
 -- A node was followed from one place up to another: the events that stand there were added, and none of
 -- them is marked.
 pub record IsPassed (node : Node) (h : List Logged) (from to : ℕ) (old new : List Place) : Type 0 where
-  pub places : new ≡ old ++ reverse (between node from to h)
+  pub places : new ≡ old ++ reverse (places_between node from to h)
   pub unmarked : marks_before to h ≡ marks_before from h
 
 -- From a place on, a node's history goes on with a mark at this place, which is below another.
@@ -54,7 +54,7 @@ IsStopped node h from to NoMemory = Unit {0}
 pub record IsTold (node : Node) (h : List Logged) (entry : Mark) (old new : Followed) : Type 0 where
   pub within : entry.at < length h
   pub rises : next_of old.next node ≤ entry.at
-  pub places : new.places ≡ old.places ++ reverse (between node (next_of old.next node) (entry.at + 1) h)
+  pub places : new.places ≡ old.places ++ reverse (places_between node (next_of old.next node) (entry.at + 1) h)
   pub next : new.next ≡ with_next old.next node (entry.at + 1)
   pub marks : marks_before (entry.at + 1) h ≡ entry ∷ marks_before (next_of old.next node) h
 

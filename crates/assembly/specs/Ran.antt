@@ -12,8 +12,8 @@ pub record Ran : Type 0 where
   pub client : ClientLog
   pub servers : List ServerLog
 
-abbrev pub ran : ClientLog → List ServerLog → Ran
-ran client servers = record { client = client; servers = servers }
+abbrev pub ran_of : ClientLog → List ServerLog → Ran
+ran_of client servers = record { client = client; servers = servers }
 
 -- The history of a node, which is empty where it has no cell.
 abbrev pub history_of : Ran → Node → List Logged

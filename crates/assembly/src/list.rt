@@ -1,9 +1,9 @@
 //! One list of events out of the histories of all nodes.
 
 ghost use Rattle.std.specs.Prelude.{◌≡◌, length, reverse, IfOk, IfErr, OnOk};
-ghost use Rattle.node_traces.specs.Orders.{merged};
+ghost use Rattle.node_traces.specs.Orders.{merged_order};
 ghost use Rattle.node_traces.specs.Names.{IsOrder};
-ghost use Rattle.assembly.specs.Ran.{ran, history_of};
+ghost use Rattle.assembly.specs.Ran.{ran_of, history_of};
 ghost use Rattle.assembly.specs.Agrees.{AllAgree};
 ghost use Rattle.assembly.specs.Unlike.{IsWhy};
 ghost use Rattle.assembly.specs.Verdict.{HoldOneStateEach};
@@ -38,11 +38,16 @@ pub fn assemble<N: Notes + Drop>(
     servers: &[ServerCell<N>],
     seats: &[Seat],
 ) -> Result<Assembled, AssembleFault>
-    ensures agrees { OnOk result (AllAgree (ran client.now servers.now) hub.now.net seats.now) }
-    ensures why { IfErr result (IsWhy (ran client.now servers.now) hub.now.net seats.now) }
-    ensures order { IfOk result (λ a. a.order.items ≡ reverse (merged (length servers.now) (history_of (ran client.now servers.now)) hub.now.net.journal)) }
-    ensures trace { IfOk result (λ a. IsOrder (length servers.now) hub.now.net (history_of (ran client.now servers.now)) (reverse a.order.items)) }
-    ensures state { OnOk result (HoldOneStateEach (ran client.now servers.now) hub.now.net) }
+    ensures agrees { OnOk result (AllAgree (ran_of client.now servers.now) hub.now.net seats.now) }
+    ensures why { IfErr result (IsWhy (ran_of client.now servers.now) hub.now.net seats.now) }
+    ensures order { IfOk result
+        (λ a. a.order.items ≡ reverse
+        (merged_order (length servers.now)
+        (history_of (ran_of client.now servers.now)) hub.now.net.journal)) }
+    ensures trace { IfOk result
+        (λ a. IsOrder (length servers.now) hub.now.net (history_of (ran_of client.now servers.now))
+        (reverse a.order.items)) }
+    ensures state { OnOk result (HoldOneStateEach (ran_of client.now servers.now) hub.now.net) }
 {
     agreeing_nodes_are_a_trace();
     assembled_nodes_hold_one_state();

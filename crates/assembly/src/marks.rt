@@ -11,7 +11,8 @@ use node_history::{Came, Logged, is_left_out};
 
 /// Whether an event took a frame or sent some.
 pub(crate) fn is_marked(event: &Logged) -> bool
-    ensures { (at : ℕ) → mark_of at event.now ≡ (if result then whole_mark at event.now ∷ [] else []) }
+    ensures { (at : ℕ) →
+        mark_of at event.now ≡ (if result then whole_mark at event.now ∷ [] else []) }
 {
     !is_left_out(&event.answer) && (has_frame(&event.came) || event.sent.len() != 0)
 }
@@ -28,7 +29,8 @@ fn has_frame(came: &Came) -> bool
 pub(crate) fn is_told_by(hub: &Hub, before: u64, line: &Line, event: &Logged) -> bool
     requires there { before + line.now.sent ≤ length hub.now.net.frames }
     requires fits { length hub.now.net.frames < 2 ^ 64 }
-    ensures { Decides result (mark_of line.now.at event.now ≡ mark_of_line hub.now.net.frames before line.now ∷ []) }
+    ensures { Decides result
+        (mark_of line.now.at event.now ≡ mark_of_line hub.now.net.frames before line.now ∷ []) }
 {
     is_marked(event) && has_same(hub, before, line, event)
 }
@@ -37,14 +39,16 @@ pub(crate) fn is_told_by(hub: &Hub, before: u64, line: &Line, event: &Logged) ->
 fn has_same(hub: &Hub, before: u64, line: &Line, event: &Logged) -> bool
     requires there { before + line.now.sent ≤ length hub.now.net.frames }
     requires fits { length hub.now.net.frames < 2 ^ 64 }
-    ensures { Decides result (whole_mark line.now.at event.now ≡ mark_of_line hub.now.net.frames before line.now) }
+    ensures { Decides result
+        (whole_mark line.now.at event.now ≡ mark_of_line hub.now.net.frames before line.now) }
 {
     has_taken(hub, line.taken, &event.came) && has_sent(hub, before, line.sent, &event.sent)
 }
 
 /// Whether what came is the frame of this number; none where there is no number.
 fn has_taken(hub: &Hub, taken: Option<u64>, came: &Came) -> bool
-    ensures { Decides result (frame_of came.now ≡ option_and_then (λ i. slice_get hub.now.net.frames i) taken) }
+    ensures { Decides result
+        (frame_of came.now ≡ option_and_then (λ i. slice_get hub.now.net.frames i) taken) }
 {
     let frame = match taken {
         Some(number) => hub.frame(number),

@@ -4,7 +4,7 @@ ghost use Rattle.std.specs.Prelude.{◌≡◌, ◌≤◌, length, true, All, Dec
 ghost use Rattle.messages.specs.declared.node.Node.{Node as Name};
 ghost use Rattle.messages.specs.declared.node.Node.TheVariants.{Server, Client};
 ghost use Rattle.net_world.specs.Trace.{opening_of};
-ghost use Rattle.assembly.specs.Ran.{ran};
+ghost use Rattle.assembly.specs.Ran.{ran_of};
 ghost use Rattle.assembly.specs.Agrees.{IsOpened, IsSeatOf};
 
 use client_cell::ClientCell;
@@ -18,8 +18,8 @@ pub(crate) fn wrongly_opened<N: Notes + Drop>(
     client: &ClientCell<N>,
     servers: &[ServerCell<N>],
 ) -> Option<Node>
-    ensures none { IfNone result ((node : Name) → IsOpened (ran client.now servers.now) node) }
-    ensures some { IfSome result (λ node. IsOpened (ran client.now servers.now) node → ⊥) }
+    ensures none { IfNone result ((node : Name) → IsOpened (ran_of client.now servers.now) node) }
+    ensures some { IfSome result (λ node. IsOpened (ran_of client.now servers.now) node → ⊥) }
 {
     if !is_opened_for(client, servers) {
         return Some(Node::Client);
@@ -34,7 +34,7 @@ pub(crate) fn wrongly_opened<N: Notes + Drop>(
 
 /// Whether the client was opened over a blank note, and drives just these servers, eight at most.
 fn is_opened_for<N: Notes + Drop>(client: &ClientCell<N>, servers: &[ServerCell<N>]) -> bool
-    ensures { Decides result (IsOpened (ran client.now servers.now) Client) }
+    ensures { Decides result (IsOpened (ran_of client.now servers.now) Client) }
 {
     let count = client.servers();
     client.is_blank() && count as usize == servers.len() && count <= MAX_SERVERS
@@ -53,9 +53,11 @@ pub(crate) fn wrongly_seated<N: Notes + Drop>(
     servers: &[ServerCell<N>],
     seats: &[Seat],
 ) -> Option<Node>
-    requires { (node : Name) → IsOpened (ran client.now servers.now) node }
-    ensures none { IfNone result ((node : Name) → All (IsSeatOf (ran client.now servers.now) node) seats.now) }
-    ensures some { IfSome result (λ node. All (IsSeatOf (ran client.now servers.now) node) seats.now → ⊥) }
+    requires { (node : Name) → IsOpened (ran_of client.now servers.now) node }
+    ensures none { IfNone result
+        ((node : Name) → All (IsSeatOf (ran_of client.now servers.now) node) seats.now) }
+    ensures some { IfSome result
+        (λ node. All (IsSeatOf (ran_of client.now servers.now) node) seats.now → ⊥) }
 {
     for seat in seats {
         if !fits(client, servers, seat) {
@@ -67,8 +69,9 @@ pub(crate) fn wrongly_seated<N: Notes + Drop>(
 
 /// Whether a seat has applied as many events as the history of its server has of it.
 fn fits<N: Notes + Drop>(client: &ClientCell<N>, servers: &[ServerCell<N>], seat: &Seat) -> bool
-    requires { (node : Name) → IsOpened (ran client.now servers.now) node }
-    ensures { Decides result (IsSeatOf (ran client.now servers.now) (Server seat.now.server) seat.now) }
+    requires { (node : Name) → IsOpened (ran_of client.now servers.now) node }
+    ensures { Decides result
+        (IsSeatOf (ran_of client.now servers.now) (Server seat.now.server) seat.now) }
 {
     match servers.get(seat.server().0 as usize) {
         Some(cell) => cell.is_right(seat),

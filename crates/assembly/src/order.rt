@@ -61,7 +61,8 @@ impl Order {
         requires rises { next_of self.old.next node.now ≤ to }
         requires within { to ≤ length history.now.items }
         ensures passed { (h : List Event) → history.now.items ≡ reverse h →
-            OnOk result (IsPassed node.now h (next_of self.old.next node.now) to self.old.places self.new.places) }
+            OnOk result (IsPassed node.now h
+            (next_of self.old.next node.now) to self.old.places self.new.places) }
         ensures next { self.new.next ≡ self.old.next }
         ensures stopped { (h : List Event) → history.now.items ≡ reverse h →
             IfErr result (IsStopped node.now h (next_of self.old.next node.now) to) }
@@ -94,9 +95,11 @@ impl Order {
         requires there { before + line.now.sent ≤ length hub.now.net.frames }
         requires fits { length hub.now.net.frames < 2 ^ 64 }
         ensures told { (h : List Event) → history.now.items ≡ reverse h →
-            OnOk result (IsTold line.now.node h (mark_of_line hub.now.net.frames before line.now) self.old self.new) }
+            OnOk result (IsTold line.now.node h
+            (mark_of_line hub.now.net.frames before line.now) self.old self.new) }
         ensures untold { (h : List Event) → history.now.items ≡ reverse h →
-            IfErr result (IsUntold line.now.node h (next_of self.old.next line.now.node) (mark_of_line hub.now.net.frames before line.now)) }
+            IfErr result (IsUntold line.now.node h (next_of self.old.next line.now.node)
+            (mark_of_line hub.now.net.frames before line.now)) }
     {
         histories_rise();
         let at = line.at;
@@ -120,7 +123,8 @@ impl Order {
 
     /// Adds an event.
     fn add(&mut self, node: Node, at: u64) -> Result<(), AssembleFault>
-        ensures places { OnOk result (self.new.places ≡ self.old.places ++ record { node = node; at = at } ∷ []) }
+        ensures places { OnOk result
+            (self.new.places ≡ self.old.places ++ record { node = node; at = at } ∷ []) }
         ensures next { self.new.next ≡ self.old.next }
         ensures memory { IfErr result (λ fault. fault ≡ NoMemory) }
     {

@@ -3,9 +3,9 @@
 ghost use Rattle.std.specs.Prelude.{◌≡◌, ◌≤◌, [], length, reverse, IfOk, IfErr, OnOk};
 ghost use Rattle.hub.specs.Journal.{IsLegal};
 ghost use Rattle.node_traces.specs.Laws.{Agree};
-ghost use Rattle.node_traces.specs.Orders.{merged};
+ghost use Rattle.node_traces.specs.Orders.{merged_order};
 ghost use Rattle.messages.specs.declared.node.Node.{Node as Name};
-ghost use Rattle.assembly.specs.Ran.{ran, history_of};
+ghost use Rattle.assembly.specs.Ran.{ran_of, history_of};
 ghost use Rattle.assembly.specs.Agrees.{IsOpened, IsMarked};
 ghost use Rattle.assembly.specs.Order.{Differs, IsFollowed, nothing_followed};
 
@@ -29,10 +29,14 @@ pub(crate) fn told<N: Notes + Drop>(
     client: &ClientCell<N>,
     servers: &[ServerCell<N>],
 ) -> Result<Vec<Place>, AssembleFault>
-    requires { (node : Name) → IsOpened (ran client.now servers.now) node }
-    ensures agree { OnOk result (Agree (length servers.now) hub.now.net (history_of (ran client.now servers.now))) }
-    ensures merged { IfOk result (λ places. places.items ≡ reverse (merged (length servers.now) (history_of (ran client.now servers.now)) hub.now.net.journal)) }
-    ensures differs { IfErr result (Differs (ran client.now servers.now) hub.now.net) }
+    requires { (node : Name) → IsOpened (ran_of client.now servers.now) node }
+    ensures agree { OnOk result
+        (Agree (length servers.now) hub.now.net (history_of (ran_of client.now servers.now))) }
+    ensures merged { IfOk result
+        (λ places. places.items
+        ≡ reverse (merged_order (length servers.now)
+        (history_of (ran_of client.now servers.now)) hub.now.net.journal)) }
+    ensures differs { IfErr result (Differs (ran_of client.now servers.now) hub.now.net) }
 {
     let mut order = Order::new(alloc);
     let none = History::new(alloc);
@@ -53,8 +57,9 @@ fn follow_journal<N: Notes + Drop>(
     requires few { length servers.now ≤ MAX_SERVERS }
     requires new { order.old ≡ nothing_followed }
     ensures legal { IsLegal hub.now.net }
-    ensures followed { OnOk result (IsFollowed (ran client.now servers.now) hub.now.net hub.now.net.journal order.new) }
-    ensures differs { IfErr result (Differs (ran client.now servers.now) hub.now.net) }
+    ensures followed { OnOk result
+        (IsFollowed (ran_of client.now servers.now) hub.now.net hub.now.net.journal order.new) }
+    ensures differs { IfErr result (Differs (ran_of client.now servers.now) hub.now.net) }
 {
     histories_rise();
     let _frames = hub.len();
@@ -74,11 +79,16 @@ fn follow_rest<N: Notes + Drop>(
     client: &ClientCell<N>,
     servers: &[ServerCell<N>],
 ) -> Result<(), AssembleFault>
-    requires opened { (node : Name) → IsOpened (ran client.now servers.now) node }
-    requires followed { IsFollowed (ran client.now servers.now) hub.now.net hub.now.net.journal order.old }
-    ensures marked { OnOk result ((node : Name) → IsMarked (ran client.now servers.now) hub.now.net node) }
-    ensures merged { OnOk result (order.new.places ≡ reverse (merged (length servers.now) (history_of (ran client.now servers.now)) hub.now.net.journal)) }
-    ensures differs { IfErr result (Differs (ran client.now servers.now) hub.now.net) }
+    requires opened { (node : Name) → IsOpened (ran_of client.now servers.now) node }
+    requires followed { IsFollowed
+        (ran_of client.now servers.now) hub.now.net hub.now.net.journal order.old }
+    ensures marked { OnOk result
+        ((node : Name) → IsMarked (ran_of client.now servers.now) hub.now.net node) }
+    ensures merged { OnOk result
+        (order.new.places ≡ reverse
+        (merged_order (length servers.now)
+        (history_of (ran_of client.now servers.now)) hub.now.net.journal)) }
+    ensures differs { IfErr result (Differs (ran_of client.now servers.now) hub.now.net) }
 {
     histories_rise();
     for number in 0..client.servers() {
@@ -101,7 +111,7 @@ fn history_of<'a, N: Notes + Drop>(
     none: &'a History,
 ) -> &'a History
     requires { none.now.items ≡ [] }
-    ensures { result.now.items ≡ reverse (history_of (ran client.now servers.now) node) }
+    ensures { result.now.items ≡ reverse (history_of (ran_of client.now servers.now) node) }
 {
     match node {
         Node::Client => client.history(),

@@ -6,7 +6,7 @@ use crate::trouble::Trouble;
 use crate::watch::Watch;
 use disk_model::{Disk, MemDisk, is_block};
 use fc_base::{CheckReport, JobParts, JobRecord, Kind, Seq, Verify};
-use parallel_checks::{Task, check_jobs};
+use parallel_checks::{CheckTask, check_jobs};
 use recheck::check_disk;
 use std::alloc::Global;
 use std::thread::Threads;
@@ -104,7 +104,7 @@ fn tasks<'d>(
     alloc: Global,
     job: &JobRecord,
     disks: &'d mut [MemDisk],
-) -> Result<Vec<Task<&'d mut MemDisk>>, Trouble> {
+) -> Result<Vec<CheckTask<&'d mut MemDisk>>, Trouble> {
     let mut tasks = Vec::new(alloc);
     for disk in disks {
         tasks.push(task(job, disk))?;
@@ -112,8 +112,8 @@ fn tasks<'d>(
     Ok(tasks)
 }
 
-fn task<'d>(job: &JobRecord, disk: &'d mut MemDisk) -> Task<&'d mut MemDisk> {
-    Task {
+fn task<'d>(job: &JobRecord, disk: &'d mut MemDisk) -> CheckTask<&'d mut MemDisk> {
+    CheckTask {
         rec: *job,
         key: KEY,
         state: None,

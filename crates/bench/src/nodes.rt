@@ -8,12 +8,12 @@ use crate::packets::text_of;
 use crate::servers::RANDOM_TEXT;
 use crate::trouble::Trouble;
 use crate::watch::Watch;
-use client_cell::{ClientCell, Command, Request};
+use client_cell::{ClientCell, ClientCommand, ClientRequest};
 use disk_model::MemNotes;
 use engine::Ticket;
 use fc_base::{Fault, JobNo, MAX_WRITES, ServerNo};
 use hub::Hub;
-use node_history::{Answer, Node, Told};
+use node_history::{Answer, CallerAnswer, Node};
 use server_cell::{Seat, ServerCell, Task};
 use server_core::WriteEnd;
 use std::alloc::Global;
@@ -101,7 +101,7 @@ impl Network {
         text: &[u8],
     ) -> Result<(), Trouble> {
         let text = text_of(Vec::from_slice(alloc, text)?)?;
-        let begin = Command::Request(Request::Begin(text));
+        let begin = ClientCommand::Request(ClientRequest::Begin(text));
         told(Node::post(&mut self.client, &mut self.hub, begin))?;
         self.carry(server)
     }
@@ -150,7 +150,7 @@ pub fn end(server: &mut Server, seat: &mut Seat, ticket: Ticket) -> Result<(), T
 }
 
 /// Whether it was answered, whatever is told.
-fn told(answer: Result<Told, Fault>) -> Result<(), Trouble> {
+fn told(answer: Result<CallerAnswer, Fault>) -> Result<(), Trouble> {
     match answer {
         Ok(_) => Ok(()),
         Err(fault) => Err(Trouble::Refused(fault)),

@@ -10,17 +10,17 @@ use Rattle.client_core.specs.History.{Opening}
 use Rattle.client_core.specs.Hearing.{FrameEntry, Restart}
 use Rattle.client_core.specs.FrameEnds.{StandsFor, Opens}
 use Rattle.node_history.specs.declared.answer.Said.{Said}
-use Rattle.node_history.specs.declared.answer.Told.{Told}
+use Rattle.node_history.specs.declared.answer.CallerAnswer.{CallerAnswer}
 use Rattle.node_history.specs.declared.came.Came.{Came}
 use Rattle.node_history.specs.declared.logged.Logged.{Logged}
-use Rattle.node_history.specs.ClientRules.{asked}
+use Rattle.node_history.specs.ClientRules.{ask_of}
 use Rattle.node_history.specs.AtHub.{lacks_memory, told_by}
 use Rattle.node_history.specs.Failures.{Counts}
 use Rattle.node_history.specs.Moves.{Moves}
 use Rattle.node_history.proofs.HubLemmas.{same_kept, entered as kept_more}
 use Rattle.node_history.specs.declared.power.Power.{Power}
 use Rattle.node_history.specs.declared.power.Power.TheVariants.{On}
-use Rattle.client_cell.specs.declared.task.Task.{Task}
+use Rattle.client_cell.specs.declared.task.ClientTask.{ClientTask}
 use Rattle.client_cell.specs.Stands.{ways, Stands}
 use Rattle.client_cell.specs.Cells.{ClientLog, opening_of, IsReplay, IsCell}
 use Rattle.client_cell.specs.Calls.{logged_by, Enters, Applies}
@@ -56,7 +56,7 @@ new_cell note servers notes client seen h history failures some few is none =
 -- ---- what is asked
 
 -- For want of memory nothing changes.
-pub lacks : (old new : ClientLog) (task : Task) → new ≡ old → Applies old task new (Err NoMemory)
+pub lacks : (old new : ClientLog) (task : ClientTask) → new ≡ old → Applies old task new (Err NoMemory)
 lacks old new task same = (Err NoMemory, refl, (same, refl))
 
 -- What a cell shows later.
@@ -69,15 +69,15 @@ same_cell note log power new failures cell s = record { kept = same_kept (ways n
 
 -- What was asked is entered.
 pub entered : {T : Type 0} (note : T → Note) (log : ClientLog) (power new : Power (Client T) T) (failures : ℕ) (came : Came) (answer : Result Said Fault) (cell : IsCell note log power)
-    → Moves (ways note log.opening) cell.kept.past (asked came) answer [] new → IsCell note (with_history log (logged_by came answer ∷ log.history) failures) new
+    → Moves (ways note log.opening) cell.kept.past (ask_of came) answer [] new → IsCell note (with_history log (logged_by came answer ∷ log.history) failures) new
 entered note log power new failures came answer cell m = record { kept = kept_more (ways note log.opening) log.history power new cell.kept _ came answer [] m; some = cell.some; opens = cell.opens }
 
 pub replayed : {T : Type 0} (note : T → Note) (log : ClientLog) (power new : Power (Client T) T) (failures : ℕ) (came : Came) (answer : Result Said Fault) (cell : IsCell note log power)
-    → Moves (ways note log.opening) cell.kept.past (asked came) answer [] new → (past : List FrameEntry) × IsReplay (with_history log (logged_by came answer ∷ log.history) failures) past
+    → Moves (ways note log.opening) cell.kept.past (ask_of came) answer [] new → (past : List FrameEntry) × IsReplay (with_history log (logged_by came answer ∷ log.history) failures) past
 replayed note log power new failures came answer cell m = (m.after, (cell.kept.past, cell.kept.made, m.ends))
 
 -- So a call ends that was entered.
-pub applied : (old : ClientLog) (task : Task) (answer : Result Said Fault) (new : ClientLog) (result : Result Told Fault) → lacks_memory answer ≡ false → new.opening ≡ old.opening → new.history ≡ logged_by (came_by task) answer ∷ old.history
+pub applied : (old : ClientLog) (task : ClientTask) (answer : Result Said Fault) (new : ClientLog) (result : Result CallerAnswer Fault) → lacks_memory answer ≡ false → new.opening ≡ old.opening → new.history ≡ logged_by (came_by task) answer ∷ old.history
     → Counts (loads_note task) old.failures new.failures answer → result ≡ told_by answer → Applies old task new result
 applied old task answer new result kept opening history counted told =
     (answer, told, subst (λ b. Enters b old task new answer) (sym kept) (record { opening = opening; history = history; failures = counted }))

@@ -24,13 +24,13 @@ use Rattle.client_core.specs.History.{Opening}
 use Rattle.client_core.specs.Laws.{PacketsAreInRange}
 use Rattle.client_core.specs.Ranges.{OpensInRange, CameInRange}
 use Rattle.client_core.specs.Hearing.{FrameEntry, packets_heard}
-use Rattle.client_core.specs.FrameAnswers.{answered, entry_heard, frames_by}
+use Rattle.client_core.specs.FrameAnswers.{answered_entry, entry_heard, frames_by}
 use Rattle.client_core.specs.FrameEnds.{StandsFor, most_packets}
-use Rattle.node_history.specs.declared.answer.Told.{Told}
+use Rattle.node_history.specs.declared.answer.CallerAnswer.{CallerAnswer}
 use Rattle.node_history.specs.declared.came.Came.{Came}
 use Rattle.node_history.specs.declared.logged.Logged.{Logged}
 use Rattle.node_history.specs.Rules.{Meets}
-use Rattle.node_history.specs.ClientRules.{asked, rules, is_up}
+use Rattle.node_history.specs.ClientRules.{ask_of, rules, is_up}
 use Rattle.node_history.specs.AtHub.{is_left_out, told_at, Hears, Comes}
 use Rattle.node_history.specs.Calls.{is_off, HasWhy, IsWhyNot}
 use Rattle.node_history.specs.Moves.{StepEnds, outcome_of}
@@ -39,21 +39,21 @@ use Rattle.node_history.proofs.HubLemmas as hub
 use Rattle.node_history.proofs.MoveLemmas.{off_where}
 use Rattle.client_cell.specs.declared.outs.Outs.{Outs}
 use Rattle.node_history.specs.declared.power.Power.{Power}
-use Rattle.client_cell.specs.declared.request.Request.{Request}
-use Rattle.client_cell.specs.declared.request.Request.TheVariants as requests
-use Rattle.client_cell.specs.Stands.{given, ways}
+use Rattle.client_cell.specs.declared.request.ClientRequest.{ClientRequest}
+use Rattle.client_cell.specs.declared.request.ClientRequest.TheVariants as requests
+use Rattle.client_cell.specs.Stands.{reply_and_frames, ways}
 use Rattle.client_cell.specs.Cells.{ClientLog, IsReplay, IsCell}
 use Rattle.client_cell.specs.Tasks.{came_of, input_of}
 use Rattle.client_cell.proofs.CellLemmas.{with_history}
 
 -- ---- the room for its frames
 
-short : {T : Type 0} (note : T → Note) (o : Opening) (past : List FrameEntry) (e : Input) (new : Power (Client T) T) (step : Result Outs Fault) → most_packets o past e ≡ 8 → OpensInRange o → CameInRange (packets_heard o past) → StepEnds (ways note o) past e new (given step) → AreShort 8 (outcome_of (given step)).1
+short : {T : Type 0} (note : T → Note) (o : Opening) (past : List FrameEntry) (e : Input) (new : Power (Client T) T) (step : Result Outs Fault) → most_packets o past e ≡ 8 → OpensInRange o → CameInRange (packets_heard o past) → StepEnds (ways note o) past e new (reply_and_frames step) → AreShort 8 (outcome_of (reply_and_frames step)).1
 short note o past e new (Ok outs) eight i h f = subst (λ most. AreShort most outs.frames) eight (f.short i h)
 short note o past e new (Err fault) eight i h f = record { few = omega arith; short = omega arith }
 
-pub has_room : {T : Type 0} (note : T → Note) (log : ClientLog) (power : Power (Client T) T) (cell : IsCell note log power) (e : Input) (new : Power (Client T) T) (step : Result Outs Fault) (room : Room) → most_packets log.opening cell.kept.past e ≡ 8 → StepEnds (ways note log.opening) cell.kept.past e new (given step) → HasRoom room 136 137864
-    → HasRoom room (length (outcome_of (given step)).1) (sum_by (λ (frame : List ℕ). length frame) (outcome_of (given step)).1)
+pub has_room : {T : Type 0} (note : T → Note) (log : ClientLog) (power : Power (Client T) T) (cell : IsCell note log power) (e : Input) (new : Power (Client T) T) (step : Result Outs Fault) (room : Room) → most_packets log.opening cell.kept.past e ≡ 8 → StepEnds (ways note log.opening) cell.kept.past e new (reply_and_frames step) → HasRoom room 136 137864
+    → HasRoom room (length (outcome_of (reply_and_frames step)).1) (sum_by (λ (frame : List ℕ). length frame) (outcome_of (reply_and_frames step)).1)
 has_room note log power cell e new step room eight f has =
     let few = short note log.opening cell.kept.past e new step eight cell.opens cell.kept.ranges f in
     record {
@@ -63,13 +63,13 @@ has_room note log power cell e new step room eight f has =
     }
 
 -- A request sends at most 8 packets.
-pub requests_eight : (o : Opening) (past : List FrameEntry) (r : Request) → most_packets o past (input_of r) ≡ 8
+pub requests_eight : (o : Opening) (past : List FrameEntry) (r : ClientRequest) → most_packets o past (input_of r) ≡ 8
 requests_eight o past (requests.Begin text) = refl
 requests_eight o past (requests.Trigger run act) = refl
 requests_eight o past (requests.Stop run) = refl
 requests_eight o past (requests.Verify run text) = refl
 
-pub request_asks : (r : Request) → asked (came_of r) ≡ Meets (input_of r)
+pub request_asks : (r : ClientRequest) → ask_of (came_of r) ≡ Meets (input_of r)
 request_asks (requests.Begin text) = refl
 request_asks (requests.Trigger run act) = refl
 request_asks (requests.Stop run) = refl
@@ -93,20 +93,20 @@ by_entry : FramesAreSpelled → PacketsAreInRange → (o : Opening) (past : List
 by_entry law ranges o past i None came = All-nil IsSpelled
 by_entry law ranges o past i (Some x) came = hub.packets_spelled law (packets o past x) (ranges o past x i (came x refl))
 
-pub sent_spelled : {T : Type 0} (note : T → Note) (log : ClientLog) (power : Power (Client T) T) (cell : IsCell note log power) (e : Input) (new : Power (Client T) T) (step : Result Outs Fault) → FramesAreSpelled → PacketsAreInRange → StepEnds (ways note log.opening) cell.kept.past e new (given step) → All IsSpelled (outcome_of (given step)).1
+pub sent_spelled : {T : Type 0} (note : T → Note) (log : ClientLog) (power : Power (Client T) T) (cell : IsCell note log power) (e : Input) (new : Power (Client T) T) (step : Result Outs Fault) → FramesAreSpelled → PacketsAreInRange → StepEnds (ways note log.opening) cell.kept.past e new (reply_and_frames step) → All IsSpelled (outcome_of (reply_and_frames step)).1
 sent_spelled note log power cell e new step law ranges f =
     let o = log.opening in
     let past = cell.kept.past in
-    hub.sent_spelled (ways note o) past e (answered o past e) new (given step) refl cell.kept.ranges
-    (λ came. by_entry law ranges o (packets_heard o past) cell.opens (entry_heard o past (answered o past e)) (λ x is. subst (λ (y : Option history.Entry). CameInRange (with_entry y (packets_heard o past))) is came)) f
+    hub.sent_spelled (ways note o) past e (answered_entry o past e) new (reply_and_frames step) refl cell.kept.ranges
+    (λ came. by_entry law ranges o (packets_heard o past) cell.opens (entry_heard o past (answered_entry o past e)) (λ x is. subst (λ (y : Option history.Entry). CameInRange (with_entry y (packets_heard o past))) is came)) f
 
 -- ---- what came is entered
 
 -- A cell behind what came.
-pub heard_cell : {T : Type 0} (note : T → Note) (log : ClientLog) (power new : Power (Client T) T) (cell : IsCell note log power) (e : Input) (step : Result Outs Fault) (came : Came) (taken : Option ℕ) (net after : Network) (history : List Logged) (failures : ℕ) → asked came ≡ Meets e → StepEnds (ways note log.opening) cell.kept.past e new (given step)
-    → Hears (is_left_out (outcome_of (given step)).0) nodes.Client came taken (outcome_of (given step)).0 (outcome_of (given step)).1 net after log.history history → IsCell note (with_history log history failures) new
+pub heard_cell : {T : Type 0} (note : T → Note) (log : ClientLog) (power new : Power (Client T) T) (cell : IsCell note log power) (e : Input) (step : Result Outs Fault) (came : Came) (taken : Option ℕ) (net after : Network) (history : List Logged) (failures : ℕ) → ask_of came ≡ Meets e → StepEnds (ways note log.opening) cell.kept.past e new (reply_and_frames step)
+    → Hears (is_left_out (outcome_of (reply_and_frames step)).0) nodes.Client came taken (outcome_of (reply_and_frames step)).0 (outcome_of (reply_and_frames step)).1 net after log.history history → IsCell note (with_history log history failures) new
 heard_cell note log power new cell e step came taken net after history failures asks f h = record {
-  kept = hub.heard (ways note log.opening) log.history history power new cell.kept e (given step) nodes.Client came taken net after asks f h;
+  kept = hub.heard (ways note log.opening) log.history history power new cell.kept e (reply_and_frames step) nodes.Client came taken net after asks f h;
   some = cell.some;
   opens = cell.opens;
 }
@@ -127,11 +127,11 @@ pub off_why : {T : Type 0} (note : T → Note) (log : ClientLog) (power : Power 
 off_why note log power cell e shown down view =
     subst (λ (l : ClientLog). HasWhy (rules l.opening) l.history (Meets e) NodeOff) view (hub.off_why (ways note log.opening) log.history power cell.kept (Meets e) (is_off_as log.opening cell.kept.past false down))
 
-pub told_why : {T : Type 0} (note : T → Note) (log : ClientLog) (power new : Power (Client T) T) (cell : IsCell note log power) (e : Input) (step : Result Outs Fault) (first sent : ℕ) (result : Result Told Fault) (shown : ClientLog) → is_up log.opening cell.kept.past ≡ true → StepEnds (ways note log.opening) cell.kept.past e new (given step) → result ≡ told_at first sent (outcome_of (given step)).0 → log ≡ shown
+pub told_why : {T : Type 0} (note : T → Note) (log : ClientLog) (power new : Power (Client T) T) (cell : IsCell note log power) (e : Input) (step : Result Outs Fault) (first sent : ℕ) (result : Result CallerAnswer Fault) (shown : ClientLog) → is_up log.opening cell.kept.past ≡ true → StepEnds (ways note log.opening) cell.kept.past e new (reply_and_frames step) → result ≡ told_at first sent (outcome_of (reply_and_frames step)).0 → log ≡ shown
     → IfErr result (HasWhy (rules shown.opening) shown.history (Meets e))
 told_why note log power new cell e step first sent result shown up f is view =
     subst (λ (l : ClientLog). IfErr result (HasWhy (rules l.opening) l.history (Meets e))) view
-    (hub.step_why (ways note log.opening) log.history power new cell.kept e (given step) first sent result (is_off_as log.opening cell.kept.past true up) refl f is)
+    (hub.step_why (ways note log.opening) log.history power new cell.kept e (reply_and_frames step) first sent result (is_off_as log.opening cell.kept.past true up) refl f is)
 
 -- ---- a delivery
 

@@ -19,7 +19,7 @@ use Rattle.client_core.specs.declared.input.Input.TheVariants as inputs
 use Rattle.client_core.specs.History as packets
 use Rattle.client_core.specs.History.{Opening}
 use Rattle.client_core.specs.Ranges.{CameInRange}
-use Rattle.client_core.specs.Words.{noted}
+use Rattle.client_core.specs.Words.{words_noted}
 use Rattle.client_core.specs.Hearing.{FrameEntry, Met, packets_heard, heard_at, rules as hearing}
 use Rattle.client_core.specs.FrameAnswers as answers
 use Rattle.client_core.specs.FrameAnswers.{Sense, Hears, Keeps, Drops, Misses, sense, sense_of, is_drop}
@@ -38,7 +38,7 @@ use Rattle.node_history.specs.ClientRules.{is_up, answer_to}
 use Rattle.node_history.proofs.MoveLemmas.{up, refused, refused_step, lost, left_is, no_load}
 use Rattle.node_history.proofs.MoveLemmas as moves
 use Rattle.client_cell.specs.declared.outs.Outs.{Outs}
-use Rattle.client_cell.specs.Stands.{given, outs_of, outs_of_run, outs_of_attempt, ways, Stands}
+use Rattle.client_cell.specs.Stands.{reply_and_frames, outs_of, outs_of_run, outs_of_attempt, ways, Stands}
 
 -- ---- what came stays within its ranges
 
@@ -60,14 +60,14 @@ came_after o past inputs.Tick left h came = came
 -- ---- a step
 
 answers_step : {T : Type 0} (note : T → Note) (o : Opening) (past : List FrameEntry) (e : Input) (old client : Client T) (outs : Outs) → is_up o past ≡ true
-    → outs.answer ≡ answer_to o past e → steps.Answers (ends.steps note o) past e old client outs.frames → SenseInRange (sense o past e) → StepEnds (ways note o) past e (On client) (given (Ok outs))
+    → outs.answer ≡ answer_to o past e → steps.Answers (ends.steps note o) past e old client outs.frames → SenseInRange (sense o past e) → StepEnds (ways note o) past e (On client) (reply_and_frames (Ok outs))
 answers_step note o past e old client outs on said a h = record {
   moves = record {
-    after = answers.answered o past e ∷ past;
+    after = answers.answered_entry o past e ∷ past;
     ends = record {
       free = up (is_up o past) (answers.refusal o past e) (Some NodeOff) on ∙ a.free;
       said_is = rw said refl;
-      entry = answers.answered o past e;
+      entry = answers.answered_entry o past e;
       entry_is = refl;
       sent_are = a.sends.frames_are;
       after_is = refl;
@@ -104,7 +104,7 @@ off_ends note o past e power off s = moves.off_ends (ways note o) past e power (
 
 -- A client that is on takes a frame.
 pub deliver_ends : {T : Type 0} (note : T → Note) (o : Opening) (past : List FrameEntry) (frame : _) (old client : Client T) (sent : Result (List (List ℕ)) Fault) → is_up o past ≡ true
-    → steps.Ends (ends.steps note o) past (inputs.Deliver frame) old client sent → HearsInRange o past (inputs.Deliver frame) sent → StepEnds (ways note o) past (inputs.Deliver frame) (On client) (given (outs_of sent))
+    → steps.Ends (ends.steps note o) past (inputs.Deliver frame) old client sent → HearsInRange o past (inputs.Deliver frame) sent → StepEnds (ways note o) past (inputs.Deliver frame) (On client) (reply_and_frames (outs_of sent))
 deliver_ends note o past frame old client (Ok sent) on a h = answers_step note o past (inputs.Deliver frame) old client (record { answer = Plain; frames = sent }) on refl a h
 deliver_ends note o past frame old client (Err fault) on f h = faults_step note o past (inputs.Deliver frame) old client fault on (sort_of fault) f h refl
 
@@ -121,18 +121,18 @@ not_answered note o past e old client fault on h f = faults_step note o past e o
 
 -- A call that has no number.
 pub plain_ends : {T : Type 0} (note : T → Note) (o : Opening) (past : List FrameEntry) (e : Input) (old client : Client T) (sent : Result (List (List ℕ)) Fault) → is_up o past ≡ true
-    → SenseInRange (sense o past e) → Plain ≡ answer_to o past e → steps.Ends (ends.steps note o) past e old client sent → StepEnds (ways note o) past e (On client) (given (outs_of sent))
+    → SenseInRange (sense o past e) → Plain ≡ answer_to o past e → steps.Ends (ends.steps note o) past e old client sent → StepEnds (ways note o) past e (On client) (reply_and_frames (outs_of sent))
 plain_ends note o past e old client (Ok sent) on h said a = answers_step note o past e old client (record { answer = Plain; frames = sent }) on said a h
 plain_ends note o past e old client (Err fault) on h said f = not_answered note o past e old client fault on h f
 
 -- A call that gives a number.
 pub begin_ends : {T : Type 0} (note : T → Note) (o : Opening) (past : List FrameEntry) (text : List ℕ) (old client : Client T) (got : Result (ℕ × List (List ℕ)) Fault) → is_up o past ≡ true
-    → steps.Gives (ends.steps note o) past (inputs.Begin text) (noted o (packets_heard o past)).runs old client got → StepEnds (ways note o) past (inputs.Begin text) (On client) (given (outs_of_run got))
+    → steps.Gives (ends.steps note o) past (inputs.Begin text) (words_noted o (packets_heard o past)).runs old client got → StepEnds (ways note o) past (inputs.Begin text) (On client) (reply_and_frames (outs_of_run got))
 begin_ends note o past text old client (Ok got) on a = answers_step note o past (inputs.Begin text) old client (record { answer = Run got.0; frames = got.1 }) on (ap Run a.0) a.1 tt
 begin_ends note o past text old client (Err fault) on f = not_answered note o past (inputs.Begin text) old client fault on tt f
 
 pub verify_ends : {T : Type 0} (note : T → Note) (o : Opening) (past : List FrameEntry) (run : ℕ) (text : List ℕ) (old client : Client T) (got : Result (ℕ × List (List ℕ)) Fault) → is_up o past ≡ true
-    → steps.Gives (ends.steps note o) past (inputs.Verify run text) (noted o (packets_heard o past)).attempts old client got → StepEnds (ways note o) past (inputs.Verify run text) (On client) (given (outs_of_attempt got))
+    → steps.Gives (ends.steps note o) past (inputs.Verify run text) (words_noted o (packets_heard o past)).attempts old client got → StepEnds (ways note o) past (inputs.Verify run text) (On client) (reply_and_frames (outs_of_attempt got))
 verify_ends note o past run text old client (Ok got) on a = answers_step note o past (inputs.Verify run text) old client (record { answer = Attempt got.0; frames = got.1 }) on (ap Attempt a.0) a.1 tt
 verify_ends note o past run text old client (Err fault) on f = not_answered note o past (inputs.Verify run text) old client fault on tt f
 
@@ -145,16 +145,16 @@ faults_count note o past e old client fault sorts.Refusal f = no_load fault (not
 
 -- A call counts a failed save.
 pub sent_counts : {T : Type 0} (note : T → Note) (o : Opening) (past : List FrameEntry) (e : Input) (old client : Client T) (sent : Result (List (List ℕ)) Fault) (result : Result Outs Fault) → result ≡ outs_of sent → steps.Ends (ends.steps note o) past e old client sent
-    → Counts false (note old.core.notes).failures (note client.core.notes).failures (given result)
-sent_counts note o past e old client (Ok sent) result is a = subst (λ (r : Result Outs Fault). Counts false (note old.core.notes).failures (note client.core.notes).failures (given r)) (sym is) tt
-sent_counts note o past e old client (Err fault) result is f = subst (λ (r : Result Outs Fault). Counts false (note old.core.notes).failures (note client.core.notes).failures (given r)) (sym is) (faults_count note o past e old client fault (sort_of fault) f)
+    → Counts false (note old.core.notes).failures (note client.core.notes).failures (reply_and_frames result)
+sent_counts note o past e old client (Ok sent) result is a = subst (λ (r : Result Outs Fault). Counts false (note old.core.notes).failures (note client.core.notes).failures (reply_and_frames r)) (sym is) tt
+sent_counts note o past e old client (Err fault) result is f = subst (λ (r : Result Outs Fault). Counts false (note old.core.notes).failures (note client.core.notes).failures (reply_and_frames r)) (sym is) (faults_count note o past e old client fault (sort_of fault) f)
 
 pub run_counts : {T : Type 0} (note : T → Note) (o : Opening) (past : List FrameEntry) (e : Input) (used : ℕ) (old client : Client T) (got : Result (ℕ × List (List ℕ)) Fault) (result : Result Outs Fault) → result ≡ outs_of_run got → steps.Gives (ends.steps note o) past e used old client got
-    → Counts false (note old.core.notes).failures (note client.core.notes).failures (given result)
-run_counts note o past e used old client (Ok got) result is a = subst (λ (r : Result Outs Fault). Counts false (note old.core.notes).failures (note client.core.notes).failures (given r)) (sym is) tt
-run_counts note o past e used old client (Err fault) result is f = subst (λ (r : Result Outs Fault). Counts false (note old.core.notes).failures (note client.core.notes).failures (given r)) (sym is) (faults_count note o past e old client fault (sort_of fault) f)
+    → Counts false (note old.core.notes).failures (note client.core.notes).failures (reply_and_frames result)
+run_counts note o past e used old client (Ok got) result is a = subst (λ (r : Result Outs Fault). Counts false (note old.core.notes).failures (note client.core.notes).failures (reply_and_frames r)) (sym is) tt
+run_counts note o past e used old client (Err fault) result is f = subst (λ (r : Result Outs Fault). Counts false (note old.core.notes).failures (note client.core.notes).failures (reply_and_frames r)) (sym is) (faults_count note o past e old client fault (sort_of fault) f)
 
 pub attempt_counts : {T : Type 0} (note : T → Note) (o : Opening) (past : List FrameEntry) (e : Input) (used : ℕ) (old client : Client T) (got : Result (ℕ × List (List ℕ)) Fault) (result : Result Outs Fault) → result ≡ outs_of_attempt got → steps.Gives (ends.steps note o) past e used old client got
-    → Counts false (note old.core.notes).failures (note client.core.notes).failures (given result)
-attempt_counts note o past e used old client (Ok got) result is a = subst (λ (r : Result Outs Fault). Counts false (note old.core.notes).failures (note client.core.notes).failures (given r)) (sym is) tt
-attempt_counts note o past e used old client (Err fault) result is f = subst (λ (r : Result Outs Fault). Counts false (note old.core.notes).failures (note client.core.notes).failures (given r)) (sym is) (faults_count note o past e old client fault (sort_of fault) f)
+    → Counts false (note old.core.notes).failures (note client.core.notes).failures (reply_and_frames result)
+attempt_counts note o past e used old client (Ok got) result is a = subst (λ (r : Result Outs Fault). Counts false (note old.core.notes).failures (note client.core.notes).failures (reply_and_frames r)) (sym is) tt
+attempt_counts note o past e used old client (Err fault) result is f = subst (λ (r : Result Outs Fault). Counts false (note old.core.notes).failures (note client.core.notes).failures (reply_and_frames r)) (sym is) (faults_count note o past e old client fault (sort_of fault) f)

@@ -3,12 +3,12 @@ use Rattle.std.specs.Prelude.{◌≡◌, Bool, true, false, [], ◌∷◌, None,
 use Rattle.fc_base.specs.declared.fault.Fault.{Fault}
 use Rattle.fc_base.specs.declared.fault.Fault.TheVariants.{NoMemory}
 use Rattle.node_history.specs.declared.answer.Said.{Said}
-use Rattle.node_history.specs.declared.answer.Told.{Told}
+use Rattle.node_history.specs.declared.answer.CallerAnswer.{CallerAnswer}
 use Rattle.node_history.specs.declared.came.Came.{Came}
 use Rattle.node_history.specs.declared.logged.Logged.{Logged}
 use Rattle.node_history.specs.AtHub.{lacks_memory, told_by}
 use Rattle.node_history.specs.Failures.{Counts}
-use Rattle.client_cell.specs.declared.task.Task.{Task}
+use Rattle.client_cell.specs.declared.task.ClientTask.{ClientTask}
 use Rattle.client_cell.specs.Cells.{ClientLog}
 use Rattle.client_cell.specs.Tasks.{came_by, loads_note}
 
@@ -17,19 +17,19 @@ abbrev pub logged_by : Came → Result Said Fault → Logged
 logged_by came answer = record { by = None; came = came; answer = answer; sent = [] }
 
 -- The history has one entry more, and a fault of the device has been counted.
-pub record IsAdded (old : ClientLog) (task : Task) (answer : Result Said Fault) (new : ClientLog) : Type 0 where
+pub record IsAdded (old : ClientLog) (task : ClientTask) (answer : Result Said Fault) (new : ClientLog) : Type 0 where
   pub opening : new.opening ≡ old.opening
   pub history : new.history ≡ logged_by (came_by task) answer ∷ old.history
   pub failures : Counts (loads_note task) old.failures new.failures answer
 
 -- What a task leaves that has this answer: for want of memory nothing changes, and any other answer is
 -- entered.
-abbrev pub Enters : Bool → ClientLog → Task → ClientLog → Result Said Fault → Type 0
+abbrev pub Enters : Bool → ClientLog → ClientTask → ClientLog → Result Said Fault → Type 0
 Enters true old task new answer = (new ≡ old) × (answer ≡ Err NoMemory)
 Enters false old task new answer = IsAdded old task answer new
 
 -- How a task ends: its answer is told, and sends nothing.
-abbrev pub Applies : ClientLog → Task → ClientLog → Result Told Fault → Type 0
+abbrev pub Applies : ClientLog → ClientTask → ClientLog → Result CallerAnswer Fault → Type 0
 Applies old task new result =
     (answer : Result Said Fault) × (result ≡ told_by answer)
     × Enters (lacks_memory answer) old task new answer

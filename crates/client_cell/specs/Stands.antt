@@ -30,9 +30,9 @@ failures_of note power =
     powers.failures_of (λ client. (note client.core.notes).failures) (λ notes. (note notes).failures) power
 
 -- What a step says to its caller, and the frames that it sends. A client asks nothing of its caller.
-abbrev pub given : Result Outs Fault → Result (Said × List (List ℕ)) Fault
-given (Ok outs) = Ok (record { answer = outs.answer; act = acts.None }, outs.frames)
-given (Err fault) = Err fault
+abbrev pub reply_and_frames : Result Outs Fault → Result (Said × List (List ℕ)) Fault
+reply_and_frames (Ok outs) = Ok (record { answer = outs.answer; act = acts.None }, outs.frames)
+reply_and_frames (Err fault) = Err fault
 
 -- Frames with no more of an answer.
 abbrev pub outs_of : Result (List (List ℕ)) Fault → Result Outs Fault

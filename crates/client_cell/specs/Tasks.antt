@@ -4,30 +4,30 @@ use Rattle.client_core.specs.declared.input.Input.{Input}
 use Rattle.client_core.specs.declared.input.Input.TheVariants as inputs
 use Rattle.node_history.specs.declared.came.Came.{Came}
 use Rattle.node_history.specs.declared.came.Came.TheVariants as came
-use Rattle.client_cell.specs.declared.task.Task.{Task}
-use Rattle.client_cell.specs.declared.task.Task.TheVariants.{Cut, Restart}
-use Rattle.client_cell.specs.declared.request.Request.{Request}
-use Rattle.client_cell.specs.declared.request.Request.TheVariants.{Begin, Trigger, Stop, Verify}
+use Rattle.client_cell.specs.declared.task.ClientTask.{ClientTask}
+use Rattle.client_cell.specs.declared.task.ClientTask.TheVariants.{Cut, Restart}
+use Rattle.client_cell.specs.declared.request.ClientRequest.{ClientRequest}
+use Rattle.client_cell.specs.declared.request.ClientRequest.TheVariants.{Begin, Trigger, Stop, Verify}
 
 -- What comes to the client by a task.
-abbrev pub came_by : Task → Came
+abbrev pub came_by : ClientTask → Came
 came_by Cut = came.Cut
 came_by Restart = came.Restart
 
 -- It loads the note.
-abbrev pub loads_note : Task → Bool
+abbrev pub loads_note : ClientTask → Bool
 loads_note Cut = false
 loads_note Restart = true
 
 -- What comes to the client by a request.
-abbrev pub came_of : Request → Came
+abbrev pub came_of : ClientRequest → Came
 came_of (Begin text) = came.Begin text
 came_of (Trigger run act) = came.Trigger run act
 came_of (Stop run) = came.Stop run
 came_of (Verify run text) = came.Verify run text
 
 -- What its core meets by a request.
-abbrev pub input_of : Request → Input
+abbrev pub input_of : ClientRequest → Input
 input_of (Begin text) = inputs.Begin text
 input_of (Trigger run act) = inputs.Trigger run act
 input_of (Stop run) = inputs.Stop run

@@ -69,9 +69,11 @@ impl<N: Notes + Drop> ClientCell<N> {
     pub fn new(alloc: Global, servers: u32, notes: N) -> Result<ClientCell<N>, (N, Fault)>
         requires some { 1 ≤ servers }
         requires few { servers ≤ MAX_SERVERS }
-        ensures opened { IfOk result (λ cell. (cell.opening.servers ≡ servers) × Says (N.note notes).bytes cell.opening.noted
+        ensures opened { IfOk result
+            (λ cell. (cell.opening.servers ≡ servers) × Says (N.note notes).bytes cell.opening.noted
             × (cell.history ≡ []) × (cell.failures ≡ (N.note notes).failures)) }
-        ensures refused { IfErr result (λ back. NotOpened false (N.note notes) (N.note back.0) back.1) }
+        ensures refused { IfErr result
+            (λ back. NotOpened false (N.note notes) (N.note back.0) back.1) }
     {
         let client = Client::restart(alloc, servers, false, notes)?;
         let is_blank = client.is_blank();
@@ -110,7 +112,8 @@ impl<N: Notes + Drop> ClientCell<N> {
     /// The client, where it is on: not off, and not down.
     pub fn client(&self) -> Option<&Client<N>>
         ensures on { IfSome result (λ client. (past : List FrameEntry) × IsReplay self.now past
-            × StandsFor N.note client.now self.now.opening past × (is_up self.now.opening past ≡ true)) }
+            × StandsFor N.note client.now self.now.opening past
+            × (is_up self.now.opening past ≡ true)) }
         ensures off { IfNone result ((past : List FrameEntry) × IsReplay self.now past
             × (is_up self.now.opening past ≡ false)) }
     {

@@ -1,12 +1,12 @@
 //! What the client is asked that may send frames and takes none.
 
-use crate::request::Request;
+use crate::request::ClientRequest;
 
 /// What the client is asked by its caller, at the hub.
 #[derive(Debug, Drop)]
-pub enum Command {
+pub enum ClientCommand {
     /// Begin, trigger, stop or verify.
-    Request(Request),
+    Request(ClientRequest),
     /// Ask again for all that isn't answered.
     Tick,
 }

@@ -2,9 +2,9 @@
 //!
 //! ```text
 //! let mut cell = ClientCell::new(alloc, servers, notes)?;
-//! let told = cell.post(&mut hub, Command::Request(Request::Begin(text)))?;
+//! let told = cell.post(&mut hub, ClientCommand::Request(ClientRequest::Begin(text)))?;
 //! let told = cell.deliver(&mut hub, position)?;      // as of any `Node`
-//! let told = cell.apply(Task::Cut)?;
+//! let told = cell.apply(ClientTask::Cut)?;
 //! ```
 //!
 //! Begin with `cell`; `specs/Cells.antt` says what a cell shows, `specs/Calls.antt` how a task ends.
@@ -18,6 +18,6 @@ mod request;
 mod task;
 
 pub use cell::ClientCell;
-pub use command::Command;
-pub use request::Request;
-pub use task::Task;
+pub use command::ClientCommand;
+pub use request::ClientRequest;
+pub use task::ClientTask;

@@ -6,15 +6,15 @@ ghost use Rattle.client_core.specs.History.{Opening};
 ghost use Rattle.client_core.specs.FrameEnds.{StandsFor};
 ghost use Rattle.client_core.specs.Hearing.{FrameEntry};
 ghost use Rattle.node_history.specs.declared.power.Power.TheVariants.{On};
-ghost use Rattle.node_history.specs.ClientRules.{asked, is_up};
+ghost use Rattle.node_history.specs.ClientRules.{ask_of, is_up};
 ghost use Rattle.node_history.specs.Failures.{Counts};
 ghost use Rattle.node_history.specs.Moves.{StepEnds, TaskEnds};
 ghost use Rattle.client_cell.specs.Tasks.{came_by, input_of, loads_note};
-ghost use Rattle.client_cell.specs.Stands.{given, outs_of, outs_of_run, outs_of_attempt, failures_of, ways, Stands};
+ghost use Rattle.client_cell.specs.Stands.{reply_and_frames, outs_of, outs_of_run, outs_of_attempt, failures_of, ways, Stands};
 
 use crate::outs::Outs;
-use crate::request::Request;
-use crate::task::Task;
+use crate::request::ClientRequest;
+use crate::task::ClientTask;
 use client_core::Client;
 use disk_model::Notes;
 use fc_base::{Attempt, Fault, MAX_SERVERS, RunNo};
@@ -27,30 +27,34 @@ pub(crate) fn perform<N: Notes + Drop>(
     power: &mut Power<Client<N>, N>,
     alloc: Global,
     servers: u32,
-    task: &Task,
+    task: &ClientTask,
 ) -> Result<Said, Fault>
     requires some { 1 ≤ servers }
     requires few { servers ≤ MAX_SERVERS }
-    ensures ends { (o : Opening) (past : List FrameEntry) → o.servers ≡ servers → Stands N.note o past power.old →
-        TaskEnds (ways N.note o) past (asked (came_by task.now)) power.new result }
-    ensures count { (o : Opening) (past : List FrameEntry) → o.servers ≡ servers → Stands N.note o past power.old →
-        Counts (loads_note task.now) (failures_of N.note power.old) (failures_of N.note power.new) result }
+    ensures ends { (o : Opening) (past : List FrameEntry) → o.servers ≡ servers →
+        Stands N.note o past power.old →
+        TaskEnds (ways N.note o) past (ask_of (came_by task.now)) power.new result }
+    ensures count { (o : Opening) (past : List FrameEntry) → o.servers ≡ servers →
+        Stands N.note o past power.old →
+        Counts (loads_note task.now) (failures_of N.note power.old)
+        (failures_of N.note power.new) result }
 {
     match task {
-        Task::Cut => power.cut(),
-        Task::Restart => power.restart(alloc, servers),
+        ClientTask::Cut => power.cut(),
+        ClientTask::Restart => power.restart(alloc, servers),
     }
 }
 
 /// Takes a request. `NodeOff`: it isn't on, and nothing changes. Any other fault is the client's.
 pub(crate) fn take<N: Notes + Drop>(
     power: &mut Power<Client<N>, N>,
-    request: &Request,
+    request: &ClientRequest,
 ) -> Result<Outs, Fault>
     ensures ends { (o : Opening) (past : List FrameEntry) → Stands N.note o past power.old →
-        StepEnds (ways N.note o) past (input_of request.now) power.new (given result) }
+        StepEnds (ways N.note o) past (input_of request.now) power.new (reply_and_frames result) }
     ensures count { (o : Opening) (past : List FrameEntry) → Stands N.note o past power.old →
-        Counts false (failures_of N.note power.old) (failures_of N.note power.new) (given result) }
+        Counts false (failures_of N.note power.old) (failures_of N.note power.new)
+        (reply_and_frames result) }
 {
     match power {
         Power::On(client) => {
@@ -70,9 +74,10 @@ pub(crate) fn deliver<N: Notes + Drop>(
     frame: Frame,
 ) -> Result<Outs, Fault>
     ensures ends { (o : Opening) (past : List FrameEntry) → Stands N.note o past power.old →
-        StepEnds (ways N.note o) past (inputs.Deliver frame) power.new (given result) }
+        StepEnds (ways N.note o) past (inputs.Deliver frame) power.new (reply_and_frames result) }
     ensures count { (o : Opening) (past : List FrameEntry) → Stands N.note o past power.old →
-        Counts false (failures_of N.note power.old) (failures_of N.note power.new) (given result) }
+        Counts false (failures_of N.note power.old) (failures_of N.note power.new)
+        (reply_and_frames result) }
 {
     match power {
         Power::On(client) => {
@@ -89,9 +94,10 @@ pub(crate) fn deliver<N: Notes + Drop>(
 /// Asks again for all that isn't answered, and changes nothing. `NodeOff`: it isn't on. `NoMemory`.
 pub(crate) fn tick<N: Notes + Drop>(power: &Power<Client<N>, N>) -> Result<Outs, Fault>
     ensures ends { (o : Opening) (past : List FrameEntry) → Stands N.note o past power.now →
-        StepEnds (ways N.note o) past inputs.Tick power.now (given result) }
+        StepEnds (ways N.note o) past inputs.Tick power.now (reply_and_frames result) }
     ensures count { (o : Opening) (past : List FrameEntry) → Stands N.note o past power.now →
-        Counts false (failures_of N.note power.now) (failures_of N.note power.now) (given result) }
+        Counts false (failures_of N.note power.now) (failures_of N.note power.now)
+        (reply_and_frames result) }
 {
     match power {
         Power::On(client) => {
@@ -106,17 +112,20 @@ pub(crate) fn tick<N: Notes + Drop>(power: &Power<Client<N>, N>) -> Result<Outs,
 }
 
 /// Asks this of a client that is on.
-fn ask<N: Notes + Drop>(client: &mut Client<N>, request: &Request) -> Result<Outs, Fault>
-    ensures ends { (o : Opening) (past : List FrameEntry) → is_up o past ≡ true → StandsFor N.note client.old o past →
-        StepEnds (ways N.note o) past (input_of request.now) (On client.new) (given result) }
+fn ask<N: Notes + Drop>(client: &mut Client<N>, request: &ClientRequest) -> Result<Outs, Fault>
+    ensures ends { (o : Opening) (past : List FrameEntry) → is_up o past ≡ true →
+        StandsFor N.note client.old o past →
+        StepEnds (ways N.note o) past (input_of request.now) (On client.new)
+        (reply_and_frames result) }
     ensures count { (o : Opening) (past : List FrameEntry) → StandsFor N.note client.old o past →
-        Counts false (N.note client.old.core.notes).failures (N.note client.new.core.notes).failures (given result) }
+        Counts false (N.note client.old.core.notes).failures (N.note client.new.core.notes).failures
+        (reply_and_frames result) }
 {
     match request {
-        Request::Begin(text) => begun(client.begin(text.as_slice())),
-        Request::Trigger(run, act) => plainly(client.trigger(*run, *act)),
-        Request::Stop(run) => plainly(client.stop(*run)),
-        Request::Verify(run, text) => tried(client.verify(*run, text.as_slice())),
+        ClientRequest::Begin(text) => begun(client.begin(text.as_slice())),
+        ClientRequest::Trigger(run, act) => plainly(client.trigger(*run, *act)),
+        ClientRequest::Stop(run) => plainly(client.stop(*run)),
+        ClientRequest::Verify(run, text) => tried(client.verify(*run, text.as_slice())),
     }
 }
 

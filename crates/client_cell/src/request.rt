@@ -9,7 +9,7 @@ use node_history::Came;
 
 /// What the client is asked by its caller, and asks of its servers.
 #[derive(Debug, Drop)]
-pub enum Request {
+pub enum ClientRequest {
     /// Begin a run with this job file.
     Begin(Text),
     /// Trigger the verify states of a run, and then this act.
@@ -20,16 +20,16 @@ pub enum Request {
     Verify(RunNo, Text),
 }
 
-impl Request {
+impl ClientRequest {
     /// What comes to the client.
     pub(crate) fn into_came(self) -> Came
         ensures { result ≡ came_of self }
     {
         match self {
-            Request::Begin(text) => Came::Begin(text),
-            Request::Trigger(run, act) => Came::Trigger(run, act),
-            Request::Stop(run) => Came::Stop(run),
-            Request::Verify(run, text) => Came::Verify(run, text),
+            ClientRequest::Begin(text) => Came::Begin(text),
+            ClientRequest::Trigger(run, act) => Came::Trigger(run, act),
+            ClientRequest::Stop(run) => Came::Stop(run),
+            ClientRequest::Verify(run, text) => Came::Verify(run, text),
         }
     }
 }

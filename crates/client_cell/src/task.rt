@@ -7,21 +7,21 @@ use node_history::Came;
 
 /// What happens to the client without the network.
 #[derive(Clone, Copy, Debug, PartialEq, Eq)]
-pub enum Task {
+pub enum ClientTask {
     /// The client loses its power.
     Cut,
     /// The client is started again.
     Restart,
 }
 
-impl Task {
+impl ClientTask {
     /// What comes to the client.
     pub(crate) fn came(&self) -> Came
         ensures { result ≡ came_by self.now }
     {
         match self {
-            Task::Cut => Came::Cut,
-            Task::Restart => Came::Restart,
+            ClientTask::Cut => Came::Cut,
+            ClientTask::Restart => Came::Restart,
         }
     }
 }

@@ -18,7 +18,7 @@ use Rattle.client_core.specs.Begins.{begin_at}
 use Rattle.client_core.specs.Life.{Deed, Begins, Triggers, Stops, Verifies, Hears, text_of, act_of, run_of, check_of}
 use Rattle.client_core.specs.Lives.{RunFor, AttemptFor, Unnamed, Unmade}
 use Rattle.client_core.specs.Asked.{rising, runs_of, attempts_of}
-use Rattle.client_core.specs.Framed.{framed}
+use Rattle.client_core.specs.Framed.{frame_bytes}
 use Rattle.client_core.specs.Packets.{begin_again, run_again, attempt_again, requests_again}
 use Rattle.client_core.specs.Requests.{trigger_at, stop_at, verify_at}
 use Rattle.client_core.proofs.FrameLemmas.{framed_more, none_again}
@@ -115,8 +115,8 @@ attempts_spread servers ds m s h = entries_spread (attempt_again servers ds) (at
 -- What is sent again by the entries is what is asked again.
 pub all_spread : (servers : ℕ) (ds : List Deed) (runs : BTreeMap ℕ RunAsked) (attempts : BTreeMap ℕ (Option AttemptAsked)) → IsStrictlySortedBy nat_cmp (keys_of runs.entries) → IsStrictlySortedBy nat_cmp (keys_of attempts.entries)
     → ((run : ℕ) → RunFor run ds (get nat_cmp runs run)) → ((attempt : ℕ) → AttemptFor attempt ds (get nat_cmp attempts attempt))
-    → framed (flat_map (λ e. run_again servers ds e.0) runs.entries) ++ framed (flat_map (λ e. attempt_again servers ds e.0) attempts.entries) ≡ framed (requests_again servers ds)
+    → frame_bytes (flat_map (λ e. run_again servers ds e.0) runs.entries) ++ frame_bytes (flat_map (λ e. attempt_again servers ds e.0) attempts.entries) ≡ frame_bytes (requests_again servers ds)
 all_spread servers ds runs attempts s t h k =
-    ap (λ ps. framed ps ++ framed (flat_map (λ e. attempt_again servers ds e.0) attempts.entries)) (runs_spread servers ds runs s h)
-    ∙ ap (λ ps. framed (flat_map (run_again servers ds) (rising (runs_of ds))) ++ framed ps) (attempts_spread servers ds attempts t k)
+    ap (λ ps. frame_bytes ps ++ frame_bytes (flat_map (λ e. attempt_again servers ds e.0) attempts.entries)) (runs_spread servers ds runs s h)
+    ∙ ap (λ ps. frame_bytes (flat_map (run_again servers ds) (rising (runs_of ds))) ++ frame_bytes ps) (attempts_spread servers ds attempts t k)
     ∙ sym (framed_more (flat_map (run_again servers ds) (rising (runs_of ds))) (flat_map (attempt_again servers ds) (rising (attempts_of ds))))

@@ -10,19 +10,19 @@ use Rattle.messages.specs.declared.refusal.Reason.{Reason}
 use Rattle.messages.specs.declared.refusal.Reason.TheVariants as reasons
 use Rattle.client_core.specs.Life.{Deed, Begins, Triggers, Stops, Verifies, Hears, text_of, run_of, check_of}
 use Rattle.client_core.specs.declared.beginning.Beginning.{Beginning}
-use Rattle.client_core.specs.Begins.{staged, started, jobs_refused, start_refused, begin_refused, begin_heard, begin_at}
+use Rattle.client_core.specs.Begins.{when_staged, when_started, jobs_refused, start_refused, begin_refused, begin_heard, begin_at}
 use Rattle.client_core.specs.declared.beginning.Beginning.TheVariants as begins
-use Rattle.client_core.specs.Requests.{Telling, Request, told, refused, check_refused, verify_refused, verify_heard, verify_at}
+use Rattle.client_core.specs.Requests.{Telling, Request, when_one_tells, when_refused, check_refused, verify_refused, verify_heard, verify_at}
 use Rattle.client_core.specs.Requests as requests
 use Rattle.client_core.proofs.ListLemmas.{behind_one, first_of}
 use Rattle.client_core.proofs.ReasonLemmas.{IsAsked, IsBegun}
 
-staged_back : (b : Beginning) → IsBegun (staged b) → IsBegun b
+staged_back : (b : Beginning) → IsBegun (when_staged b) → IsBegun b
 staged_back begins.Staging h = tt
 staged_back begins.Starting h = tt
 staged_back _ h = h
 
-started_back : (b : Beginning) → IsBegun (started b) → IsBegun b
+started_back : (b : Beginning) → IsBegun (when_started b) → IsBegun b
 started_back begins.Staging h = tt
 started_back begins.Starting h = tt
 started_back _ h = h
@@ -52,8 +52,8 @@ either true x y f h = f h
 either false x y f h = h
 
 heard_back : (run : ℕ) (body : Body) (b : Beginning) → IsBegun (begin_heard run body b) → IsBegun b
-heard_back run (bodies.JobsOk r jobs) b h = either (r == run) (staged b) b (staged_back b) h
-heard_back run (bodies.Started r) b h = either (r == run) (started b) b (started_back b) h
+heard_back run (bodies.JobsOk r jobs) b h = either (r == run) (when_staged b) b (staged_back b) h
+heard_back run (bodies.Started r) b h = either (r == run) (when_started b) b (started_back b) h
 heard_back run (bodies.Refused r) b h = either (r.run == run) (begin_refused r.asked r.reason b) b (refused_back r.asked r.reason b) h
 heard_back run _ b h = h
 
@@ -76,13 +76,13 @@ begun_was run s (Stops r ∷ deeds) h = behind_one (Stops r) deeds (Begins run (
 begun_was run s (Verifies r a text ∷ deeds) h = behind_one (Verifies r a text) deeds (Begins run (text_of run deeds)) (begun_was run s deeds h)
 
 -- a request that is open was open before what was heard
-told_back : (t : Telling) (q : Request) → IsAsked (told t q) → IsAsked q
+told_back : (t : Telling) (q : Request) → IsAsked (when_one_tells t q) → IsAsked q
 told_back t (requests.Open ts) h = tt
 told_back t requests.Unasked h = h
 told_back t requests.Served h = h
 told_back t (requests.Denied reason) h = h
 
-denied_back : (reason : Reason) (q : Request) → IsAsked (refused reason q) → IsAsked q
+denied_back : (reason : Reason) (q : Request) → IsAsked (when_refused reason q) → IsAsked q
 denied_back reason (requests.Open ts) h = tt
 denied_back reasons.Busy _ h = h
 denied_back reasons.Misfit _ h = h
@@ -103,7 +103,7 @@ or_else false x y f h = h
 answer_back : (run attempt : ℕ) (body : Body) (q : Request) → IsAsked (verify_heard run attempt body q) → IsAsked q
 answer_back run attempt (bodies.Report r a job jobs report) q h =
     let t : Telling = record { job = job; jobs = jobs; misfit = false } in
-    or_else ((r == run) && (a == attempt)) (told t q) q (told_back t q) h
+    or_else ((r == run) && (a == attempt)) (when_one_tells t q) q (told_back t q) h
 answer_back run attempt (bodies.Refused r) q h =
     let t : Telling = record { job = r.job; jobs = r.jobs; misfit = true } in
     or_else ((r.run == run) && (r.attempt == attempt)) (verify_refused r.asked t r.reason q) q (verify_back r.asked t r.reason q) h

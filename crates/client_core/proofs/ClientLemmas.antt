@@ -13,7 +13,7 @@ use Rattle.client_core.specs.History.{Opening, Entry}
 use Rattle.client_core.specs.Refusals.{refusal_by}
 use Rattle.client_core.specs.Saves.{Addition, addition_of, addition_by, unless_refused, due_by}
 use Rattle.client_core.specs.declared.peers.Peers.{Peers}
-use Rattle.client_core.specs.Words.{is_on, noted, peers, refusal, would_save}
+use Rattle.client_core.specs.Words.{is_on, words_noted, peers, refusal, would_save}
 use Rattle.client_core.proofs.Looked.{looks_at_all}
 use Rattle.client_core.proofs.RefusalLemmas.{refusal_is}
 
@@ -34,8 +34,8 @@ not_not false = refl
 pub stands_on : {T : Type 0} (note : T → Note) (client : PacketClient T) (o : Opening) (past : List Entry) → StandsFor note client o past → not client.down ≡ is_on past
 stands_on note client o past s = ap not s.on ∙ not_not (is_on past)
 
-pub stands_known : {T : Type 0} (note : T → Note) (client : PacketClient T) (o : Opening) (past : List Entry) → StandsFor note client o past → is_on past ≡ true → client.noted ≡ noted o past
-stands_known note client o past s on = s.knows ∙ ap (noted o) (looks_at_all past on)
+pub stands_known : {T : Type 0} (note : T → Note) (client : PacketClient T) (o : Opening) (past : List Entry) → StandsFor note client o past → is_on past ≡ true → client.noted ≡ words_noted o past
+stands_known note client o past s on = s.knows ∙ ap (words_noted o) (looks_at_all past on)
 
 stands_with : {T : Type 0} (note : T → Note) (client : PacketClient T) (o : Opening) (past : List Entry) → StandsFor note client o past → is_on past ≡ true → client.peers ≡ peers o past
 stands_with note client o past s on = s.peers ∙ ap (peers o) (looks_at_all past on)
@@ -44,7 +44,7 @@ pub stands_would : {T : Type 0} (note : T → Note) (client : PacketClient T) (o
     → (is_none (refusal_by (not client.down) client.peers client.noted (Deliver p)) && is_some (addition_by client.noted p.body)) ≡ would_save o past (Deliver p)
 stands_would note client o past p s =
     ap (λ on. is_none (refusal_by on client.peers client.noted (Deliver p)) && is_some (addition_by client.noted p.body)) (stands_on note client o past s)
-    ∙ would_by (is_on past) client.peers (peers o past) (noted o past) client.noted p (stands_with note client o past s) (stands_known note client o past s)
+    ∙ would_by (is_on past) client.peers (peers o past) (words_noted o past) client.noted p (stands_with note client o past s) (stands_known note client o past s)
 
 -- ---- a call that adds something unless it is refused
 
@@ -55,7 +55,7 @@ free_adds (Some f) a = refl
 pub call_would : {T : Type 0} (note : T → Note) (client : PacketClient T) (o : Opening) (past : List Entry) (c : Call) (a : Addition) → ((x : Noted) → addition_of x c ≡ Some a) → StandsFor note client o past
     → is_none (refusal_by (not client.down) client.peers client.noted c) ≡ would_save o past c
 call_would note client o past c a adds s =
-    ap is_none (refusal_is note client o past c s) ∙ free_adds (refusal o past c) a ∙ ap (λ x. is_some (unless_refused (refusal o past c) x)) (sym (adds (noted o past)))
+    ap is_none (refusal_is note client o past c s) ∙ free_adds (refusal o past c) a ∙ ap (λ x. is_some (unless_refused (refusal o past c) x)) (sym (adds (words_noted o past)))
 
 pub not_some : (b : Bool) (r : Option Fault) → not b ≡ is_some r → b ≡ is_none r
 not_some true None h = refl

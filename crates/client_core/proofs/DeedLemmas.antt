@@ -12,7 +12,7 @@ use Rattle.client_core.specs.Begins.{begin_at, begin_heard}
 use Rattle.client_core.specs.Life.{Deed, Begins, Triggers, Stops, Verifies, Hears, text_of, act_of, run_of, check_of}
 use Rattle.client_core.specs.Lives.{RunFor, AttemptFor}
 use Rattle.client_core.specs.Requests.{Request, trigger_at, stop_at, verify_at, trigger_heard, stop_heard, verify_heard}
-use Rattle.client_core.specs.Standing.{IsKept}
+use Rattle.client_core.specs.Standing.{IsRequestKept}
 use Rattle.client_core.specs.Told.{run_told, attempt_told}
 
 -- The deed leaves all that is said of a run.
@@ -36,8 +36,8 @@ run_stays run deed deeds (Some asked) same h = record {
   text = h.text ∙ sym same.text;
   act = h.act ∙ sym same.act;
   begins = λ s x e. h.begins s x e ∙ sym (same.begins s);
-  triggers = λ s x e. subst (IsKept x) (sym (same.triggers s)) (h.triggers s x e);
-  stops = λ s x e. subst (IsKept x) (sym (same.stops s)) (h.stops s x e);
+  triggers = λ s x e. subst (IsRequestKept x) (sym (same.triggers s)) (h.triggers s x e);
+  stops = λ s x e. subst (IsRequestKept x) (sym (same.stops s)) (h.stops s x e);
 }
 
 -- The deed leaves all that is said of an attempt.
@@ -62,7 +62,7 @@ attempt_stays attempt deed deeds (Some (Some asked)) same h = record {
   range = h.range;
   run = h.run ∙ sym same.run;
   text = h.text ∙ sym same.text;
-  verifies = λ s x e. subst (IsKept x) (sym (same.verifies s)) (h.verifies s x e);
+  verifies = λ s x e. subst (IsRequestKept x) (sym (same.verifies s)) (h.verifies s x e);
 }
 
 -- ---- what is asked of another run or attempt

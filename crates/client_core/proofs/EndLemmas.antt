@@ -18,16 +18,16 @@ use Rattle.client_core.specs.declared.life.Life.{Life}
 use Rattle.client_core.specs.declared.noted.Noted.{Noted}
 use Rattle.client_core.specs.Note.{IsNoted, Says, SaysWhatIsWritten, spelling}
 use Rattle.client_core.specs.History.{Opening, Entry, Met}
-use Rattle.client_core.specs.Framed.{framed}
+use Rattle.client_core.specs.Framed.{frame_bytes}
 use Rattle.client_core.specs.Life.{life, deeds_of}
 use Rattle.client_core.specs.Lives.{LifeIs, EachLife}
 use Rattle.client_core.specs.Refusals.{refusal_by}
 use Rattle.client_core.specs.Saves.{Addition, with_addition, addition_of, unless_refused, noted_after, is_answer}
 use Rattle.client_core.specs.declared.peers.Peers.{Peers}
-use Rattle.client_core.specs.Words.{is_on, granted_by, noted, looked, refusal, due, is_answered, peers}
+use Rattle.client_core.specs.Words.{is_on, granted_by, words_noted, shown_entries, refusal, due, is_answered, peers}
 use Rattle.client_core.specs.Packets.{packets, packets_for}
 use Rattle.client_core.specs.Stands.{StandsFor}
-use Rattle.client_core.specs.Ends.{answered, steps, Unsaved, Stores}
+use Rattle.client_core.specs.Ends.{answered_entry, steps, Unsaved, Stores}
 use Rattle.client_core.proofs.Looked.{looks_at_all}
 use Rattle.client_core.proofs.PeersLemmas.{peers_stay, refused_peers}
 use Rattle.client_core.proofs.RefusalLemmas.{refusal_is, refusal_sort}
@@ -42,7 +42,7 @@ is_up false e = cc
 pub record Knows {T : Type 0} (note : T → Note) (client : PacketClient T) (o : Opening) (past : List Entry) : Type 0 where
   pub on : is_on past ≡ true
   pub peers : client.peers ≡ peers o past
-  pub knows : client.noted ≡ noted o past
+  pub knows : client.noted ≡ words_noted o past
   pub lives : LifeIs client.life (life o past)
 
 pub knows_now : {T : Type 0} (note : T → Note) (client : PacketClient T) (o : Opening) (past : List Entry) → client.down ≡ false → StandsFor note client o past → Knows note client o past
@@ -51,7 +51,7 @@ knows_now note client o past up s =
     record {
       on = on;
       peers = s.peers ∙ ap (peers o) (looks_at_all past on);
-      knows = s.knows ∙ ap (noted o) (looks_at_all past on);
+      knows = s.knows ∙ ap (words_noted o) (looks_at_all past on);
       lives = subst (λ p. LifeIs client.life (life o p)) (looks_at_all past on) s.lives;
     }
 
@@ -74,18 +74,18 @@ not_answered (Some g) fault b e = refl
 pub refused_stands : {T : Type 0} (note : T → Note) (client : PacketClient T) (o : Opening) (past : List Entry) (c : Call) (fault : Fault) → refusal o past c ≡ Some fault → StandsFor note client o past → StandsFor note client o (Met c NoSave ∷ past)
 refused_stands note client o past c fault r s = record {
   on = s.on ∙ ap not (sym (and_true (is_on past)));
-  peers = s.peers ∙ sym (by_on (is_on past) (peers o) (looked past) (λ on. refused_peers o past c NoSave fault r ∙ ap (peers o) (sym (looks_at_all past on))));
+  peers = s.peers ∙ sym (by_on (is_on past) (peers o) (shown_entries past) (λ on. refused_peers o past c NoSave fault r ∙ ap (peers o) (sym (looks_at_all past on))));
   few = s.few;
   durable = subst (λ n. Says (note client.notes).bytes n) (sym same_noted) s.durable;
-  knows = s.knows ∙ sym (by_on (is_on past) (noted o) (looked past) (λ on. same_noted ∙ ap (noted o) (sym (looks_at_all past on))));
-  lives = subst (LifeIs client.life) (sym (by_on (is_on past) (life o) (looked past) (λ on. same_life ∙ ap (life o) (sym (looks_at_all past on))))) s.lives;
+  knows = s.knows ∙ sym (by_on (is_on past) (words_noted o) (shown_entries past) (λ on. same_noted ∙ ap (words_noted o) (sym (looks_at_all past on))));
+  lives = subst (LifeIs client.life) (sym (by_on (is_on past) (life o) (shown_entries past) (λ on. same_life ∙ ap (life o) (sym (looks_at_all past on))))) s.lives;
 }
   where
-    same_noted : noted o (Met c NoSave ∷ past) ≡ noted o past
-    same_noted = after_none false (due o past c) (noted o past) refl
+    same_noted : words_noted o (Met c NoSave ∷ past) ≡ words_noted o past
+    same_noted = after_none false (due o past c) (words_noted o past) refl
 
     same_life : life o (Met c NoSave ∷ past) ≡ life o past
-    same_life = ap (λ b. if b then deeds_of (noted o past) c ++ life o past else life o past) (not_answered (refusal o past c) fault _ r)
+    same_life = ap (λ b. if b then deeds_of (words_noted o past) c ++ life o past else life o past) (not_answered (refusal o past c) fault _ r)
 
     by_on : {A : Type 0} (b : Bool) (f : List Entry → A) (y : List Entry) → (b ≡ true → f (Met c NoSave ∷ past) ≡ f y) → f (if b then Met c NoSave ∷ past else y) ≡ f y
     by_on true f y e = e refl
@@ -102,39 +102,39 @@ not_lost (Some a) = refl
 pub is_answered_now : (o : Opening) (past : List Entry) (c : Call) → refusal o past c ≡ None → is_answered o past c (saved_for (due o past c)) ≡ true
 is_answered_now o past c free = ap (λ r. is_none r && is_answer (due o past c) (saved_for (due o past c))) free ∙ is_own_answer (due o past c)
 
-pub due_now : (o : Opening) (past : List Entry) (c : Call) → refusal o past c ≡ None → due o past c ≡ addition_of (noted o past) c
-due_now o past c free = ap (λ r. unless_refused r (addition_of (noted o past) c)) free
+pub due_now : (o : Opening) (past : List Entry) (c : Call) → refusal o past c ≡ None → due o past c ≡ addition_of (words_noted o past) c
+due_now o past c free = ap (λ r. unless_refused r (addition_of (words_noted o past) c)) free
 
 -- What an answered call sends.
-pub sends_now : (o : Opening) (past : List Entry) (c : Call) → refusal o past c ≡ None → framed (packets_for (peers o past) (noted o past) (life o past) c) ≡ framed (packets o past (answered o past c))
-sends_now o past c free = ap (λ b. framed (if b then packets_for (peers o past) (noted o past) (life o past) c else [])) (sym (is_answered_now o past c free))
+pub sends_now : (o : Opening) (past : List Entry) (c : Call) → refusal o past c ≡ None → frame_bytes (packets_for (peers o past) (words_noted o past) (life o past) c) ≡ frame_bytes (packets o past (answered_entry o past c))
+sends_now o past c free = ap (λ b. frame_bytes (if b then packets_for (peers o past) (words_noted o past) (life o past) c else [])) (sym (is_answered_now o past c free))
 
 new_noted : (d : Option Addition) (n : Noted) → noted_after (has_new (saved_for d)) d n ≡ noted_after true d n
 new_noted None n = refl
 new_noted (Some a) n = refl
 
 -- An answered call is added, where what is kept and noted is what it leaves.
-pub answered_stands : {T : Type 0} (note : T → Note) (client : PacketClient T) (o : Opening) (past : List Entry) (c : Call) → refusal o past c ≡ None → is_on past ≡ true → client.down ≡ false → client.peers ≡ peers o (answered o past c ∷ past) → o.servers ≤ MAX_SERVERS
-    → Says (note client.notes).bytes (noted_after true (addition_of (noted o past) c) (noted o past)) → client.noted ≡ noted_after true (addition_of (noted o past) c) (noted o past) → LifeIs client.life (deeds_of (noted o past) c ++ life o past)
-    → StandsFor note client o (answered o past c ∷ past)
+pub answered_stands : {T : Type 0} (note : T → Note) (client : PacketClient T) (o : Opening) (past : List Entry) (c : Call) → refusal o past c ≡ None → is_on past ≡ true → client.down ≡ false → client.peers ≡ peers o (answered_entry o past c ∷ past) → o.servers ≤ MAX_SERVERS
+    → Says (note client.notes).bytes (noted_after true (addition_of (words_noted o past) c) (words_noted o past)) → client.noted ≡ noted_after true (addition_of (words_noted o past) c) (words_noted o past) → LifeIs client.life (deeds_of (words_noted o past) c ++ life o past)
+    → StandsFor note client o (answered_entry o past c ∷ past)
 answered_stands note client o past c free on up with few says knows lives = record {
   on = up ∙ sym (ap not (ap (λ b. b && not (is_lost (saved_for (due o past c)))) on ∙ ap not (not_lost (due o past c))));
   peers = with ∙ sym (ap (peers o) look);
   few = few;
   durable = subst (Says (note client.notes).bytes) (sym noted_is) says;
-  knows = knows ∙ sym (ap (noted o) look ∙ noted_is);
+  knows = knows ∙ sym (ap (words_noted o) look ∙ noted_is);
   lives = subst (LifeIs client.life) (sym (ap (life o) look ∙ life_is)) lives;
 }
   where
-    noted_is : noted o (answered o past c ∷ past) ≡ noted_after true (addition_of (noted o past) c) (noted o past)
-    noted_is = new_noted (due o past c) (noted o past) ∙ ap (λ d. noted_after true d (noted o past)) (due_now o past c free)
+    noted_is : words_noted o (answered_entry o past c ∷ past) ≡ noted_after true (addition_of (words_noted o past) c) (words_noted o past)
+    noted_is = new_noted (due o past c) (words_noted o past) ∙ ap (λ d. noted_after true d (words_noted o past)) (due_now o past c free)
 
-    life_is : life o (answered o past c ∷ past) ≡ deeds_of (noted o past) c ++ life o past
-    life_is = ap (λ b. if b then deeds_of (noted o past) c ++ life o past else life o past) (is_answered_now o past c free)
+    life_is : life o (answered_entry o past c ∷ past) ≡ deeds_of (words_noted o past) c ++ life o past
+    life_is = ap (λ b. if b then deeds_of (words_noted o past) c ++ life o past else life o past) (is_answered_now o past c free)
 
-    look : looked (answered o past c ∷ past) ≡ answered o past c ∷ past
-    look = ap (λ b. if b then (if is_lost (saved_for (due o past c)) then past else answered o past c ∷ past) else looked past) on
-        ∙ ap (λ b. if b then past else answered o past c ∷ past) (not_lost (due o past c))
+    look : shown_entries (answered_entry o past c ∷ past) ≡ answered_entry o past c ∷ past
+    look = ap (λ b. if b then (if is_lost (saved_for (due o past c)) then past else answered_entry o past c ∷ past) else shown_entries past) on
+        ∙ ap (λ b. if b then past else answered_entry o past c ∷ past) (not_lost (due o past c))
 
 -- ---- calls that aren't answered
 
@@ -146,7 +146,7 @@ refuses note client o past c fault r s =
     (record { why = why; same_note = refl; unchanged = s; stands = refused_stands note client o past c fault why s })
 
 pub with_life : {T : Type 0} (note : T → Note) (client : PacketClient T) (kept : Life) (o : Opening) (past : List Entry) → EachLife client.life (LifeIs kept) → StandsFor note client o past → StandsFor note (record client { life = kept }) o past
-with_life note client kept o past same s = record { on = s.on; peers = s.peers; few = s.few; durable = s.durable; knows = s.knows; lives = same (life o (looked past)) s.lives }
+with_life note client kept o past same s = record { on = s.on; peers = s.peers; few = s.few; durable = s.durable; knows = s.knows; lives = same (life o (shown_entries past)) s.lives }
 
 pub lacks : {T : Type 0} (note : T → Note) (client : PacketClient T) (kept : Life) (o : Opening) (past : List Entry) (c : Call) → EachLife client.life (LifeIs kept) → StandsFor note client o past
     → Faults (steps note o) past c sorts.Memory NoMemory client (record client { life = kept })
@@ -160,27 +160,27 @@ lost_off false left e = refl
 
 -- A client that is down at a failed save stands for the list with what was lost.
 lost_stands : {T : Type 0} (note : T → Note) (client : PacketClient T) (notes : T) (o : Opening) (past : List Entry) (c : Call) (left : Left) → is_on past ≡ true → is_lost left ≡ true → StandsFor note client o past
-    → Says (note notes).bytes (noted_after (has_new left) (due o past c) (noted o past)) → StandsFor note (record client { notes = notes; down = true }) o (Met c left ∷ past)
+    → Says (note notes).bytes (noted_after (has_new left) (due o past c) (words_noted o past)) → StandsFor note (record client { notes = notes; down = true }) o (Met c left ∷ past)
 lost_stands note client notes o past c left on lost s says = record {
   on = lost_off (is_on past) left lost;
   peers = s.peers ∙ ap (peers o) (looks_at_all past on ∙ sym look);
   few = s.few;
   durable = says;
-  knows = s.knows ∙ ap (noted o) (looks_at_all past on ∙ sym look);
+  knows = s.knows ∙ ap (words_noted o) (looks_at_all past on ∙ sym look);
   lives = subst (λ p. LifeIs client.life (life o p)) (looks_at_all past on ∙ sym look) s.lives;
 }
   where
-    look : looked (Met c left ∷ past) ≡ past
-    look = ap (λ b. if b then (if is_lost left then past else Met c left ∷ past) else looked past) on ∙ ap (λ b. if b then past else Met c left ∷ past) lost
+    look : shown_entries (Met c left ∷ past) ≡ past
+    look = ap (λ b. if b then (if is_lost left then past else Met c left ∷ past) else shown_entries past) on ∙ ap (λ b. if b then past else Met c left ∷ past) lost
 
 -- A call whose save isn't answered.
 pub unsaved : {T : Type 0} (note : T → Note) (old new : PacketClient T) (kept : Life) (a : Addition) (fault : Fault) (o : Opening) (past : List Entry) (c : Call) → SaysWhatIsWritten → old.down ≡ false → StandsFor note old o past → refusal o past c ≡ None
-    → addition_of (noted o past) c ≡ Some a → IsNoted (with_addition a (noted o past)) → EachLife old.life (LifeIs kept) → (t : FaultSort) → Unsaved note a t fault (record old { life = kept }) new → Faults (steps note o) past c t fault old new
+    → addition_of (words_noted o past) c ≡ Some a → IsNoted (with_addition a (words_noted o past)) → EachLife old.life (LifeIs kept) → (t : FaultSort) → Unsaved note a t fault (record old { life = kept }) new → Faults (steps note o) past c t fault old new
 unsaved note old new kept a fault o past c read up s free adds fits same sorts.Memory u = record {
   why = u.0;
   same_note = u.1;
   unchanged = subst (λ k. StandsFor note k o past) (sym u.2)
-      (record { on = s.on; peers = s.peers; few = s.few; durable = subst (λ (n : Note). Says n.bytes (noted o past)) (sym u.1) s.durable; knows = s.knows; lives = same (life o (looked past)) s.lives });
+      (record { on = s.on; peers = s.peers; few = s.few; durable = subst (λ (n : Note). Says n.bytes (words_noted o past)) (sym u.1) s.durable; knows = s.knows; lives = same (life o (shown_entries past)) s.lives });
 }
 unsaved note old new kept a fault o past c read up s free adds fits same sorts.Refusal u = absurd u
 unsaved note old new kept a fault o past c read up s free adds fits same sorts.Save u = by_bytes u.1
@@ -191,7 +191,7 @@ unsaved note old new kept a fault o past c read up s free adds fits same sorts.S
     makes_one : due o past c ≡ Some a
     makes_one = due_now o past c free ∙ adds
 
-    failed : (left : Left) → is_lost left ≡ true → (note new.notes).bytes ≡ bytes_left left (spelling (noted_after (has_new left) (Some a) (noted o past))) (note old.notes).bytes → Says (note new.notes).bytes (noted_after (has_new left) (Some a) (noted o past)) → Fails (steps note o) past c old new
+    failed : (left : Left) → is_lost left ≡ true → (note new.notes).bytes ≡ bytes_left left (spelling (noted_after (has_new left) (Some a) (words_noted o past))) (note old.notes).bytes → Says (note new.notes).bytes (noted_after (has_new left) (Some a) (words_noted o past)) → Fails (steps note o) past c old new
     failed left lost bytes says = record {
       cause = u.0;
       free = free;
@@ -199,50 +199,50 @@ unsaved note old new kept a fault o past c read up s free adds fits same sorts.S
       makes_one = makes_one;
       left = left;
       lost = lost;
-      bytes_are = subst (λ d. (note new.notes).bytes ≡ bytes_left left (spelling (noted_after (has_new left) d (noted o past))) (note old.notes).bytes) (sym makes_one) bytes;
+      bytes_are = subst (λ d. (note new.notes).bytes ≡ bytes_left left (spelling (noted_after (has_new left) d (words_noted o past))) (note old.notes).bytes) (sym makes_one) bytes;
       stands = subst (λ x. StandsFor note x o (Met c left ∷ past)) (sym u.2)
           (lost_stands note (record old { life = kept }) new.notes o past c left k.on lost (with_life note old kept o past same s)
-          (subst (λ d. Says (note new.notes).bytes (noted_after (has_new left) d (noted o past))) (sym makes_one) says));
+          (subst (λ d. Says (note new.notes).bytes (noted_after (has_new left) d (words_noted o past))) (sym makes_one) says));
     }
 
     by_bytes : ((note new.notes).bytes ≡ (note old.notes).bytes) ⊎ ((note new.notes).bytes ≡ spelling (with_addition a old.noted)) → Fails (steps note o) past c old new
-    by_bytes (inl e) = failed LostOld refl e (subst (λ bytes. Says bytes (noted o past)) (sym e) s.durable)
+    by_bytes (inl e) = failed LostOld refl e (subst (λ bytes. Says bytes (words_noted o past)) (sym e) s.durable)
     by_bytes (inr e) =
-        let is : (note new.notes).bytes ≡ spelling (with_addition a (noted o past)) = e ∙ ap (λ n. spelling (with_addition a n)) k.knows in
-        failed LostNew refl is (subst (λ bytes. Says bytes (with_addition a (noted o past))) (sym is) (read (with_addition a (noted o past)) fits))
+        let is : (note new.notes).bytes ≡ spelling (with_addition a (words_noted o past)) = e ∙ ap (λ n. spelling (with_addition a n)) k.knows in
+        failed LostNew refl is (subst (λ bytes. Says bytes (with_addition a (words_noted o past))) (sym is) (read (with_addition a (words_noted o past)) fits))
 
 -- What a call leaves of the note.
-pub leaves_plain : {T : Type 0} (note : T → Note) (notes : T) (o : Opening) (past : List Entry) (c : Call) → refusal o past c ≡ None → addition_of (noted o past) c ≡ None
-    → LeavesNote (due o past c) (spelling (noted o (answered o past c ∷ past))) (note notes) (note notes)
+pub leaves_plain : {T : Type 0} (note : T → Note) (notes : T) (o : Opening) (past : List Entry) (c : Call) → refusal o past c ≡ None → addition_of (words_noted o past) c ≡ None
+    → LeavesNote (due o past c) (spelling (words_noted o (answered_entry o past c ∷ past))) (note notes) (note notes)
 leaves_plain note notes o past c free adds =
-    subst (λ d. LeavesNote d (spelling (noted o (answered o past c ∷ past))) (note notes) (note notes)) (sym (due_now o past c free ∙ adds)) refl
+    subst (λ d. LeavesNote d (spelling (words_noted o (answered_entry o past c ∷ past))) (note notes) (note notes)) (sym (due_now o past c free ∙ adds)) refl
 
-pub leaves_stored : {T : Type 0} (note : T → Note) (old new : PacketClient T) (kept : Life) (a : Addition) (o : Opening) (past : List Entry) (c : Call) → old.noted ≡ noted o past → refusal o past c ≡ None → addition_of (noted o past) c ≡ Some a
+pub leaves_stored : {T : Type 0} (note : T → Note) (old new : PacketClient T) (kept : Life) (a : Addition) (o : Opening) (past : List Entry) (c : Call) → old.noted ≡ words_noted o past → refusal o past c ≡ None → addition_of (words_noted o past) c ≡ Some a
     → (r : Unit {0}) → Stores note a (record old { life = kept }) new (Ok r)
-    → LeavesNote (due o past c) (spelling (noted o (answered o past c ∷ past))) (note old.notes) (note new.notes)
+    → LeavesNote (due o past c) (spelling (words_noted o (answered_entry o past c ∷ past))) (note old.notes) (note new.notes)
 leaves_stored note old new kept a o past c knows free adds r stored =
-    subst (λ d. LeavesNote d (spelling (noted_after (has_new (saved_for d)) d (noted o past))) (note old.notes) (note new.notes))
+    subst (λ d. LeavesNote d (spelling (noted_after (has_new (saved_for d)) d (words_noted o past))) (note old.notes) (note new.notes))
     (sym (due_now o past c free ∙ adds))
     (stored.0 ∙ ap (λ n. record (note old.notes) { bytes = spelling (with_addition a n) }) knows)
 
 -- A call that is answered with a save.
 pub stored_stands : {T : Type 0} (note : T → Note) (old new : PacketClient T) (kept after : Life) (a : Addition) (o : Opening) (past : List Entry) (c : Call) → SaysWhatIsWritten → old.down ≡ false → StandsFor note old o past → refusal o past c ≡ None
-    → addition_of (noted o past) c ≡ Some a → IsNoted (with_addition a (noted o past)) → (r : Unit {0}) → Stores note a (record old { life = kept }) new (Ok r)
-    → LifeIs after (deeds_of (noted o past) c ++ life o past) → granted_by c ≡ [] → StandsFor note (record new { life = after }) o (answered o past c ∷ past)
+    → addition_of (words_noted o past) c ≡ Some a → IsNoted (with_addition a (words_noted o past)) → (r : Unit {0}) → Stores note a (record old { life = kept }) new (Ok r)
+    → LifeIs after (deeds_of (words_noted o past) c ++ life o past) → granted_by c ≡ [] → StandsFor note (record new { life = after }) o (answered_entry o past c ∷ past)
 stored_stands note old new kept after a o past c read up s free adds fits r stored lives plain =
     let k = knows_now note old o past up s in
-    let is : with_addition a old.noted ≡ with_addition a (noted o past) = ap (with_addition a) k.knows in
-    let grown : with_addition a (noted o past) ≡ noted_after true (addition_of (noted o past) c) (noted o past) = ap (λ d. noted_after true d (noted o past)) (sym adds) in
+    let is : with_addition a old.noted ≡ with_addition a (words_noted o past) = ap (with_addition a) k.knows in
+    let grown : with_addition a (words_noted o past) ≡ noted_after true (addition_of (words_noted o past) c) (words_noted o past) = ap (λ d. noted_after true d (words_noted o past)) (sym adds) in
     answered_stands note (record new { life = after }) o past c free k.on
     (ap (λ (m : PacketClient _). m.down) stored.1 ∙ up) (ap (λ (m : PacketClient _). m.peers) stored.1 ∙ (k.peers ∙ sym (peers_stay o past c (saved_for (due o past c)) plain))) s.few
-    (subst (λ bytes. Says bytes (noted_after true (addition_of (noted o past) c) (noted o past))) (sym (ap (λ (n : Note). n.bytes) stored.0 ∙ ap spelling is))
-    (subst (Says (spelling (with_addition a (noted o past)))) grown (read (with_addition a (noted o past)) fits)))
+    (subst (λ bytes. Says bytes (noted_after true (addition_of (words_noted o past) c) (words_noted o past))) (sym (ap (λ (n : Note). n.bytes) stored.0 ∙ ap spelling is))
+    (subst (Says (spelling (with_addition a (words_noted o past)))) grown (read (with_addition a (words_noted o past)) fits)))
     (ap (λ (m : PacketClient _). m.noted) stored.1 ∙ is ∙ grown) lives
 
 -- A call that is answered without a save.
-pub plain_stands : {T : Type 0} (note : T → Note) (old : PacketClient T) (after : Life) (o : Opening) (past : List Entry) (c : Call) → old.down ≡ false → StandsFor note old o past → refusal o past c ≡ None → addition_of (noted o past) c ≡ None
-    → LifeIs after (deeds_of (noted o past) c ++ life o past) → (with : Peers) → with ≡ peers o (answered o past c ∷ past) → StandsFor note (record old { life = after; peers = with }) o (answered o past c ∷ past)
+pub plain_stands : {T : Type 0} (note : T → Note) (old : PacketClient T) (after : Life) (o : Opening) (past : List Entry) (c : Call) → old.down ≡ false → StandsFor note old o past → refusal o past c ≡ None → addition_of (words_noted o past) c ≡ None
+    → LifeIs after (deeds_of (words_noted o past) c ++ life o past) → (with : Peers) → with ≡ peers o (answered_entry o past c ∷ past) → StandsFor note (record old { life = after; peers = with }) o (answered_entry o past c ∷ past)
 plain_stands note old after o past c up s free adds lives with is =
     let k = knows_now note old o past up s in
-    let same : noted o past ≡ noted_after true (addition_of (noted o past) c) (noted o past) = ap (λ d. noted_after true d (noted o past)) (sym adds) in
+    let same : words_noted o past ≡ noted_after true (addition_of (words_noted o past) c) (words_noted o past) = ap (λ d. noted_after true d (words_noted o past)) (sym adds) in
     answered_stands note (record old { life = after; peers = with }) o past c free k.on up is s.few (subst (Says (note old.notes).bytes) same s.durable) (k.knows ∙ same) lives

@@ -18,7 +18,7 @@ use Rattle.disk_model.specs.Steps.{LeavesNote, Answers, Refuses, Faults, Ends, G
 use Rattle.messages.specs.declared.packet.PacketParts.{PacketParts}
 use Rattle.messages.specs.declared.piece.PieceParts.{PieceParts}
 use Rattle.messages.specs.declared.frame.Frame.TheVariants.{Whole, Piece}
-use Rattle.messages.specs.Assemblies.{Row, taken, without}
+use Rattle.messages.specs.Assemblies.{Row, rows_after_piece, without_tag}
 use Rattle.messages.specs.FrameBytes.{frame_spelling}
 use Rattle.messages.specs.FramesOf.{spelled_frames}
 use Rattle.messages.specs.Laws.{IsPacket}
@@ -41,7 +41,7 @@ use Rattle.client_core.specs.Ends as ends
 use Rattle.client_core.specs.Bounds.{AreShort, FramesAreShort}
 use Rattle.client_core.specs.Bounds as bounds
 use Rattle.client_core.specs.Hearing.{FrameEntry, Met, rules, heard_at, packets_heard, assembly}
-use Rattle.client_core.specs.FrameAnswers.{Sense, Hears, Keeps, Drops, Misses, sense_of, sense, is_drop, refusal, refusal_in, due, due_in, answered, entry_heard, frames_by}
+use Rattle.client_core.specs.FrameAnswers.{Sense, Hears, Keeps, Drops, Misses, sense_of, sense, is_drop, refusal, refusal_in, due, due_in, answered_entry, entry_heard, frames_by}
 use Rattle.client_core.specs.FrameEnds.{StandsFor, most_packets, steps}
 use Rattle.client_core.proofs.HearingLemmas.{rows_after, entry_by, entry_is, heard_is, taken_by, same_rows, refused_rows, said_rows, dropped_rows}
 
@@ -114,8 +114,8 @@ heard_answers : {T : Type 0} (note : T → Note) (o : Opening) (past : List Fram
 heard_answers note o past e c old new sent short brings is a k =
     let list = packets_heard o past in
     let left = saved_for (words.due o list c) in
-    let same_entry : answered o past e ≡ Met e left = ap (λ y. Met e (saved_for (due_in o list y))) is in
-    let says : entry_heard o past (answered o past e) ≡ Some (history.Met c left) = ap (entry_heard o past) same_entry ∙ entry_is o past e left ∙ ap (λ y. entry_by y left) is in
+    let same_entry : answered_entry o past e ≡ Met e left = ap (λ y. Met e (saved_for (due_in o list y))) is in
+    let says : entry_heard o past (answered_entry o past e) ≡ Some (history.Met c left) = ap (entry_heard o past) same_entry ∙ entry_is o past e left ∙ ap (λ y. entry_by y left) is in
     record {
       free = ap (refusal_in o list) is ∙ a.free;
       sends = record {
@@ -123,8 +123,8 @@ heard_answers note o past e c old new sent short brings is a k =
         short = λ i h. subst (λ n. AreShort n sent) (sym (ap (most_in o list) is) ∙ most_is o past e)
             (subst (AreShort (bounds.most_packets o list c)) (sym a.sends) (short o list c left i (came_with c left list brings h)));
       };
-      leaves = subst (λ d. LeavesNote d (spelling (words.noted o (packets_heard o (answered o past e ∷ past)))) (note old.core.notes) (note new.core.notes)) (sym (ap (due_in o list) is))
-          (subst (λ (l : List history.Entry). LeavesNote (words.due o list c) (spelling (words.noted o l)) (note old.core.notes) (note new.core.notes)) (sym (ap (λ y. packets_heard o (y ∷ past)) same_entry ∙ heard_is o past e left (Hears c) is)) a.leaves);
+      leaves = subst (λ d. LeavesNote d (spelling (words.words_noted o (packets_heard o (answered_entry o past e ∷ past)))) (note old.core.notes) (note new.core.notes)) (sym (ap (due_in o list) is))
+          (subst (λ (l : List history.Entry). LeavesNote (words.due o list c) (spelling (words.words_noted o l)) (note old.core.notes) (note new.core.notes)) (sym (ap (λ y. packets_heard o (y ∷ past)) same_entry ∙ heard_is o past e left (Hears c) is)) a.leaves);
       stands = subst (λ y. StandsFor note new o (y ∷ past)) (sym same_entry)
           (heard_stands note o past e c left new is a.stands (λ on. k (on_before (words.is_on list) (is_lost left) (sym (on_is o past e c left is) ∙ on)) ∙ same_rows o past e NoSave left));
     }
@@ -140,7 +140,7 @@ heard_faults note o past e c old new fault is w sorts.Save h k = record {
   makes_one = ap (due_in o (packets_heard o past)) is ∙ h.makes_one;
   left = h.left;
   lost = h.lost;
-  bytes_are = subst (λ (l : List history.Entry). (note new.core.notes).bytes ≡ bytes_left h.left (spelling (words.noted o l)) (note old.core.notes).bytes) (sym (heard_is o past e h.left (Hears c) is)) h.bytes_are;
+  bytes_are = subst (λ (l : List history.Entry). (note new.core.notes).bytes ≡ bytes_left h.left (spelling (words.words_noted o l)) (note old.core.notes).bytes) (sym (heard_is o past e h.left (Hears c) is)) h.bytes_are;
   stands = heard_stands note o past e c h.left new is h.stands (λ on. absurd (off_lost (words.is_on (packets_heard o past)) (is_lost h.left) h.lost (sym (on_is o past e c h.left is) ∙ on)));
 }
 heard_faults note o past e c old new fault is w sorts.Refusal h k =
@@ -173,10 +173,10 @@ whole_gives note o past e c used old core (Err fault) short brings is same w h =
 -- The packet is answered, and its tag goes.
 pub given_answers : {T : Type 0} (note : T → Note) (old : Client T) (core : PacketClient T) (o : Opening) (past : List FrameEntry) (q : PieceParts) (p : PacketParts) (result : Result (List (List ℕ)) Fault) → FramesAreShort → IsPacket p → StandsFor note old o past
     → sense o past (Deliver (Piece q)) ≡ Hears (calls.Deliver p) → Ends (ends.steps note o) (packets_heard o past) (calls.Deliver p) old.core core result → is_ok result ≡ true
-    → Ends (steps note o) past (Deliver (Piece q)) old (record { alloc = old.alloc; core = core; pieces = without q.tag old.pieces }) result
+    → Ends (steps note o) past (Deliver (Piece q)) old (record { alloc = old.alloc; core = core; pieces = without_tag q.tag old.pieces }) result
 given_answers note old core o past q p (Ok sent) short brings w is h ok =
-    heard_answers note o past (Deliver (Piece q)) (calls.Deliver p) old (record { alloc = old.alloc; core = core; pieces = without q.tag old.pieces }) sent short brings is h
-    (λ on. ap (without q.tag) (w.pieces on) ∙ sym (said_rows o past q p NoSave is h.free))
+    heard_answers note o past (Deliver (Piece q)) (calls.Deliver p) old (record { alloc = old.alloc; core = core; pieces = without_tag q.tag old.pieces }) sent short brings is h
+    (λ on. ap (without_tag q.tag) (w.pieces on) ∙ sym (said_rows o past q p NoSave is h.free))
 given_answers note old core o past q p (Err fault) short brings w is h ok = absurd cc
 
 -- The packet is refused, and its tag stays.
@@ -201,7 +201,7 @@ silent_stands note o past e s left old rows is none w k =
     }
 
 pub kept_ends : {T : Type 0} (note : T → Note) (o : Opening) (past : List FrameEntry) (q : PieceParts) (old : Client T) → sense o past (Deliver (Piece q)) ≡ Keeps q → StandsFor note old o past
-    → Ends (steps note o) past (Deliver (Piece q)) old (with_pieces old (taken old.pieces q)) (Ok [])
+    → Ends (steps note o) past (Deliver (Piece q)) old (with_pieces old (rows_after_piece old.pieces q)) (Ok [])
 kept_ends note o past q old is w =
     let e = Deliver (Piece q) in
     let list = packets_heard o past in
@@ -212,16 +212,16 @@ kept_ends note o past q old is w =
         frames_are = ap (λ y. map frame_spelling (frames_by o list y)) (sym (entry_is o past e left ∙ ap (λ y. entry_by y left) is));
         short = λ i h. record { few = omega arith; short = omega arith };
       };
-      leaves = subst (λ d. LeavesNote d (spelling (words.noted o (packets_heard o (answered o past e ∷ past)))) (note old.core.notes) (note old.core.notes)) (sym (ap (due_in o list) is)) refl;
-      stands = silent_stands note o past e (Keeps q) left old (taken old.pieces q) is refl w (λ r. ap (λ x. taken x q) r ∙ sym (taken_by o past e left (Keeps q) is));
+      leaves = subst (λ d. LeavesNote d (spelling (words.words_noted o (packets_heard o (answered_entry o past e ∷ past)))) (note old.core.notes) (note old.core.notes)) (sym (ap (due_in o list) is)) refl;
+      stands = silent_stands note o past e (Keeps q) left old (rows_after_piece old.pieces q) is refl w (λ r. ap (λ x. rows_after_piece x q) r ∙ sym (taken_by o past e left (Keeps q) is));
     }
 
 pub dropped_ends : {T : Type 0} (note : T → Note) (o : Opening) (past : List FrameEntry) (q : PieceParts) (old : Client T) → sense o past (Deliver (Piece q)) ≡ Drops q → StandsFor note old o past
-    → Ends (steps note o) past (Deliver (Piece q)) old (with_pieces old (without q.tag old.pieces)) (Err FrameBadField)
+    → Ends (steps note o) past (Deliver (Piece q)) old (with_pieces old (without_tag q.tag old.pieces)) (Err FrameBadField)
 dropped_ends note o past q old is w = record {
   why = ap (refusal_in o (packets_heard o past)) is;
   same_note = refl;
-  stands = silent_stands note o past (Deliver (Piece q)) (Drops q) NoSave old (without q.tag old.pieces) is refl w (λ r. ap (without q.tag) r ∙ sym (dropped_rows o past q NoSave is));
+  stands = silent_stands note o past (Deliver (Piece q)) (Drops q) NoSave old (without_tag q.tag old.pieces) is refl w (λ r. ap (without_tag q.tag) r ∙ sym (dropped_rows o past q NoSave is));
   unchanged = λ d. absurd (no_drop (sym (ap is_drop is) ∙ d));
 }
   where

@@ -20,9 +20,9 @@ use Rattle.client_core.specs.declared.noted.Noted.{Noted}
 use Rattle.client_core.specs.History.{Opening, Entry, Met, Cut, Restart, Renew, Lose}
 use Rattle.client_core.specs.Refusals.{refusal_by}
 use Rattle.client_core.specs.Saves.{unless_kept, addition_by, addition_of, unless_refused, noted_after, is_answer}
-use Rattle.client_core.specs.Words.{is_on, noted, peers, may_renew}
-use Rattle.client_core.specs.Note.{is_blank, renewed}
-use Rattle.client_core.specs.Life.{Deed, Triggers, Stops, Hears, deeds_of, done}
+use Rattle.client_core.specs.Words.{is_on, words_noted, peers, may_renew}
+use Rattle.client_core.specs.Note.{is_blank, new_note}
+use Rattle.client_core.specs.Life.{Deed, Triggers, Stops, Hears, deeds_of, deeds_done}
 use Rattle.client_core.specs.Laws.{loses_nothing, runs_in, attempts_in, AreFresh, RunsAreFresh, AttemptsAreFresh}
 use Rattle.client_core.proofs.KeptLemmas.{blank_then}
 use Rattle.client_core.proofs.ListLemmas.{all_weaker}
@@ -89,11 +89,11 @@ none_used n h =
     let c = and_parts (n.attempts == 0) _ b.1 in
     (eqb-true n.runs 0 b.0, eqb-true n.attempts 0 c.0)
 
-run_renewed : (first : ℕ) (b : Bool) (g : ℕ) (n : Noted) (ns : List ℕ) → (b ≡ true → n.runs ≡ 0) → Known first n.runs ns → Known first (if b then renewed g else n).runs ns
+run_renewed : (first : ℕ) (b : Bool) (g : ℕ) (n : Noted) (ns : List ℕ) → (b ≡ true → n.runs ≡ 0) → Known first n.runs ns → Known first (if b then new_note g else n).runs ns
 run_renewed first true g n ns f k = higher first n.runs (g * 2 ^ 32) ns (from_none n.runs (g * 2 ^ 32) (f refl)) k
 run_renewed first false g n ns f k = k
 
-attempt_renewed : (first : ℕ) (b : Bool) (g : ℕ) (n : Noted) (ns : List ℕ) → (b ≡ true → n.attempts ≡ 0) → Known first n.attempts ns → Known first (if b then renewed g else n).attempts ns
+attempt_renewed : (first : ℕ) (b : Bool) (g : ℕ) (n : Noted) (ns : List ℕ) → (b ≡ true → n.attempts ≡ 0) → Known first n.attempts ns → Known first (if b then new_note g else n).attempts ns
 attempt_renewed first true g n ns f k = higher first n.attempts (g * 2 ^ 32) ns (from_none n.attempts (g * 2 ^ 32) (f refl)) k
 attempt_renewed first false g n ns f k = k
 
@@ -127,12 +127,12 @@ run_step first n (Deliver p) None left ds k =
     subst (λ m. Known first m (runs_in (if b then Hears (node_number p.from) p.body ∷ ds else ds))) (sym e) (same runs_in b first n.runs (Hears (node_number p.from) p.body ∷ ds) ds k k)
 run_step first n Tick None left ds k = same runs_in (is_answer None left) first n.runs ds ds k k
 
-known_runs : (o : Opening) (past : List Entry) → IsTrue (loses_nothing past) → Known o.noted.runs (noted o past).runs (runs_in (done o past))
+known_runs : (o : Opening) (past : List Entry) → IsTrue (loses_nothing past) → Known o.noted.runs (words_noted o past).runs (runs_in (deeds_done o past))
 known_runs o [] h = record { rises = omega arith; fresh = record { distinct = refl; above = tt; below = tt } }
-known_runs o (Met c left ∷ past) h = run_step o.noted.runs (noted o past) c (refusal_by (is_on past) (peers o past) (noted o past) c) left (done o past) (known_runs o past h)
+known_runs o (Met c left ∷ past) h = run_step o.noted.runs (words_noted o past) c (refusal_by (is_on past) (peers o past) (words_noted o past) c) left (deeds_done o past) (known_runs o past h)
 known_runs o (Cut ∷ past) h = known_runs o past h
 known_runs o (Restart mirror ∷ past) h = known_runs o past h
-known_runs o (Renew g left ∷ past) h = run_renewed o.noted.runs (has_new left && may_renew g (noted o past)) g (noted o past) (runs_in (done o past)) (λ e. (none_used (noted o past) (blank_then (has_new left) g (noted o past) e)).0) (known_runs o past h)
+known_runs o (Renew g left ∷ past) h = run_renewed o.noted.runs (has_new left && may_renew g (words_noted o past)) g (words_noted o past) (runs_in (deeds_done o past)) (λ e. (none_used (words_noted o past) (blank_then (has_new left) g (words_noted o past) e)).0) (known_runs o past h)
 known_runs o (Lose ∷ past) h = cc
 
 pub runs_are_fresh : RunsAreFresh
@@ -157,12 +157,12 @@ attempt_step first n (Deliver p) None left ds k =
     subst (λ m. Known first m (attempts_in (if b then Hears (node_number p.from) p.body ∷ ds else ds))) (sym e) (same attempts_in b first n.attempts (Hears (node_number p.from) p.body ∷ ds) ds k k)
 attempt_step first n Tick None left ds k = same attempts_in (is_answer None left) first n.attempts ds ds k k
 
-known_attempts : (o : Opening) (past : List Entry) → IsTrue (loses_nothing past) → Known o.noted.attempts (noted o past).attempts (attempts_in (done o past))
+known_attempts : (o : Opening) (past : List Entry) → IsTrue (loses_nothing past) → Known o.noted.attempts (words_noted o past).attempts (attempts_in (deeds_done o past))
 known_attempts o [] h = record { rises = omega arith; fresh = record { distinct = refl; above = tt; below = tt } }
-known_attempts o (Met c left ∷ past) h = attempt_step o.noted.attempts (noted o past) c (refusal_by (is_on past) (peers o past) (noted o past) c) left (done o past) (known_attempts o past h)
+known_attempts o (Met c left ∷ past) h = attempt_step o.noted.attempts (words_noted o past) c (refusal_by (is_on past) (peers o past) (words_noted o past) c) left (deeds_done o past) (known_attempts o past h)
 known_attempts o (Cut ∷ past) h = known_attempts o past h
 known_attempts o (Restart mirror ∷ past) h = known_attempts o past h
-known_attempts o (Renew g left ∷ past) h = attempt_renewed o.noted.attempts (has_new left && may_renew g (noted o past)) g (noted o past) (attempts_in (done o past)) (λ e. (none_used (noted o past) (blank_then (has_new left) g (noted o past) e)).1) (known_attempts o past h)
+known_attempts o (Renew g left ∷ past) h = attempt_renewed o.noted.attempts (has_new left && may_renew g (words_noted o past)) g (words_noted o past) (attempts_in (deeds_done o past)) (λ e. (none_used (words_noted o past) (blank_then (has_new left) g (words_noted o past) e)).1) (known_attempts o past h)
 known_attempts o (Lose ∷ past) h = cc
 
 pub attempts_are_fresh : AttemptsAreFresh

@@ -7,7 +7,7 @@ use Rattle.messages.specs.declared.packet.PacketParts.{PacketParts}
 use Rattle.messages.specs.declared.piece.PieceParts.{PieceParts}
 use Rattle.messages.specs.declared.frame.Frame.TheVariants.{Whole, Piece}
 use Rattle.messages.specs.Assemblies as looks
-use Rattle.messages.specs.Assemblies.{Row, Look, Gives, look, look_at, completed, with_piece, taken, taken_at, without}
+use Rattle.messages.specs.Assemblies.{Row, Look, Gives, look_at_piece, look_by_body, completed_body, with_piece, rows_after_piece, rows_after_body, without_tag}
 use Rattle.messages.specs.declared.places.Filled.{Filled}
 use Rattle.messages.specs.Hearing.{Meaning, Says, Waits, Spoils, Strays, meaning, said_by, heard_by, rows_by, rows_of, with_entry}
 use Rattle.client_core.specs.declared.call.Call.TheVariants as calls
@@ -17,12 +17,12 @@ use Rattle.client_core.specs.History as history
 use Rattle.client_core.specs.History.{Opening}
 use Rattle.client_core.specs.Words as words
 use Rattle.client_core.specs.Words.{is_on}
-use Rattle.client_core.specs.Hearing.{FrameEntry, Met, is_piece_for, rules, coming, heard_at, packets_heard, assembly}
+use Rattle.client_core.specs.Hearing.{FrameEntry, Met, is_piece_for, rules, coming_of, heard_at, packets_heard, assembly}
 use Rattle.client_core.specs.FrameAnswers.{Sense, Hears, Keeps, Drops, Misses, sense_of, sense, is_drop, refusal_in, entry_heard}
 
 -- What has come together behind an input.
 abbrev pub rows_after : Opening → List FrameEntry → Input → Left → List Row
-rows_after o past e left = rows_of (rules o) (heard_at o past) (coming (Met e left))
+rows_after o past e left = rows_of (rules o) (heard_at o past) (coming_of (Met e left))
 
 -- The entry that is heard, by what the input is.
 abbrev pub entry_by : Sense → Left → Option history.Entry
@@ -53,8 +53,8 @@ heard_is o past e left s is = ap (λ (y : Option history.Entry). with_entry y (p
 -- What a piece that says nothing leaves together.
 abbrev pub IsTaken : List Row → List Row → Sense → Type 0
 IsTaken old new (Hears c) = Unit {0}
-IsTaken old new (Keeps q) = new ≡ taken old q
-IsTaken old new (Drops q) = new ≡ taken old q
+IsTaken old new (Keeps q) = new ≡ rows_after_piece old q
+IsTaken old new (Drops q) = new ≡ rows_after_piece old q
 IsTaken old new Misses = new ≡ old
 
 piece_taken : (o : Opening) (past : List FrameEntry) (q : PieceParts) (m : Meaning) → IsTaken (assembly o past) (rows_by (rules o) (heard_at o past) q m) (sense_of q m)
@@ -86,7 +86,7 @@ same_rows o past (Deliver (Piece q)) one other = refl
 same_rows o past Tick one other = refl
 
 -- A refused input that drops no tag leaves what has come together.
-refused_piece : (o : Opening) (past : List FrameEntry) (q : PieceParts) (x : Option Fault) (fault : Fault) → x ≡ Some fault → (if is_some x then assembly o past else taken (assembly o past) q) ≡ assembly o past
+refused_piece : (o : Opening) (past : List FrameEntry) (q : PieceParts) (x : Option Fault) (fault : Fault) → x ≡ Some fault → (if is_some x then assembly o past else rows_after_piece (assembly o past) q) ≡ assembly o past
 refused_piece o past q None fault h = absurd cc
 refused_piece o past q (Some f) fault h = refl
 
@@ -128,18 +128,18 @@ spoiled true false q r l e = cc
 spoiled false mine q r l e = cc
 
 -- A piece that fills the last place takes the tag out.
-whole_gone : (q : PieceParts) (fs : List Filled) (rows : List Row) (body : Option (List ℕ)) → (look_at q body ≡ looks.Waits → ⊥) → taken_at body q fs rows ≡ without q.tag rows
+whole_gone : (q : PieceParts) (fs : List Filled) (rows : List Row) (body : Option (List ℕ)) → (look_by_body q body ≡ looks.Waits → ⊥) → rows_after_body body q fs rows ≡ without_tag q.tag rows
 whole_gone q fs rows None ne = absurd (ne refl)
 whole_gone q fs rows (Some bytes) ne = refl
 
-gone : (rows : List Row) (q : PieceParts) → (look rows q ≡ looks.Waits → ⊥) → taken rows q ≡ without q.tag rows
-gone rows q ne = whole_gone q (with_piece rows q) rows (completed rows q) ne
+gone : (rows : List Row) (q : PieceParts) → (look_at_piece rows q ≡ looks.Waits → ⊥) → rows_after_piece rows q ≡ without_tag q.tag rows
+gone rows q ne = whole_gone q (with_piece rows q) rows (completed_body rows q) ne
 
 pub said_rows : (o : Opening) (past : List FrameEntry) (q : PieceParts) (p : PacketParts) (left : Left) → sense o past (Deliver (Piece q)) ≡ Hears (calls.Deliver p) → words.refusal o (packets_heard o past) (calls.Deliver p) ≡ None
-    → rows_after o past (Deliver (Piece q)) left ≡ without q.tag (assembly o past)
+    → rows_after o past (Deliver (Piece q)) left ≡ without_tag q.tag (assembly o past)
 said_rows o past q p left is free =
     by_meaning (meaning (rules o) (heard_at o past) (Piece q)) is
-    ∙ gone (assembly o past) q (λ e. waits_no (sym (gave (is_on (packets_heard o past)) (is_piece_for o.servers q) q p (look (assembly o past) q) is).is ∙ e))
+    ∙ gone (assembly o past) q (λ e. waits_no (sym (gave (is_on (packets_heard o past)) (is_piece_for o.servers q) q p (look_at_piece (assembly o past) q) is).is ∙ e))
   where
     waits_no : Gives p ≡ looks.Waits → ⊥
     waits_no e = cc
@@ -147,21 +147,21 @@ said_rows o past q p left is free =
     same_packet : (r : PacketParts) → Hears (calls.Deliver r) ≡ Hears (calls.Deliver p) → r ≡ p
     same_packet r e = cc
 
-    taken_free : (r : PacketParts) → r ≡ p → (if is_some (words.refusal o (packets_heard o past) (calls.Deliver r)) then assembly o past else taken (assembly o past) q) ≡ taken (assembly o past) q
-    taken_free r e = ap (λ (x : PacketParts). if is_some (words.refusal o (packets_heard o past) (calls.Deliver x)) then assembly o past else taken (assembly o past) q) e
-        ∙ ap (λ (x : Option Fault). if is_some x then assembly o past else taken (assembly o past) q) free
+    taken_free : (r : PacketParts) → r ≡ p → (if is_some (words.refusal o (packets_heard o past) (calls.Deliver r)) then assembly o past else rows_after_piece (assembly o past) q) ≡ rows_after_piece (assembly o past) q
+    taken_free r e = ap (λ (x : PacketParts). if is_some (words.refusal o (packets_heard o past) (calls.Deliver x)) then assembly o past else rows_after_piece (assembly o past) q) e
+        ∙ ap (λ (x : Option Fault). if is_some x then assembly o past else rows_after_piece (assembly o past) q) free
 
-    by_meaning : (m : Meaning) → sense_of q m ≡ Hears (calls.Deliver p) → rows_by (rules o) (heard_at o past) q m ≡ taken (assembly o past) q
+    by_meaning : (m : Meaning) → sense_of q m ≡ Hears (calls.Deliver p) → rows_by (rules o) (heard_at o past) q m ≡ rows_after_piece (assembly o past) q
     by_meaning (Says r) e = taken_free r (same_packet r e)
     by_meaning Waits e = refl
     by_meaning Spoils e = refl
     by_meaning Strays e = cc
 
 -- A piece whose tag is dropped.
-pub dropped_rows : (o : Opening) (past : List FrameEntry) (q : PieceParts) (left : Left) → sense o past (Deliver (Piece q)) ≡ Drops q → rows_after o past (Deliver (Piece q)) left ≡ without q.tag (assembly o past)
+pub dropped_rows : (o : Opening) (past : List FrameEntry) (q : PieceParts) (left : Left) → sense o past (Deliver (Piece q)) ≡ Drops q → rows_after o past (Deliver (Piece q)) left ≡ without_tag q.tag (assembly o past)
 dropped_rows o past q left is =
     taken_by o past (Deliver (Piece q)) left (Drops q) is
-    ∙ gone (assembly o past) q (λ e. waits_no (sym (spoiled (is_on (packets_heard o past)) (is_piece_for o.servers q) q q (look (assembly o past) q) is).is ∙ e))
+    ∙ gone (assembly o past) q (λ e. waits_no (sym (spoiled (is_on (packets_heard o past)) (is_piece_for o.servers q) q q (look_at_piece (assembly o past) q) is).is ∙ e))
   where
     waits_no : looks.NoPacket ≡ looks.Waits → ⊥
     waits_no e = cc

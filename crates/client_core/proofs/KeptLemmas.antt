@@ -23,10 +23,10 @@ use Rattle.client_core.specs.declared.peers.Peers.{Peers}
 use Rattle.client_core.specs.History.{Opening, Entry, Met, Cut, Restart, Renew, Lose}
 use Rattle.client_core.specs.Refusals.{is_for_client, refusal_by}
 use Rattle.client_core.specs.Saves.{Addition, NextRun, NextAttempt, Keep, with_addition, unless_kept, addition_by, unless_refused, due_by, noted_after}
-use Rattle.client_core.specs.Words.{is_on, noted, kept, peers, may_renew}
-use Rattle.client_core.specs.Note.{is_blank, renewed}
+use Rattle.client_core.specs.Words.{is_on, words_noted, kept_state, peers, may_renew}
+use Rattle.client_core.specs.Note.{is_blank, new_note}
 use Rattle.client_core.specs.Packets.{packets}
-use Rattle.client_core.specs.Ranges.{packet_in, came}
+use Rattle.client_core.specs.Ranges.{packet_in, packets_come}
 use Rattle.client_core.specs.Laws.{from_server, from_mirror, FirstKeptStays, KeptWasSent}
 use Rattle.client_core.proofs.HeardLemmas.{from_own, from_its_mirror, one, own_state, taken_in}
 
@@ -56,17 +56,17 @@ blank_keeps_none key n s h k =
     none [] e k = cc
     none (x ∷ rest) e k = let z : length (x ∷ rest) ≡ 0 = eqb-true (length (x ∷ rest)) 0 e in omega arith
 
-renewed_stays : (key : Key) (b : Bool) (g : ℕ) (n : Noted) (s : State) → (b ≡ true → is_blank n ≡ true) → kept_of key n.kept ≡ Some s → kept_of key (if b then renewed g else n).kept ≡ Some s
+renewed_stays : (key : Key) (b : Bool) (g : ℕ) (n : Noted) (s : State) → (b ≡ true → is_blank n ≡ true) → kept_of key n.kept ≡ Some s → kept_of key (if b then new_note g else n).kept ≡ Some s
 renewed_stays key true g n s f h = absurd (blank_keeps_none key n s (f refl) h)
 renewed_stays key false g n s f h = h
 
-renewed_had : (key : Key) (b : Bool) (g : ℕ) (n : Noted) (s : State) → kept_of key (if b then renewed g else n).kept ≡ Some s → kept_of key n.kept ≡ Some s
+renewed_had : (key : Key) (b : Bool) (g : ℕ) (n : Noted) (s : State) → kept_of key (if b then new_note g else n).kept ≡ Some s → kept_of key n.kept ≡ Some s
 renewed_had key true g n s h = cc
 renewed_had key false g n s h = h
 
 -- a kept state stays for one more call
-stays_after : FoundStays → (o : Opening) (c : Call) (left : Left) (past : List Entry) (key : Key) (s : State) → kept o past key ≡ Some s → kept o (Met c left ∷ past) key ≡ Some s
-stays_after stays o c left past key s h = noted_stays stays key (has_new left) (due_by (is_on past) (peers o past) (noted o past) c) (noted o past) s h
+stays_after : FoundStays → (o : Opening) (c : Call) (left : Left) (past : List Entry) (key : Key) (s : State) → kept_state o past key ≡ Some s → kept_state o (Met c left ∷ past) key ≡ Some s
+stays_after stays o c left past key s h = noted_stays stays key (has_new left) (due_by (is_on past) (peers o past) (words_noted o past) c) (words_noted o past) s h
 
 pub first_kept_stays : FoundStays → FirstKeptStays
 first_kept_stays stays o [] past key s q h = h
@@ -74,7 +74,7 @@ first_kept_stays stays o (Met c left ∷ more) past key s q h = stays_after stay
 first_kept_stays stays o (Cut ∷ more) past key s q h = first_kept_stays stays o more past key s q h
 first_kept_stays stays o (Restart mirror ∷ more) past key s q h = first_kept_stays stays o more past key s q h
 first_kept_stays stays o (Renew g left ∷ more) past key s q h =
-    let n = noted o (more ++ past) in
+    let n = words_noted o (more ++ past) in
     renewed_stays key (has_new left && may_renew g n) g n s (λ e. blank_then (has_new left) g n e) (first_kept_stays stays o more past key s q h)
 first_kept_stays stays o (Lose ∷ more) past key s q h = cc
 
@@ -156,7 +156,7 @@ called only peers on n Tick left key s h = nothing (has_new left) (refusal_by on
 
 -- where a kept state came from
 abbrev Source : Opening → List Entry → Key → State → Type 0
-Source o past key s = (kept o [] key ≡ Some s) ⊎ Brought (came past) key s
+Source o past key s = (kept_state o [] key ≡ Some s) ⊎ Brought (packets_come past) key s
 
 pub brought_later : (more packets : List PacketParts) (key : Key) (s : State) → Brought packets key s → Brought (more ++ packets) key s
 brought_later more packets key s (inl h) = inl (h.0, Contains-append_right more packets (from_server (bodies.State h.0 s) key.server) h.1)
@@ -168,18 +168,18 @@ brought_now packets past key s (inr h) = inr (Contains-append_left packets past 
 
 earlier : (o : Opening) (e : Entry) (past : List Entry) (key : Key) (s : State) → Source o past key s → Source o (e ∷ past) key s
 earlier o e past key s (inl h) = inl h
-earlier o e past key s (inr h) = inr (brought_later (packet_in e) (came past) key s h)
+earlier o e past key s (inr h) = inr (brought_later (packet_in e) (packets_come past) key s h)
 
-now_or_earlier : (o : Opening) (e : Entry) (past : List Entry) (key : Key) (s : State) → CameFrom (noted o past) (packet_in e) key s → (kept o past key ≡ Some s → Source o past key s) → Source o (e ∷ past) key s
+now_or_earlier : (o : Opening) (e : Entry) (past : List Entry) (key : Key) (s : State) → CameFrom (words_noted o past) (packet_in e) key s → (kept_state o past key ≡ Some s → Source o past key s) → Source o (e ∷ past) key s
 now_or_earlier o e past key s (inl h) f = earlier o e past key s (f h)
-now_or_earlier o e past key s (inr h) f = inr (brought_now (packet_in e) (came past) key s h)
+now_or_earlier o e past key s (inr h) f = inr (brought_now (packet_in e) (packets_come past) key s h)
 
 pub kept_was_sent : FoundOrLast → KeptWasSent
 kept_was_sent only o [] key s h = inl h
 kept_was_sent only o (Met c left ∷ past) key s h =
-    now_or_earlier o (Met c left) past key s (called only (peers o past) (is_on past) (noted o past) c left key s h) (λ e. kept_was_sent only o past key s e)
+    now_or_earlier o (Met c left) past key s (called only (peers o past) (is_on past) (words_noted o past) c left key s h) (λ e. kept_was_sent only o past key s e)
 kept_was_sent only o (Cut ∷ past) key s h = earlier o Cut past key s (kept_was_sent only o past key s h)
 kept_was_sent only o (Restart mirror ∷ past) key s h = earlier o (Restart mirror) past key s (kept_was_sent only o past key s h)
 kept_was_sent only o (Renew g left ∷ past) key s h =
-    earlier o (Renew g left) past key s (kept_was_sent only o past key s (renewed_had key (has_new left && may_renew g (noted o past)) g (noted o past) s h))
+    earlier o (Renew g left) past key s (kept_was_sent only o past key s (renewed_had key (has_new left && may_renew g (words_noted o past)) g (words_noted o past) s h))
 kept_was_sent only o (Lose ∷ past) key s h = cc

@@ -3,8 +3,8 @@ use Rattle.std.proofs.Common.{◌≡◌, refl, ap, Bool, true, false, List, [], 
 use Rattle.std.specs.Prelude.{if◌then◌else◌}
 use Rattle.client_core.specs.Note.{blank}
 use Rattle.client_core.specs.History.{Opening, Entry, Met, Cut, Restart, Renew, Lose}
-use Rattle.client_core.specs.Words.{is_on, has_mirror, granted, noted, is_answered}
-use Rattle.client_core.specs.Life.{Deed, deeds_of, life, done}
+use Rattle.client_core.specs.Words.{is_on, has_mirror, granted_generations, words_noted, is_answered}
+use Rattle.client_core.specs.Life.{Deed, deeds_of, life, deeds_done}
 use Rattle.client_core.specs.Laws.{LossBeginsAnew}
 
 on_alike : (newer past : List Entry) → is_on (newer ++ Lose ∷ past) ≡ is_on newer
@@ -23,7 +23,7 @@ mirror_alike (Restart mirror ∷ newer) past = refl
 mirror_alike (Renew g left ∷ newer) past = refl
 mirror_alike (Lose ∷ newer) past = refl
 
-granted_alike : (newer past : List Entry) → granted (newer ++ Lose ∷ past) ≡ granted newer
+granted_alike : (newer past : List Entry) → granted_generations (newer ++ Lose ∷ past) ≡ granted_generations newer
 granted_alike [] past = refl
 granted_alike (Met c left ∷ newer) past = rw (on_alike newer past, mirror_alike newer past, granted_alike newer past) refl
 granted_alike (Cut ∷ newer) past = refl
@@ -31,7 +31,7 @@ granted_alike (Restart mirror ∷ newer) past = refl
 granted_alike (Renew g left ∷ newer) past = refl
 granted_alike (Lose ∷ newer) past = refl
 
-noted_alike : (o : Opening) (newer past : List Entry) → noted o (newer ++ Lose ∷ past) ≡ noted (record o { noted = blank }) newer
+noted_alike : (o : Opening) (newer past : List Entry) → words_noted o (newer ++ Lose ∷ past) ≡ words_noted (record o { noted = blank }) newer
 noted_alike o [] past = refl
 noted_alike o (Met c left ∷ newer) past = rw (noted_alike o newer past, on_alike newer past, mirror_alike newer past, granted_alike newer past) refl
 noted_alike o (Cut ∷ newer) past = noted_alike o newer past
@@ -55,12 +55,12 @@ where_answered : (b : Bool) (xs ys zs : List Deed) → (if b then xs ++ (ys ++ z
 where_answered true xs ys zs = further xs ys zs
 where_answered false xs ys zs = refl
 
-done_alike : (o : Opening) (newer past : List Entry) → done o (newer ++ Lose ∷ past) ≡ done (record o { noted = blank }) newer ++ done o past
+done_alike : (o : Opening) (newer past : List Entry) → deeds_done o (newer ++ Lose ∷ past) ≡ deeds_done (record o { noted = blank }) newer ++ deeds_done o past
 done_alike o [] past = refl
 done_alike o (Met c left ∷ newer) past =
     let b = record o { noted = blank } in
     rw (noted_alike o newer past, on_alike newer past, mirror_alike newer past, granted_alike newer past, done_alike o newer past)
-    (where_answered (is_answered b newer c left) (deeds_of (noted b newer) c) (done b newer) (done o past))
+    (where_answered (is_answered b newer c left) (deeds_of (words_noted b newer) c) (deeds_done b newer) (deeds_done o past))
 done_alike o (Cut ∷ newer) past = done_alike o newer past
 done_alike o (Restart mirror ∷ newer) past = done_alike o newer past
 done_alike o (Renew g left ∷ newer) past = done_alike o newer past

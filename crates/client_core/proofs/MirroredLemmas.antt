@@ -18,11 +18,11 @@ use Rattle.client_core.specs.declared.call.Call.TheVariants.{Begin, Trigger, Sto
 use Rattle.client_core.specs.declared.noted.Noted.{Noted}
 use Rattle.client_core.specs.declared.peers.Peers.{Peers}
 use Rattle.client_core.specs.History.{Opening, Entry, Met, Cut, Restart, Renew, Lose}
-use Rattle.client_core.specs.Note.{is_blank, renewed}
+use Rattle.client_core.specs.Note.{is_blank, new_note}
 use Rattle.client_core.specs.Refusals.{is_begun, is_of_generation, is_free_to_number, has_next, refusal_by}
 use Rattle.client_core.specs.Saves.{Addition, NextRun, NextAttempt, Keep, addition_by, addition_of, unless_refused, due_by, noted_after, is_answer}
-use Rattle.client_core.specs.Words.{is_on, noted, peers, may_renew}
-use Rattle.client_core.specs.Life.{Deed, Triggers, Stops, Hears, deeds_of, done}
+use Rattle.client_core.specs.Words.{is_on, words_noted, peers, may_renew}
+use Rattle.client_core.specs.Life.{Deed, Triggers, Stops, Hears, deeds_of, deeds_done}
 use Rattle.client_core.specs.Laws.{runs_in, attempts_in, generations, is_mirrored, NumbersAreGivenOnce}
 use Rattle.client_core.proofs.ApartLemmas.{Apart, give, lose, pass, renew, start, unsaved}
 use Rattle.client_core.proofs.FreshLemmas.{attempts_are_fresh, body_only, runs_are_fresh}
@@ -104,10 +104,10 @@ attempt_step gs on peers n Tick None left ds e g k = either gs attempts_in (is_a
 
 -- what holds of each list of a client with a mirror
 record Holds (o : Opening) (past : List Entry) : Type 0 where
-  runs : Apart (generations past) (noted o past).generation (noted o past).runs (runs_in (done o past))
-  attempts : Apart (generations past) (noted o past).generation (noted o past).attempts (attempts_in (done o past))
-  on : is_on past ≡ true → 1 ≤ (noted o past).generation
-  blank : (noted o past).generation ≡ 0 → is_blank (noted o past) ≡ true
+  runs : Apart (generations past) (words_noted o past).generation (words_noted o past).runs (runs_in (deeds_done o past))
+  attempts : Apart (generations past) (words_noted o past).generation (words_noted o past).attempts (attempts_in (deeds_done o past))
+  on : is_on past ≡ true → 1 ≤ (words_noted o past).generation
+  blank : (words_noted o past).generation ≡ 0 → is_blank (words_noted o past) ≡ true
 
 not_none : (g : ℕ) → 1 ≤ g → g ≡ 0 → ⊥
 not_none g h e = omega arith
@@ -122,19 +122,19 @@ off_blank : (on new : Bool) (ps : Peers) (n : Noted) (c : Call) → (on ≡ true
 off_blank true new ps n c f h = absurd (f refl)
 off_blank false new ps n c f h = h
 
-renewed_runs : (gs : List ℕ) (x : ℕ) (b : Bool) (n : Noted) (ns : List ℕ) → has gs x ≡ false → Apart gs n.generation n.runs ns → Apart (x ∷ gs) (if b then renewed x else n).generation (if b then renewed x else n).runs ns
+renewed_runs : (gs : List ℕ) (x : ℕ) (b : Bool) (n : Noted) (ns : List ℕ) → has gs x ≡ false → Apart gs n.generation n.runs ns → Apart (x ∷ gs) (if b then new_note x else n).generation (if b then new_note x else n).runs ns
 renewed_runs gs x true n ns h k = renew gs x n.generation n.runs ns h k
 renewed_runs gs x false n ns h k = unsaved gs x n.generation n.runs ns k
 
-renewed_attempts : (gs : List ℕ) (x : ℕ) (b : Bool) (n : Noted) (ns : List ℕ) → has gs x ≡ false → Apart gs n.generation n.attempts ns → Apart (x ∷ gs) (if b then renewed x else n).generation (if b then renewed x else n).attempts ns
+renewed_attempts : (gs : List ℕ) (x : ℕ) (b : Bool) (n : Noted) (ns : List ℕ) → has gs x ≡ false → Apart gs n.generation n.attempts ns → Apart (x ∷ gs) (if b then new_note x else n).generation (if b then new_note x else n).attempts ns
 renewed_attempts gs x true n ns h k = renew gs x n.generation n.attempts ns h k
 renewed_attempts gs x false n ns h k = unsaved gs x n.generation n.attempts ns k
 
-renewed_on : (x : ℕ) (b : Bool) (n : Noted) → 1 ≤ x → (b ≡ false → 1 ≤ n.generation) → 1 ≤ (if b then renewed x else n).generation
+renewed_on : (x : ℕ) (b : Bool) (n : Noted) → 1 ≤ x → (b ≡ false → 1 ≤ n.generation) → 1 ≤ (if b then new_note x else n).generation
 renewed_on x true n h f = h
 renewed_on x false n h f = f refl
 
-renewed_blank : (x : ℕ) (b : Bool) (n : Noted) → 1 ≤ x → (n.generation ≡ 0 → is_blank n ≡ true) → (if b then renewed x else n).generation ≡ 0 → is_blank (if b then renewed x else n) ≡ true
+renewed_blank : (x : ℕ) (b : Bool) (n : Noted) → 1 ≤ x → (n.generation ≡ 0 → is_blank n ≡ true) → (if b then new_note x else n).generation ≡ 0 → is_blank (if b then new_note x else n) ≡ true
 renewed_blank x true n h f e = absurd (not_none x h e)
 renewed_blank x false n h f e = f e
 
@@ -168,12 +168,12 @@ holds o [] h =
     }
 holds o (Met c left ∷ past) h =
     let k = holds o past h in
-    let n = noted o past in
-    let after = noted o (Met c left ∷ past) in
+    let n = words_noted o past in
+    let after = words_noted o (Met c left ∷ past) in
     let e : after.generation ≡ n.generation = same_generation (has_new left) (due_by (is_on past) (peers o past) n c) n in
     record {
-      runs = subst (λ g. Apart (generations past) g after.runs (runs_in (done o (Met c left ∷ past)))) (sym e) (run_step (generations past) (is_on past) (peers o past) n c (refusal_by (is_on past) (peers o past) n c) left (done o past) refl k.on k.runs);
-      attempts = subst (λ g. Apart (generations past) g after.attempts (attempts_in (done o (Met c left ∷ past)))) (sym e) (attempt_step (generations past) (is_on past) (peers o past) n c (refusal_by (is_on past) (peers o past) n c) left (done o past) refl k.on k.attempts);
+      runs = subst (λ g. Apart (generations past) g after.runs (runs_in (deeds_done o (Met c left ∷ past)))) (sym e) (run_step (generations past) (is_on past) (peers o past) n c (refusal_by (is_on past) (peers o past) n c) left (deeds_done o past) refl k.on k.runs);
+      attempts = subst (λ g. Apart (generations past) g after.attempts (attempts_in (deeds_done o (Met c left ∷ past)))) (sym e) (attempt_step (generations past) (is_on past) (peers o past) n c (refusal_by (is_on past) (peers o past) n c) left (deeds_done o past) refl k.on k.attempts);
       on = λ i. subst (λ g. 1 ≤ g) (sym e) (k.on ((and_parts (is_on past) (not (is_lost left)) i).0));
       blank = λ z. (
           let zero_before : n.generation ≡ 0 = subst (λ g. g ≡ 0) e z in
@@ -183,29 +183,29 @@ holds o (Cut ∷ past) h =
     let k = holds o past h in
     record { runs = k.runs; attempts = k.attempts; on = λ e. cc; blank = k.blank }
 holds o (Restart mirror ∷ past) h =
-    let a = and_parts (mirror && nat_lt 0 (noted o past).generation) (is_mirrored o past) h in
-    let b = and_parts mirror (nat_lt 0 (noted o past).generation) a.0 in
+    let a = and_parts (mirror && nat_lt 0 (words_noted o past).generation) (is_mirrored o past) h in
+    let b = and_parts mirror (nat_lt 0 (words_noted o past).generation) a.0 in
     let k = holds o past a.1 in
-    record { runs = k.runs; attempts = k.attempts; on = λ e. above_none (noted o past).generation (ltb-true 0 (noted o past).generation b.1); blank = k.blank }
+    record { runs = k.runs; attempts = k.attempts; on = λ e. above_none (words_noted o past).generation (ltb-true 0 (words_noted o past).generation b.1); blank = k.blank }
 holds o (Renew g left ∷ past) h =
     let a = and_parts (is_generation g && not (has (generations past) g)) (is_mirrored o past) h in
     let b = and_parts (is_generation g) (not (has (generations past) g)) a.0 in
     let k = holds o past a.1 in
-    let n = noted o past in
+    let n = words_noted o past in
     let new = has_new left && may_renew g n in
     let fresh = negated (has (generations past) g) b.1 in
     let one : 1 ≤ g = leb-true 1 g ((and_parts (nat_le 1 g) (nat_le g MAX_GENERATION) b.0).0) in
     record {
-      runs = renewed_runs (generations past) g new n (runs_in (done o past)) fresh k.runs;
-      attempts = renewed_attempts (generations past) g new n (attempts_in (done o past)) fresh k.attempts;
+      runs = renewed_runs (generations past) g new n (runs_in (deeds_done o past)) fresh k.runs;
+      attempts = renewed_attempts (generations past) g new n (attempts_in (deeds_done o past)) fresh k.attempts;
       on = λ i. renewed_on g new n one (λ f. not_blank g left n i b.0 k.blank f);
       blank = renewed_blank g new n one k.blank;
     }
 holds o (Lose ∷ past) h =
     let k = holds o past h in
     record {
-      runs = lose (generations past) (noted o past).generation (noted o past).runs (runs_in (done o past)) k.runs;
-      attempts = lose (generations past) (noted o past).generation (noted o past).attempts (attempts_in (done o past)) k.attempts;
+      runs = lose (generations past) (words_noted o past).generation (words_noted o past).runs (runs_in (deeds_done o past)) k.runs;
+      attempts = lose (generations past) (words_noted o past).generation (words_noted o past).attempts (attempts_in (deeds_done o past)) k.attempts;
       on = λ e. cc;
       blank = λ e. refl;
     }

@@ -22,12 +22,12 @@ use Rattle.state_table.specs.Kept.{kept_of}
 use Rattle.state_table.specs.Laws.{KeysStayApart}
 use Rattle.client_core.specs.declared.noted.Noted.{Noted}
 use Rattle.client_core.specs.declared.peers.Peers.{Peers}
-use Rattle.client_core.specs.Note.{IsNoted, blank, is_blank, renewed}
+use Rattle.client_core.specs.Note.{IsNoted, blank, is_blank, new_note}
 use Rattle.client_core.specs.History.{Entry, Met, Cut, Restart, Renew, Lose}
 use Rattle.client_core.specs.Refusals.{is_begun, has_next, differs, lacks_room, faults_of_body, refusal_by}
 use Rattle.client_core.specs.Saves.{NextRun, NextAttempt, unless_kept, addition_by, addition_of, unless_refused, noted_after}
-use Rattle.client_core.specs.Words.{is_on, noted, kept, peers, may_renew}
-use Rattle.client_core.specs.Ranges.{packet_in, came}
+use Rattle.client_core.specs.Words.{is_on, words_noted, kept_state, peers, may_renew}
+use Rattle.client_core.specs.Ranges.{packet_in, packets_come}
 use Rattle.client_core.specs.Laws.{NotesKeepRanges}
 use Rattle.client_core.proofs.HeardLemmas.{taken_in}
 use Rattle.client_core.proofs.ListLemmas.{all_append}
@@ -37,7 +37,7 @@ unfolding has_next
 next_left peers g used h = ltb-true (used + 1) (2 ^ 64) ((and_parts (nat_lt (used + 1) (2 ^ 64)) _ h).0)
 
 -- a note that begins anew, and a blank one, are within their ranges
-pub of_renewed : (g : ℕ) → is_generation g ≡ true → IsNoted (renewed g)
+pub of_renewed : (g : ℕ) → is_generation g ≡ true → IsNoted (new_note g)
 of_renewed g h =
     let low : g ≤ MAX_GENERATION = leb-true g MAX_GENERATION ((and_parts (nat_le 1 g) (nat_le g MAX_GENERATION) h).1) in
     let small : g * 2 ^ 32 < 2 ^ 64 = omega arith in
@@ -46,7 +46,7 @@ of_renewed g h =
 of_blank : IsNoted blank
 of_blank = record { generation = omega arith; runs = omega arith; attempts = omega arith; count = omega arith; states = tt; keys = refl }
 
-kept_by_renewal : (b : Bool) (g : ℕ) (n : Noted) → (b ≡ true → is_generation g ≡ true) → IsNoted n → IsNoted (if b then renewed g else n)
+kept_by_renewal : (b : Bool) (g : ℕ) (n : Noted) → (b ≡ true → is_generation g ≡ true) → IsNoted n → IsNoted (if b then new_note g else n)
 kept_by_renewal true g n f k = of_renewed g (f refl)
 kept_by_renewal false g n f k = k
 
@@ -117,7 +117,7 @@ step apart on peers n Tick left None e h k = k
 ranged : (new : Bool) (g : ℕ) (n : Noted) → (new && may_renew g n) ≡ true → is_generation g ≡ true
 ranged new g n h = (and_parts (is_generation g) (is_blank n) ((and_parts new (may_renew g n) h).1)).0
 
-pub in_entry : (e : Entry) (past : List Entry) → AllByRecursion IsPacket (packet_in e ++ came past) → AllByRecursion IsPacket (packet_in e) × AllByRecursion IsPacket (came past)
+pub in_entry : (e : Entry) (past : List Entry) → AllByRecursion IsPacket (packet_in e ++ packets_come past) → AllByRecursion IsPacket (packet_in e) × AllByRecursion IsPacket (packets_come past)
 in_entry (Met (Deliver p) left) past h = ((h.0, tt), h.1)
 in_entry _ past h = (tt, h)
 
@@ -125,8 +125,8 @@ pub notes_keep_ranges : KeysStayApart → NotesKeepRanges
 notes_keep_ranges apart o [] k h = k
 notes_keep_ranges apart o (Met c left ∷ past) k h =
     let p = in_entry (Met c left) past h in
-    step apart (is_on past) (peers o past) (noted o past) c left (refusal_by (is_on past) (peers o past) (noted o past) c) refl p.0 (notes_keep_ranges apart o past k p.1)
+    step apart (is_on past) (peers o past) (words_noted o past) c left (refusal_by (is_on past) (peers o past) (words_noted o past) c) refl p.0 (notes_keep_ranges apart o past k p.1)
 notes_keep_ranges apart o (Cut ∷ past) k h = notes_keep_ranges apart o past k h
 notes_keep_ranges apart o (Restart mirror ∷ past) k h = notes_keep_ranges apart o past k h
-notes_keep_ranges apart o (Renew g left ∷ past) k h = kept_by_renewal (has_new left && may_renew g (noted o past)) g (noted o past) (λ e. ranged (has_new left) g (noted o past) e) (notes_keep_ranges apart o past k h)
+notes_keep_ranges apart o (Renew g left ∷ past) k h = kept_by_renewal (has_new left && may_renew g (words_noted o past)) g (words_noted o past) (λ e. ranged (has_new left) g (words_noted o past) e) (notes_keep_ranges apart o past k h)
 notes_keep_ranges apart o (Lose ∷ past) k h = of_blank

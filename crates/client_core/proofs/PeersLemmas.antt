@@ -19,7 +19,7 @@ use Rattle.client_core.specs.declared.peers.Peers.{Peers}
 use Rattle.client_core.specs.History.{Opening, Entry, Met}
 use Rattle.client_core.specs.Refusals.{is_for_client, is_from_server, is_from_mirror, refusal_by}
 use Rattle.client_core.specs.Saves.{Addition, NextRun, NextAttempt, Keep, noted_after}
-use Rattle.client_core.specs.Words.{is_on, has_mirror, granted_in, granted_by, granted, after_grant, noted, due, refusal, peers}
+use Rattle.client_core.specs.Words.{is_on, has_mirror, granted_in, granted_by, granted_generations, after_grant, words_noted, due, refusal, peers}
 
 -- an addition leaves the generation
 generation_stays : (new : Bool) (d : Option Addition) (n : Noted) → (noted_after new d n).generation ≡ n.generation
@@ -29,14 +29,14 @@ generation_stays true (Some NextAttempt) n = refl
 generation_stays true (Some (Keep state)) n = refl
 generation_stays false (Some a) n = refl
 
-pub same_generation : (o : Opening) (past : List Entry) (c : Call) (left : Left) → (noted o (Met c left ∷ past)).generation ≡ (noted o past).generation
-same_generation o past c left = generation_stays (has_new left) (due o past c) (noted o past)
+pub same_generation : (o : Opening) (past : List Entry) (c : Call) (left : Left) → (words_noted o (Met c left ∷ past)).generation ≡ (words_noted o past).generation
+same_generation o past c left = generation_stays (has_new left) (due o past c) (words_noted o past)
 
 grants_if : (b : Bool) (now before : List ℕ) → (b ≡ true → now ≡ []) → (if b then now ++ before else before) ≡ before
 grants_if true now before e = ap (λ gs. gs ++ before) (e refl)
 grants_if false now before e = refl
 
-by_parts : (o : Opening) (past : List Entry) (c : Call) (left : Left) → granted (Met c left ∷ past) ≡ granted past → peers o (Met c left ∷ past) ≡ peers o past
+by_parts : (o : Opening) (past : List Entry) (c : Call) (left : Left) → granted_generations (Met c left ∷ past) ≡ granted_generations past → peers o (Met c left ∷ past) ≡ peers o past
 by_parts o past c left e = λ i. record {
   servers = o.servers;
   mirror = has_mirror past;
@@ -45,7 +45,7 @@ by_parts o past c left e = λ i. record {
 
 -- A call that grants nothing leaves with whom the client is.
 pub peers_stay : (o : Opening) (past : List Entry) (c : Call) (left : Left) → granted_by c ≡ [] → peers o (Met c left ∷ past) ≡ peers o past
-peers_stay o past c left e = by_parts o past c left (grants_if (is_on past && has_mirror past) (granted_by c) (granted past) (λ b. e))
+peers_stay o past c left e = by_parts o past c left (grants_if (is_on past && has_mirror past) (granted_by c) (granted_generations past) (λ b. e))
 
 -- ---- a refused call
 
@@ -78,9 +78,9 @@ on_parts false b h = cc
 
 -- A refused call leaves with whom the client is: a grant is never refused.
 pub refused_peers : (o : Opening) (past : List Entry) (c : Call) (left : Left) (fault : Fault) → refusal o past c ≡ Some fault → peers o (Met c left ∷ past) ≡ peers o past
-refused_peers o past c left fault r = by_parts o past c left (grants_if (is_on past && has_mirror past) (granted_by c) (granted past) (λ b.
+refused_peers o past c left fault r = by_parts o past c left (grants_if (is_on past && has_mirror past) (granted_by c) (granted_generations past) (λ b.
     let on = on_parts (is_on past) (has_mirror past) b in
-    no_grant (peers o past) (noted o past) c fault on.1 (ap (λ x. refusal_by x (peers o past) (noted o past) c) (sym on.0) ∙ r)))
+    no_grant (peers o past) (words_noted o past) c fault on.1 (ap (λ x. refusal_by x (peers o past) (words_noted o past) c) (sym on.0) ∙ r)))
 
 -- ---- what the mirror says
 
@@ -104,11 +104,11 @@ after generation _ servers mirror gs = refl
 
 -- What the mirror says may grant the generation.
 pub heard_peers : (o : Opening) (past : List Entry) (p : PacketParts) (left : Left) → is_on past ≡ true → has_mirror past ≡ true → is_client p.to ≡ true → is_mirror p.from ≡ true
-    → peers o (Met (Deliver p) left ∷ past) ≡ after_grant (noted o past).generation p.body (peers o past)
+    → peers o (Met (Deliver p) left ∷ past) ≡ after_grant (words_noted o past).generation p.body (peers o past)
 heard_peers o past p left on mirror to from =
-    let e : granted (Met (Deliver p) left ∷ past) ≡ granted_in p.body ++ granted past = rw (on, mirror, to, from) refl in
+    let e : granted_generations (Met (Deliver p) left ∷ past) ≡ granted_in p.body ++ granted_generations past = rw (on, mirror, to, from) refl in
     (λ i. record {
       servers = o.servers;
       mirror = has_mirror past;
       granted = list_any (λ g. g == same_generation o past (Deliver p) left i) (e i);
-    }) ∙ after (noted o past).generation p.body o.servers (has_mirror past) (granted past)
+    }) ∙ after (words_noted o past).generation p.body o.servers (has_mirror past) (granted_generations past)

@@ -26,8 +26,8 @@ use Rattle.client_core.specs.Note.{IsNoted}
 use Rattle.client_core.specs.History.{Opening, Entry, Met, Cut, Restart, Renew, Lose}
 use Rattle.client_core.specs.Refusals.{is_begun, has_next, refusal_by}
 use Rattle.client_core.specs.Saves.{is_answer}
-use Rattle.client_core.specs.Words.{is_on, noted, refusal, due, is_answered, kept, peers}
-use Rattle.client_core.specs.Life.{Deed, Begins, Triggers, Stops, Verifies, Hears, deeds_of, life, done, text_of}
+use Rattle.client_core.specs.Words.{is_on, words_noted, refusal, due, is_answered, kept_state, peers}
+use Rattle.client_core.specs.Life.{Deed, Begins, Triggers, Stops, Verifies, Hears, deeds_of, life, deeds_done, text_of}
 use Rattle.client_core.specs.Packets.{to_mirror, to_server, packets}
 use Rattle.client_core.specs.Ranges.{packet_in, CameInRange}
 use Rattle.client_core.specs.Laws.{from_server, NotesKeepRanges, PacketsAreInRange}
@@ -85,12 +85,12 @@ more_done : (b : Bool) (deeds before : List Deed) → (b ≡ true → AllByRecur
 more_done true deeds before f k = all_append InRange deeds before (f refl) k
 more_done false deeds before f k = k
 
-done_in_range : NotesKeepRanges → (o : Opening) (past : List Entry) → IsNoted o.noted → CameInRange past → AllByRecursion InRange (done o past)
+done_in_range : NotesKeepRanges → (o : Opening) (past : List Entry) → IsNoted o.noted → CameInRange past → AllByRecursion InRange (deeds_done o past)
 done_in_range ranges o [] k h = tt
 done_in_range ranges o (Met c left ∷ past) k h =
     let p = in_entry (Met c left) past h in
-    more_done (is_answered o past c left) (deeds_of (noted o past) c) (done o past)
-    (λ a. deeds_in_range (is_on past) (peers o past) (noted o past) c (none_or (refusal o past c) (is_answer (due o past c) left) a) (ranges o past k p.1))
+    more_done (is_answered o past c left) (deeds_of (words_noted o past) c) (deeds_done o past)
+    (λ a. deeds_in_range (is_on past) (peers o past) (words_noted o past) c (none_or (refusal o past c) (is_answer (due o past c) left) a) (ranges o past k p.1))
     (done_in_range ranges o past k p.1)
 done_in_range ranges o (Cut ∷ past) k h = done_in_range ranges o past k h
 done_in_range ranges o (Restart mirror ∷ past) k h = done_in_range ranges o past k h
@@ -137,44 +137,44 @@ state_kept key (k ∷ kept) s a h = here (is_same_key key k.key) h (λ e. state_
 
 -- what is known when a call is answered
 record Known (o : Opening) (past : List Entry) (c : Call) (left : Left) : Type 0 where
-  note : IsNoted (noted o past)
+  note : IsNoted (words_noted o past)
   entry : AllByRecursion IsPacket (packet_in (Met c left))
-  before : AllByRecursion InRange (done o past)
-  after : AllByRecursion InRange (done o (Met c left ∷ past))
+  before : AllByRecursion InRange (deeds_done o past)
+  after : AllByRecursion InRange (deeds_done o (Met c left ∷ past))
   answers : is_answered o past c left ≡ true
   taken : refusal o past c ≡ None
 
-run_of_call : (o : Opening) (past : List Entry) (c x : Call) (run : ℕ) → IsNoted (noted o past) → refusal o past c ≡ None → c ≡ x → (refusal o past x ≡ None → is_begun (noted o past) run ≡ true) → is_run run ≡ true
-run_of_call o past c x run k taken e f = begun_in_range (noted o past) run (f (subst (λ d. refusal o past d ≡ None) e taken)) k.runs
+run_of_call : (o : Opening) (past : List Entry) (c x : Call) (run : ℕ) → IsNoted (words_noted o past) → refusal o past c ≡ None → c ≡ x → (refusal o past x ≡ None → is_begun (words_noted o past) run ≡ true) → is_run run ≡ true
+run_of_call o past c x run k taken e f = begun_in_range (words_noted o past) run (f (subst (λ d. refusal o past d ≡ None) e taken)) k.runs
 
-acked_fits : (o : Opening) (past : List Entry) (c : Call) (left : Left) (s run job : ℕ) → Known o past c left → Why (noted o past) (life o past) c s (bodies.StateAck run job) → is_body (bodies.StateAck run job) ≡ true
+acked_fits : (o : Opening) (past : List Entry) (c : Call) (left : Left) (s run job : ℕ) → Known o past c left → Why (words_noted o past) (life o past) c s (bodies.StateAck run job) → is_body (bodies.StateAck run job) ≡ true
 acked_fits o past c left s run job k (inl w) =
     let f = said_fits c left s (bodies.State w.0 w.1) w.2 k.entry in
     subst (λ r. is_body (bodies.StateAck r job) ≡ true) (sym w.3) (subst (λ j. is_body (bodies.StateAck w.1.key.run j) ≡ true) (sym w.4) (ack_fits w.1 f.1))
 acked_fits o past c left s run job k (inr w) = no_state_fits run job w.0 ((said_fits c left s (bodies.NoState run job w.0) w.1 k.entry).0)
 
-triggered_fits : (o : Opening) (past : List Entry) (c : Call) (left : Left) (s run : ℕ) (act : Act) → Known o past c left → Why (noted o past) (life o past) c s (bodies.Trigger run act) → is_run run ≡ true
-triggered_fits o past c left s run act k (inl e) = run_of_call o past c (Trigger run act) run k.note k.taken e (λ h. run_faults (is_on past) (is_begun (noted o past) run) h)
-triggered_fits o past c left s run act k (inr u) = run_within run (noted o past).runs u.0 u.1 k.note.runs
+triggered_fits : (o : Opening) (past : List Entry) (c : Call) (left : Left) (s run : ℕ) (act : Act) → Known o past c left → Why (words_noted o past) (life o past) c s (bodies.Trigger run act) → is_run run ≡ true
+triggered_fits o past c left s run act k (inl e) = run_of_call o past c (Trigger run act) run k.note k.taken e (λ h. run_faults (is_on past) (is_begun (words_noted o past) run) h)
+triggered_fits o past c left s run act k (inr u) = run_within run (words_noted o past).runs u.0 u.1 k.note.runs
 
-stopped_fits : (o : Opening) (past : List Entry) (c : Call) (left : Left) (s run : ℕ) → Known o past c left → Why (noted o past) (life o past) c s (bodies.Stop run) → is_run run ≡ true
-stopped_fits o past c left s run k (inl e) = run_of_call o past c (Stop run) run k.note k.taken e (λ h. run_faults (is_on past) (is_begun (noted o past) run) h)
-stopped_fits o past c left s run k (inr u) = run_within run (noted o past).runs u.0 u.1 k.note.runs
+stopped_fits : (o : Opening) (past : List Entry) (c : Call) (left : Left) (s run : ℕ) → Known o past c left → Why (words_noted o past) (life o past) c s (bodies.Stop run) → is_run run ≡ true
+stopped_fits o past c left s run k (inl e) = run_of_call o past c (Stop run) run k.note k.taken e (λ h. run_faults (is_on past) (is_begun (words_noted o past) run) h)
+stopped_fits o past c left s run k (inr u) = run_within run (words_noted o past).runs u.0 u.1 k.note.runs
 
-fits : (o : Opening) (past : List Entry) (c : Call) (left : Left) (s : ℕ) (body : Body) → Known o past c left → Why (noted o past) (life o past) c s body → Fits body
+fits : (o : Opening) (past : List Entry) (c : Call) (left : Left) (s : ℕ) (body : Body) → Known o past c left → Why (words_noted o past) (life o past) c s body → Fits body
 fits o past c left s (bodies.Jobs run text) k w =
-    let d : InRange (Begins run text) = each_of InRange (done o (Met c left ∷ past)) (Begins run text) k.after (why_carries o past c left s (bodies.Jobs run text) k.answers w) in
+    let d : InRange (Begins run text) = each_of InRange (deeds_done o (Met c left ∷ past)) (Begins run text) k.after (why_carries o past c left s (bodies.Jobs run text) k.answers w) in
     let a : is_run run ≡ true = d.0 in
     let b : is_text text ≡ true = d.1 in
     (rw (a, b) refl, tt)
 fits o past c left s (bodies.Start run) k w =
-    let d = each_of InRange (done o past) (Begins run (text_of run (life o past))) k.before (life_was_done o past (Begins run (text_of run (life o past))) (begun_was run s (life o past) w)) in
+    let d = each_of InRange (deeds_done o past) (Begins run (text_of run (life o past))) k.before (life_was_done o past (Begins run (text_of run (life o past))) (begun_was run s (life o past) w)) in
     (d.0, tt)
 fits o past c left s (bodies.Trigger run act) k w = (triggered_fits o past c left s run act k w, tt)
 fits o past c left s (bodies.StateAck run job) k w = (acked_fits o past c left s run job k w, tt)
 fits o past c left s (bodies.Stop run) k w = (stopped_fits o past c left s run k w, tt)
 fits o past c left s (bodies.Verify run attempt text) k w =
-    let d : InRange (Verifies run attempt text) = each_of InRange (done o (Met c left ∷ past)) (Verifies run attempt text) k.after (why_carries o past c left s (bodies.Verify run attempt text) k.answers w) in
+    let d : InRange (Verifies run attempt text) = each_of InRange (deeds_done o (Met c left ∷ past)) (Verifies run attempt text) k.after (why_carries o past c left s (bodies.Verify run attempt text) k.answers w) in
     let a : is_run run ≡ true = d.0 in
     let b : is_run attempt ≡ true = d.1 in
     let t : is_text text ≡ true = d.2 in
@@ -182,7 +182,7 @@ fits o past c left s (bodies.Verify run attempt text) k w =
 fits o past c left s (bodies.Saved attempt state) k w =
     let f = said_fits c left s (bodies.WantState w.0 attempt w.1) w.2 k.entry in
     let p = and_parts (is_run w.0 && is_attempt attempt) (is_job w.1) f.0 in
-    ((and_parts (is_run w.0) (is_attempt attempt) p.0).1, state_kept (record { run = w.0; server = s; job = w.1 }) (noted o past).kept state k.note.states w.3)
+    ((and_parts (is_run w.0) (is_attempt attempt) p.0).1, state_kept (record { run = w.0; server = s; job = w.1 }) (words_noted o past).kept state k.note.states w.3)
 fits o past c left s (bodies.NoSaved run attempt job) k w = ((said_fits c left s (bodies.WantState run attempt job) w k.entry).0, tt)
 fits o past c left s _ k w = absurd w
 
@@ -196,11 +196,11 @@ to_one p s l e f =
 below_eight : (s servers : ℕ) → s < servers → servers ≤ MAX_SERVERS → s < MAX_SERVERS
 below_eight s servers l few = omega arith
 
-mirror_fits : (o : Opening) (past : List Entry) (c : Call) (left : Left) (body : Body) → Known o past c left → WhyMirror (noted o past) c body → Fits body
-mirror_fits o past c left (bodies.Copy state) k (inl h) = (refl, each_of IsState (noted o past).kept state k.note.states h)
+mirror_fits : (o : Opening) (past : List Entry) (c : Call) (left : Left) (body : Body) → Known o past c left → WhyMirror (words_noted o past) c body → Fits body
+mirror_fits o past c left (bodies.Copy state) k (inl h) = (refl, each_of IsState (words_noted o past).kept state k.note.states h)
 mirror_fits o past c left (bodies.Copy state) k (inr h) = (refl, (said_fits c left h.0 (bodies.State h.1 state) h.2 k.entry).1)
 mirror_fits o past c left (bodies.Fetch generation) k w =
-    (subst (λ g. is_generation g ≡ true) (sym w.0) (ranged (noted o past).generation (subst (λ g. 0 < g) w.0 w.1) k.note.generation), tt)
+    (subst (λ g. is_generation g ≡ true) (sym w.0) (ranged (words_noted o past).generation (subst (λ g. 0 < g) w.0 w.1) k.note.generation), tt)
   where
     ranged : (g : ℕ) → 0 < g → g ≤ MAX_GENERATION → is_generation g ≡ true
     ranged g a b =

@@ -20,14 +20,14 @@ use Rattle.client_core.specs.declared.peers.Peers.{Peers}
 use Rattle.client_core.specs.History.{Opening, Entry, Met}
 use Rattle.client_core.specs.Refusals.{is_for_client, refusal_by}
 use Rattle.client_core.specs.Saves.{is_answer}
-use Rattle.client_core.specs.Words.{is_on, noted, peers, refusal, due, is_answered}
+use Rattle.client_core.specs.Words.{is_on, words_noted, peers, refusal, due, is_answered}
 use Rattle.client_core.specs.Life.{Deed, life, text_of, act_of, run_of, check_of}
 use Rattle.client_core.specs.declared.beginning.Beginning.{Beginning}
 use Rattle.client_core.specs.Begins.{begin_at}
 use Rattle.client_core.specs.declared.beginning.Beginning.TheVariants as begins
 use Rattle.client_core.specs.Requests.{Request, trigger_at, stop_at, verify_at}
 use Rattle.client_core.specs.Requests as requests
-use Rattle.client_core.specs.Packets.{to_server, to_mirror, copy_for, requests_again, fetch_again, is_copied, copy_again, copies_again, to_all, start_for, jobs_for, lacks_jobs, state_for, replies, begin_again, again, run_again, attempt_again, packets_for, packets}
+use Rattle.client_core.specs.Packets.{to_server, to_mirror, copy_for, requests_again, fetch_again, is_copied, copy_again, copies_again, to_all, start_for, jobs_once_more, lacks_jobs, state_for, replies, begin_again, packets_again, run_again, attempt_again, packets_for, packets}
 use Rattle.client_core.specs.Laws.{from_server}
 use Rattle.client_core.specs.Asked.{rising, runs_of, attempts_of}
 use Rattle.client_core.proofs.DeliverLemmas.{no_reply}
@@ -91,7 +91,7 @@ starting : (servers : ℕ) (n : Noted) (deeds : List Deed) (c : Call) (run s : �
 starting servers n deeds c run s begins.Staging l e = ((s, l, refl, subst IsBegun (sym e) tt), tt)
 starting servers n deeds c run s _ l e = tt
 
-jobs_again : (servers : ℕ) (n : Noted) (deeds : List Deed) (c : Call) (run s : ℕ) (b : Beginning) → s < servers → begin_at run s deeds ≡ b → AllByRecursion (SendsTo servers n deeds c) (jobs_for run (text_of run deeds) s b)
+jobs_again : (servers : ℕ) (n : Noted) (deeds : List Deed) (c : Call) (run s : ℕ) (b : Beginning) → s < servers → begin_at run s deeds ≡ b → AllByRecursion (SendsTo servers n deeds c) (jobs_once_more run (text_of run deeds) s b)
 jobs_again servers n deeds c run s begins.Starting l e = ((s, l, refl, inr (refl, subst IsBegun (sym e) tt)), tt)
 jobs_again servers n deeds c run s _ l e = tt
 
@@ -115,8 +115,8 @@ replied peers n deeds c s (bodies.State jobs state) l h = (inl (s, l, refl, inl 
 replied peers n deeds c s (bodies.NoState run job jobs) l h = (inl (s, l, refl, inr (jobs, h)), tt)
 replied peers n deeds c s (bodies.WantState run attempt job) l h = (inl (wanted peers.servers n deeds c run attempt job s (kept_of (record { run = run; server = s; job = job }) n.kept) l h refl), tt)
 replied peers n deeds c s (bodies.Refused r) l h =
-    server_too peers n deeds c (if lacks_jobs r.asked r.reason then jobs_for r.run (text_of r.run deeds) s (begin_at r.run s deeds) else [])
-    (all_where (SendsTo peers.servers n deeds c) (lacks_jobs r.asked r.reason) (jobs_for r.run (text_of r.run deeds) s (begin_at r.run s deeds)) (λ b. jobs_again peers.servers n deeds c r.run s (begin_at r.run s deeds) l refl))
+    server_too peers n deeds c (if lacks_jobs r.asked r.reason then jobs_once_more r.run (text_of r.run deeds) s (begin_at r.run s deeds) else [])
+    (all_where (SendsTo peers.servers n deeds c) (lacks_jobs r.asked r.reason) (jobs_once_more r.run (text_of r.run deeds) s (begin_at r.run s deeds)) (λ b. jobs_again peers.servers n deeds c r.run s (begin_at r.run s deeds) l refl))
 replied peers n deeds c s _ l h = tt
 
 begun_again : (servers : ℕ) (n : Noted) (deeds : List Deed) (c : Call) (run s : ℕ) (b : Beginning) → s < servers → begin_at run s deeds ≡ b → AllByRecursion (SendsTo servers n deeds c) (begin_again run (text_of run deeds) s b)
@@ -124,7 +124,7 @@ begun_again servers n deeds c run s begins.Staging l e = ((s, l, refl, inr (refl
 begun_again servers n deeds c run s begins.Starting l e = ((s, l, refl, subst IsBegun (sym e) tt), tt)
 begun_again servers n deeds c run s _ l e = tt
 
-asked_again : (servers : ℕ) (n : Noted) (deeds : List Deed) (c : Call) (body : Body) (s : ℕ) (q : Request) → s < servers → (IsAsked q → Why n deeds c s body) → AllByRecursion (SendsTo servers n deeds c) (again body s q)
+asked_again : (servers : ℕ) (n : Noted) (deeds : List Deed) (c : Call) (body : Body) (s : ℕ) (q : Request) → s < servers → (IsAsked q → Why n deeds c s body) → AllByRecursion (SendsTo servers n deeds c) (packets_again body s q)
 asked_again servers n deeds c body s (requests.Open ts) l w = ((s, l, refl, w tt), tt)
 asked_again servers n deeds c body s _ l w = tt
 
@@ -135,13 +135,13 @@ of_run servers n deeds c run used =
     let each = all_below servers servers (omega arith) in
     all_append (SendsTo servers n deeds c) (flat_map (λ s. begin_again run (text_of run deeds) s (begin_at run s deeds)) (numbers_below servers)) _
     (flat_of (λ s. s < servers) (SendsTo servers n deeds c) (λ s. begin_again run (text_of run deeds) s (begin_at run s deeds)) (numbers_below servers) each (λ s l. begun_again servers n deeds c run s (begin_at run s deeds) l refl))
-    (all_append (SendsTo servers n deeds c) (flat_map (λ s. again (bodies.Trigger run (act_of run deeds)) s (trigger_at run s deeds)) (numbers_below servers)) _
-    (flat_of (λ s. s < servers) (SendsTo servers n deeds c) (λ s. again (bodies.Trigger run (act_of run deeds)) s (trigger_at run s deeds)) (numbers_below servers) each (λ s l. asked_again servers n deeds c (bodies.Trigger run (act_of run deeds)) s (trigger_at run s deeds) l (λ a. inr (low, high))))
-    (flat_of (λ s. s < servers) (SendsTo servers n deeds c) (λ s. again (bodies.Stop run) s (stop_at run s deeds)) (numbers_below servers) each (λ s l. asked_again servers n deeds c (bodies.Stop run) s (stop_at run s deeds) l (λ a. inr (low, high)))))
+    (all_append (SendsTo servers n deeds c) (flat_map (λ s. packets_again (bodies.Trigger run (act_of run deeds)) s (trigger_at run s deeds)) (numbers_below servers)) _
+    (flat_of (λ s. s < servers) (SendsTo servers n deeds c) (λ s. packets_again (bodies.Trigger run (act_of run deeds)) s (trigger_at run s deeds)) (numbers_below servers) each (λ s l. asked_again servers n deeds c (bodies.Trigger run (act_of run deeds)) s (trigger_at run s deeds) l (λ a. inr (low, high))))
+    (flat_of (λ s. s < servers) (SendsTo servers n deeds c) (λ s. packets_again (bodies.Stop run) s (stop_at run s deeds)) (numbers_below servers) each (λ s l. asked_again servers n deeds c (bodies.Stop run) s (stop_at run s deeds) l (λ a. inr (low, high)))))
 
 of_attempt : (servers : ℕ) (n : Noted) (deeds : List Deed) (c : Call) (attempt : ℕ) → AllByRecursion (SendsTo servers n deeds c) (attempt_again servers deeds attempt)
 of_attempt servers n deeds c attempt =
-    flat_of (λ s. s < servers) (SendsTo servers n deeds c) (λ s. again (bodies.Verify (run_of attempt deeds) attempt (check_of attempt deeds)) s (verify_at attempt s deeds)) (numbers_below servers) (all_below servers servers (omega arith))
+    flat_of (λ s. s < servers) (SendsTo servers n deeds c) (λ s. packets_again (bodies.Verify (run_of attempt deeds) attempt (check_of attempt deeds)) s (verify_at attempt s deeds)) (numbers_below servers) (all_below servers servers (omega arith))
     (λ s l. asked_again servers n deeds c (bodies.Verify (run_of attempt deeds) attempt (check_of attempt deeds)) s (verify_at attempt s deeds) l (λ a. inr (refl, refl, a)))
 
 heard : (peers : Peers) (n : Noted) (deeds : List Deed) (p : PacketParts) → is_for_client peers p ≡ true → AllByRecursion (Sends peers n deeds (Deliver p)) (replies peers.mirror n deeds (node_number p.from) p.body)
@@ -186,14 +186,14 @@ called on peers n deeds Tick begun e =
 pub record IsSent (o : Opening) (past : List Entry) (c : Call) (left : Left) (p : PacketParts) : Type 0 where
   pub answers : is_answered o past c left ≡ true
   pub taken : refusal o past c ≡ None
-  pub why : Sends (peers o past) (noted o past) (life o past) c p
+  pub why : Sends (peers o past) (words_noted o past) (life o past) c p
 
 pub all_sent : (o : Opening) (past : List Entry) (c : Call) (left : Left) → AllByRecursion (IsSent o past c left) (packets o past (Met c left))
 all_sent o past c left =
-    all_where (IsSent o past c left) (is_answered o past c left) (packets_for (peers o past) (noted o past) (life o past) c)
+    all_where (IsSent o past c left) (is_answered o past c left) (packets_for (peers o past) (words_noted o past) (life o past) c)
     (λ a.
     let e = none_or (refusal o past c) (is_answer (due o past c) left) a in
-    all_weaker (Sends (peers o past) (noted o past) (life o past) c) (IsSent o past c left) (packets_for (peers o past) (noted o past) (life o past) c) (λ p w. record { answers = a; taken = e; why = w }) (called (is_on past) (peers o past) (noted o past) (life o past) c (runs_were_begun o past) e))
+    all_weaker (Sends (peers o past) (words_noted o past) (life o past) c) (IsSent o past c left) (packets_for (peers o past) (words_noted o past) (life o past) c) (λ p w. record { answers = a; taken = e; why = w }) (called (is_on past) (peers o past) (words_noted o past) (life o past) c (runs_were_begun o past) e))
 
 pub sent_why : (o : Opening) (past : List Entry) (c : Call) (left : Left) (p : PacketParts) → Contains (packets o past (Met c left)) p → IsSent o past c left p
 sent_why o past c left p h = each_of (IsSent o past c left) (packets o past (Met c left)) p (all_sent o past c left) h

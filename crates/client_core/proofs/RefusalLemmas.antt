@@ -19,7 +19,7 @@ use Rattle.client_core.specs.declared.peers.Peers.{Peers}
 use Rattle.client_core.specs.History.{Opening, Entry}
 use Rattle.state_table.specs.Kept.{kept_of}
 use Rattle.client_core.specs.Refusals.{is_for_client, is_begun, has_next, differs, lacks_room, faults_of, faults_of_body, refusal_by}
-use Rattle.client_core.specs.Words.{is_on, noted, refusal, peers}
+use Rattle.client_core.specs.Words.{is_on, words_noted, refusal, peers}
 use Rattle.client_core.specs.Stands.{StandsFor}
 use Rattle.client_core.proofs.Looked.{looks_at_all}
 
@@ -37,7 +37,7 @@ same_refusal false p q n m c f e = refl
 pub refusal_is : {T : Type 0} (note : T → Note) (client : PacketClient T) (o : Opening) (past : List Entry) (c : Call) → StandsFor note client o past → refusal_by (not client.down) client.peers client.noted c ≡ refusal o past c
 refusal_is note client o past c s =
     ap (λ on. refusal_by on client.peers client.noted c) (on_of client.down (is_on past) s.on)
-    ∙ same_refusal (is_on past) client.peers (peers o past) (noted o past) client.noted c (λ on. s.peers ∙ ap (peers o) (looks_at_all past on)) (λ on. s.knows ∙ ap (noted o) (looks_at_all past on))
+    ∙ same_refusal (is_on past) client.peers (peers o past) (words_noted o past) client.noted c (λ on. s.peers ∙ ap (peers o) (looks_at_all past on)) (λ on. s.knows ∙ ap (words_noted o) (looks_at_all past on))
 
 abbrev pub IsRefusal : Fault → Type 0
 IsRefusal fault = sort_of fault ≡ sorts.Refusal

@@ -3,9 +3,9 @@ use Rattle.std.proofs.Common.{◌≡◌, refl, ◌∙◌, ap, subst, sym, ℕ, a
 use Rattle.std.specs.Prelude.{if◌then◌else◌}
 use Rattle.disk_model.specs.declared.left.Left.TheVariants.{Saved}
 use Rattle.messages.specs.Ranges.{is_generation}
-use Rattle.client_core.specs.Note.{Says, blank, renewed}
+use Rattle.client_core.specs.Note.{Says, blank, new_note}
 use Rattle.client_core.specs.History.{Opening, Entry, Renew}
-use Rattle.client_core.specs.Words.{noted, renewed_after}
+use Rattle.client_core.specs.Words.{words_noted, renewed_after}
 use Rattle.client_core.proofs.NoteLemmas.{says_blank}
 
 pub some_note : (bytes : List ℕ) → (length bytes == 0) ≡ false → bytes ≡ [] → ⊥
@@ -25,10 +25,10 @@ renewed_with g h e = by_test (is_generation g) refl e
     by_test false is e = cc
 
 -- Over no bytes a list with a renewal says the generation.
-pub renewed_noted : (o : Opening) (past : List Entry) (bytes : List ℕ) (g : ℕ) → bytes ≡ [] → is_generation g ≡ true → Says bytes (noted o past) → noted o (Renew g Saved ∷ past) ≡ renewed g
+pub renewed_noted : (o : Opening) (past : List Entry) (bytes : List ℕ) (g : ℕ) → bytes ≡ [] → is_generation g ≡ true → Says bytes (words_noted o past) → words_noted o (Renew g Saved ∷ past) ≡ new_note g
 renewed_noted o past bytes g none is says =
-    let empty : noted o past ≡ blank = says_blank (noted o past) (subst (λ l. Says l (noted o past)) none says) in
-    ap (renewed_after true g) empty ∙ ap (λ b. if b && true then renewed g else blank) is
+    let empty : words_noted o past ≡ blank = says_blank (words_noted o past) (subst (λ l. Says l (words_noted o past)) none says) in
+    ap (renewed_after true g) empty ∙ ap (λ b. if b && true then new_note g else blank) is
 
 pub no_bytes : (bytes : List ℕ) → true ≡ (length bytes == 0) → bytes ≡ []
 no_bytes [] h = refl

@@ -19,12 +19,12 @@ use Rattle.client_core.specs.declared.peers.Peers.{Peers}
 use Rattle.client_core.specs.History.{Opening, Entry, Met, Cut, Restart, Renew, Lose}
 use Rattle.client_core.specs.Refusals.{is_for_client, refusal_by}
 use Rattle.client_core.specs.Saves.{addition_of, unless_refused, is_answer}
-use Rattle.client_core.specs.Words.{is_on, noted, is_answered, peers}
+use Rattle.client_core.specs.Words.{is_on, words_noted, is_answered, peers}
 use Rattle.client_core.specs.Life.{Deed, Hears, deeds_of, life, run_of}
 use Rattle.client_core.specs.Requests.{verify_at}
 use Rattle.client_core.specs.Reports.{counts_for, has_report, with_report, reports_heard, reports}
 use Rattle.client_core.specs.Packets.{packets}
-use Rattle.client_core.specs.Ranges.{packet_in, came}
+use Rattle.client_core.specs.Ranges.{packet_in, packets_come}
 use Rattle.client_core.specs.Laws.{from_server, ReportsCame, has_distinct_reports, OneReportEach}
 use Rattle.client_core.proofs.HeardLemmas.{from_own, one, taken_in}
 use Rattle.client_core.proofs.ListLemmas.{all_append, all_weaker}
@@ -55,34 +55,34 @@ heard servers from to (bodies.Report run attempt job jobs report) before deeds r
     (added (Came (p ∷ before)) r rs (has_report r.attempt r.server r.job rs) (jobs, there) k) k
 heard servers from to _ before deeds rs ours k = k
 
-step : (on : Bool) (servers : Peers) (o : Opening) (past : List Entry) (c : Call) (left : Left) (b : Bool) → (b ≡ true → refusal_by on servers (noted o past) c ≡ None)
-    → AllByRecursion (Came (packet_in (Met c left) ++ came past)) (reports (life o past))
-    → AllByRecursion (Came (packet_in (Met c left) ++ came past)) (reports (if b then deeds_of (noted o past) c ++ life o past else life o past))
+step : (on : Bool) (servers : Peers) (o : Opening) (past : List Entry) (c : Call) (left : Left) (b : Bool) → (b ≡ true → refusal_by on servers (words_noted o past) c ≡ None)
+    → AllByRecursion (Came (packet_in (Met c left) ++ packets_come past)) (reports (life o past))
+    → AllByRecursion (Came (packet_in (Met c left) ++ packets_come past)) (reports (if b then deeds_of (words_noted o past) c ++ life o past else life o past))
 step on servers o past c left false f k = k
 step on servers o past (Begin text) left true f k = k
 step on servers o past (Trigger run act) left true f k = k
 step on servers o past (Stop run) left true f k = k
 step on servers o past (Verify run text) left true f k = k
-step on servers o past (Deliver p) left true f k = heard servers p.from p.to p.body (came past) (life o past) (reports (life o past)) ((taken_in on servers (noted o past) p (f refl)).1) k
+step on servers o past (Deliver p) left true f k = heard servers p.from p.to p.body (packets_come past) (life o past) (reports (life o past)) ((taken_in on servers (words_noted o past) p (f refl)).1) k
 step on servers o past Tick left true f k = k
 
 none_or : (r : Option Fault) (b : Bool) → (is_none r && b) ≡ true → r ≡ None
 none_or None b h = refl
 none_or (Some f) b h = cc
 
-all_came : (o : Opening) (past : List Entry) → AllByRecursion (Came (came past)) (reports (life o past))
+all_came : (o : Opening) (past : List Entry) → AllByRecursion (Came (packets_come past)) (reports (life o past))
 all_came o [] = tt
 all_came o (Met c left ∷ past) =
     step (is_on past) (peers o past) o past c left (is_answered o past c left)
-    (λ a. none_or (refusal_by (is_on past) (peers o past) (noted o past) c) (is_answer (unless_refused (refusal_by (is_on past) (peers o past) (noted o past) c) (addition_of (noted o past) c)) left) a)
-    (all_weaker (Came (came past)) (Came (packet_in (Met c left) ++ came past)) (reports (life o past)) (λ r h. later (packet_in (Met c left)) (came past) r h) (all_came o past))
+    (λ a. none_or (refusal_by (is_on past) (peers o past) (words_noted o past) c) (is_answer (unless_refused (refusal_by (is_on past) (peers o past) (words_noted o past) c) (addition_of (words_noted o past) c)) left) a)
+    (all_weaker (Came (packets_come past)) (Came (packet_in (Met c left) ++ packets_come past)) (reports (life o past)) (λ r h. later (packet_in (Met c left)) (packets_come past) r h) (all_came o past))
 all_came o (Cut ∷ past) = tt
 all_came o (Restart mirror ∷ past) = tt
 all_came o (Renew g left ∷ past) = tt
 all_came o (Lose ∷ past) = tt
 
 pub reports_came : ReportsCame
-reports_came o past r h = All-contains (Came (came past)) (reports (life o past)) r (All-from_recursion (Came (came past)) (reports (life o past)) (all_came o past)) h
+reports_came o past r h = All-contains (Came (packets_come past)) (reports (life o past)) r (All-from_recursion (Came (packets_come past)) (reports (life o past)) (all_came o past)) h
 
 apart : (r x : Received) → ((x.attempt == r.attempt) && ((x.server == r.server) && (x.job == r.job))) ≡ false → ((r.attempt == x.attempt) && ((r.server == x.server) && (r.job == x.job))) ≡ false
 apart r x h =

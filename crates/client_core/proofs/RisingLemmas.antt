@@ -4,7 +4,7 @@ use Rattle.std.specs.List.{AllByRecursion, flat_map, range_with_len}
 use Rattle.std.proofs.lemmas.Bool.Decides.{nat_tests}
 use Rattle.std.specs.Prelude.{if◌then◌else◌}
 use Rattle.messages.specs.declared.packet.PacketParts.{PacketParts}
-use Rattle.client_core.specs.Asked.{placed, rising as in_order}
+use Rattle.client_core.specs.Asked.{with_number, rising as in_order}
 
 -- The keys ascend from a.
 abbrev pub Rises : {X : Type 0} → ℕ → List (ℕ × X) → Type 0
@@ -62,15 +62,15 @@ beside_flat : (f : ℕ → List PacketParts) (ns : List ℕ) → flat_map (λ e.
 beside_flat f [] = refl
 beside_flat f (n ∷ ns) = ap (λ ps. f n ++ ps) (beside_flat f ns)
 
-placed_rises : (a n : ℕ) (ns : List ℕ) → a ≤ n → Rises a (beside ns) → Rises a (beside (placed n ns))
+placed_rises : (a n : ℕ) (ns : List ℕ) → a ≤ n → Rises a (beside ns) → Rises a (beside (with_number n ns))
 placed_rises a n [] l h = (l, tt)
 placed_rises a n (m ∷ ms) l h = by_less (nat_lt n m) refl (λ more. placed_rises (m + 1) n ms more h.1)
   where
-    by_equal : (b : Bool) → (n == m) ≡ b → nat_lt n m ≡ false → (m + 1 ≤ n → Rises (m + 1) (beside (placed n ms))) → Rises a (beside (if b then m ∷ ms else m ∷ placed n ms))
+    by_equal : (b : Bool) → (n == m) ≡ b → nat_lt n m ≡ false → (m + 1 ≤ n → Rises (m + 1) (beside (with_number n ms))) → Rises a (beside (if b then m ∷ ms else m ∷ with_number n ms))
     by_equal true e o next = h
     by_equal false e o next = let more : m + 1 ≤ n = grind (arith, nat_tests) in (h.0, next more)
 
-    by_less : (b : Bool) → nat_lt n m ≡ b → (m + 1 ≤ n → Rises (m + 1) (beside (placed n ms))) → Rises a (beside (if b then n ∷ m ∷ ms else (if n == m then m ∷ ms else m ∷ placed n ms)))
+    by_less : (b : Bool) → nat_lt n m ≡ b → (m + 1 ≤ n → Rises (m + 1) (beside (with_number n ms))) → Rises a (beside (if b then n ∷ m ∷ ms else (if n == m then m ∷ ms else m ∷ with_number n ms)))
     by_less true e next = let more : n + 1 ≤ m = grind (arith, nat_tests) in (l, (more, h.1))
     by_less false e next = by_equal (n == m) refl e next
 
@@ -82,15 +82,15 @@ order_rises (n ∷ ns) = placed_rises 0 n (in_order ns) (omega arith) (order_ris
 abbrev pub Misses : ℕ → List ℕ → Type 0
 Misses n ns = AllByRecursion (λ m. (n == m) ≡ false) ns
 
-lacks_placed : (n m : ℕ) (ns : List ℕ) → Lacks n (beside (placed m ns)) → ((n == m) ≡ false) × Lacks n (beside ns)
+lacks_placed : (n m : ℕ) (ns : List ℕ) → Lacks n (beside (with_number m ns)) → ((n == m) ≡ false) × Lacks n (beside ns)
 lacks_placed n m [] h = h
 lacks_placed n m (k ∷ ks) h = by_less (nat_lt m k) h (λ l. lacks_placed n m ks l)
   where
-    by_equal : (b : Bool) → (m == k) ≡ b → Lacks n (beside (if b then k ∷ ks else k ∷ placed m ks)) → (Lacks n (beside (placed m ks)) → ((n == m) ≡ false) × Lacks n (beside ks)) → ((n == m) ≡ false) × Lacks n (beside (k ∷ ks))
+    by_equal : (b : Bool) → (m == k) ≡ b → Lacks n (beside (if b then k ∷ ks else k ∷ with_number m ks)) → (Lacks n (beside (with_number m ks)) → ((n == m) ≡ false) × Lacks n (beside ks)) → ((n == m) ≡ false) × Lacks n (beside (k ∷ ks))
     by_equal true e h next = let first : (n == k) ≡ false = h.0 in let same : m ≡ k = grind (arith, nat_tests) in (subst (λ x. (n == x) ≡ false) (sym same) first, h)
     by_equal false e h next = let r = next h.1 in (r.0, (h.0, r.1))
 
-    by_less : (b : Bool) → Lacks n (beside (if b then m ∷ k ∷ ks else (if m == k then k ∷ ks else k ∷ placed m ks))) → (Lacks n (beside (placed m ks)) → ((n == m) ≡ false) × Lacks n (beside ks)) → ((n == m) ≡ false) × Lacks n (beside (k ∷ ks))
+    by_less : (b : Bool) → Lacks n (beside (if b then m ∷ k ∷ ks else (if m == k then k ∷ ks else k ∷ with_number m ks))) → (Lacks n (beside (with_number m ks)) → ((n == m) ≡ false) × Lacks n (beside ks)) → ((n == m) ≡ false) × Lacks n (beside (k ∷ ks))
     by_less true h next = (h.0, h.1)
     by_less false h next = by_equal (m == k) refl h next
 
@@ -116,15 +116,15 @@ order_spread f ns none =
 pub entries_spread : {X : Type 0} (f : ℕ → List PacketParts) (ns : List ℕ) (es : List (ℕ × X)) → Rises 0 es → ((n : ℕ) → Misses n ns → f n ≡ []) → ((n : ℕ) → Lacks n es → f n ≡ []) → flat_map (λ e. f e.0) es ≡ flat_map f (in_order ns)
 entries_spread f ns es r none lacks = sym (rising f (above ns) 0 es r (λ n l z. lacks n l) (λ n l. none n (past_all n ns (omega (arith, l))))) ∙ order_spread f ns none
 
-placed_all : (P : ℕ → Type 0) (n : ℕ) (ns : List ℕ) → P n → AllByRecursion P ns → AllByRecursion P (placed n ns)
+placed_all : (P : ℕ → Type 0) (n : ℕ) (ns : List ℕ) → P n → AllByRecursion P ns → AllByRecursion P (with_number n ns)
 placed_all P n [] p h = (p, tt)
 placed_all P n (m ∷ ms) p h = by_less (nat_lt n m) (placed_all P n ms p h.1)
   where
-    by_equal : (b : Bool) → AllByRecursion P (placed n ms) → AllByRecursion P (if b then m ∷ ms else m ∷ placed n ms)
+    by_equal : (b : Bool) → AllByRecursion P (with_number n ms) → AllByRecursion P (if b then m ∷ ms else m ∷ with_number n ms)
     by_equal true rest = h
     by_equal false rest = (h.0, rest)
 
-    by_less : (b : Bool) → AllByRecursion P (placed n ms) → AllByRecursion P (if b then n ∷ m ∷ ms else (if n == m then m ∷ ms else m ∷ placed n ms))
+    by_less : (b : Bool) → AllByRecursion P (with_number n ms) → AllByRecursion P (if b then n ∷ m ∷ ms else (if n == m then m ∷ ms else m ∷ with_number n ms))
     by_less true rest = (p, h)
     by_less false rest = by_equal (n == m) rest
 

@@ -18,7 +18,7 @@ use Rattle.state_table.specs.Laws.{FoundHasItsKey, LastIsFound}
 use Rattle.client_core.specs.declared.noted.Noted.{Noted}
 use Rattle.client_core.specs.History.{Opening, Entry, Met, Cut, Restart, Renew, Lose}
 use Rattle.client_core.specs.Saves.{unless_kept, unless_refused, noted_after, is_answer}
-use Rattle.client_core.specs.Words.{is_on, noted, peers, kept, refusal, is_answered}
+use Rattle.client_core.specs.Words.{is_on, words_noted, peers, kept_state, refusal, is_answered}
 use Rattle.client_core.specs.Life.{Deed, life}
 use Rattle.client_core.specs.Packets.{to_server}
 use Rattle.client_core.specs.Ranges.{packet_in}
@@ -45,25 +45,25 @@ mirror_kind n c _ w = absurd w
 
 pub packets_go_to_peers : PacketsGoToPeers
 packets_go_to_peers o past (Met c left) p h = elim ((sent_why o past c left p h).why) [
-  | inl w ↦ inl (w.0, w.1, w.2, client_kind (noted o past) (life o past) c w.0 p.body w.3)
-  | inr w ↦ inr (w.0, w.1, mirror_kind (noted o past) c p.body w.2)
+  | inl w ↦ inl (w.0, w.1, w.2, client_kind (words_noted o past) (life o past) c w.0 p.body w.3)
+  | inr w ↦ inr (w.0, w.1, mirror_kind (words_noted o past) c p.body w.2)
 ]
 packets_go_to_peers o past Cut p h = absurd (none_in p h)
 packets_go_to_peers o past (Restart mirror) p h = absurd (none_in p h)
 packets_go_to_peers o past (Renew g left) p h = absurd (none_in p h)
 packets_go_to_peers o past Lose p h = absurd (none_in p h)
 
-saved_by : FoundHasItsKey → (o : Opening) (past : List Entry) (c : Call) (p : PacketParts) (attempt : ℕ) (state : State) → SendsTo o.servers (noted o past) (life o past) c p → p.body ≡ bodies.Saved attempt state → kept o past state.key ≡ Some state
+saved_by : FoundHasItsKey → (o : Opening) (past : List Entry) (c : Call) (p : PacketParts) (attempt : ℕ) (state : State) → SendsTo o.servers (words_noted o past) (life o past) c p → p.body ≡ bodies.Saved attempt state → kept_state o past state.key ≡ Some state
 saved_by has o past c p attempt state w e =
-    let v : Why (noted o past) (life o past) c w.0 (bodies.Saved attempt state) = subst (Why (noted o past) (life o past) c w.0) e w.3 in
+    let v : Why (words_noted o past) (life o past) c w.0 (bodies.Saved attempt state) = subst (Why (words_noted o past) (life o past) c w.0) e w.3 in
     let key : Key = record { run = v.0; server = w.0; job = v.1 } in
-    let own : state.key ≡ key = has key (noted o past).kept state v.3 in
-    subst (λ (k : Key). kept_of k (noted o past).kept ≡ Some state) (sym own) v.3
+    let own : state.key ≡ key = has key (words_noted o past).kept state v.3 in
+    subst (λ (k : Key). kept_of k (words_noted o past).kept ≡ Some state) (sym own) v.3
 
 pub saved_is_kept : FoundHasItsKey → SavedIsKept
 saved_is_kept has o past (Met c left) p attempt state h e = elim ((sent_why o past c left p h).why) [
   | inl w ↦ saved_by has o past c p attempt state w e
-  | inr w ↦ absurd (subst (WhyMirror (noted o past) c) e w.2)
+  | inr w ↦ absurd (subst (WhyMirror (words_noted o past) c) e w.2)
 ]
 saved_is_kept has o past Cut p attempt state h e = absurd (none_in p h)
 saved_is_kept has o past (Restart mirror) p attempt state h e = absurd (none_in p h)
@@ -71,16 +71,16 @@ saved_is_kept has o past (Renew g left) p attempt state h e = absurd (none_in p 
 saved_is_kept has o past Lose p attempt state h e = absurd (none_in p h)
 
 -- Each Copy is of a state of the note, or of the State that has just come.
-copy_by : (o : Opening) (past : List Entry) (c : Call) (left : Left) (state : State) → WhyMirror (noted o past) c (bodies.Copy state)
-    → Contains (noted o past).kept state ⊎ ((server jobs : ℕ) × Contains (packet_in (Met c left)) (from_server (bodies.State jobs state) server))
+copy_by : (o : Opening) (past : List Entry) (c : Call) (left : Left) (state : State) → WhyMirror (words_noted o past) c (bodies.Copy state)
+    → Contains (words_noted o past).kept state ⊎ ((server jobs : ℕ) × Contains (packet_in (Met c left)) (from_server (bodies.State jobs state) server))
 copy_by o past c left state (inl kept) = inl kept
 copy_by o past c left state (inr said) =
     inr (said.0, said.1, subst (λ d. Contains (packet_in (Met d left)) (from_server (bodies.State said.1 state) said.0)) (sym said.2) (first_of (from_server (bodies.State said.1 state) said.0) []))
 
 pub copies_are_of_states : CopiesAreOfStates
 copies_are_of_states o past (Met c left) p state h e = elim ((sent_why o past c left p h).why) [
-  | inl w ↦ absurd (subst (Why (noted o past) (life o past) c w.0) e w.3)
-  | inr w ↦ copy_by o past c left state (subst (WhyMirror (noted o past) c) e w.2)
+  | inl w ↦ absurd (subst (Why (words_noted o past) (life o past) c w.0) e w.3)
+  | inr w ↦ copy_by o past c left state (subst (WhyMirror (words_noted o past) c) e w.2)
 ]
 copies_are_of_states o past Cut p state h e = absurd (none_in p h)
 copies_are_of_states o past (Restart mirror) p state h e = absurd (none_in p h)
@@ -94,21 +94,21 @@ answered_one last n left state None a = has_one last n left (kept_of state.key n
 answered_one last n left state (Some f) a = cc
 
 kept_by : LastIsFound → (o : Opening) (past : List Entry) (c : Call) (left : Left) (jobs s : ℕ) (state : State) → IsSaid c s (bodies.State jobs state) → is_answered o past c left ≡ true → refusal o past c ≡ None
-    → (state.key.server ≡ s) × ((x : State) × (kept_of state.key (noted o (Met c left ∷ past)).kept ≡ Some x))
+    → (state.key.server ≡ s) × ((x : State) × (kept_of state.key (words_noted o (Met c left ∷ past)).kept ≡ Some x))
 kept_by last o past c left jobs s state e a r =
     let p = from_server (bodies.State jobs state) s in
     let answers : is_answered o past (Deliver p) left ≡ true = subst (λ d. is_answered o past d left ≡ true) e a in
     let taken : refusal o past (Deliver p) ≡ None = subst (λ d. refusal o past d ≡ None) e r in
-    let ours = (taken_in (is_on past) (peers o past) (noted o past) p taken).1 in
+    let ours = (taken_in (is_on past) (peers o past) (words_noted o past) p taken).1 in
     let own : state.key.server ≡ s = own_state (peers o past) p.from p.to jobs state ours in
-    (own, subst (λ d. (x : State) × (kept_of state.key (noted o (Met d left ∷ past)).kept ≡ Some x)) (sym e) (answered_one last (noted o past) left state (refusal o past (Deliver p)) answers))
+    (own, subst (λ d. (x : State) × (kept_of state.key (words_noted o (Met d left ∷ past)).kept ≡ Some x)) (sym e) (answered_one last (words_noted o past) left state (refusal o past (Deliver p)) answers))
 
 abbrev AckedFor : Noted → Entry → ℕ → ℕ → ℕ → Type 0
 AckedFor after entry run server job =
     ((state : State) × (kept_of (record { run = run; server = server; job = job }) after.kept ≡ Some state)) ⊎ ((jobs : ℕ) × Contains (packet_in entry) (from_server (bodies.NoState run job jobs) server))
 
-acked : LastIsFound → (o : Opening) (past : List Entry) (c : Call) (left : Left) (run server job : ℕ) → is_answered o past c left ≡ true → refusal o past c ≡ None → Why (noted o past) (life o past) c server (bodies.StateAck run job)
-    → AckedFor (noted o (Met c left ∷ past)) (Met c left) run server job
+acked : LastIsFound → (o : Opening) (past : List Entry) (c : Call) (left : Left) (run server job : ℕ) → is_answered o past c left ≡ true → refusal o past c ≡ None → Why (words_noted o past) (life o past) c server (bodies.StateAck run job)
+    → AckedFor (words_noted o (Met c left ∷ past)) (Met c left) run server job
 acked last o past c left run server job a r (inl w) =
     let state : State = w.1 in
     let k = kept_by last o past c left w.0 server state w.2 a r in
@@ -116,7 +116,7 @@ acked last o past c left run server job a r (inl w) =
     let runs : run ≡ state.key.run = w.3 in
     let jobs : job ≡ state.key.job = w.4 in
     let key : state.key ≡ record { run = run; server = server; job = job } = λ i. record { run = sym runs i; server = own i; job = sym jobs i } in
-    inl (k.1.0, subst (λ (x : Key). kept_of x (noted o (Met c left ∷ past)).kept ≡ Some k.1.0) key k.1.1)
+    inl (k.1.0, subst (λ (x : Key). kept_of x (words_noted o (Met c left ∷ past)).kept ≡ Some k.1.0) key k.1.1)
 acked last o past c left run server job a r (inr w) =
     let p = from_server (bodies.NoState run job w.0) server in
     inr (w.0, subst (λ d. Contains (packet_in (Met d left)) p) (sym w.1) (first_of p []))
@@ -128,7 +128,7 @@ acks_are_for last o past (Met c left) run server job h =
       | inl w ↦ (
           let to : nodes.Server server ≡ nodes.Server w.0 = ap (λ (p : PacketParts). p.to) w.2 in
           let s : server ≡ w.0 = cc in
-          acked last o past c left run server job x.answers x.taken (subst (λ t. Why (noted o past) (life o past) c t (bodies.StateAck run job)) (sym s) w.3))
+          acked last o past c left run server job x.answers x.taken (subst (λ t. Why (words_noted o past) (life o past) c t (bodies.StateAck run job)) (sym s) w.3))
       | inr w ↦ absurd w.2
     ]
 acks_are_for last o past Cut run server job h = absurd (none_in (to_server (bodies.StateAck run job) server) h)

@@ -19,9 +19,9 @@ use Rattle.client_core.specs.declared.peers.Peers.{Peers}
 use Rattle.client_core.specs.History.{Opening, Entry, Met, Cut, Restart, Renew, Lose}
 use Rattle.client_core.specs.Refusals.{is_for_client, refusal_by}
 use Rattle.client_core.specs.Saves.{Addition, NextRun, NextAttempt, Keep, unless_kept, addition_by, unless_refused, due_by, noted_after}
-use Rattle.client_core.specs.Words.{is_on, noted, peers, may_renew}
-use Rattle.client_core.specs.Note.{renewed}
-use Rattle.client_core.specs.Ranges.{packet_in, came}
+use Rattle.client_core.specs.Words.{is_on, words_noted, peers, may_renew}
+use Rattle.client_core.specs.Note.{new_note}
+use Rattle.client_core.specs.Ranges.{packet_in, packets_come}
 use Rattle.client_core.specs.Laws.{NotedWasSent}
 use Rattle.client_core.proofs.ListLemmas.{none_in}
 use Rattle.client_core.proofs.HeardLemmas.{taken_in}
@@ -76,28 +76,28 @@ by_call peers on n (Verify run text) left s h = inl (attempt_keeps (has_new left
 by_call peers on n (Deliver p) left s h = by_packet peers n p.from p.to p.body s (has_new left) (refusal_by on peers n (Deliver p)) (λ e. (taken_in on peers n p e).1) h
 by_call peers on n Tick left s h = inl (none_keeps (has_new left) (refusal_by on peers n Tick) n s h)
 
-renewal_keeps : (b : Bool) (g : ℕ) (n : Noted) (s : State) → Contains (if b then renewed g else n).kept s → Contains n.kept s
+renewal_keeps : (b : Bool) (g : ℕ) (n : Noted) (s : State) → Contains (if b then new_note g else n).kept s → Contains n.kept s
 renewal_keeps true g n s h = absurd (none_in s h)
 renewal_keeps false g n s h = h
 
 -- It was there at the opening, or came.
 abbrev HasSource : Opening → List Entry → State → Type 0
-HasSource o past s = Contains o.noted.kept s ⊎ Brought (came past) s.key s
+HasSource o past s = Contains o.noted.kept s ⊎ Brought (packets_come past) s.key s
 
 earlier : (o : Opening) (e : Entry) (past : List Entry) (s : State) → HasSource o past s → HasSource o (e ∷ past) s
 earlier o e past s (inl h) = inl h
-earlier o e past s (inr h) = inr (brought_later (packet_in e) (came past) s.key s h)
+earlier o e past s (inr h) = inr (brought_later (packet_in e) (packets_come past) s.key s h)
 
-now_or_earlier : (o : Opening) (e : Entry) (past : List Entry) (s : State) → IsFrom (noted o past) (packet_in e) s → (Contains (noted o past).kept s → HasSource o past s) → HasSource o (e ∷ past) s
+now_or_earlier : (o : Opening) (e : Entry) (past : List Entry) (s : State) → IsFrom (words_noted o past) (packet_in e) s → (Contains (words_noted o past).kept s → HasSource o past s) → HasSource o (e ∷ past) s
 now_or_earlier o e past s (inl h) f = earlier o e past s (f h)
-now_or_earlier o e past s (inr h) f = inr (brought_now (packet_in e) (came past) s.key s h)
+now_or_earlier o e past s (inr h) f = inr (brought_now (packet_in e) (packets_come past) s.key s h)
 
 pub noted_was_sent : NotedWasSent
 noted_was_sent o [] s h = inl h
 noted_was_sent o (Met c left ∷ past) s h =
-    now_or_earlier o (Met c left) past s (by_call (peers o past) (is_on past) (noted o past) c left s h) (λ e. noted_was_sent o past s e)
+    now_or_earlier o (Met c left) past s (by_call (peers o past) (is_on past) (words_noted o past) c left s h) (λ e. noted_was_sent o past s e)
 noted_was_sent o (Cut ∷ past) s h = earlier o Cut past s (noted_was_sent o past s h)
 noted_was_sent o (Restart mirror ∷ past) s h = earlier o (Restart mirror) past s (noted_was_sent o past s h)
 noted_was_sent o (Renew g left ∷ past) s h =
-    earlier o (Renew g left) past s (noted_was_sent o past s (renewal_keeps (has_new left && may_renew g (noted o past)) g (noted o past) s h))
+    earlier o (Renew g left) past s (noted_was_sent o past s (renewal_keeps (has_new left && may_renew g (words_noted o past)) g (words_noted o past) s h))
 noted_was_sent o (Lose ∷ past) s h = absurd (none_in s h)

@@ -14,9 +14,9 @@ use Rattle.client_core.specs.declared.call.Call.{Call}
 use Rattle.client_core.specs.declared.call.Call.TheVariants.{Begin, Verify}
 use Rattle.client_core.specs.declared.noted.Noted.{Noted}
 use Rattle.client_core.specs.History.{Opening, Entry, Met, Cut, Restart, Renew, Lose}
-use Rattle.client_core.specs.Words.{noted, is_answered}
-use Rattle.client_core.specs.Life.{Deed, Begins, Verifies, deeds_of, life, done, text_of, run_of, check_of}
-use Rattle.client_core.specs.Packets.{packets, sent}
+use Rattle.client_core.specs.Words.{words_noted, is_answered}
+use Rattle.client_core.specs.Life.{Deed, Begins, Verifies, deeds_of, life, deeds_done, text_of, run_of, check_of}
+use Rattle.client_core.specs.Packets.{packets, sent_packets}
 use Rattle.client_core.specs.Laws.{run_in, attempt_in, OneTextOfARun, OneTextOfAnAttempt}
 use Rattle.client_core.proofs.AskedLemmas.{asked_was, begun_was}
 use Rattle.client_core.proofs.MirroredLemmas.{numbers_are_given_once}
@@ -28,9 +28,9 @@ chosen : (b : Bool) (xs ys zs : List Deed) (d : Deed) → (Contains ys d → Con
 chosen true xs ys zs d f h = elim (Contains-append_cases xs ys d h) [ inl a ↦ Contains-append_left xs zs d a | inr c ↦ Contains-append_right xs zs d (f c) ]
 chosen false xs ys zs d f h = f h
 
-pub life_was_done : (o : Opening) (past : List Entry) (d : Deed) → Contains (life o past) d → Contains (done o past) d
+pub life_was_done : (o : Opening) (past : List Entry) (d : Deed) → Contains (life o past) d → Contains (deeds_done o past) d
 life_was_done o [] d h = h
-life_was_done o (Met c left ∷ past) d h = chosen (is_answered o past c left) (deeds_of (noted o past) c) (life o past) (done o past) d (life_was_done o past d) h
+life_was_done o (Met c left ∷ past) d h = chosen (is_answered o past c left) (deeds_of (words_noted o past) c) (life o past) (deeds_done o past) d (life_was_done o past d) h
 life_was_done o (Cut ∷ past) d h = absurd (none_in d h)
 life_was_done o (Restart mirror ∷ past) d h = absurd (none_in d h)
 life_was_done o (Renew g left ∷ past) d h = absurd (none_in d h)
@@ -40,8 +40,8 @@ added : (b : Bool) (xs ys : List Deed) (d : Deed) → Contains ys d → Contains
 added true xs ys d h = Contains-append_right xs ys d h
 added false xs ys d h = h
 
-done_stays : (o : Opening) (e : Entry) (past : List Entry) (d : Deed) → Contains (done o past) d → Contains (done o (e ∷ past)) d
-done_stays o (Met c left) past d h = added (is_answered o past c left) (deeds_of (noted o past) c) (done o past) d h
+done_stays : (o : Opening) (e : Entry) (past : List Entry) (d : Deed) → Contains (deeds_done o past) d → Contains (deeds_done o (e ∷ past)) d
+done_stays o (Met c left) past d h = added (is_answered o past c left) (deeds_of (words_noted o past) c) (deeds_done o past) d h
 done_stays o Cut past d h = h
 done_stays o (Restart mirror) past d h = h
 done_stays o (Renew g left) past d h = h
@@ -57,55 +57,55 @@ Carries deeds (bodies.Jobs run text) = Contains deeds (Begins run text)
 Carries deeds (bodies.Verify run attempt text) = Contains deeds (Verifies run attempt text)
 Carries deeds _ = Unit {0}
 
-carries_more : (o : Opening) (e : Entry) (past : List Entry) (body : Body) → Carries (done o past) body → Carries (done o (e ∷ past)) body
+carries_more : (o : Opening) (e : Entry) (past : List Entry) (body : Body) → Carries (deeds_done o past) body → Carries (deeds_done o (e ∷ past)) body
 carries_more o e past (bodies.Jobs run text) h = done_stays o e past (Begins run text) h
 carries_more o e past (bodies.Verify run attempt text) h = done_stays o e past (Verifies run attempt text) h
 carries_more o e past _ h = tt
 
-jobs_carry : (o : Opening) (past : List Entry) (c : Call) (left : Left) (s run : ℕ) (text : List ℕ) → is_answered o past c left ≡ true → Why (noted o past) (life o past) c s (bodies.Jobs run text) → Carries (done o (Met c left ∷ past)) (bodies.Jobs run text)
+jobs_carry : (o : Opening) (past : List Entry) (c : Call) (left : Left) (s run : ℕ) (text : List ℕ) → is_answered o past c left ≡ true → Why (words_noted o past) (life o past) c s (bodies.Jobs run text) → Carries (deeds_done o (Met c left ∷ past)) (bodies.Jobs run text)
 jobs_carry o past c left s run text a (inl w) =
-    subst (λ r. Carries (done o (Met c left ∷ past)) (bodies.Jobs r text)) (sym w.1)
-    (now_done (is_answered o past c left) c (Begin text) (noted o past) (Begins ((noted o past).runs + 1) text) (done o past) a w.0 (first_of (Begins ((noted o past).runs + 1) text) []))
+    subst (λ r. Carries (deeds_done o (Met c left ∷ past)) (bodies.Jobs r text)) (sym w.1)
+    (now_done (is_answered o past c left) c (Begin text) (words_noted o past) (Begins ((words_noted o past).runs + 1) text) (deeds_done o past) a w.0 (first_of (Begins ((words_noted o past).runs + 1) text) []))
 jobs_carry o past c left s run text a (inr w) =
     let d = life_was_done o past (Begins run (text_of run (life o past))) (begun_was run s (life o past) w.1) in
-    done_stays o (Met c left) past (Begins run text) (subst (λ t. Contains (done o past) (Begins run t)) (sym w.0) d)
+    done_stays o (Met c left) past (Begins run text) (subst (λ t. Contains (deeds_done o past) (Begins run t)) (sym w.0) d)
 
-verify_carries : (o : Opening) (past : List Entry) (c : Call) (left : Left) (s run attempt : ℕ) (text : List ℕ) → is_answered o past c left ≡ true → Why (noted o past) (life o past) c s (bodies.Verify run attempt text) → Carries (done o (Met c left ∷ past)) (bodies.Verify run attempt text)
+verify_carries : (o : Opening) (past : List Entry) (c : Call) (left : Left) (s run attempt : ℕ) (text : List ℕ) → is_answered o past c left ≡ true → Why (words_noted o past) (life o past) c s (bodies.Verify run attempt text) → Carries (deeds_done o (Met c left ∷ past)) (bodies.Verify run attempt text)
 verify_carries o past c left s run attempt text a (inl w) =
-    subst (λ x. Carries (done o (Met c left ∷ past)) (bodies.Verify run x text)) (sym w.1)
-    (now_done (is_answered o past c left) c (Verify run text) (noted o past) (Verifies run ((noted o past).attempts + 1) text) (done o past) a w.0 (first_of (Verifies run ((noted o past).attempts + 1) text) []))
+    subst (λ x. Carries (deeds_done o (Met c left ∷ past)) (bodies.Verify run x text)) (sym w.1)
+    (now_done (is_answered o past c left) c (Verify run text) (words_noted o past) (Verifies run ((words_noted o past).attempts + 1) text) (deeds_done o past) a w.0 (first_of (Verifies run ((words_noted o past).attempts + 1) text) []))
 verify_carries o past c left s run attempt text a (inr w) =
     let d = life_was_done o past (Verifies (run_of attempt (life o past)) attempt (check_of attempt (life o past))) (asked_was attempt s (life o past) w.2) in
     done_stays o (Met c left) past (Verifies run attempt text)
-    (subst (λ r. Contains (done o past) (Verifies r attempt text)) (sym w.0) (subst (λ t. Contains (done o past) (Verifies (run_of attempt (life o past)) attempt t)) (sym w.1) d))
+    (subst (λ r. Contains (deeds_done o past) (Verifies r attempt text)) (sym w.0) (subst (λ t. Contains (deeds_done o past) (Verifies (run_of attempt (life o past)) attempt t)) (sym w.1) d))
 
-pub why_carries : (o : Opening) (past : List Entry) (c : Call) (left : Left) (s : ℕ) (body : Body) → is_answered o past c left ≡ true → Why (noted o past) (life o past) c s body → Carries (done o (Met c left ∷ past)) body
+pub why_carries : (o : Opening) (past : List Entry) (c : Call) (left : Left) (s : ℕ) (body : Body) → is_answered o past c left ≡ true → Why (words_noted o past) (life o past) c s body → Carries (deeds_done o (Met c left ∷ past)) body
 why_carries o past c left s (bodies.Jobs run text) a w = jobs_carry o past c left s run text a w
 why_carries o past c left s (bodies.Verify run attempt text) a w = verify_carries o past c left s run attempt text a w
 why_carries o past c left s _ a w = tt
 
-mirror_carries : (o : Opening) (past : List Entry) (c : Call) (left : Left) (body : Body) → WhyMirror (noted o past) c body → Carries (done o (Met c left ∷ past)) body
+mirror_carries : (o : Opening) (past : List Entry) (c : Call) (left : Left) (body : Body) → WhyMirror (words_noted o past) c body → Carries (deeds_done o (Met c left ∷ past)) body
 mirror_carries o past c left (bodies.Copy state) w = tt
 mirror_carries o past c left (bodies.Fetch generation) w = tt
 mirror_carries o past c left _ w = absurd w
 
-now : (o : Opening) (past : List Entry) (e : Entry) → AllByRecursion (λ p. Carries (done o (e ∷ past)) p.body) (packets o past e)
+now : (o : Opening) (past : List Entry) (e : Entry) → AllByRecursion (λ p. Carries (deeds_done o (e ∷ past)) p.body) (packets o past e)
 now o past (Met c left) =
-    all_weaker (IsSent o past c left) (λ p. Carries (done o (Met c left ∷ past)) p.body) (packets o past (Met c left)) (λ p x. elim (x.why) [ inl w ↦ why_carries o past c left w.0 p.body x.answers w.3 | inr w ↦ mirror_carries o past c left p.body w.2 ]) (all_sent o past c left)
+    all_weaker (IsSent o past c left) (λ p. Carries (deeds_done o (Met c left ∷ past)) p.body) (packets o past (Met c left)) (λ p x. elim (x.why) [ inl w ↦ why_carries o past c left w.0 p.body x.answers w.3 | inr w ↦ mirror_carries o past c left p.body w.2 ]) (all_sent o past c left)
 now o past Cut = tt
 now o past (Restart mirror) = tt
 now o past (Renew g left) = tt
 now o past Lose = tt
 
-ever : (o : Opening) (past : List Entry) → AllByRecursion (λ p. Carries (done o past) p.body) (sent o past)
+ever : (o : Opening) (past : List Entry) → AllByRecursion (λ p. Carries (deeds_done o past) p.body) (sent_packets o past)
 ever o [] = tt
 ever o (e ∷ past) =
-    all_append (λ p. Carries (done o (e ∷ past)) p.body) (sent o past) (packets o past e)
-    (all_weaker (λ p. Carries (done o past) p.body) (λ p. Carries (done o (e ∷ past)) p.body) (sent o past) (λ p h. carries_more o e past p.body h) (ever o past))
+    all_append (λ p. Carries (deeds_done o (e ∷ past)) p.body) (sent_packets o past) (packets o past e)
+    (all_weaker (λ p. Carries (deeds_done o past) p.body) (λ p. Carries (deeds_done o (e ∷ past)) p.body) (sent_packets o past) (λ p h. carries_more o e past p.body h) (ever o past))
     (now o past e)
 
-carried : (o : Opening) (past : List Entry) (p : PacketParts) (body : Body) → Contains (sent o past) p → p.body ≡ body → Carries (done o past) body
-carried o past p body h e = subst (Carries (done o past)) e (each_of (λ p. Carries (done o past) p.body) (sent o past) p (ever o past) h)
+carried : (o : Opening) (past : List Entry) (p : PacketParts) (body : Body) → Contains (sent_packets o past) p → p.body ≡ body → Carries (deeds_done o past) body
+carried o past p body h e = subst (Carries (deeds_done o past)) e (each_of (λ p. Carries (deeds_done o past) p.body) (sent_packets o past) p (ever o past) h)
 
 -- two deeds that give one number are one, where the numbers are fresh
 has_later : (xs ys : List ℕ) (k : ℕ) → has ys k ≡ true → has (xs ++ ys) k ≡ true
@@ -160,7 +160,7 @@ pub one_text_of_a_run : OneTextOfARun
 one_text_of_a_run o past p q run text other apart h e g f =
     let d = carried o past p (bodies.Jobs run text) h e in
     let c = carried o past q (bodies.Jobs run other) g f in
-    let same : Begins run text ≡ Begins run other = one_of_number run_in (done o past) (Begins run text) (Begins run other) run (numbers_are_given_once o past apart).runs d c refl refl in
+    let same : Begins run text ≡ Begins run other = one_of_number run_in (deeds_done o past) (Begins run text) (Begins run other) run (numbers_are_given_once o past apart).runs d c refl refl in
     cc
 
 pub one_text_of_an_attempt : OneTextOfAnAttempt
@@ -168,5 +168,5 @@ one_text_of_an_attempt o past p q attempt run run_there text other apart h e g f
     let d = carried o past p (bodies.Verify run attempt text) h e in
     let c = carried o past q (bodies.Verify run_there attempt other) g f in
     let same : Verifies run attempt text ≡ Verifies run_there attempt other =
-    one_of_number attempt_in (done o past) (Verifies run attempt text) (Verifies run_there attempt other) attempt (numbers_are_given_once o past apart).attempts d c refl refl in
+    one_of_number attempt_in (deeds_done o past) (Verifies run attempt text) (Verifies run_there attempt other) attempt (numbers_are_given_once o past apart).attempts d c refl refl in
     (cc, cc)

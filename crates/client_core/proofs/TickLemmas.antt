@@ -14,7 +14,7 @@ use Rattle.client_core.specs.Asked.{rising, runs_of, attempts_of}
 use Rattle.client_core.specs.Begins.{begin_heard, begin_at}
 use Rattle.client_core.specs.Bounds.{is_request}
 use Rattle.client_core.specs.Life.{Deed, Begins, Triggers, Stops, Verifies, Hears, text_of, act_of, run_of, check_of}
-use Rattle.client_core.specs.Packets.{begin_again, again, run_again, attempt_again, requests_again}
+use Rattle.client_core.specs.Packets.{begin_again, packets_again, run_again, attempt_again, requests_again}
 use Rattle.client_core.specs.Requests as requests
 use Rattle.client_core.specs.Requests.{Request, trigger_heard, stop_heard, verify_heard, trigger_at, stop_at, verify_at}
 use Rattle.client_core.proofs.AgainLemmas.{no_run_again, no_attempt_again}
@@ -149,7 +149,7 @@ begin_sends run text s begins.Starting = omega arith
 begin_sends run text s begins.Started = omega arith
 begin_sends run text s (begins.Denied reason) = omega arith
 
-asked_sends : (body : Body) (s : ℕ) (q : Request) → length (again body s q) ≤ asked q
+asked_sends : (body : Body) (s : ℕ) (q : Request) → length (packets_again body s q) ≤ asked q
 asked_sends body s requests.Unasked = omega arith
 asked_sends body s (requests.Open told) = omega arith
 asked_sends body s requests.Served = omega arith
@@ -167,8 +167,8 @@ each_server f g h k few (suc n) = omega (arith, each_server f g h k few n, few n
 run_sends : (servers : ℕ) (ds : List Deed) (run : ℕ) → length (run_again servers ds run) ≤ servers * count (for_run run) ds
 run_sends servers ds run =
     let one = λ (s : ℕ). begin_again run (text_of run ds) s (begin_at run s ds) in
-    let two = λ (s : ℕ). again (bodies.Trigger run (act_of run ds)) s (trigger_at run s ds) in
-    let three = λ (s : ℕ). again (bodies.Stop run) s (stop_at run s ds) in
+    let two = λ (s : ℕ). packets_again (bodies.Trigger run (act_of run ds)) s (trigger_at run s ds) in
+    let three = λ (s : ℕ). packets_again (bodies.Stop run) s (stop_at run s ds) in
     omega (
       arith,
       length-append (flat_map one (numbers_below servers)) (flat_map two (numbers_below servers) ++ flat_map three (numbers_below servers)),
@@ -179,7 +179,7 @@ run_sends servers ds run =
 
 attempt_sends : (servers : ℕ) (ds : List Deed) (attempt : ℕ) → length (attempt_again servers ds attempt) ≤ servers * count (for_attempt attempt) ds
 attempt_sends servers ds attempt =
-    let one = λ (s : ℕ). again (bodies.Verify (run_of attempt ds) attempt (check_of attempt ds)) s (verify_at attempt s ds) in
+    let one = λ (s : ℕ). packets_again (bodies.Verify (run_of attempt ds) attempt (check_of attempt ds)) s (verify_at attempt s ds) in
     omega (arith, each_server one nothing nothing (count (for_attempt attempt) ds) (λ s. omega (arith, attempt_asked attempt s ds, asked_sends (bodies.Verify (run_of attempt ds) attempt (check_of attempt ds)) s (verify_at attempt s ds))) servers)
   where
     nothing : ℕ → List PacketParts

@@ -28,12 +28,12 @@ use Rattle.client_core.specs.declared.peers.Peers.{Peers}
 use Rattle.client_core.specs.History.{Opening, Entry, Met, Cut, Restart, Renew, Lose}
 use Rattle.client_core.specs.Refusals.{is_for_client, refusal_by}
 use Rattle.client_core.specs.Saves.{unless_kept, addition_by, addition_of, unless_refused, noted_after, is_answer}
-use Rattle.client_core.specs.Words.{is_on, noted, peers}
+use Rattle.client_core.specs.Words.{is_on, words_noted, peers}
 use Rattle.client_core.specs.Life.{Deed, Begins, Triggers, Stops, Verifies, Hears, deeds_of, life}
-use Rattle.client_core.specs.Requests.{Telling, Request, jobs_told, tells_of, tells_all, has_misfit, told, refused, trigger_refused, trigger_heard, trigger_at}
+use Rattle.client_core.specs.Requests.{Telling, Request, jobs_told, tells_of, tells_all, has_misfit, when_one_tells, when_refused, trigger_refused, trigger_heard, trigger_at}
 use Rattle.client_core.specs.Requests as requests
 use Rattle.client_core.specs.Packets.{packets}
-use Rattle.client_core.specs.Ranges.{packet_in, came}
+use Rattle.client_core.specs.Ranges.{packet_in, packets_come}
 use Rattle.client_core.specs.Laws.{from_server, FirstKeptStays, HasAnswer, TellsJobs, EndsWell, TriggersEndWell}
 use Rattle.client_core.proofs.HeardLemmas.{from_own, has_one, one, own_state, taken_in}
 use Rattle.client_core.proofs.ListLemmas.{all_weaker}
@@ -119,13 +119,13 @@ ends n packets run server t ts true false e a = record {
 }
 ends n packets run server t ts false misfit e a = a
 
-told_one : (n : Noted) (packets : List PacketParts) (run server : ℕ) (t : Telling) (q : Request) → Told n packets run server t → Known n packets run server q → Known n packets run server (told t q)
+told_one : (n : Noted) (packets : List PacketParts) (run server : ℕ) (t : Telling) (q : Request) → Told n packets run server t → Known n packets run server q → Known n packets run server (when_one_tells t q)
 told_one n packets run server t (requests.Open ts) h k = ends n packets run server t ts (tells_all (t ∷ ts)) (has_misfit (t ∷ ts)) refl (h, k)
 told_one n packets run server t requests.Unasked h k = tt
 told_one n packets run server t requests.Served h k = k
 told_one n packets run server t (requests.Denied reason) h k = tt
 
-refused_one : (n : Noted) (packets : List PacketParts) (run server : ℕ) (reason : Reason) (q : Request) → Known n packets run server q → Known n packets run server (refused reason q)
+refused_one : (n : Noted) (packets : List PacketParts) (run server : ℕ) (reason : Reason) (q : Request) → Known n packets run server q → Known n packets run server (when_refused reason q)
 refused_one n packets run server reasons.Busy q k = k
 refused_one n packets run server reasons.Misfit q k = k
 refused_one n packets run server reason (requests.Open ts) k = tt
@@ -150,7 +150,7 @@ heard last servers n run server from to (bodies.State jobs state) left before q 
     let p : PacketParts = record { from = from; to = to; body = bodies.State jobs state } in
     let f = has_one last n left (kept_of state.key n.kept) state refl a in
     let t : Telling = record { job = state.key.job; jobs = jobs; misfit = false } in
-    either m (p ∷ before) run server (state.key.run == run) (told t q) q
+    either m (p ∷ before) run server (state.key.run == run) (when_one_tells t q) q
     (λ e.
     let r : state.key.run ≡ run = eqb-true state.key.run run e in
     let s : state.key.server ≡ server = own_state servers from to jobs state ours ∙ here in
@@ -164,7 +164,7 @@ heard last servers n run server from to (bodies.State jobs state) left before q 
 heard last servers n run server from to (bodies.NoState r job jobs) left before q ours a here k =
     let p : PacketParts = record { from = from; to = to; body = bodies.NoState r job jobs } in
     let t : Telling = record { job = job; jobs = jobs; misfit = false } in
-    either n (p ∷ before) run server (r == run) (told t q) q
+    either n (p ∷ before) run server (r == run) (when_one_tells t q) q
     (λ e.
     let r' : r ≡ run = eqb-true r run e in
     let whole : p ≡ from_server (bodies.NoState run job jobs) server = from_own servers from to (bodies.NoState r job jobs) refl ours ∙ (λ i. from_server (bodies.NoState (r' i) job jobs) (here i)) in
@@ -213,14 +213,14 @@ called last on servers n Tick left before run server deeds None e k = same (is_a
     same true = k
     same false = k
 
-known : LastIsFound → FirstKeptStays → (o : Opening) (past : List Entry) (run server : ℕ) → Known (noted o past) (came past) run server (trigger_at run server (life o past))
+known : LastIsFound → FirstKeptStays → (o : Opening) (past : List Entry) (run server : ℕ) → Known (words_noted o past) (packets_come past) run server (trigger_at run server (life o past))
 known last stays o [] run server = tt
 known last stays o (Met c left ∷ past) run server =
-    called last (is_on past) (peers o past) (noted o past) c left (came past) run server (life o past) (refusal_by (is_on past) (peers o past) (noted o past) c) refl
-    (known_grows (noted o past) (noted o (Met c left ∷ past)) (came past) (came (Met c left ∷ past)) run server (trigger_at run server (life o past))
+    called last (is_on past) (peers o past) (words_noted o past) c left (packets_come past) run server (life o past) (refusal_by (is_on past) (peers o past) (words_noted o past) c) refl
+    (known_grows (words_noted o past) (words_noted o (Met c left ∷ past)) (packets_come past) (packets_come (Met c left ∷ past)) run server (trigger_at run server (life o past))
     (record {
       kept = λ key s h. stays o (Met c left ∷ []) past key s refl h;
-      came = λ p h. Contains-append_right (packet_in (Met c left)) (came past) p h;
+      came = λ p h. Contains-append_right (packet_in (Met c left)) (packets_come past) p h;
     }) (known last stays o past run server))
 known last stays o (Cut ∷ past) run server = tt
 known last stays o (Restart mirror ∷ past) run server = tt
@@ -228,4 +228,4 @@ known last stays o (Renew g left ∷ past) run server = tt
 known last stays o (Lose ∷ past) run server = tt
 
 pub triggers_end_well : LastIsFound → FirstKeptStays → TriggersEndWell
-triggers_end_well last stays o past run server h = subst (λ q. Known (noted o past) (came past) run server q) h (known last stays o past run server)
+triggers_end_well last stays o past run server h = subst (λ q. Known (words_noted o past) (packets_come past) run server q) h (known last stays o past run server)

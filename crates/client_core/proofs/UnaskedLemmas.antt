@@ -11,7 +11,7 @@ use Rattle.client_core.specs.declared.beginning.Beginning.TheVariants.{Unbegun}
 use Rattle.client_core.specs.Begins.{begin_heard, begin_refused, jobs_refused, start_refused}
 use Rattle.client_core.specs.Life.{Deed, Hears, run_of}
 use Rattle.client_core.specs.Lives.{Unnamed, Unmade}
-use Rattle.client_core.specs.Requests.{Unasked, trigger_heard, stop_heard, verify_heard, trigger_refused, stop_refused, verify_refused, refused, check_refused, Telling}
+use Rattle.client_core.specs.Requests.{Unasked, trigger_heard, stop_heard, verify_heard, trigger_refused, stop_refused, verify_refused, when_refused, check_refused, Telling}
 
 if_both : {A : Type 0} (b : Bool) (x y : A) → x ≡ y → (if b then x else y) ≡ y
 if_both true x y e = e
@@ -21,7 +21,7 @@ if_same : {A : Type 0} (b : Bool) (x y z : A) → x ≡ z → y ≡ z → (if b 
 if_same true x y z e f = e
 if_same false x y z e f = f
 
-not_refused : (reason : Reason) → refused reason Unasked ≡ Unasked
+not_refused : (reason : Reason) → when_refused reason Unasked ≡ Unasked
 not_refused reasons.Old = refl
 not_refused reasons.Busy = refl
 not_refused reasons.NoJobs = refl

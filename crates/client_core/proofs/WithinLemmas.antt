@@ -17,7 +17,7 @@ use Rattle.client_core.specs.Life.{Deed, Begins, Triggers, Stops, Verifies, Hear
 use Rattle.client_core.specs.Asked.{runs_of}
 use Rattle.client_core.specs.Refusals.{is_begun, refusal_by}
 use Rattle.client_core.specs.Saves.{addition_by, addition_of, unless_refused, noted_after, is_answer}
-use Rattle.client_core.specs.Words.{is_on, noted, refusal, peers}
+use Rattle.client_core.specs.Words.{is_on, words_noted, refusal, peers}
 use Rattle.client_core.proofs.RefusalLemmas.{run_free}
 use Rattle.client_core.proofs.FreshLemmas.{body_only}
 use Rattle.client_core.proofs.ListLemmas.{all_weaker}
@@ -90,9 +90,9 @@ step n (Deliver p) None left ds o k =
     (subst (λ m. AllByRecursion (Within n.runs m) (if b then Hears (node_number p.from) p.body ∷ ds else ds)) (sym e.1) (either n.runs n.attempts b (Hears (node_number p.from) p.body) ds tt k))
 step n Tick None left ds o k = same n.runs n.attempts (is_answer None left) ds k
 
-life_within : (o : Opening) (past : List Entry) → AllByRecursion (Within (noted o past).runs (noted o past).attempts) (life o past)
+life_within : (o : Opening) (past : List Entry) → AllByRecursion (Within (words_noted o past).runs (words_noted o past).attempts) (life o past)
 life_within o [] = tt
-life_within o (Met c left ∷ past) = step (noted o past) c (refusal o past c) left (life o past) (own (is_on past) (peers o past) (noted o past) c) (life_within o past)
+life_within o (Met c left ∷ past) = step (words_noted o past) c (refusal o past c) left (life o past) (own (is_on past) (peers o past) (words_noted o past) c) (life_within o past)
 life_within o (Cut ∷ past) = tt
 life_within o (Restart mirror ∷ past) = tt
 life_within o (Renew g left ∷ past) = tt
@@ -107,5 +107,5 @@ of_runs runs attempts (Verifies r a t ∷ ds) h = of_runs runs attempts ds h.1
 of_runs runs attempts (Hears s b ∷ ds) h = of_runs runs attempts ds h.1
 
 -- The runs that were asked for in this life were begun.
-pub runs_were_begun : (o : Opening) (past : List Entry) → AllByRecursion (λ r. (1 ≤ r) × (r ≤ (noted o past).runs)) (runs_of (life o past))
-runs_were_begun o past = of_runs (noted o past).runs (noted o past).attempts (life o past) (life_within o past)
+pub runs_were_begun : (o : Opening) (past : List Entry) → AllByRecursion (λ r. (1 ≤ r) × (r ≤ (words_noted o past).runs)) (runs_of (life o past))
+runs_were_begun o past = of_runs (words_noted o past).runs (words_noted o past).attempts (life o past) (life_within o past)

@@ -3,15 +3,15 @@ use Rattle.std.specs.Prelude.{ℕ, ◌==◌, nat_lt, if◌then◌else◌, List, 
 use Rattle.client_core.specs.Life.{Deed, Begins, Triggers, Stops, Verifies}
 
 -- Rising numbers with one more at its place, where it isn't one of them.
-abbrev pub placed : ℕ → List ℕ → List ℕ
-placed n [] = n ∷ []
-placed n (m ∷ ms) =
-    if nat_lt n m then n ∷ m ∷ ms else (if n == m then m ∷ ms else m ∷ placed n ms)
+abbrev pub with_number : ℕ → List ℕ → List ℕ
+with_number n [] = n ∷ []
+with_number n (m ∷ ms) =
+    if nat_lt n m then n ∷ m ∷ ms else (if n == m then m ∷ ms else m ∷ with_number n ms)
 
 -- The numbers in rising order, each once.
 abbrev pub rising : List ℕ → List ℕ
 rising [] = []
-rising (n ∷ ns) = placed n (rising ns)
+rising (n ∷ ns) = with_number n (rising ns)
 
 -- The runs that were begun, triggered or stopped, the last first.
 abbrev pub runs_of : List Deed → List ℕ

@@ -11,14 +11,14 @@ use Rattle.client_core.specs.declared.beginning.Beginning.TheVariants.{Unbegun, 
 use Rattle.client_core.specs.Life.{Deed, Begins, Hears}
 
 -- JobsOk answers Jobs, and Start is opened.
-abbrev pub staged : Beginning → Beginning
-staged Staging = Starting
-staged b = b
+abbrev pub when_staged : Beginning → Beginning
+when_staged Staging = Starting
+when_staged b = b
 
 -- Started answers Start.
-abbrev pub started : Beginning → Beginning
-started Starting = Started
-started b = b
+abbrev pub when_started : Beginning → Beginning
+when_started Starting = Started
+when_started b = b
 
 -- A server that is busy is asked again, and a misfit is none of Jobs; any other reason ends an open
 -- Jobs.
@@ -44,8 +44,8 @@ begin_refused _ reason b = b
 
 -- What a server says of the run.
 abbrev pub begin_heard : ℕ → Body → Beginning → Beginning
-begin_heard run (bodies.JobsOk r jobs) b = if r == run then staged b else b
-begin_heard run (bodies.Started r) b = if r == run then started b else b
+begin_heard run (bodies.JobsOk r jobs) b = if r == run then when_staged b else b
+begin_heard run (bodies.Started r) b = if r == run then when_started b else b
 begin_heard run (bodies.Refused r) b = if r.run == run then begin_refused r.asked r.reason b else b
 begin_heard run _ b = b
 

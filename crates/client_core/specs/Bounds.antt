@@ -6,10 +6,10 @@ use Rattle.disk_model.specs.declared.left.Left.{Left}
 use Rattle.client_core.specs.declared.call.Call.{Call}
 use Rattle.client_core.specs.declared.call.Call.TheVariants.{Tick}
 use Rattle.client_core.specs.History.{Opening, Entry, Met}
-use Rattle.client_core.specs.Framed.{framed}
+use Rattle.client_core.specs.Framed.{frame_bytes}
 use Rattle.client_core.specs.Life.{Deed, Hears, life}
 use Rattle.client_core.specs.Packets.{packets}
-use Rattle.client_core.specs.Words.{noted, has_mirror}
+use Rattle.client_core.specs.Words.{words_noted, has_mirror}
 use Rattle.client_core.specs.Ranges.{OpensInRange, CameInRange}
 
 -- A begin, a trigger, a stop or a verify.
@@ -23,7 +23,7 @@ requests o past = length (filter is_request (life o past))
 
 -- How many packets a tick sends to the mirror at most: one, and one for each kept state.
 abbrev pub most_copies : Opening → List Entry → ℕ
-most_copies o past = if has_mirror past then 1 + length (noted o past).kept else 0
+most_copies o past = if has_mirror past then 1 + length (words_noted o past).kept else 0
 
 -- A tick sends at most one packet to each server for each request of this life, and those to the mirror;
 -- any other call at most 8 packets.
@@ -47,4 +47,4 @@ abbrev pub FramesAreShort : Type 0
 FramesAreShort =
     (o : Opening) (past : List Entry) (c : Call) (left : Left) →
     OpensInRange o → CameInRange (Met c left ∷ past) →
-    AreShort (most_packets o past c) (framed (packets o past (Met c left)))
+    AreShort (most_packets o past c) (frame_bytes (packets o past (Met c left)))

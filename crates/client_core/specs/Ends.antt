@@ -12,15 +12,15 @@ use Rattle.client_core.specs.declared.call.Call.{Call}
 use Rattle.client_core.specs.declared.packet_client.PacketClient.{PacketClient}
 use Rattle.client_core.specs.Note.{spelling}
 use Rattle.client_core.specs.History.{Opening, Entry, Met}
-use Rattle.client_core.specs.Framed.{framed}
+use Rattle.client_core.specs.Framed.{frame_bytes}
 use Rattle.client_core.specs.Saves.{Addition, with_addition}
-use Rattle.client_core.specs.Words.{noted, refusal, due}
+use Rattle.client_core.specs.Words.{words_noted, refusal, due}
 use Rattle.client_core.specs.Packets.{packets}
 use Rattle.client_core.specs.Stands.{StandsFor}
 
 -- What an answered call leaves in the list: it saved, where it was due to.
-abbrev pub answered : Opening → List Entry → Call → Entry
-answered o past c = Met c (saved_for (due o past c))
+abbrev pub answered_entry : Opening → List Entry → Call → Entry
+answered_entry o past c = Met c (saved_for (due o past c))
 
 -- The steps of a client that takes packets: its note, what its list says of a call, and what is sent.
 -- A refused call leaves it as it was.
@@ -32,8 +32,8 @@ steps note o = record {
   refusal = refusal o;
   due = due o;
   met = Met;
-  spelled = λ past. spelling (noted o past);
-  Sends = λ past c frames. frames ≡ framed (packets o past (answered o past c));
+  spelled = λ past. spelling (words_noted o past);
+  Sends = λ past c frames. frames ≡ frame_bytes (packets o past (answered_entry o past c));
   Stays = λ past c client. StandsFor note client o past;
 }
 

@@ -21,29 +21,29 @@ use Rattle.client_core.specs.declared.outcome.Outcome.TheVariants as outcomes
 use Rattle.client_core.specs.declared.outcome.RequestKind.TheVariants as kinds
 use Rattle.client_core.specs.Note.{blank}
 use Rattle.client_core.specs.History.{Opening, Entry, Met, Cut, Restart, Renew, Lose}
-use Rattle.client_core.specs.Words.{refusal, due, kept}
+use Rattle.client_core.specs.Words.{refusal, due, kept_state}
 use Rattle.client_core.specs.Life.{life}
-use Rattle.client_core.specs.Outcomes.{outcome, settled}
+use Rattle.client_core.specs.Outcomes.{outcome, is_settled}
 use Rattle.client_core.specs.Packets.{packets}
 use Rattle.client_core.specs.Reports.{reports}
 use Rattle.client_core.specs.Laws.{from_server, from_mirror}
 
 -- One server, and a blank note.
-abbrev pub opened : Opening
-opened = record { servers = 1; noted = blank }
+abbrev pub opening : Opening
+opening = record { servers = 1; noted = blank }
 
 -- The text of a job file: what it says is the server's matter.
 abbrev pub text : List ℕ
 text = 91 ∷ []
 
 -- Server 0 says this.
-abbrev pub said : Body → Call
-said body = Deliver (from_server body 0)
+abbrev pub server_says : Body → Call
+server_says body = Deliver (from_server body 0)
 
 -- It refuses a request of run 1, in this attempt.
-abbrev pub refused : Asked → Reason → ℕ → Call
-refused asked reason attempt =
-    said (bodies.Refused (record {
+abbrev pub server_refuses : Asked → Reason → ℕ → Call
+server_refuses asked reason attempt =
+    server_says (bodies.Refused (record {
       asked = asked;
       reason = reason;
       job = 0;
@@ -54,17 +54,17 @@ refused asked reason attempt =
     }))
 
 -- A call that is answered: it saves where it has something to save.
-abbrev pub met : List Entry → Call → Entry
-met past c = Met c (if is_some (due opened past c) then Saved else NoSave)
+abbrev pub answered_entry : List Entry → Call → Entry
+answered_entry past c = Met c (if is_some (due opening past c) then Saved else NoSave)
 
 -- The list of these calls, the newest first, behind these entries.
-abbrev pub behind : List Entry → List Call → List Entry
-behind past [] = past
-behind past (c ∷ calls) = met (behind past calls) c ∷ behind past calls
+abbrev pub with_calls : List Entry → List Call → List Entry
+with_calls past [] = past
+with_calls past (c ∷ calls) = answered_entry (with_calls past calls) c ∷ with_calls past calls
 
 -- What is sent in answer to a call.
-abbrev pub sent : List Entry → Call → List Body
-sent past c = map (λ p. p.body) (packets opened past (met past c))
+abbrev pub sent_bodies : List Entry → Call → List Body
+sent_bodies past c = map (λ p. p.body) (packets opening past (answered_entry past c))
 
 -- The state of a job of run 1 that has issued so many of its two writes.
 abbrev pub state : ℕ → ℕ → State
@@ -87,87 +87,87 @@ state job issued = record {
 }
 
 -- Run 1 is begun.
-abbrev pub begun : List Entry
-begun = behind (Restart false ∷ []) (Begin text ∷ [])
+abbrev pub after_begin : List Entry
+after_begin = with_calls (Restart false ∷ []) (Begin text ∷ [])
 
 -- Its jobs are staged.
-abbrev pub staged : List Entry
-staged = behind begun (said (bodies.JobsOk 1 2) ∷ [])
+abbrev pub after_jobs : List Entry
+after_jobs = with_calls after_begin (server_says (bodies.JobsOk 1 2) ∷ [])
 
 -- The jobs are sent until they are staged, and then the start, once, until it is answered; a server that
 -- lacks the jobs gets them again.
 pub record Begins : Type 0 where
-  pub jobs : sent (Restart false ∷ []) (Begin text) ≡ bodies.Jobs 1 text ∷ []
-  pub again : sent begun Tick ≡ bodies.Jobs 1 text ∷ []
-  pub start : sent begun (said (bodies.JobsOk 1 2)) ≡ bodies.Start 1 ∷ []
-  pub once : sent staged (said (bodies.JobsOk 1 2)) ≡ []
-  pub start_again : sent staged Tick ≡ bodies.Start 1 ∷ []
-  pub lacks_jobs : sent staged (refused asks.Start reasons.NoJobs 0) ≡ bodies.Jobs 1 text ∷ []
+  pub jobs : sent_bodies (Restart false ∷ []) (Begin text) ≡ bodies.Jobs 1 text ∷ []
+  pub again : sent_bodies after_begin Tick ≡ bodies.Jobs 1 text ∷ []
+  pub start : sent_bodies after_begin (server_says (bodies.JobsOk 1 2)) ≡ bodies.Start 1 ∷ []
+  pub once : sent_bodies after_jobs (server_says (bodies.JobsOk 1 2)) ≡ []
+  pub start_again : sent_bodies after_jobs Tick ≡ bodies.Start 1 ∷ []
+  pub lacks_jobs : sent_bodies after_jobs (server_refuses asks.Start reasons.NoJobs 0) ≡ bodies.Jobs 1 text ∷ []
   pub good :
-      outcome opened (behind staged (said (bodies.Started 1) ∷ [])) kinds.Begin 1 0 ≡ outcomes.Good
+      outcome opening (with_calls after_jobs (server_says (bodies.Started 1) ∷ [])) kinds.Begin 1 0 ≡ outcomes.Good
 
 -- A server that is busy is asked again; any other refusal ends the request.
 pub record WaitsForTheBusy : Type 0 where
   pub busy :
-      outcome opened (behind begun (refused asks.Jobs reasons.Busy 0 ∷ [])) kinds.Begin 1 0
+      outcome opening (with_calls after_begin (server_refuses asks.Jobs reasons.Busy 0 ∷ [])) kinds.Begin 1 0
       ≡ outcomes.Open
   pub ended :
-      outcome opened (behind begun (refused asks.Jobs reasons.BadJobs 0 ∷ [])) kinds.Begin 1 0
+      outcome opening (with_calls after_begin (server_refuses asks.Jobs reasons.BadJobs 0 ∷ [])) kinds.Begin 1 0
       ≡ outcomes.Refused reasons.BadJobs
 
 -- Run 1 is triggered.
-abbrev pub triggered : List Entry
-triggered = behind begun (Trigger 1 acts.Cut ∷ [])
+abbrev pub after_trigger : List Entry
+after_trigger = with_calls after_begin (Trigger 1 acts.Cut ∷ [])
 
 -- The state of job 1 has come, and was kept.
 abbrev pub kept_one : List Entry
-kept_one = behind triggered (said (bodies.State 2 (state 1 2)) ∷ [])
+kept_one = with_calls after_trigger (server_says (bodies.State 2 (state 1 2)) ∷ [])
 
 -- A state is kept and then acknowledged; it is acknowledged again without a save; another state of its
 -- key, and one of another server, are refused.
 pub record KeepsTheFirst : Type 0 where
   pub acknowledged :
-      sent triggered (said (bodies.State 2 (state 1 2))) ≡ bodies.StateAck 1 1 ∷ []
+      sent_bodies after_trigger (server_says (bodies.State 2 (state 1 2))) ≡ bodies.StateAck 1 1 ∷ []
   pub kept :
-      kept opened kept_one (record { run = 1; server = 0; job = 1 }) ≡ Some (state 1 2)
-  pub saved_once : due opened kept_one (said (bodies.State 2 (state 1 2))) ≡ None
-  pub again : sent kept_one (said (bodies.State 2 (state 1 2))) ≡ bodies.StateAck 1 1 ∷ []
-  pub conflict : refusal opened kept_one (said (bodies.State 2 (state 1 1))) ≡ Some Conflict
+      kept_state opening kept_one (record { run = 1; server = 0; job = 1 }) ≡ Some (state 1 2)
+  pub saved_once : due opening kept_one (server_says (bodies.State 2 (state 1 2))) ≡ None
+  pub again : sent_bodies kept_one (server_says (bodies.State 2 (state 1 2))) ≡ bodies.StateAck 1 1 ∷ []
+  pub conflict : refusal opening kept_one (server_says (bodies.State 2 (state 1 1))) ≡ Some Conflict
   pub misdirected :
-      refusal opened kept_one (Deliver (from_server (bodies.State 2 (state 0 2)) 1)) ≡ Some Misdirected
+      refusal opening kept_one (Deliver (from_server (bodies.State 2 (state 0 2)) 1)) ≡ Some Misdirected
 
 -- A trigger is open until each job has an answer.
 pub record TriggersToTheEnd : Type 0 where
-  pub one : outcome opened kept_one kinds.Trigger 1 0 ≡ outcomes.Open
-  pub unsettled : settled opened kept_one 1 ≡ false
+  pub one : outcome opening kept_one kinds.Trigger 1 0 ≡ outcomes.Open
+  pub unsettled : is_settled opening kept_one 1 ≡ false
   pub both :
-      outcome opened (behind kept_one (said (bodies.NoState 1 0 2) ∷ [])) kinds.Trigger 1 0
+      outcome opening (with_calls kept_one (server_says (bodies.NoState 1 0 2) ∷ [])) kinds.Trigger 1 0
       ≡ outcomes.Good
-  pub settled : settled opened (behind kept_one (said (bodies.NoState 1 0 2) ∷ [])) 1 ≡ true
+  pub settled : is_settled opening (with_calls kept_one (server_says (bodies.NoState 1 0 2) ∷ [])) 1 ≡ true
 
 -- Run 1 is verified, in attempt 1.
-abbrev pub verifying : List Entry
-verifying = behind kept_one (Verify 1 text ∷ [])
+abbrev pub after_verify : List Entry
+after_verify = with_calls kept_one (Verify 1 text ∷ [])
 
 -- What the check of job 1 found.
-abbrev pub found : ReportParts
-found = record { checked = 1; faults = 0; first = []; end = Whole }
+abbrev pub found_report : ReportParts
+found_report = record { checked = 1; faults = 0; first = []; end = Whole }
 
 -- A check gets each kept state that it asks for, and is told where there is none; its reports are kept,
 -- each once; it ends as a misfit where a state didn't fit.
 pub record Verifies : Type 0 where
-  pub kept : sent verifying (said (bodies.WantState 1 1 1)) ≡ bodies.Saved 1 (state 1 2) ∷ []
-  pub none : sent verifying (said (bodies.WantState 1 1 0)) ≡ bodies.NoSaved 1 1 0 ∷ []
+  pub kept : sent_bodies after_verify (server_says (bodies.WantState 1 1 1)) ≡ bodies.Saved 1 (state 1 2) ∷ []
+  pub none : sent_bodies after_verify (server_says (bodies.WantState 1 1 0)) ≡ bodies.NoSaved 1 1 0 ∷ []
   pub report :
-      reports (life opened (behind verifying (said (bodies.Report 1 1 1 2 found)
-      ∷ said (bodies.Report 1 1 1 2 found) ∷ [])))
-      ≡ record { run = 1; attempt = 1; server = 0; job = 1; report = found } ∷ []
+      reports (life opening (with_calls after_verify (server_says (bodies.Report 1 1 1 2 found_report)
+      ∷ server_says (bodies.Report 1 1 1 2 found_report) ∷ [])))
+      ≡ record { run = 1; attempt = 1; server = 0; job = 1; report = found_report } ∷ []
   pub good :
-      outcome opened (behind verifying (said (bodies.Report 1 1 0 2 found)
-      ∷ said (bodies.Report 1 1 1 2 found) ∷ [])) kinds.Verify 1 0 ≡ outcomes.Good
+      outcome opening (with_calls after_verify (server_says (bodies.Report 1 1 0 2 found_report)
+      ∷ server_says (bodies.Report 1 1 1 2 found_report) ∷ [])) kinds.Verify 1 0 ≡ outcomes.Good
   pub misfit :
-      outcome opened (behind verifying (said (bodies.Report 1 1 1 2 found)
-      ∷ said (bodies.Refused (record {
+      outcome opening (with_calls after_verify (server_says (bodies.Report 1 1 1 2 found_report)
+      ∷ server_says (bodies.Refused (record {
         asked = asks.Verify;
         reason = reasons.Misfit;
         job = 0;
@@ -179,43 +179,43 @@ pub record Verifies : Type 0 where
       ∷ [])) kinds.Verify 1 0 ≡ outcomes.Refused reasons.Misfit
 
 -- A save of a begin that failed, and a restart.
-abbrev pub lost : Left → List Entry
-lost left = Restart false ∷ (Met (Begin text) left ∷ (Restart false ∷ []))
+abbrev pub after_lost_begin : Left → List Entry
+after_lost_begin left = Restart false ∷ (Met (Begin text) left ∷ (Restart false ∷ []))
 
 -- A client whose save failed is down until it is restarted. The run's number is given again only where
 -- the note has the old bytes.
 pub record GoesDown : Type 0 where
-  pub sends_nothing : packets opened (Restart false ∷ []) (Met (Begin text) LostNew) ≡ []
-  pub down : refusal opened (Met (Begin text) LostNew ∷ (Restart false ∷ [])) Tick ≡ Some Down
-  pub next : sent (lost LostNew) (Begin text) ≡ bodies.Jobs 2 text ∷ []
-  pub again : sent (lost LostOld) (Begin text) ≡ bodies.Jobs 1 text ∷ []
+  pub sends_nothing : packets opening (Restart false ∷ []) (Met (Begin text) LostNew) ≡ []
+  pub down : refusal opening (Met (Begin text) LostNew ∷ (Restart false ∷ [])) Tick ≡ Some Down
+  pub next : sent_bodies (after_lost_begin LostNew) (Begin text) ≡ bodies.Jobs 2 text ∷ []
+  pub again : sent_bodies (after_lost_begin LostOld) (Begin text) ≡ bodies.Jobs 1 text ∷ []
 
 -- A state whose save failed is kept where the note has the new bytes, and is then acknowledged without a
 -- save.
 pub record KeepsWhatIsNoted : Type 0 where
   pub acknowledged :
-      sent (Restart false ∷ (Met (said (bodies.State 2 (state 1 2))) LostNew ∷ triggered))
-      (said (bodies.State 2 (state 1 2))) ≡ bodies.StateAck 1 1 ∷ []
+      sent_bodies (Restart false ∷ (Met (server_says (bodies.State 2 (state 1 2))) LostNew ∷ after_trigger))
+      (server_says (bodies.State 2 (state 1 2))) ≡ bodies.StateAck 1 1 ∷ []
   pub saved :
-      due opened (Restart false ∷ (Met (said (bodies.State 2 (state 1 2))) LostNew ∷ triggered))
-      (said (bodies.State 2 (state 1 2))) ≡ None
+      due opening (Restart false ∷ (Met (server_says (bodies.State 2 (state 1 2))) LostNew ∷ after_trigger))
+      (server_says (bodies.State 2 (state 1 2))) ≡ None
 
 -- A cut loses the requests, and neither numbers nor states.
 abbrev pub cut_off : List Entry
-cut_off = Restart false ∷ (Cut ∷ verifying)
+cut_off = Restart false ∷ (Cut ∷ after_verify)
 
 pub record ForgetsByACut : Type 0 where
-  pub quiet : sent cut_off Tick ≡ []
-  pub next : sent cut_off (Begin text) ≡ bodies.Jobs 2 text ∷ []
-  pub kept : sent cut_off (said (bodies.WantState 1 1 1)) ≡ bodies.Saved 1 (state 1 2) ∷ []
-  pub known : refusal opened cut_off (Trigger 1 acts.Cut) ≡ None
-  pub unknown : refusal opened cut_off (Trigger 2 acts.Cut) ≡ Some NoSuchRun
+  pub quiet : sent_bodies cut_off Tick ≡ []
+  pub next : sent_bodies cut_off (Begin text) ≡ bodies.Jobs 2 text ∷ []
+  pub kept : sent_bodies cut_off (server_says (bodies.WantState 1 1 1)) ≡ bodies.Saved 1 (state 1 2) ∷ []
+  pub known : refusal opening cut_off (Trigger 1 acts.Cut) ≡ None
+  pub unknown : refusal opening cut_off (Trigger 2 acts.Cut) ≡ Some NoSuchRun
 
 -- All open requests are sent again: by run the jobs or the start, the trigger and the stop, and then the
 -- verifies.
 pub record AsksAgainInOrder : Type 0 where
   pub order :
-      sent (behind verifying (Stop 1 ∷ [])) Tick
+      sent_bodies (with_calls after_verify (Stop 1 ∷ [])) Tick
       ≡ bodies.Jobs 1 text ∷ (bodies.Trigger 1 acts.Cut ∷ (bodies.Stop 1 ∷ (bodies.Verify 1 1 text ∷ [])))
 
 -- Numbers are spent.
@@ -225,31 +225,31 @@ pub record SpendsNumbers : Type 0 where
       (Restart false ∷ []) (Begin text) ≡ Some NumbersSpent
 
 -- A client with a mirror begins in generation 1.
-abbrev pub anew : List Entry
-anew = Renew 1 Saved ∷ []
+abbrev pub after_renewal : List Entry
+after_renewal = Renew 1 Saved ∷ []
 
 -- The mirror says this.
-abbrev pub mirrored : Body → Call
-mirrored body = Deliver (from_mirror body)
+abbrev pub mirror_says : Body → Call
+mirror_says body = Deliver (from_mirror body)
 
 -- Generation 1 is granted.
-abbrev pub granted : List Entry
-granted = behind anew (mirrored (bodies.Granted 1) ∷ [])
+abbrev pub after_grant : List Entry
+after_grant = with_calls after_renewal (mirror_says (bodies.Granted 1) ∷ [])
 
 -- Numbers are given once the mirror granted the generation, which is asked for until then.
 pub record NumbersOnceGranted : Type 0 where
-  pub not_yet : refusal opened anew (Begin text) ≡ Some NumbersSpent
-  pub asked : sent anew Tick ≡ bodies.Fetch 1 ∷ []
-  pub quiet : sent anew (mirrored (bodies.Granted 1)) ≡ []
-  pub other : refusal opened (behind anew (mirrored (bodies.Granted 2) ∷ [])) (Begin text) ≡ Some NumbersSpent
-  pub asked_no_more : sent granted Tick ≡ []
-  pub given : sent granted (Begin text) ≡ bodies.Jobs 4294967297 text ∷ []
-  pub asked_in_each_life : sent (Restart true ∷ (Cut ∷ granted)) Tick ≡ bodies.Fetch 1 ∷ []
-  pub not_without : refusal opened (Restart false ∷ (Cut ∷ granted)) (Begin text) ≡ Some NumbersSpent
+  pub not_yet : refusal opening after_renewal (Begin text) ≡ Some NumbersSpent
+  pub asked : sent_bodies after_renewal Tick ≡ bodies.Fetch 1 ∷ []
+  pub quiet : sent_bodies after_renewal (mirror_says (bodies.Granted 1)) ≡ []
+  pub other : refusal opening (with_calls after_renewal (mirror_says (bodies.Granted 2) ∷ [])) (Begin text) ≡ Some NumbersSpent
+  pub asked_no_more : sent_bodies after_grant Tick ≡ []
+  pub given : sent_bodies after_grant (Begin text) ≡ bodies.Jobs 4294967297 text ∷ []
+  pub asked_in_each_life : sent_bodies (Restart true ∷ (Cut ∷ after_grant)) Tick ≡ bodies.Fetch 1 ∷ []
+  pub not_without : refusal opening (Restart false ∷ (Cut ∷ after_grant)) (Begin text) ≡ Some NumbersSpent
 
 -- The first run of generation 1 is begun and triggered.
 abbrev pub begun_anew : List Entry
-begun_anew = behind granted (Trigger 4294967297 acts.None ∷ (Begin text ∷ []))
+begun_anew = with_calls after_grant (Trigger 4294967297 acts.None ∷ (Begin text ∷ []))
 
 -- Its state.
 abbrev pub state_anew : State
@@ -257,23 +257,23 @@ state_anew = record (state 0 2) { key = record { run = 4294967297; server = 0; j
 
 -- It is kept.
 abbrev pub kept_anew : List Entry
-kept_anew = behind begun_anew (said (bodies.State 1 state_anew) ∷ [])
+kept_anew = with_calls begun_anew (server_says (bodies.State 1 state_anew) ∷ [])
 
 -- The mirror keeps it, too.
 abbrev pub copied_anew : List Entry
-copied_anew = behind kept_anew (mirrored (bodies.CopyOk 4294967297 0 0) ∷ [])
+copied_anew = with_calls kept_anew (mirror_says (bodies.CopyOk 4294967297 0 0) ∷ [])
 
 -- A state that is newly kept is copied, and again by each tick until the mirror has it: first goes what
 -- asks for the grant, then the open requests, and last the copies.
 pub record CopiesWhatIsKept : Type 0 where
   pub acknowledged :
-      sent begun_anew (said (bodies.State 1 state_anew))
+      sent_bodies begun_anew (server_says (bodies.State 1 state_anew))
       ≡ bodies.StateAck 4294967297 0 ∷ (bodies.Copy state_anew ∷ [])
-  pub once : sent kept_anew (said (bodies.State 1 state_anew)) ≡ bodies.StateAck 4294967297 0 ∷ []
-  pub again : sent kept_anew Tick ≡ bodies.Jobs 4294967297 text ∷ (bodies.Copy state_anew ∷ [])
-  pub no_more : sent copied_anew Tick ≡ bodies.Jobs 4294967297 text ∷ []
+  pub once : sent_bodies kept_anew (server_says (bodies.State 1 state_anew)) ≡ bodies.StateAck 4294967297 0 ∷ []
+  pub again : sent_bodies kept_anew Tick ≡ bodies.Jobs 4294967297 text ∷ (bodies.Copy state_anew ∷ [])
+  pub no_more : sent_bodies copied_anew Tick ≡ bodies.Jobs 4294967297 text ∷ []
   pub in_each_life :
-      sent (behind (Restart true ∷ (Cut ∷ copied_anew)) (Trigger 4294967297 acts.None ∷ [])) Tick
+      sent_bodies (with_calls (Restart true ∷ (Cut ∷ copied_anew)) (Trigger 4294967297 acts.None ∷ [])) Tick
       ≡ bodies.Fetch 1 ∷ (bodies.Trigger 4294967297 acts.None ∷ (bodies.Copy state_anew ∷ []))
 
 -- The note is lost, and the client begins in generation 2.
@@ -283,19 +283,19 @@ lost_and_renewed = Renew 2 Saved ∷ (Lose ∷ (Cut ∷ copied_anew))
 -- Generation 2 is granted, and the mirror gives the state.
 abbrev pub fetched_again : List Entry
 fetched_again =
-    behind lost_and_renewed
-    (mirrored (bodies.Copy state_anew) ∷ (mirrored (bodies.Granted 2) ∷ []))
+    with_calls lost_and_renewed
+    (mirror_says (bodies.Copy state_anew) ∷ (mirror_says (bodies.Granted 2) ∷ []))
 
 -- A lost state is kept again once the mirror gives it, and no number is given again.
 pub record FetchesWhatWasLost : Type 0 where
-  pub lost : kept opened lost_and_renewed state_anew.key ≡ None
-  pub asked : sent lost_and_renewed Tick ≡ bodies.Fetch 2 ∷ []
-  pub kept : kept opened fetched_again state_anew.key ≡ Some state_anew
-  pub given : sent fetched_again (Begin text) ≡ bodies.Jobs 8589934593 text ∷ []
+  pub lost : kept_state opening lost_and_renewed state_anew.key ≡ None
+  pub asked : sent_bodies lost_and_renewed Tick ≡ bodies.Fetch 2 ∷ []
+  pub kept : kept_state opening fetched_again state_anew.key ≡ Some state_anew
+  pub given : sent_bodies fetched_again (Begin text) ≡ bodies.Jobs 8589934593 text ∷ []
 
 -- Copies, their answers and grants are taken from the mirror alone, where there is one, and nothing else
 -- is taken from it.
 pub record HearsItsMirrorAlone : Type 0 where
-  pub from_a_server : refusal opened granted (said (bodies.Copy state_anew)) ≡ Some Misdirected
-  pub without : refusal opened begun (mirrored (bodies.Granted 1)) ≡ Some Misdirected
-  pub nothing_else : refusal opened granted (mirrored (bodies.Started 1)) ≡ Some Misdirected
+  pub from_a_server : refusal opening after_grant (server_says (bodies.Copy state_anew)) ≡ Some Misdirected
+  pub without : refusal opening after_begin (mirror_says (bodies.Granted 1)) ≡ Some Misdirected
+  pub nothing_else : refusal opening after_grant (mirror_says (bodies.Started 1)) ≡ Some Misdirected

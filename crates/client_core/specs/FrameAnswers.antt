@@ -18,7 +18,7 @@ use Rattle.client_core.specs.History.{Opening}
 use Rattle.client_core.specs.Saves.{Addition}
 use Rattle.client_core.specs.Words as words
 use Rattle.client_core.specs.Packets.{packets}
-use Rattle.client_core.specs.Hearing.{FrameEntry, Met, rules, coming, heard_at, packets_heard}
+use Rattle.client_core.specs.Hearing.{FrameEntry, Met, rules, coming_of, heard_at, packets_heard}
 
 -- What comes is, to a client that hears packets: a call; a piece that is kept, and gives nothing yet; one
 -- whose tag is dropped, since the bytes aren't its packet; or a piece that isn't for it.
@@ -81,12 +81,12 @@ IsPiece (Whole p) = ⊥
 IsPiece (Piece q) = Unit {0}
 
 -- What an answered input leaves in the list: it saved, where it was due to.
-abbrev pub answered : Opening → List FrameEntry → Input → FrameEntry
-answered o past e = Met e (saved_for (due o past e))
+abbrev pub answered_entry : Opening → List FrameEntry → Input → FrameEntry
+answered_entry o past e = Met e (saved_for (due o past e))
 
 -- The entry that is heard of what happens.
 abbrev pub entry_heard : Opening → List FrameEntry → FrameEntry → Option history.Entry
-entry_heard o past e = entry_of (rules o) (heard_at o past) (coming e)
+entry_heard o past e = entry_of (rules o) (heard_at o past) (coming_of e)
 
 -- The frames of the packets that an entry sends; none where nothing is heard.
 abbrev pub frames_by : Opening → List history.Entry → Option history.Entry → List Frame

@@ -20,7 +20,7 @@ use Rattle.client_core.specs.Bounds.{AreShort, requests, most_copies}
 use Rattle.client_core.specs.Ranges.{OpensInRange, CameInRange}
 use Rattle.client_core.specs.Stands as whole
 use Rattle.client_core.specs.Hearing.{FrameEntry, Met, Restart, Renew, packets_heard, assembly}
-use Rattle.client_core.specs.FrameAnswers.{is_drop, sense, frames, refusal, due, answered}
+use Rattle.client_core.specs.FrameAnswers.{is_drop, sense, frames, refusal, due, answered_entry}
 
 -- A client stands for a list of frames where its core stands for the packets that are heard in it, and,
 -- while it is on, keeps what has come together of pieces.
@@ -39,7 +39,7 @@ most_packets o past _ = MAX_SERVERS
 -- ranges, they are few and short.
 pub record Sends (o : Opening) (past : List FrameEntry) (e : Input)
     (sent : List (List ℕ)) : Type 0 where
-  pub frames_are : sent ≡ map frame_spelling (frames o past (answered o past e))
+  pub frames_are : sent ≡ map frame_spelling (frames o past (answered_entry o past e))
   pub short : OpensInRange o → CameInRange (packets_heard o past) → AreShort (most_packets o past e) sent
 
 -- The steps of a client: its note, what its list says of what comes, and what is sent. What is
@@ -52,7 +52,7 @@ steps note o = record {
   refusal = refusal o;
   due = due o;
   met = Met;
-  spelled = λ past. spelling (words.noted o (packets_heard o past));
+  spelled = λ past. spelling (words.words_noted o (packets_heard o past));
   Sends = Sends o;
   Stays = λ past e client. is_drop (sense o past e) ≡ false → StandsFor note client o past;
 }
@@ -67,7 +67,7 @@ pub record Opens {T : Type 0} (note : T → Note) (servers : ℕ) (mirror : Bool
   pub says : Says old.bytes said
   pub stands :
       (o : Opening) (past : List FrameEntry) → o.servers ≡ servers →
-      Says old.bytes (words.noted o (packets_heard o past)) →
+      Says old.bytes (words.words_noted o (packets_heard o past)) →
       StandsFor note client o (Restart mirror ∷ past)
 
 -- A client is opened, or the notes come back with the reason.
@@ -82,7 +82,7 @@ pub record BeginsAnew {T : Type 0} (note : T → Note) (servers g : ℕ) (old : 
   pub empty : old.bytes ≡ []
   pub stands :
       (o : Opening) (past : List FrameEntry) → o.servers ≡ servers →
-      Says old.bytes (words.noted o (packets_heard o past)) →
+      Says old.bytes (words.words_noted o (packets_heard o past)) →
       StandsFor note client o (Renew g Saved ∷ past)
 
 -- A client is renewed, or the notes come back with the reason.

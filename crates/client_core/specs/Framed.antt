@@ -5,5 +5,5 @@ use Rattle.messages.specs.declared.packet.PacketParts.{PacketParts}
 use Rattle.messages.specs.FramesOf.{spelled_frames}
 
 -- The bytes of the frames that carry these packets, in their order.
-abbrev pub framed : List PacketParts → List (List ℕ)
-framed packets = flat_map spelled_frames packets
+abbrev pub frame_bytes : List PacketParts → List (List ℕ)
+frame_bytes packets = flat_map spelled_frames packets

@@ -46,21 +46,21 @@ rules o = record {
 }
 
 -- What happens to a client, in the terms of hearing.
-abbrev pub coming : FrameEntry → Coming history.Entry Left
-coming (Met (Begin text) left) = Happens (history.Met (calls.Begin text) left)
-coming (Met (Trigger run act) left) = Happens (history.Met (calls.Trigger run act) left)
-coming (Met (Stop run) left) = Happens (history.Met (calls.Stop run) left)
-coming (Met (Verify run text) left) = Happens (history.Met (calls.Verify run text) left)
-coming (Met (Deliver f) left) = Comes f left
-coming (Met Tick left) = Happens (history.Met calls.Tick left)
-coming Cut = Happens history.Cut
-coming (Restart mirror) = Happens (history.Restart mirror)
-coming (Renew g left) = Happens (history.Renew g left)
-coming Lose = Happens history.Lose
+abbrev pub coming_of : FrameEntry → Coming history.Entry Left
+coming_of (Met (Begin text) left) = Happens (history.Met (calls.Begin text) left)
+coming_of (Met (Trigger run act) left) = Happens (history.Met (calls.Trigger run act) left)
+coming_of (Met (Stop run) left) = Happens (history.Met (calls.Stop run) left)
+coming_of (Met (Verify run text) left) = Happens (history.Met (calls.Verify run text) left)
+coming_of (Met (Deliver f) left) = Comes f left
+coming_of (Met Tick left) = Happens (history.Met calls.Tick left)
+coming_of Cut = Happens history.Cut
+coming_of (Restart mirror) = Happens (history.Restart mirror)
+coming_of (Renew g left) = Happens (history.Renew g left)
+coming_of Lose = Happens history.Lose
 
 -- What a client has heard.
 abbrev pub heard_at : Opening → List FrameEntry → Heard history.Entry
-heard_at o past = heard (rules o) (map coming past)
+heard_at o past = heard (rules o) (map coming_of past)
 
 -- The list of packets that a list of frames says.
 abbrev pub packets_heard : Opening → List FrameEntry → List history.Entry

@@ -20,12 +20,12 @@ use Rattle.state_table.specs.Kept.{kept_of}
 use Rattle.client_core.specs.declared.noted.Noted.{Noted}
 use Rattle.client_core.specs.Note.{IsNoted, blank, is_blank}
 use Rattle.client_core.specs.History.{Opening, Entry, Met, Restart, Renew, Lose}
-use Rattle.client_core.specs.Words.{is_on, has_mirror, noted, kept, looked}
-use Rattle.client_core.specs.Life.{Deed, Begins, Verifies, life, done}
+use Rattle.client_core.specs.Words.{is_on, has_mirror, words_noted, kept_state, shown_entries}
+use Rattle.client_core.specs.Life.{Deed, Begins, Verifies, life, deeds_done}
 use Rattle.client_core.specs.Requests.{Served, trigger_at}
 use Rattle.client_core.specs.Reports.{has_report, reports}
-use Rattle.client_core.specs.Packets.{to_server, to_mirror, packets, sent}
-use Rattle.client_core.specs.Ranges.{packet_in, came, CameInRange, OpensInRange}
+use Rattle.client_core.specs.Packets.{to_server, to_mirror, packets, sent_packets}
+use Rattle.client_core.specs.Ranges.{packet_in, packets_come, CameInRange, OpensInRange}
 
 -- A packet of a server to the client.
 abbrev pub from_server : Body → ℕ → PacketParts
@@ -46,31 +46,31 @@ abbrev pub FirstKeptStays : Type 0
 FirstKeptStays =
     (o : Opening) (newer past : List Entry) (key : Key) (state : State) →
     IsTrue (loses_nothing newer) →
-    kept o past key ≡ Some state → kept o (newer ++ past) key ≡ Some state
+    kept_state o past key ≡ Some state → kept_state o (newer ++ past) key ≡ Some state
 
 -- A state that is kept, and was not at the opening, came in a State from its server, or in a Copy from
 -- the mirror.
 abbrev pub KeptWasSent : Type 0
 KeptWasSent =
-    (o : Opening) (past : List Entry) (key : Key) (state : State) → kept o past key ≡ Some state →
-    (kept o [] key ≡ Some state)
-    ⊎ (((jobs : ℕ) × Contains (came past) (from_server (bodies.State jobs state) key.server))
-    ⊎ Contains (came past) (from_mirror (bodies.Copy state)))
+    (o : Opening) (past : List Entry) (key : Key) (state : State) → kept_state o past key ≡ Some state →
+    (kept_state o [] key ≡ Some state)
+    ⊎ (((jobs : ℕ) × Contains (packets_come past) (from_server (bodies.State jobs state) key.server))
+    ⊎ Contains (packets_come past) (from_mirror (bodies.Copy state)))
 
 -- Each state in the note was there at the opening, or came in a State from its server, or in a Copy from
 -- the mirror.
 abbrev pub NotedWasSent : Type 0
 NotedWasSent =
-    (o : Opening) (past : List Entry) (state : State) → Contains (noted o past).kept state →
+    (o : Opening) (past : List Entry) (state : State) → Contains (words_noted o past).kept state →
     Contains o.noted.kept state
-    ⊎ (((jobs : ℕ) × Contains (came past) (from_server (bodies.State jobs state) state.key.server))
-    ⊎ Contains (came past) (from_mirror (bodies.Copy state)))
+    ⊎ (((jobs : ℕ) × Contains (packets_come past) (from_server (bodies.State jobs state) state.key.server))
+    ⊎ Contains (packets_come past) (from_mirror (bodies.Copy state)))
 
 -- After the loss of its note a client goes on as one that opens with a blank note.
 pub record GoesOnAsBlank (o : Opening) (newer past : List Entry) : Type 0 where
-  pub noted_is : noted o (newer ++ Lose ∷ past) ≡ noted (record o { noted = blank }) newer
+  pub noted_is : words_noted o (newer ++ Lose ∷ past) ≡ words_noted (record o { noted = blank }) newer
   pub life_is : life o (newer ++ Lose ∷ past) ≡ life (record o { noted = blank }) newer
-  pub done_is : done o (newer ++ Lose ∷ past) ≡ done (record o { noted = blank }) newer ++ done o past
+  pub done_is : deeds_done o (newer ++ Lose ∷ past) ≡ deeds_done (record o { noted = blank }) newer ++ deeds_done o past
 
 abbrev pub LossBeginsAnew : Type 0
 LossBeginsAnew = (o : Opening) (newer past : List Entry) → GoesOnAsBlank o newer past
@@ -80,14 +80,14 @@ abbrev pub SavedIsKept : Type 0
 SavedIsKept =
     (o : Opening) (past : List Entry) (entry : Entry) (p : PacketParts) (attempt : ℕ) (state : State) →
     Contains (packets o past entry) p → p.body ≡ bodies.Saved attempt state
-    → kept o past state.key ≡ Some state
+    → kept_state o past state.key ≡ Some state
 
 -- Each Copy that is sent has a state of the note before, or of the State that has just come.
 abbrev pub CopiesAreOfStates : Type 0
 CopiesAreOfStates =
     (o : Opening) (past : List Entry) (entry : Entry) (p : PacketParts) (state : State) →
     Contains (packets o past entry) p → p.body ≡ bodies.Copy state →
-    Contains (noted o past).kept state
+    Contains (words_noted o past).kept state
     ⊎ ((server jobs : ℕ) × Contains (packet_in entry) (from_server (bodies.State jobs state) server))
 
 -- A StateAck is sent only for a state that is kept by then, or to a server that says that there is
@@ -97,7 +97,7 @@ AcksAreFor =
     (o : Opening) (past : List Entry) (entry : Entry) (run server job : ℕ) →
     Contains (packets o past entry) (to_server (bodies.StateAck run job) server) →
     ((state : State)
-    × (kept o (entry ∷ past) (record { run = run; server = server; job = job }) ≡ Some state))
+    × (kept_state o (entry ∷ past) (record { run = run; server = server; job = job }) ≡ Some state))
     ⊎ ((jobs : ℕ) × Contains (packet_in entry) (from_server (bodies.NoState run job jobs) server))
 
 -- The run that a deed begins.
@@ -128,13 +128,13 @@ pub record AreFresh (first last : ℕ) (numbers : List ℕ) : Type 0 where
 abbrev pub RunsAreFresh : Type 0
 RunsAreFresh =
     (o : Opening) (past : List Entry) → IsTrue (loses_nothing past) →
-    AreFresh o.noted.runs (noted o past).runs (runs_in (done o past))
+    AreFresh o.noted.runs (words_noted o past).runs (runs_in (deeds_done o past))
 
 -- No attempt is given twice.
 abbrev pub AttemptsAreFresh : Type 0
 AttemptsAreFresh =
     (o : Opening) (past : List Entry) → IsTrue (loses_nothing past) →
-    AreFresh o.noted.attempts (noted o past).attempts (attempts_in (done o past))
+    AreFresh o.noted.attempts (words_noted o past).attempts (attempts_in (deeds_done o past))
 
 -- The generations of the renewals, the newest first.
 abbrev pub generations : List Entry → List ℕ
@@ -147,7 +147,7 @@ generations (_ ∷ past) = generations past
 abbrev pub is_mirrored : Opening → List Entry → Bool
 is_mirrored o [] = is_blank o.noted
 is_mirrored o (Restart mirror ∷ past) =
-    (mirror && nat_lt 0 (noted o past).generation) && is_mirrored o past
+    (mirror && nat_lt 0 (words_noted o past).generation) && is_mirrored o past
 is_mirrored o (Renew g left ∷ past) =
     (is_generation g && not (has (generations past) g)) && is_mirrored o past
 is_mirrored o (_ ∷ past) = is_mirrored o past
@@ -158,8 +158,8 @@ KeepsNumbersApart o past = IsTrue (loses_nothing past) ⊎ IsTrue (is_mirrored o
 
 -- No number is given twice, whatever was lost, where the client is one with a mirror.
 pub record AreGivenOnce (o : Opening) (past : List Entry) : Type 0 where
-  pub runs : IsTrue (is_distinct (runs_in (done o past)))
-  pub attempts : IsTrue (is_distinct (attempts_in (done o past)))
+  pub runs : IsTrue (is_distinct (runs_in (deeds_done o past)))
+  pub attempts : IsTrue (is_distinct (attempts_in (deeds_done o past)))
 
 abbrev pub NumbersAreGivenOnce : Type 0
 NumbersAreGivenOnce =
@@ -170,8 +170,8 @@ abbrev pub OneTextOfARun : Type 0
 OneTextOfARun =
     (o : Opening) (past : List Entry) (p q : PacketParts) (run : ℕ) (text other : List ℕ) →
     KeepsNumbersApart o past →
-    Contains (sent o past) p → p.body ≡ bodies.Jobs run text →
-    Contains (sent o past) q → q.body ≡ bodies.Jobs run other → text ≡ other
+    Contains (sent_packets o past) p → p.body ≡ bodies.Jobs run text →
+    Contains (sent_packets o past) q → q.body ≡ bodies.Jobs run other → text ≡ other
 
 -- All Verify packets of an attempt carry the same run and text.
 abbrev pub OneTextOfAnAttempt : Type 0
@@ -179,24 +179,24 @@ OneTextOfAnAttempt =
     (o : Opening) (past : List Entry) (p q : PacketParts) (attempt run run_there : ℕ)
     (text other : List ℕ) →
     KeepsNumbersApart o past →
-    Contains (sent o past) p → p.body ≡ bodies.Verify run attempt text →
-    Contains (sent o past) q → q.body ≡ bodies.Verify run_there attempt other →
+    Contains (sent_packets o past) p → p.body ≡ bodies.Verify run attempt text →
+    Contains (sent_packets o past) q → q.body ≡ bodies.Verify run_there attempt other →
     (run ≡ run_there) × (text ≡ other)
 
 -- A client that is on answers its looks from all that came.
 abbrev pub LooksAtAll : Type 0
-LooksAtAll = (past : List Entry) → is_on past ≡ true → looked past ≡ past
+LooksAtAll = (past : List Entry) → is_on past ≡ true → shown_entries past ≡ past
 
 -- A tick asks again and changes nothing.
 abbrev pub TickOnlyLooks : Type 0
 TickOnlyLooks =
     (o : Opening) (past : List Entry) (left : Left) →
-    (noted o (Met Tick left ∷ past) ≡ noted o past) × (life o (Met Tick left ∷ past) ≡ life o past)
+    (words_noted o (Met Tick left ∷ past) ≡ words_noted o past) × (life o (Met Tick left ∷ past) ≡ life o past)
 
 -- A note that keeps its ranges goes on to, where the packets that come keep theirs.
 abbrev pub NotesKeepRanges : Type 0
 NotesKeepRanges =
-    (o : Opening) (past : List Entry) → IsNoted o.noted → CameInRange past → IsNoted (noted o past)
+    (o : Opening) (past : List Entry) → IsNoted o.noted → CameInRange past → IsNoted (words_noted o past)
 
 -- A state of the job is kept, or the server has said that there is none.
 abbrev pub HasAnswer : Noted → List PacketParts → ℕ → ℕ → ℕ → Type 0
@@ -222,7 +222,7 @@ pub record EndsWell (n : Noted) (packets : List PacketParts) (run server : ℕ) 
 abbrev pub TriggersEndWell : Type 0
 TriggersEndWell =
     (o : Opening) (past : List Entry) (run server : ℕ) →
-    trigger_at run server (life o past) ≡ Served → EndsWell (noted o past) (came past) run server
+    trigger_at run server (life o past) ≡ Served → EndsWell (words_noted o past) (packets_come past) run server
 
 -- The kinds of packets that are for servers.
 abbrev pub is_for_server : PacketKind → Bool
@@ -270,7 +270,7 @@ abbrev pub ReportsCame : Type 0
 ReportsCame =
     (o : Opening) (past : List Entry) (r : Received) → Contains (reports (life o past)) r →
     (jobs : ℕ)
-    × Contains (came past) (from_server (bodies.Report r.run r.attempt r.job jobs r.report) r.server)
+    × Contains (packets_come past) (from_server (bodies.Report r.run r.attempt r.job jobs r.report) r.server)
 
 -- No two reports are of one attempt, server and job.
 abbrev pub has_distinct_reports : List Received → Bool

@@ -8,7 +8,7 @@ use Rattle.client_core.specs.declared.call.Call.{Call}
 use Rattle.client_core.specs.declared.call.Call.TheVariants.{Begin, Trigger, Stop, Verify, Deliver, Tick}
 use Rattle.client_core.specs.declared.noted.Noted.{Noted}
 use Rattle.client_core.specs.History.{Opening, Entry, Met, Cut, Restart, Renew, Lose}
-use Rattle.client_core.specs.Words.{noted, is_answered}
+use Rattle.client_core.specs.Words.{words_noted, is_answered}
 
 -- A run begins, is triggered or is stopped; an attempt verifies a run; a server or the mirror says
 -- something.
@@ -32,21 +32,21 @@ deeds_of n Tick = []
 abbrev pub life : Opening → List Entry → List Deed
 life o [] = []
 life o (Met c left ∷ past) =
-    if is_answered o past c left then deeds_of (noted o past) c ++ life o past else life o past
+    if is_answered o past c left then deeds_of (words_noted o past) c ++ life o past else life o past
 life o (Cut ∷ past) = []
 life o (Restart mirror ∷ past) = []
 life o (Renew g left ∷ past) = []
 life o (Lose ∷ past) = []
 
 -- All that was ever done.
-abbrev pub done : Opening → List Entry → List Deed
-done o [] = []
-done o (Met c left ∷ past) =
-    if is_answered o past c left then deeds_of (noted o past) c ++ done o past else done o past
-done o (Cut ∷ past) = done o past
-done o (Restart mirror ∷ past) = done o past
-done o (Renew g left ∷ past) = done o past
-done o (Lose ∷ past) = done o past
+abbrev pub deeds_done : Opening → List Entry → List Deed
+deeds_done o [] = []
+deeds_done o (Met c left ∷ past) =
+    if is_answered o past c left then deeds_of (words_noted o past) c ++ deeds_done o past else deeds_done o past
+deeds_done o (Cut ∷ past) = deeds_done o past
+deeds_done o (Restart mirror ∷ past) = deeds_done o past
+deeds_done o (Renew g left ∷ past) = deeds_done o past
+deeds_done o (Lose ∷ past) = deeds_done o past
 
 -- The text with which a run was last begun, empty where it wasn't.
 abbrev pub text_of : ℕ → List Deed → List ℕ

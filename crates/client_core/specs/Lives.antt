@@ -15,7 +15,7 @@ use Rattle.client_core.specs.Life.{Deed, text_of, act_of, run_of, check_of}
 use Rattle.client_core.specs.Begins.{begin_at}
 use Rattle.client_core.specs.Requests.{Unasked, trigger_at, stop_at, verify_at}
 use Rattle.client_core.specs.Reports.{reports}
-use Rattle.client_core.specs.Standing.{IsKept}
+use Rattle.client_core.specs.Standing.{IsRequestKept}
 use Rattle.client_core.specs.Packets.{is_copied}
 
 -- P holds of each, beside its place.
@@ -36,8 +36,8 @@ pub record RunIs (run : ℕ) (deeds : List Deed) (asked : RunAsked) : Type 0 whe
   pub text : unwrap_or asked.text [] ≡ text_of run deeds
   pub act : asked.act ≡ act_of run deeds
   pub begins : Each asked.begins (λ server b. b ≡ begin_at run server deeds)
-  pub triggers : Each asked.triggers (λ server s. IsKept s (trigger_at run server deeds))
-  pub stops : Each asked.stops (λ server s. IsKept s (stop_at run server deeds))
+  pub triggers : Each asked.triggers (λ server s. IsRequestKept s (trigger_at run server deeds))
+  pub stops : Each asked.stops (λ server s. IsRequestKept s (stop_at run server deeds))
 
 -- The attempt wasn't made.
 pub record Unmade (attempt : ℕ) (deeds : List Deed) : Type 0 where
@@ -51,7 +51,7 @@ pub record AttemptIs (attempt : ℕ) (deeds : List Deed) (asked : AttemptAsked) 
   pub range : IsTrue (is_run asked.run)
   pub run : asked.run ≡ run_of attempt deeds
   pub text : asked.text ≡ check_of attempt deeds
-  pub verifies : Each asked.verifies (λ server s. IsKept s (verify_at attempt server deeds))
+  pub verifies : Each asked.verifies (λ server s. IsRequestKept s (verify_at attempt server deeds))
 
 -- All that was asked for a run is kept, if anything was.
 abbrev pub RunFor : ℕ → List Deed → Option RunAsked → Type 0

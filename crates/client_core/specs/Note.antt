@@ -17,8 +17,8 @@ abbrev pub blank : Noted
 blank = record { generation = 0; runs = 0; attempts = 0; kept = [] }
 
 -- What a note says that begins anew: the numbers of each generation are above those of the ones before.
-abbrev pub renewed : ℕ → Noted
-renewed g = record { generation = g; runs = g * 2 ^ 32; attempts = g * 2 ^ 32; kept = [] }
+abbrev pub new_note : ℕ → Noted
+new_note g = record { generation = g; runs = g * 2 ^ 32; attempts = g * 2 ^ 32; kept = [] }
 
 -- The note says that.
 abbrev pub is_blank : Noted → Bool

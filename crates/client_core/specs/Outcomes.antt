@@ -55,5 +55,5 @@ all_ended run deeds servers =
     (numbers_below servers)
 
 -- It has ended at every server: a local trigger waits for it.
-abbrev pub settled : Opening → List Entry → ℕ → Bool
-settled o past run = all_ended run (life o past) o.servers
+abbrev pub is_settled : Opening → List Entry → ℕ → Bool
+is_settled o past run = all_ended run (life o past) o.servers

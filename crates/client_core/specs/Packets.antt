@@ -20,7 +20,7 @@ use Rattle.state_table.specs.Kept.{kept_of}
 use Rattle.client_core.specs.declared.noted.Noted.{Noted}
 use Rattle.client_core.specs.declared.peers.Peers.{Peers}
 use Rattle.client_core.specs.History.{Opening, Entry, Met, Cut, Restart, Renew, Lose}
-use Rattle.client_core.specs.Words.{noted, peers, is_answered}
+use Rattle.client_core.specs.Words.{words_noted, peers, is_answered}
 use Rattle.client_core.specs.Life.{Deed, Hears, life, text_of, act_of, run_of, check_of}
 use Rattle.client_core.specs.declared.beginning.Beginning.TheVariants as begins
 use Rattle.client_core.specs.declared.beginning.Beginning.{Beginning}
@@ -47,9 +47,9 @@ start_for run server begins.Staging = to_server (bodies.Start run) server ∷ []
 start_for run server _ = []
 
 -- The jobs of a run again, where its start was open.
-abbrev pub jobs_for : ℕ → List ℕ → ℕ → Beginning → List PacketParts
-jobs_for run text server begins.Starting = to_server (bodies.Jobs run text) server ∷ []
-jobs_for run text server _ = []
+abbrev pub jobs_once_more : ℕ → List ℕ → ℕ → Beginning → List PacketParts
+jobs_once_more run text server begins.Starting = to_server (bodies.Jobs run text) server ∷ []
+jobs_once_more run text server _ = []
 
 -- The server has no jobs of the run that it is to start.
 abbrev pub lacks_jobs : Asked → Reason → Bool
@@ -79,7 +79,7 @@ replies mirror n deeds server (bodies.WantState run attempt job) =
     state_for run attempt job server (kept_of (record { run = run; server = server; job = job }) n.kept) ∷ []
 replies mirror n deeds server (bodies.Refused r) =
     if lacks_jobs r.asked r.reason
-    then jobs_for r.run (text_of r.run deeds) server (begin_at r.run server deeds) else []
+    then jobs_once_more r.run (text_of r.run deeds) server (begin_at r.run server deeds) else []
 replies mirror n deeds server _ = []
 
 -- An open begin again: the jobs, or the start.
@@ -89,22 +89,22 @@ begin_again run text server begins.Starting = to_server (bodies.Start run) serve
 begin_again run text server _ = []
 
 -- Another open request again.
-abbrev pub again : Body → ℕ → Request → List PacketParts
-again body server (requests.Open told) = to_server body server ∷ []
-again body server _ = []
+abbrev pub packets_again : Body → ℕ → Request → List PacketParts
+packets_again body server (requests.Open told) = to_server body server ∷ []
+packets_again body server _ = []
 
 -- The open requests of a run: its begin, its trigger and its stop, each by server.
 abbrev pub run_again : ℕ → List Deed → ℕ → List PacketParts
 run_again servers deeds run =
     flat_map (λ s. begin_again run (text_of run deeds) s (begin_at run s deeds)) (numbers_below servers)
-    ++ (flat_map (λ s. again (bodies.Trigger run (act_of run deeds)) s (trigger_at run s deeds))
+    ++ (flat_map (λ s. packets_again (bodies.Trigger run (act_of run deeds)) s (trigger_at run s deeds))
     (numbers_below servers)
-    ++ flat_map (λ s. again (bodies.Stop run) s (stop_at run s deeds)) (numbers_below servers))
+    ++ flat_map (λ s. packets_again (bodies.Stop run) s (stop_at run s deeds)) (numbers_below servers))
 
 -- The open verifies of an attempt, by server.
 abbrev pub attempt_again : ℕ → List Deed → ℕ → List PacketParts
 attempt_again servers deeds attempt =
-    flat_map (λ s. again (bodies.Verify (run_of attempt deeds) attempt (check_of attempt deeds)) s
+    flat_map (λ s. packets_again (bodies.Verify (run_of attempt deeds) attempt (check_of attempt deeds)) s
     (verify_at attempt s deeds)) (numbers_below servers)
 
 -- Every open request again: by run, and then the verifies by attempt.
@@ -160,13 +160,13 @@ packets_for peers n deeds Tick = all_again peers n deeds
 -- The packets that an event sends.
 abbrev pub packets : Opening → List Entry → Entry → List PacketParts
 packets o past (Met c left) =
-    if is_answered o past c left then packets_for (peers o past) (noted o past) (life o past) c else []
+    if is_answered o past c left then packets_for (peers o past) (words_noted o past) (life o past) c else []
 packets o past Cut = []
 packets o past (Restart mirror) = []
 packets o past (Renew g left) = []
 packets o past Lose = []
 
 -- All packets that were ever sent, the oldest first.
-abbrev pub sent : Opening → List Entry → List PacketParts
-sent o [] = []
-sent o (entry ∷ past) = sent o past ++ packets o past entry
+abbrev pub sent_packets : Opening → List Entry → List PacketParts
+sent_packets o [] = []
+sent_packets o (entry ∷ past) = sent_packets o past ++ packets o past entry

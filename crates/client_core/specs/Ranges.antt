@@ -14,13 +14,13 @@ packet_in (Met (Deliver p) left) = p ∷ []
 packet_in _ = []
 
 -- The packets that came, the newest first.
-abbrev pub came : List Entry → List PacketParts
-came [] = []
-came (entry ∷ past) = packet_in entry ++ came past
+abbrev pub packets_come : List Entry → List PacketParts
+packets_come [] = []
+packets_come (entry ∷ past) = packet_in entry ++ packets_come past
 
 -- All that came is within its ranges.
 abbrev pub CameInRange : List Entry → Type 0
-CameInRange past = AllByRecursion IsPacket (came past)
+CameInRange past = AllByRecursion IsPacket (packets_come past)
 
 -- A client drives at most 8 servers, and its note keeps its ranges.
 pub record OpensInRange (o : Opening) : Type 0 where

@@ -43,5 +43,5 @@ reports (Hears server body ∷ deeds) = reports_heard deeds server body (reports
 reports (_ ∷ deeds) = reports deeds
 
 -- What a server said of it, which told how many jobs there are.
-abbrev pub said : Received → ℕ → Body
-said r jobs = bodies.Report r.run r.attempt r.job jobs r.report
+abbrev pub report_body : Received → ℕ → Body
+report_body r jobs = bodies.Report r.run r.attempt r.job jobs r.report

@@ -56,37 +56,37 @@ when_told told =
     if tells_all told then (if has_misfit told then Denied reasons.Misfit else Served) else Open told
 
 -- An open request gets one more answer.
-abbrev pub told : Telling → Request → Request
-told t (Open ts) = when_told (t ∷ ts)
-told t q = q
+abbrev pub when_one_tells : Telling → Request → Request
+when_one_tells t (Open ts) = when_told (t ∷ ts)
+when_one_tells t q = q
 
 -- An open request is answered.
-abbrev pub answered : Request → Request
-answered (Open ts) = Served
-answered q = q
+abbrev pub when_answered : Request → Request
+when_answered (Open ts) = Served
+when_answered q = q
 
 -- A server that is busy is asked again, and a misfit is an answer for one job; any other reason ends an
 -- open request.
-abbrev pub refused : Reason → Request → Request
-refused reasons.Busy q = q
-refused reasons.Misfit q = q
-refused reason (Open ts) = Denied reason
-refused reason q = q
+abbrev pub when_refused : Reason → Request → Request
+when_refused reasons.Busy q = q
+when_refused reasons.Misfit q = q
+when_refused reason (Open ts) = Denied reason
+when_refused reason q = q
 
 -- A refused trigger.
 abbrev pub trigger_refused : Asked → Reason → Request → Request
-trigger_refused asks.Trigger reason q = refused reason q
+trigger_refused asks.Trigger reason q = when_refused reason q
 trigger_refused _ reason q = q
 
 -- A refused stop.
 abbrev pub stop_refused : Asked → Reason → Request → Request
-stop_refused asks.Stop reason q = refused reason q
+stop_refused asks.Stop reason q = when_refused reason q
 stop_refused _ reason q = q
 
 -- A refused verify, whose misfits are answers.
 abbrev pub check_refused : Telling → Reason → Request → Request
-check_refused t reasons.Misfit q = told t q
-check_refused t reason q = refused reason q
+check_refused t reasons.Misfit q = when_one_tells t q
+check_refused t reason q = when_refused reason q
 
 abbrev pub verify_refused : Asked → Telling → Reason → Request → Request
 verify_refused asks.Verify t reason q = check_refused t reason q
@@ -95,22 +95,22 @@ verify_refused _ t reason q = q
 -- What a server says of a triggered run.
 abbrev pub trigger_heard : ℕ → Body → Request → Request
 trigger_heard run (bodies.State jobs state) q =
-    if state.key.run == run then told (record { job = state.key.job; jobs = jobs; misfit = false }) q else q
+    if state.key.run == run then when_one_tells (record { job = state.key.job; jobs = jobs; misfit = false }) q else q
 trigger_heard run (bodies.NoState r job jobs) q =
-    if r == run then told (record { job = job; jobs = jobs; misfit = false }) q else q
+    if r == run then when_one_tells (record { job = job; jobs = jobs; misfit = false }) q else q
 trigger_heard run (bodies.Refused r) q = if r.run == run then trigger_refused r.asked r.reason q else q
 trigger_heard run _ q = q
 
 -- What a server says of a stopped run.
 abbrev pub stop_heard : ℕ → Body → Request → Request
-stop_heard run (bodies.Stopped r) q = if r == run then answered q else q
+stop_heard run (bodies.Stopped r) q = if r == run then when_answered q else q
 stop_heard run (bodies.Refused r) q = if r.run == run then stop_refused r.asked r.reason q else q
 stop_heard run _ q = q
 
 -- What a server says of an attempt to verify a run.
 abbrev pub verify_heard : ℕ → ℕ → Body → Request → Request
 verify_heard run attempt (bodies.Report r a job jobs report) q =
-    if (r == run) && (a == attempt) then told (record { job = job; jobs = jobs; misfit = false }) q else q
+    if (r == run) && (a == attempt) then when_one_tells (record { job = job; jobs = jobs; misfit = false }) q else q
 verify_heard run attempt (bodies.Refused r) q =
     if (r.run == run) && (r.attempt == attempt)
     then verify_refused r.asked (record { job = r.job; jobs = r.jobs; misfit = true }) r.reason q else q

@@ -20,11 +20,11 @@ pub record IsOpen (s : Standing) (told : List Telling) : Type 0 where
   pub misfit : s.misfit ≡ has_misfit told
 
 -- What is kept of a request.
-abbrev pub IsKept : Standing → Request → Type 0
-IsKept s requests.Unasked = s.outcome ≡ outcomes.None
-IsKept s (requests.Open told) = IsOpen s told
-IsKept s requests.Served = s.outcome ≡ outcomes.Good
-IsKept s (requests.Denied reason) = s.outcome ≡ outcomes.Refused reason
+abbrev pub IsRequestKept : Standing → Request → Type 0
+IsRequestKept s requests.Unasked = s.outcome ≡ outcomes.None
+IsRequestKept s (requests.Open told) = IsOpen s told
+IsRequestKept s requests.Served = s.outcome ≡ outcomes.Good
+IsRequestKept s (requests.Denied reason) = s.outcome ≡ outcomes.Refused reason
 
 -- The first answer fixes the number of jobs.
 abbrev pub jobs_with : ℕ → ℕ → ℕ

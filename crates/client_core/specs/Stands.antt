@@ -8,22 +8,22 @@ use Rattle.client_core.specs.declared.noted.Noted.{Noted}
 use Rattle.client_core.specs.declared.packet_client.PacketClient.{PacketClient}
 use Rattle.messages.specs.Ranges.{is_generation}
 use Rattle.disk_model.specs.declared.left.Left.TheVariants.{Saved}
-use Rattle.client_core.specs.Note.{Says, renewed, spelling}
+use Rattle.client_core.specs.Note.{Says, new_note, spelling}
 use Rattle.client_core.specs.History.{Opening, Entry, Restart, Renew}
 use Rattle.client_core.specs.Life.{life}
 use Rattle.client_core.specs.Lives.{LifeIs}
-use Rattle.client_core.specs.Words.{is_on, noted, peers, looked}
+use Rattle.client_core.specs.Words.{is_on, words_noted, peers, shown_entries}
 
 -- A client stands for a list where it is on as the list says, drives at most 8 servers, where the durable
 -- bytes say what the list says, and where it knows of its peers and of its note, and keeps of its
 -- requests, what it did before the first failed save.
 pub record StandsFor {T : Type 0} (note : T → Note) (client : PacketClient T) (o : Opening) (past : List Entry) : Type 0 where
   pub on : client.down ≡ not (is_on past)
-  pub peers : client.peers ≡ peers o (looked past)
+  pub peers : client.peers ≡ peers o (shown_entries past)
   pub few : o.servers ≤ MAX_SERVERS
-  pub durable : Says (note client.notes).bytes (noted o past)
-  pub knows : client.noted ≡ noted o (looked past)
-  pub lives : LifeIs client.life (life o (looked past))
+  pub durable : Says (note client.notes).bytes (words_noted o past)
+  pub knows : client.noted ≡ words_noted o (shown_entries past)
+  pub lives : LifeIs client.life (life o (shown_entries past))
 
 -- For each list of which the durable bytes say what it says, the client stands for that list with a
 -- restart. They say something, so there is such a list: the empty one; and with a mirror they aren't
@@ -34,7 +34,7 @@ pub record Opens {T : Type 0} (note : T → Note) (servers : ℕ) (mirror : Bool
   pub said : Noted
   pub says : Says old.bytes said
   pub stands :
-      (o : Opening) (past : List Entry) → o.servers ≡ servers → Says old.bytes (noted o past) →
+      (o : Opening) (past : List Entry) → o.servers ≡ servers → Says old.bytes (words_noted o past) →
       StandsFor note client o (Restart mirror ∷ past)
 
 -- The bytes are no note; or they are empty, and with a mirror a client isn't restarted over such.
@@ -61,7 +61,7 @@ pub record BeginsAnew {T : Type 0} (note : T → Note) (servers g : ℕ) (old : 
   pub free : IsTrue (is_generation g)
   pub empty : old.bytes ≡ []
   pub stands :
-      (o : Opening) (past : List Entry) → o.servers ≡ servers → Says old.bytes (noted o past) →
+      (o : Opening) (past : List Entry) → o.servers ≡ servers → Says old.bytes (words_noted o past) →
       StandsFor note client o (Renew g Saved ∷ past)
 
 -- Why no client is renewed: no generation has the number; the device failed to load, or the note isn't
@@ -74,7 +74,7 @@ NotRenewed g old new BadNote = (new ≡ old) × IsTrue (is_generation g) × (old
 NotRenewed g old new NoMemory = new ≡ old
 NotRenewed g old new SaveFault =
     (old.failures < new.failures) × IsTrue (is_generation g) × (old.bytes ≡ [])
-    × ((new.bytes ≡ old.bytes) ⊎ (new.bytes ≡ spelling (renewed g)))
+    × ((new.bytes ≡ old.bytes) ⊎ (new.bytes ≡ spelling (new_note g)))
 NotRenewed g old new _ = ⊥
 
 -- A client is renewed, or the notes come back with the reason.

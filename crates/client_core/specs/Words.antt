@@ -14,7 +14,7 @@ use Rattle.messages.specs.Ranges.{is_generation}
 use Rattle.client_core.specs.declared.call.Call.{Call}
 use Rattle.client_core.specs.declared.call.Call.TheVariants.{Deliver}
 use Rattle.client_core.specs.declared.peers.Peers.{Peers}
-use Rattle.client_core.specs.Note.{blank, is_blank, renewed}
+use Rattle.client_core.specs.Note.{blank, is_blank, new_note}
 use Rattle.state_table.specs.Kept.{kept_of}
 use Rattle.client_core.specs.declared.noted.Noted.{Noted}
 use Rattle.client_core.specs.History.{Opening, Entry, Met, Cut, Restart, Renew, Lose}
@@ -50,21 +50,21 @@ granted_by (Deliver p) = if is_client p.to && is_mirror p.from then granted_in p
 granted_by _ = []
 
 -- The generations that were granted in this life to a client that is on and has a mirror.
-abbrev pub granted : List Entry → List ℕ
-granted [] = []
-granted (Met c left ∷ past) =
-    if is_on past && has_mirror past then granted_by c ++ granted past else granted past
-granted (Cut ∷ past) = []
-granted (Restart mirror ∷ past) = []
-granted (Renew g left ∷ past) = []
-granted (Lose ∷ past) = []
+abbrev pub granted_generations : List Entry → List ℕ
+granted_generations [] = []
+granted_generations (Met c left ∷ past) =
+    if is_on past && has_mirror past then granted_by c ++ granted_generations past else granted_generations past
+granted_generations (Cut ∷ past) = []
+granted_generations (Restart mirror ∷ past) = []
+granted_generations (Renew g left ∷ past) = []
+granted_generations (Lose ∷ past) = []
 
 -- With whom a client of this generation is, that drives so many servers.
 abbrev pub peers_at : ℕ → List Entry → ℕ → Peers
 peers_at servers past generation = record {
   servers = servers;
   mirror = has_mirror past;
-  granted = list_any (λ g. g == generation) (granted past);
+  granted = list_any (λ g. g == generation) (granted_generations past);
 }
 
 -- With whom a client of this generation is, where it was with these and the mirror says this.
@@ -79,33 +79,33 @@ may_renew g n = is_generation g && is_blank n
 
 -- The note says the generation where the new bytes are there.
 abbrev pub renewed_after : Bool → ℕ → Noted → Noted
-renewed_after new g n = if new && may_renew g n then renewed g else n
+renewed_after new g n = if new && may_renew g n then new_note g else n
 
 -- What the note says: what it said at the opening, and what was added by each save that left the new
 -- bytes; the generation of a renewal; and nothing once it is lost.
-abbrev pub noted : Opening → List Entry → Noted
-noted o [] = o.noted
-noted o (Met c left ∷ past) =
+abbrev pub words_noted : Opening → List Entry → Noted
+words_noted o [] = o.noted
+words_noted o (Met c left ∷ past) =
     noted_after (has_new left)
-    (due_by (is_on past) (peers_at o.servers past (noted o past).generation) (noted o past) c)
-    (noted o past)
-noted o (Cut ∷ past) = noted o past
-noted o (Restart mirror ∷ past) = noted o past
-noted o (Renew g left ∷ past) = renewed_after (has_new left) g (noted o past)
-noted o (Lose ∷ past) = blank
+    (due_by (is_on past) (peers_at o.servers past (words_noted o past).generation) (words_noted o past) c)
+    (words_noted o past)
+words_noted o (Cut ∷ past) = words_noted o past
+words_noted o (Restart mirror ∷ past) = words_noted o past
+words_noted o (Renew g left ∷ past) = renewed_after (has_new left) g (words_noted o past)
+words_noted o (Lose ∷ past) = blank
 
 -- With whom the client is: its servers, whether it has a mirror, and whether this granted the generation
 -- of its note.
 abbrev pub peers : Opening → List Entry → Peers
-peers o past = peers_at o.servers past (noted o past).generation
+peers o past = peers_at o.servers past (words_noted o past).generation
 
 -- Why a call is refused.
 abbrev pub refusal : Opening → List Entry → Call → Option Fault
-refusal o past c = refusal_by (is_on past) (peers o past) (noted o past) c
+refusal o past c = refusal_by (is_on past) (peers o past) (words_noted o past) c
 
 -- What a call is due to add to the note.
 abbrev pub due : Opening → List Entry → Call → Option Addition
-due o past c = due_by (is_on past) (peers o past) (noted o past) c
+due o past c = due_by (is_on past) (peers o past) (words_noted o past) c
 
 -- A call makes a save where it is due to add something.
 abbrev pub would_save : Opening → List Entry → Call → Bool
@@ -116,15 +116,15 @@ abbrev pub is_answered : Opening → List Entry → Call → Left → Bool
 is_answered o past c left = is_none (refusal o past c) && is_answer (due o past c) left
 
 -- The kept state of a key: that of the opening, else the first that came and was saved.
-abbrev pub kept : Opening → List Entry → Key → Option State
-kept o past key = kept_of key (noted o past).kept
+abbrev pub kept_state : Opening → List Entry → Key → Option State
+kept_state o past key = kept_of key (words_noted o past).kept
 
 -- What the calls that only look answer from: all that came, but for what came from a failed save on.
-abbrev pub looked : List Entry → List Entry
-looked [] = []
-looked (Met c left ∷ past) =
-    if is_on past then (if is_lost left then past else Met c left ∷ past) else looked past
-looked (Cut ∷ past) = []
-looked (Restart mirror ∷ past) = Restart mirror ∷ past
-looked (Renew g left ∷ past) = if is_saved left then Renew g left ∷ past else []
-looked (Lose ∷ past) = []
+abbrev pub shown_entries : List Entry → List Entry
+shown_entries [] = []
+shown_entries (Met c left ∷ past) =
+    if is_on past then (if is_lost left then past else Met c left ∷ past) else shown_entries past
+shown_entries (Cut ∷ past) = []
+shown_entries (Restart mirror ∷ past) = Restart mirror ∷ past
+shown_entries (Renew g left ∷ past) = if is_saved left then Renew g left ∷ past else []
+shown_entries (Lose ∷ past) = []

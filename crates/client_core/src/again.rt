@@ -3,7 +3,7 @@
 ghost use Rattle.std.specs.Prelude.{◌≡◌, ◌≤◌, ◌++◌, List, OnOk, Some, IfOk};
 ghost use Rattle.std.specs.List.{flat_map};
 ghost use Rattle.fc_base.specs.declared.limits.TheConstants.{MAX_SERVERS};
-ghost use Rattle.client_core.specs.Framed.{framed};
+ghost use Rattle.client_core.specs.Framed.{frame_bytes};
 ghost use Rattle.client_core.specs.Life.{Deed};
 ghost use Rattle.client_core.specs.Lives.{RunIs, AttemptFor, EachLife};
 ghost use Rattle.client_core.specs.Packets.{run_again, attempt_again, requests_again};
@@ -20,7 +20,8 @@ impl Life {
     /// Asks again, at so many servers, for all that isn't answered: by run, and then by attempt.
     pub(crate) fn requests_again(&self, alloc: Global, servers: u32) -> Result<Frames, AllocError>
         requires { servers ≤ MAX_SERVERS }
-        ensures { EachLife self.now (λ deeds. IfOk result (λ frames. frames ≡ framed (requests_again servers deeds))) }
+        ensures { EachLife self.now
+            (λ deeds. IfOk result (λ frames. frames ≡ frame_bytes (requests_again servers deeds))) }
     {
         let _runs = self.runs.len();
         let _attempts = self.attempts.len();
@@ -39,7 +40,7 @@ impl Life {
     ) -> Result<(), AllocError>
         requires { servers ≤ MAX_SERVERS }
         ensures { EachLife self.now (λ deeds. OnOk result (frames.new ≡ frames.old
-            ++ framed (flat_map (λ e. run_again servers deeds e.0) self.now.runs.entries))) }
+            ++ frame_bytes (flat_map (λ e. run_again servers deeds e.0) self.now.runs.entries))) }
     {
         for (run, asked) in self.runs.iter() {
             run_again(alloc, servers, RunNo(*run), asked, frames)?;
@@ -56,7 +57,8 @@ impl Life {
     ) -> Result<(), AllocError>
         requires { servers ≤ MAX_SERVERS }
         ensures { EachLife self.now (λ deeds. OnOk result (frames.new ≡ frames.old
-            ++ framed (flat_map (λ e. attempt_again servers deeds e.0) self.now.attempts.entries))) }
+            ++ frame_bytes (flat_map
+            (λ e. attempt_again servers deeds e.0) self.now.attempts.entries))) }
     {
         for (attempt, place) in self.attempts.iter() {
             attempt_again(alloc, servers, Attempt(*attempt), place, frames)?;
@@ -75,7 +77,7 @@ fn run_again(
 ) -> Result<(), AllocError>
     requires { servers ≤ MAX_SERVERS }
     ensures { (deeds : List Deed) → RunIs run deeds asked.now →
-        OnOk result (frames.new ≡ frames.old ++ framed (run_again servers deeds run)) }
+        OnOk result (frames.new ≡ frames.old ++ frame_bytes (run_again servers deeds run)) }
 {
     if run.0 == 0 {
         return Ok(());
@@ -103,7 +105,7 @@ fn attempt_again(
 ) -> Result<(), AllocError>
     requires { servers ≤ MAX_SERVERS }
     ensures { (deeds : List Deed) → AttemptFor attempt deeds (Some place.now) →
-        OnOk result (frames.new ≡ frames.old ++ framed (attempt_again servers deeds attempt)) }
+        OnOk result (frames.new ≡ frames.old ++ frame_bytes (attempt_again servers deeds attempt)) }
 {
     let Some(asked) = place else {
         return Ok(());

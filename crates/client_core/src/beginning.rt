@@ -1,7 +1,7 @@
 //! How the begin of a run stands at a server.
 
 ghost use Rattle.std.specs.Prelude.{◌≡◌};
-ghost use Rattle.client_core.specs.Begins.{staged, started, jobs_refused, start_refused, begin_refused, begin_heard};
+ghost use Rattle.client_core.specs.Begins.{when_staged, when_started, jobs_refused, start_refused, begin_refused, begin_heard};
 ghost use Rattle.client_core.specs.Outcomes.{begin_outcome};
 
 use crate::outcome::Outcome;
@@ -52,7 +52,7 @@ impl Beginning {
 
     /// JobsOk answers Jobs.
     fn staged(self) -> Beginning
-        ensures { result ≡ staged self }
+        ensures { result ≡ when_staged self }
     {
         match self {
             Beginning::Staging => Beginning::Starting,
@@ -62,7 +62,7 @@ impl Beginning {
 
     /// Started answers Start.
     fn started(self) -> Beginning
-        ensures { result ≡ started self }
+        ensures { result ≡ when_started self }
     {
         match self {
             Beginning::Starting => Beginning::Started,

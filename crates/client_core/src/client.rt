@@ -27,9 +27,9 @@ pub struct Client<N> {
 impl<N: Notes> Client<N> {
     ghost use Rattle.client_core.specs.History.{Opening};
     ghost use Rattle.client_core.specs.Note.{Says, is_blank};
-    ghost use Rattle.client_core.specs.Words.{is_on, noted, kept, looked};
+    ghost use Rattle.client_core.specs.Words.{is_on, words_noted, kept_state, shown_entries};
     ghost use Rattle.client_core.specs.Life.{life};
-    ghost use Rattle.client_core.specs.Outcomes.{outcome, settled};
+    ghost use Rattle.client_core.specs.Outcomes.{outcome, is_settled};
     ghost use Rattle.client_core.specs.Reports.{reports};
     ghost use Rattle.client_core.specs.Hearing.{FrameEntry, packets_heard};
     ghost use Rattle.client_core.specs.FrameEnds.{StandsFor, Restarts, Renews};
@@ -83,7 +83,7 @@ impl<N: Notes> Client<N> {
     pub fn off(self) -> N
         ensures note { N.note result ≡ N.note self.core.notes }
         ensures says { (o : Opening) (past : List FrameEntry) → StandsFor N.note self o past →
-            Says (N.note result).bytes (noted o (packets_heard o past)) }
+            Says (N.note result).bytes (words_noted o (packets_heard o past)) }
     {
         let Client {
             alloc: _,
@@ -105,7 +105,7 @@ impl<N: Notes> Client<N> {
     /// failed, up to it.
     pub fn runs_used(&self) -> u64
         ensures { (o : Opening) (past : List FrameEntry) → StandsFor N.note self.now o past →
-            result ≡ (noted o (looked (packets_heard o past))).runs }
+            result ≡ (words_noted o (shown_entries (packets_heard o past))).runs }
     {
         self.core.runs_used()
     }
@@ -113,7 +113,7 @@ impl<N: Notes> Client<N> {
     /// The number up to which attempts to verify are used, likewise. Where a save has failed, up to it.
     pub fn attempts_used(&self) -> u64
         ensures { (o : Opening) (past : List FrameEntry) → StandsFor N.note self.now o past →
-            result ≡ (noted o (looked (packets_heard o past))).attempts }
+            result ≡ (words_noted o (shown_entries (packets_heard o past))).attempts }
     {
         self.core.attempts_used()
     }
@@ -122,7 +122,7 @@ impl<N: Notes> Client<N> {
     /// has failed, up to it.
     pub fn is_blank(&self) -> bool
         ensures { (o : Opening) (past : List FrameEntry) → StandsFor N.note self.now o past →
-            result ≡ is_blank (noted o (looked (packets_heard o past))) }
+            result ≡ is_blank (words_noted o (shown_entries (packets_heard o past))) }
     {
         self.core.is_blank()
     }
@@ -130,7 +130,7 @@ impl<N: Notes> Client<N> {
     /// The kept state of a key. Where a save has failed, up to it.
     pub fn saved(&self, key: Key) -> Option<&VerifyState>
         ensures { (o : Opening) (past : List FrameEntry) → StandsFor N.note self.now o past →
-            option_copied result ≡ kept o (looked (packets_heard o past)) key }
+            option_copied result ≡ kept_state o (shown_entries (packets_heard o past)) key }
     {
         self.core.saved(key)
     }
@@ -139,7 +139,7 @@ impl<N: Notes> Client<N> {
     /// counted. Where a save has failed, those up to it.
     pub fn reports(&self) -> &[Received]
         ensures { (o : Opening) (past : List FrameEntry) → StandsFor N.note self.now o past →
-            result.now ≡ reports (life o (looked (packets_heard o past))) }
+            result.now ≡ reports (life o (shown_entries (packets_heard o past))) }
     {
         self.core.reports()
     }
@@ -148,7 +148,7 @@ impl<N: Notes> Client<N> {
     /// has failed, up to it.
     pub fn outcome(&self, kind: RequestKind, number: u64, server: ServerNo) -> Outcome
         ensures { (o : Opening) (past : List FrameEntry) → StandsFor N.note self.now o past →
-            result ≡ outcome o (looked (packets_heard o past)) kind number server }
+            result ≡ outcome o (shown_entries (packets_heard o past)) kind number server }
     {
         self.core.outcome(kind, number, server)
     }
@@ -157,7 +157,7 @@ impl<N: Notes> Client<N> {
     /// has failed, up to it.
     pub fn settled(&self, run: RunNo) -> bool
         ensures { (o : Opening) (past : List FrameEntry) → StandsFor N.note self.now o past →
-            result ≡ settled o (looked (packets_heard o past)) run }
+            result ≡ is_settled o (shown_entries (packets_heard o past)) run }
     {
         self.core.settled(run)
     }

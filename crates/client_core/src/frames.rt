@@ -7,11 +7,11 @@ ghost use Rattle.fc_base.specs.Counted.{numbers_below};
 ghost use Rattle.messages.specs.Ranges.{is_body, is_run};
 ghost use Rattle.messages.specs.declared.body.Body.TheVariants.{Copy};
 ghost use Rattle.client_core.specs.declared.beginning.Beginning.{Beginning};
-ghost use Rattle.client_core.specs.Framed.{framed};
+ghost use Rattle.client_core.specs.Framed.{frame_bytes};
 ghost use Rattle.client_core.specs.Lives.{Each};
-ghost use Rattle.client_core.specs.Packets.{to_server, to_mirror, to_all, again, begin_again};
+ghost use Rattle.client_core.specs.Packets.{to_server, to_mirror, to_all, packets_again, begin_again};
 ghost use Rattle.client_core.specs.Requests.{Request};
-ghost use Rattle.client_core.specs.Standing.{IsKept};
+ghost use Rattle.client_core.specs.Standing.{IsRequestKept};
 
 use crate::beginning::Beginning;
 use crate::run_asked::SERVERS;
@@ -30,7 +30,8 @@ pub(crate) fn say(
 ) -> Result<Body, AllocError>
     requires server { server < MAX_SERVERS }
     requires body { IsTrue (is_body body) }
-    ensures said { OnOk result (frames.new ≡ frames.old ++ framed (to_server body server ∷ [])) }
+    ensures said { OnOk result
+        (frames.new ≡ frames.old ++ frame_bytes (to_server body server ∷ [])) }
     ensures back { IfOk result (λ back. back ≡ body) }
 {
     let packet = Packet::new(PacketParts {
@@ -49,7 +50,7 @@ pub(crate) fn say_to_mirror(
     frames: &mut Frames,
 ) -> Result<(), AllocError>
     requires { IsTrue (is_body body) }
-    ensures { OnOk result (frames.new ≡ frames.old ++ framed (to_mirror body ∷ [])) }
+    ensures { OnOk result (frames.new ≡ frames.old ++ frame_bytes (to_mirror body ∷ [])) }
 {
     let packet = Packet::new(PacketParts {
         from: Node::Client,
@@ -65,7 +66,8 @@ pub(crate) fn say_copy(
     state: &VerifyState,
     frames: &mut Frames,
 ) -> Result<(), AllocError>
-    ensures { OnOk result (frames.new ≡ frames.old ++ framed (to_mirror (Copy state.now) ∷ [])) }
+    ensures { OnOk result
+        (frames.new ≡ frames.old ++ frame_bytes (to_mirror (Copy state.now) ∷ [])) }
 {
     say_to_mirror(alloc, Body::Copy { state: *state }, frames)
 }
@@ -74,7 +76,7 @@ pub(crate) fn say_copy(
 pub(crate) fn only(alloc: Global, server: u32, body: Body) -> Result<Frames, AllocError>
     requires server { server < MAX_SERVERS }
     requires body { IsTrue (is_body body) }
-    ensures { IfOk result (λ frames. frames ≡ framed (to_server body server ∷ [])) }
+    ensures { IfOk result (λ frames. frames ≡ frame_bytes (to_server body server ∷ [])) }
 {
     let mut frames = Frames::new(alloc);
     say(alloc, server, body, &mut frames)?;
@@ -85,7 +87,7 @@ pub(crate) fn only(alloc: Global, server: u32, body: Body) -> Result<Frames, All
 pub(crate) fn to_all(alloc: Global, servers: u32, body: Body) -> Result<Frames, AllocError>
     requires few { servers ≤ MAX_SERVERS }
     requires body { IsTrue (is_body body) }
-    ensures { IfOk result (λ frames. frames ≡ framed (to_all servers body)) }
+    ensures { IfOk result (λ frames. frames ≡ frame_bytes (to_all servers body)) }
 {
     let mut frames = Frames::new(alloc);
     let mut body = body;
@@ -106,7 +108,7 @@ fn say_if(
     requires server { server < MAX_SERVERS }
     requires body { IsTrue (is_body body) }
     ensures said { OnOk result (frames.new ≡ frames.old
-        ++ framed (if is_open then to_server body server ∷ [] else [])) }
+        ++ frame_bytes (if is_open then to_server body server ∷ [] else [])) }
     ensures back { IfOk result (λ back. back ≡ body) }
 {
     if is_open {
@@ -126,9 +128,9 @@ pub(crate) fn say_again(
 ) -> Result<(), AllocError>
     requires few { servers ≤ MAX_SERVERS }
     requires body { IsTrue (is_body body) }
-    ensures { (at : ℕ → Request) → Each standings.now (λ s x. IsKept x (at s)) →
+    ensures { (at : ℕ → Request) → Each standings.now (λ s x. IsRequestKept x (at s)) →
         OnOk result (frames.new ≡ frames.old
-        ++ framed (flat_map (λ s. again body s (at s)) (numbers_below servers))) }
+        ++ frame_bytes (flat_map (λ s. packets_again body s (at s)) (numbers_below servers))) }
 {
     let mut body = body;
     for server in 0..servers {
@@ -152,7 +154,8 @@ pub(crate) fn begin_again(
     requires text { length text.now ≤ MAX_TEXT }
     ensures { (at : ℕ → Beginning) → Each begins.now (λ s b. b ≡ at s) →
         OnOk result (frames.new ≡ frames.old
-        ++ framed (flat_map (λ s. begin_again run text.now s (at s)) (numbers_below servers))) }
+        ++ frame_bytes (flat_map
+        (λ s. begin_again run text.now s (at s)) (numbers_below servers))) }
 {
     for server in 0..servers {
         let begin = begins[server as usize];
@@ -174,7 +177,7 @@ fn begin_at_server(
     requires run { IsTrue (is_run run) }
     requires text { length text.now ≤ MAX_TEXT }
     ensures { OnOk result (frames.new ≡ frames.old
-        ++ framed (begin_again run text.now server begin)) }
+        ++ frame_bytes (begin_again run text.now server begin)) }
 {
     match begin {
         Beginning::Staging => {

@@ -3,7 +3,7 @@
 ghost use Rattle.std.specs.Prelude.{◌≡◌, ◌≤◌, ◌++◌, List, IsTrue, OnOk, IfOk};
 ghost use Rattle.std.specs.List.{flat_map};
 ghost use Rattle.messages.specs.Ranges.{is_generation};
-ghost use Rattle.client_core.specs.Framed.{framed};
+ghost use Rattle.client_core.specs.Framed.{frame_bytes};
 ghost use Rattle.client_core.specs.Life.{Deed};
 ghost use Rattle.client_core.specs.Lives.{EachLife};
 ghost use Rattle.client_core.specs.Packets.{fetch_again, copy_again, copies_again, all_again};
@@ -26,7 +26,7 @@ pub(crate) fn all_again(
     life: &Life,
 ) -> Result<Frames, AllocError>
     ensures { EachLife life.now (λ deeds. IfOk result (λ frames. frames
-        ≡ framed (all_again peers.now noted.now deeds))) }
+        ≡ frame_bytes (all_again peers.now noted.now deeds))) }
 {
     let mut frames = Frames::new(alloc);
     fetch_again(alloc, peers, noted.generation, &mut frames)?;
@@ -48,7 +48,8 @@ fn fetch_again(
     generation: NotedGeneration,
     frames: &mut Frames,
 ) -> Result<(), AllocError>
-    ensures { OnOk result (frames.new ≡ frames.old ++ framed (fetch_again peers.now generation)) }
+    ensures { OnOk result
+        (frames.new ≡ frames.old ++ frame_bytes (fetch_again peers.now generation)) }
 {
     if peers.mirror && (0 < generation.number() && !peers.granted) {
         let generation = Generation(generation.number());
@@ -66,7 +67,7 @@ fn copies_again(
     frames: &mut Frames,
 ) -> Result<(), AllocError>
     ensures { EachLife life.now (λ deeds. OnOk result (frames.new ≡ frames.old
-        ++ framed (copies_again mirror states.now deeds))) }
+        ++ frame_bytes (copies_again mirror states.now deeds))) }
 {
     if !mirror {
         return Ok(());
@@ -85,7 +86,7 @@ fn copy_again(
     frames: &mut Frames,
 ) -> Result<(), AllocError>
     ensures { EachLife life.now (λ deeds. OnOk result (frames.new ≡ frames.old
-        ++ framed (copy_again deeds state.now))) }
+        ++ frame_bytes (copy_again deeds state.now))) }
 {
     if !life.is_copied(state.key()) {
         say_copy(alloc, state, frames)?;

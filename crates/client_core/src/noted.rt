@@ -1,7 +1,7 @@
 //! What outlasts a cut: the bytes of a client's note.
 
 ghost use Rattle.std.specs.Prelude.{◌≡◌, ◌≤◌, IfOk, OnErr};
-ghost use Rattle.client_core.specs.Note.{spelling, blank, renewed, is_blank, BeginsStates, Reads, ReadsNumbers, TellsStates, SaysOneThing, SaysWhatIsWritten};
+ghost use Rattle.client_core.specs.Note.{spelling, blank, new_note, is_blank, BeginsStates, Reads, ReadsNumbers, TellsStates, SaysOneThing, SaysWhatIsWritten};
 
 use crate::generation::NotedGeneration;
 use fc_base::{put_u32, put_u64, split_u32, split_u64};
@@ -64,7 +64,7 @@ impl Noted {
 
     /// What a note says that begins anew with this generation. It takes no memory.
     pub fn renewed(alloc: Global, generation: NotedGeneration) -> Noted
-        ensures { result ≡ renewed generation }
+        ensures { result ≡ new_note generation }
     {
         let used = generation.number() * GENERATION_NUMBERS;
         Noted {

@@ -7,7 +7,7 @@ ghost use Rattle.client_core.specs.History.{Opening, Entry};
 ghost use Rattle.client_core.specs.Note.{Says, is_blank};
 ghost use Rattle.client_core.specs.declared.call.Call.TheVariants.{Deliver};
 ghost use Rattle.client_core.specs.Refusals.{refusal_by};
-ghost use Rattle.client_core.specs.Words.{is_on, noted, kept, looked, would_save};
+ghost use Rattle.client_core.specs.Words.{is_on, words_noted, kept_state, shown_entries, would_save};
 
 mod begin;
 mod deliver;
@@ -139,7 +139,8 @@ impl<N: Notes> PacketClient<N> {
     /// The notes of a client that is taken off.
     pub(crate) fn off(self) -> N
         ensures note { N.note result ≡ N.note self.notes }
-        ensures says { (o : Opening) (past : List Entry) → StandsFor N.note self o past → Says (N.note result).bytes (noted o past) }
+        ensures says { (o : Opening) (past : List Entry) → StandsFor N.note self o past →
+            Says (N.note result).bytes (words_noted o past) }
     {
         let PacketClient {
             alloc: _,
@@ -154,35 +155,40 @@ impl<N: Notes> PacketClient<N> {
 
     /// Whether it is on: a client whose save failed is down until it is restarted.
     pub(crate) fn on(&self) -> bool
-        ensures { (o : Opening) (past : List Entry) → StandsFor N.note self.now o past → result ≡ is_on past }
+        ensures { (o : Opening) (past : List Entry) → StandsFor N.note self.now o past →
+            result ≡ is_on past }
     {
         !self.down
     }
 
     /// How many servers it drives.
     pub(crate) fn servers(&self) -> u32
-        ensures { (o : Opening) (past : List Entry) → StandsFor N.note self.now o past → result ≡ o.servers }
+        ensures { (o : Opening) (past : List Entry) → StandsFor N.note self.now o past →
+            result ≡ o.servers }
     {
         self.peers.servers.count()
     }
 
     /// The number up to which runs are used.
     pub(crate) fn runs_used(&self) -> u64
-        ensures { (o : Opening) (past : List Entry) → StandsFor N.note self.now o past → result ≡ (noted o (looked past)).runs }
+        ensures { (o : Opening) (past : List Entry) → StandsFor N.note self.now o past →
+            result ≡ (words_noted o (shown_entries past)).runs }
     {
         self.noted.runs
     }
 
     /// The number up to which attempts are used.
     pub(crate) fn attempts_used(&self) -> u64
-        ensures { (o : Opening) (past : List Entry) → StandsFor N.note self.now o past → result ≡ (noted o (looked past)).attempts }
+        ensures { (o : Opening) (past : List Entry) → StandsFor N.note self.now o past →
+            result ≡ (words_noted o (shown_entries past)).attempts }
     {
         self.noted.attempts
     }
 
     /// Whether its note says what a blank one says: nothing was begun, and no state is kept.
     pub(crate) fn is_blank(&self) -> bool
-        ensures { (o : Opening) (past : List Entry) → StandsFor N.note self.now o past → result ≡ is_blank (noted o (looked past)) }
+        ensures { (o : Opening) (past : List Entry) → StandsFor N.note self.now o past →
+            result ≡ is_blank (words_noted o (shown_entries past)) }
     {
         self.noted.is_blank()
     }
@@ -190,14 +196,16 @@ impl<N: Notes> PacketClient<N> {
     /// Whether the delivery of this packet would make a save: it is a State, or a Copy of the mirror, that
     /// isn't refused, of a key of which no state is kept.
     pub(crate) fn would_save(&self, packet: &Packet) -> bool
-        ensures { (o : Opening) (past : List Entry) → StandsFor N.note self.now o past → result ≡ would_save o past (Deliver packet.now) }
+        ensures { (o : Opening) (past : List Entry) → StandsFor N.note self.now o past →
+            result ≡ would_save o past (Deliver packet.now) }
     {
         self.refusal(packet).is_none() && adds(&self.noted, packet.body())
     }
 
     /// Why the delivery of this packet is refused.
     fn refusal(&self, packet: &Packet) -> Option<Fault>
-        ensures { result ≡ refusal_by (not self.now.down) self.now.peers self.now.noted (Deliver packet.now) }
+        ensures { result
+            ≡ refusal_by (not self.now.down) self.now.peers self.now.noted (Deliver packet.now) }
     {
         if self.down {
             return Some(Fault::Down);
@@ -210,7 +218,8 @@ impl<N: Notes> PacketClient<N> {
 
     /// The kept state of a key.
     pub(crate) fn saved(&self, key: Key) -> Option<&VerifyState>
-        ensures { (o : Opening) (past : List Entry) → StandsFor N.note self.now o past → option_copied result ≡ kept o (looked past) key }
+        ensures { (o : Opening) (past : List Entry) → StandsFor N.note self.now o past →
+            option_copied result ≡ kept_state o (shown_entries past) key }
     {
         self.noted.kept.get(key)
     }

@@ -4,9 +4,9 @@ ghost use Rattle.std.specs.Prelude.{◌≡◌, ◌<◌, ◌≤◌, [], ◌∷◌
 ghost use Rattle.fc_base.specs.declared.limits.TheConstants.{MAX_SERVERS, MAX_TEXT};
 ghost use Rattle.messages.specs.Ranges.{is_body, is_run};
 ghost use Rattle.messages.specs.declared.body.Body.TheVariants.{WantState};
-ghost use Rattle.client_core.specs.Framed.{framed};
+ghost use Rattle.client_core.specs.Framed.{frame_bytes};
 ghost use Rattle.client_core.specs.Lives.{EachLife};
-ghost use Rattle.client_core.specs.Packets.{replies, start_for, jobs_for, state_for};
+ghost use Rattle.client_core.specs.Packets.{replies, start_for, jobs_once_more, state_for};
 ghost use Rattle.state_table.specs.Kept.{kept_of};
 
 use crate::beginning::Beginning;
@@ -29,7 +29,8 @@ pub(crate) fn replies(
     requires server { server < MAX_SERVERS }
     requires body { IsTrue (is_body body.now) }
     ensures { EachLife life.now
-        (λ deeds. IfOk result (λ frames. frames ≡ framed (replies mirror noted.now deeds server body.now))) }
+        (λ deeds. IfOk result
+        (λ frames. frames ≡ frame_bytes (replies mirror noted.now deeds server body.now))) }
 {
     match body {
         Body::JobsOk { run, .. } => start_for(alloc, *run, server, life.begin_at(*run, server)),
@@ -64,7 +65,7 @@ pub(crate) fn replies(
 fn start_for(alloc: Global, run: RunNo, server: u32, begin: Beginning) -> Result<Frames, AllocError>
     requires server { server < MAX_SERVERS }
     requires run { IsTrue (is_run run) }
-    ensures { IfOk result (λ frames. frames ≡ framed (start_for run server begin)) }
+    ensures { IfOk result (λ frames. frames ≡ frame_bytes (start_for run server begin)) }
 {
     match begin {
         Beginning::Staging => only(alloc, server, Body::Start { run }),
@@ -83,7 +84,8 @@ fn jobs_for(
     requires server { server < MAX_SERVERS }
     requires run { IsTrue (is_run run) }
     requires text { length text.now ≤ MAX_TEXT }
-    ensures { IfOk result (λ frames. frames ≡ framed (jobs_for run text.now server begin)) }
+    ensures { IfOk result
+        (λ frames. frames ≡ frame_bytes (jobs_once_more run text.now server begin)) }
 {
     match begin {
         Beginning::Starting => {
@@ -105,7 +107,7 @@ fn state_for(
 ) -> Result<Frames, AllocError>
     requires server { server < MAX_SERVERS }
     requires body { IsTrue (is_body (WantState run attempt job)) }
-    ensures { IfOk result (λ frames. frames ≡ framed (state_for run attempt job server
+    ensures { IfOk result (λ frames. frames ≡ frame_bytes (state_for run attempt job server
         (kept_of (record { run = run; server = server; job = job }) noted.now.kept) ∷ [])) }
 {
     let key = Key {

@@ -4,9 +4,9 @@ ghost use Rattle.std.specs.Prelude.{◌≡◌, [], false, true, IsTrue};
 ghost use Rattle.std.specs.List.{list_all};
 ghost use Rattle.messages.specs.Ranges.{is_job_of, is_body, is_refusal};
 ghost use Rattle.client_core.specs.declared.outcome.Outcome.TheVariants as outcomes;
-ghost use Rattle.client_core.specs.Requests.{Request, Unasked, Open, is_open, told, answered, refused, check_refused, trigger_heard, stop_heard, verify_heard};
+ghost use Rattle.client_core.specs.Requests.{Request, Unasked, Open, is_open, when_one_tells, when_answered, when_refused, check_refused, trigger_heard, stop_heard, verify_heard};
 ghost use Rattle.client_core.specs.Reports.{counts_for};
-ghost use Rattle.client_core.specs.Standing.{IsKept, all_told, with_answer};
+ghost use Rattle.client_core.specs.Standing.{IsRequestKept, all_told, with_answer};
 
 use crate::outcome::Outcome;
 use fc_base::{Attempt, MAX_JOBS, RunNo};
@@ -28,7 +28,7 @@ pub struct Standing {
 impl Standing {
     /// There was no request.
     pub fn unasked() -> Standing
-        ensures { IsKept result Unasked }
+        ensures { IsRequestKept result Unasked }
     {
         Standing {
             outcome: Outcome::None,
@@ -40,7 +40,7 @@ impl Standing {
 
     /// It is open, and has no answer yet.
     pub fn open() -> Standing
-        ensures { IsKept result (Open []) }
+        ensures { IsRequestKept result (Open []) }
     {
         Standing {
             outcome: Outcome::Open,
@@ -59,14 +59,15 @@ impl Standing {
 
     /// Whether it is open.
     pub fn is_open(&self) -> bool
-        ensures { (q : Request) → IsKept self.now q → result ≡ is_open q }
+        ensures { (q : Request) → IsRequestKept self.now q → result ≡ is_open q }
     {
         self.outcome == Outcome::Open
     }
 
     /// Whether an answer for this job, which tells how many jobs there are, counts.
     pub fn counts(&self, job: u32, jobs: u32) -> bool
-        ensures { (q : Request) → IsKept self.now q → result ≡ counts_for (record { job = job; jobs = jobs; misfit = false }) q }
+        ensures { (q : Request) → IsRequestKept self.now q →
+            result ≡ counts_for (record { job = job; jobs = jobs; misfit = false }) q }
     {
         let jobs = if self.jobs == 0 { jobs } else { self.jobs };
         self.outcome == Outcome::Open && job < jobs
@@ -75,7 +76,8 @@ impl Standing {
     /// What the server says, of a run that was triggered or of another.
     pub fn hear_trigger(&mut self, run: RunNo, body: &Body)
         requires { IsTrue (is_body body.now) }
-        ensures { (q : Request) → IsKept self.old q → IsKept self.new (trigger_heard run body.now q) }
+        ensures { (q : Request) → IsRequestKept self.old q →
+            IsRequestKept self.new (trigger_heard run body.now q) }
     {
         match body {
             Body::State { jobs, state } if state.key().run.0 == run.0 => {
@@ -93,7 +95,8 @@ impl Standing {
 
     /// What the server says, of a run that was stopped or of another.
     pub fn hear_stop(&mut self, run: RunNo, body: &Body)
-        ensures { (q : Request) → IsKept self.old q → IsKept self.new (stop_heard run body.now q) }
+        ensures { (q : Request) → IsRequestKept self.old q →
+            IsRequestKept self.new (stop_heard run body.now q) }
     {
         match body {
             Body::Stopped { run: of } if of.0 == run.0 => self.end(),
@@ -107,7 +110,8 @@ impl Standing {
     /// What the server says, of an attempt to verify this run or of another.
     pub fn hear_verify(&mut self, run: RunNo, attempt: Attempt, body: &Body)
         requires { IsTrue (is_body body.now) }
-        ensures { (q : Request) → IsKept self.old q → IsKept self.new (verify_heard run attempt body.now q) }
+        ensures { (q : Request) → IsRequestKept self.old q →
+            IsRequestKept self.new (verify_heard run attempt body.now q) }
     {
         match body {
             Body::Report {
@@ -130,7 +134,9 @@ impl Standing {
     /// An answer for a job, which tells how many jobs there are, and whether a state didn't fit.
     pub fn tell(&mut self, job: u32, jobs: u32, misfit: bool)
         requires job { IsTrue (is_job_of job jobs) }
-        ensures { (q : Request) → IsKept self.old q → IsKept self.new (told (record { job = job; jobs = jobs; misfit = misfit }) q) }
+        ensures { (q : Request) → IsRequestKept self.old q →
+            IsRequestKept self.new
+            (when_one_tells (record { job = job; jobs = jobs; misfit = misfit }) q) }
     {
         if let Outcome::Open = self.outcome {
             self.answer(job, jobs, misfit);
@@ -141,7 +147,8 @@ impl Standing {
     fn answer(&mut self, job: u32, jobs: u32, misfit: bool)
         requires job { IsTrue (is_job_of job jobs) }
         requires still { self.old.outcome ≡ outcomes.Open }
-        ensures { self.new ≡ with_answer (record { job = job; jobs = jobs; misfit = misfit }) self.old }
+        ensures { self.new
+            ≡ with_answer (record { job = job; jobs = jobs; misfit = misfit }) self.old }
     {
         if self.jobs == 0 {
             self.jobs = jobs;
@@ -159,7 +166,8 @@ impl Standing {
 
     /// The one answer of a request that isn't asked for each job.
     pub fn end(&mut self)
-        ensures outcome { (q : Request) → IsKept self.old q → IsKept self.new (answered q) }
+        ensures outcome { (q : Request) → IsRequestKept self.old q →
+            IsRequestKept self.new (when_answered q) }
         ensures rest { self.new ≡ record self.old { outcome = self.new.outcome } }
     {
         if self.outcome == Outcome::Open {
@@ -170,7 +178,9 @@ impl Standing {
     /// A refusal of a check: a misfit is an answer for its job.
     fn refuse_check(&mut self, refusal: &Refusal)
         requires refusal { IsTrue (is_refusal refusal.now) }
-        ensures { (q : Request) → IsKept self.old q → IsKept self.new (check_refused (record { job = refusal.now.job; jobs = refusal.now.jobs; misfit = true }) refusal.now.reason q) }
+        ensures { (q : Request) → IsRequestKept self.old q →
+            IsRequestKept self.new
+            (check_refused (record { job = refusal.now.job; jobs = refusal.now.jobs; misfit = true }) refusal.now.reason q) }
     {
         if let Reason::Misfit = refusal.reason {
             self.tell(refusal.job.0, refusal.jobs, true);
@@ -181,7 +191,8 @@ impl Standing {
 
     /// A refusal: a server that is busy is asked again, and a misfit ends no more than a job.
     pub fn refuse(&mut self, reason: Reason)
-        ensures { (q : Request) → IsKept self.old q → IsKept self.new (refused reason q) }
+        ensures { (q : Request) → IsRequestKept self.old q →
+            IsRequestKept self.new (when_refused reason q) }
     {
         if self.outcome == Outcome::Open && reason != Reason::Busy && reason != Reason::Misfit {
             self.outcome = Outcome::Refused(reason);

@@ -7,7 +7,7 @@ use Rattle.job_file.specs.declared.fault.JobFault.{JobFault}
 use Rattle.job_file.specs.declared.fault.JobFault.TheVariants.{TooLong}
 use Rattle.job_file.specs.Fault.{when}
 use Rattle.job_file.specs.JobSet.{refusal_of}
-use Rattle.printed.specs.declared.refusal.Refusal.{Refusal}
+use Rattle.printed.specs.declared.refusal.PrintedRefusal.{PrintedRefusal}
 use Rattle.bounded_input.specs.Input.{IsRead, ReadsAreFronts, ShortReadsAreWhole}
 use Rattle.printed.specs.Refusals.{RefusesText}
 use Rattle.commands.specs.Answer.{AreLinesOf, AnswersText}
@@ -35,7 +35,7 @@ lines_of_whole whole text new bytes lines read are =
     subst (AreLinesOf lines) (whole (MAX_TEXT + 1) text new bytes read (sound_is_short bytes are.sound)) are
 
 -- The first fault of what was read is that of the whole.
-refuses_whole : ShortReadsAreWhole → ReadsAreFronts → (text : List ℕ) (new : Option (List ℕ)) (bytes : List ℕ) (refusal : Refusal) → IsRead (MAX_TEXT + 1) (Some text) new bytes → RefusesText refusal bytes → RefusesText refusal text
+refuses_whole : ShortReadsAreWhole → ReadsAreFronts → (text : List ℕ) (new : Option (List ℕ)) (bytes : List ℕ) (refusal : PrintedRefusal) → IsRead (MAX_TEXT + 1) (Some text) new bytes → RefusesText refusal bytes → RefusesText refusal text
 refuses_whole whole fronts text new bytes refusal read refuses =
     elim (cases_lt (length bytes) (MAX_TEXT + 1)) [
       | inl short ↦ subst (RefusesText refusal) (whole (MAX_TEXT + 1) text new bytes read short) refuses
@@ -47,7 +47,7 @@ refuses_whole whole fronts text new bytes refusal read refuses =
     ]
 
 -- The answer to what was read of an input is the answer to all of it.
-pub answers_whole : ShortReadsAreWhole → ReadsAreFronts → {X : Type 0} (view : X → List ℕ) (old new : Option (List ℕ)) (bytes : List ℕ) (answer : Result X Refusal)
+pub answers_whole : ShortReadsAreWhole → ReadsAreFronts → {X : Type 0} (view : X → List ℕ) (old new : Option (List ℕ)) (bytes : List ℕ) (answer : Result X PrintedRefusal)
     → IsRead (MAX_TEXT + 1) old new bytes → AnswersText view answer bytes → IfSome old (AnswersText view answer)
 answers_whole whole fronts view None new bytes answer read h = tt
 answers_whole whole fronts view (Some text) new bytes (Ok lines) read h = lines_of_whole whole text new bytes (view lines) read h

@@ -4,8 +4,8 @@ use Rattle.std.specs.Io.KnownBytes.{Appends}
 use Rattle.fc_base.specs.declared.fault.Fault.TheVariants.{JobNoMemory, ReadError}
 use Rattle.job_file.specs.declared.job.JobSet.{JobSet}
 use Rattle.job_file.specs.JobSet.{refusal_of, IsSetOf}
-use Rattle.printed.specs.declared.refusal.Refusal.{Refusal}
-use Rattle.printed.specs.Words.{ended}
+use Rattle.printed.specs.declared.refusal.PrintedRefusal.{PrintedRefusal}
+use Rattle.printed.specs.Words.{with_line_feed}
 use Rattle.commands.specs.Lines.{set_lines}
 use Rattle.printed.specs.Refusals.{plain, refusal_line, RefusesText}
 
@@ -17,12 +17,12 @@ pub record AreLinesOf (lines : List ℕ) (text : List ℕ) : Type 0 where
   pub printed : lines ≡ set_lines set
 
 -- Why there are no lines: the text's first fault, a failed read, or no memory.
-abbrev pub IsRefusalOf : Refusal → List ℕ → Type 0
+abbrev pub IsRefusalOf : PrintedRefusal → List ℕ → Type 0
 IsRefusalOf refusal text =
     RefusesText refusal text ⊎ ((refusal ≡ plain ReadError) ⊎ (refusal ≡ plain JobNoMemory))
 
 -- The answer to an input with this text: the lines of its set, or why there are none.
-abbrev pub AnswersText : {X : Type 0} → (X → List ℕ) → Result X Refusal → List ℕ → Type 0
+abbrev pub AnswersText : {X : Type 0} → (X → List ℕ) → Result X PrintedRefusal → List ℕ → Type 0
 AnswersText bytes (Ok lines) text = AreLinesOf (bytes lines) text
 AnswersText bytes (Err refusal) text = IsRefusalOf refusal text
 
@@ -34,6 +34,6 @@ pub record WritesLinesOf (text : List ℕ) (old new : Option (List ℕ)) : Type 
 
 -- The one line of a refusal of the text has been written behind what the writer held.
 pub record WritesRefusalOf (text : List ℕ) (old new : Option (List ℕ)) : Type 0 where
-  pub refusal : Refusal
+  pub refusal : PrintedRefusal
   pub is_refusal : IsRefusalOf refusal text
-  pub written : Appends old new (ended (refusal_line refusal))
+  pub written : Appends old new (with_line_feed (refusal_line refusal))

@@ -8,10 +8,10 @@ use Rattle.fc_base.specs.declared.record.Verify.{Verify}
 use Rattle.fc_base.specs.declared.record.Verify.TheVariants.{Stamp, Pattern}
 use Rattle.job_file.specs.declared.job.Job.{Job}
 use Rattle.job_file.specs.declared.job.JobSet.{JobSet}
-use Rattle.job_file.specs.declared.job.Note.{Note}
+use Rattle.job_file.specs.declared.job.LineNote.{LineNote}
 use Rattle.job_file.specs.declared.job.Phase.{Phase}
 use Rattle.job_file.specs.declared.job.Phase.TheVariants.{Read, Write}
-use Rattle.printed.specs.Words.{spaced, ended}
+use Rattle.printed.specs.Words.{with_blanks_between, with_line_feed}
 
 -- The order in which a job writes its blocks.
 abbrev pub order_word : Kind → List ℕ
@@ -44,7 +44,7 @@ file_label (Some filename) = filename
 
 -- The line of a job by its number.
 abbrev pub job_line : ℕ → Job → List ℕ
-job_line number job = spaced (
+job_line number job = with_blanks_between (
     codes "job"
     ∷ decimal number
     ∷ job.name
@@ -63,21 +63,21 @@ job_line number job = spaced (
     ∷ [])
 
 -- The line of a note.
-abbrev pub note_line : Note → List ℕ
-note_line note = spaced (codes "note" ∷ decimal note.line ∷ note.option ∷ codes "has no effect here" ∷ [])
+abbrev pub note_line : LineNote → List ℕ
+note_line note = with_blanks_between (codes "note" ∷ decimal note.line ∷ note.option ∷ codes "has no effect here" ∷ [])
 
 -- The lines of jobs, numbered from 0.
 abbrev pub job_lines : List Job → List ℕ
-job_lines jobs = flat_map (λ (number, job). ended (job_line number job)) (enumerate_from 0 jobs)
+job_lines jobs = flat_map (λ (number, job). with_line_feed (job_line number job)) (enumerate_from 0 jobs)
 
 -- The lines of notes.
-abbrev pub note_lines : List Note → List ℕ
-note_lines notes = flat_map (λ n. ended (note_line n)) notes
+abbrev pub note_lines : List LineNote → List ℕ
+note_lines notes = flat_map (λ n. with_line_feed (note_line n)) notes
 
 -- The last line: how many jobs there are, and what they do.
 abbrev pub count_line : JobSet → List ℕ
-count_line set = spaced (codes "jobs" ∷ decimal (length set.jobs) ∷ codes "phase" ∷ phase_word set.phase ∷ [])
+count_line set = with_blanks_between (codes "jobs" ∷ decimal (length set.jobs) ∷ codes "phase" ∷ phase_word set.phase ∷ [])
 
 -- All lines of a set: those of its notes, those of its jobs, and the count.
 abbrev pub set_lines : JobSet → List ℕ
-set_lines set = note_lines set.notes ++ (job_lines set.jobs ++ ended (count_line set))
+set_lines set = note_lines set.notes ++ (job_lines set.jobs ++ with_line_feed (count_line set))

@@ -3,12 +3,12 @@ use Rattle.std.specs.Prelude.{◌⊎◌, ℕ, List, Option}
 use Rattle.fc_base.specs.declared.fault.Fault.{Fault}
 use Rattle.fc_base.specs.declared.fault.Fault.TheVariants.{ReadError, NoMemory}
 use Rattle.net_script.specs.Runs.{HasRun}
-use Rattle.printed.specs.Words.{ended, Finishes}
+use Rattle.printed.specs.Words.{with_line_feed, Finishes}
 use Rattle.printed.specs.Refusals.{plain, refusal_line}
 
 -- A script that was not read: the one line of this refusal is written.
 abbrev pub RefusesScript : Fault → Option (List ℕ) → Option (List ℕ) → ℕ → Type 0
-RefusesScript fault old new status = Finishes (ended (refusal_line (plain fault))) 2 old new status
+RefusesScript fault old new status = Finishes (with_line_feed (refusal_line (plain fault))) 2 old new status
 
 -- The script has run; or it could not be read, or there was no memory for it.
 abbrev pub AnswersScript : List ℕ → Option (List ℕ) → Option (List ℕ) → ℕ → Type 0

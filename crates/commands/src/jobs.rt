@@ -2,7 +2,7 @@
 
 ghost use Rattle.std.specs.Prelude.{◌≡◌, ◌⊎◌, ◌+◌, IfOk, OnOk, IfSome, string_bytes};
 ghost use Rattle.std.specs.Io.KnownBytes.{Appends};
-ghost use Rattle.printed.specs.Words.{ended};
+ghost use Rattle.printed.specs.Words.{with_line_feed};
 ghost use Rattle.printed.specs.Refusals.{refusal_line};
 ghost use Rattle.bounded_input.specs.Input.{HasRead};
 ghost use Rattle.commands.specs.Answer.{AnswersText, WritesLinesOf, WritesRefusalOf};
@@ -11,7 +11,7 @@ use crate::lines::lines_of_set;
 use bounded_input::{read_input, read_law};
 use fc_base::MAX_TEXT;
 use job_file::parse;
-use printed::{REFUSED, Refusal, write_refusal};
+use printed::{PrintedRefusal, REFUSED, write_refusal};
 use std::alloc::Global;
 use std::io;
 use std::io::{Read, Write};
@@ -52,7 +52,7 @@ pub fn run_jobs<R: Read, W: Write>(alloc: Global, reader: &mut R, writer: &mut W
 }
 
 /// All that is printed for the text of this input, or why it is refused.
-fn lines_of_input<R: Read>(alloc: Global, reader: &mut R) -> Result<String, Refusal>
+fn lines_of_input<R: Read>(alloc: Global, reader: &mut R) -> Result<String, PrintedRefusal>
     ensures answer { IfSome (R.remaining reader.old) (AnswersText string_bytes result) }
     ensures read { HasRead (MAX_TEXT + 1) (R.remaining reader.old) (R.remaining reader.new) }
 {
@@ -62,7 +62,7 @@ fn lines_of_input<R: Read>(alloc: Global, reader: &mut R) -> Result<String, Refu
 }
 
 /// All that is printed for a text, or why it is refused.
-fn lines_of_text(alloc: Global, text: &[u8]) -> Result<String, Refusal>
+fn lines_of_text(alloc: Global, text: &[u8]) -> Result<String, PrintedRefusal>
     ensures { AnswersText string_bytes result text.now }
 {
     let set = parse(alloc, text)?;

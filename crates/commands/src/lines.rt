@@ -4,7 +4,7 @@ ghost use Rattle.std.specs.Prelude.{◌≡◌, ◌++◌, IfOk, OnOk, Some, strin
 ghost use Rattle.commands.specs.Lines.{order_word, phase_word, switch_digit, file_label, verify_word, job_line, note_line, count_line, job_lines, note_lines, set_lines};
 
 use fc_base::{JobRecord, Kind, Verify};
-use job_file::{Job, JobSet, Note, Phase, Text};
+use job_file::{Job, JobSet, LineNote, Phase, PrintableText};
 use std::alloc::{AllocError, Global};
 use std::fmt;
 
@@ -19,7 +19,7 @@ pub fn lines_of_set(alloc: Global, set: &JobSet) -> Result<String, AllocError>
     Ok(lines)
 }
 
-fn push_notes(lines: &mut String, notes: &[Note]) -> Result<(), AllocError>
+fn push_notes(lines: &mut String, notes: &[LineNote]) -> Result<(), AllocError>
     ensures { OnOk result (string_bytes lines.new ≡ string_bytes lines.old
         ++ note_lines notes.now) }
 {
@@ -51,7 +51,7 @@ impl fmt::Display for CountLine<'_> {
 }
 
 #[derive(Drop)]
-struct NoteLine<'a>(&'a Note);
+struct NoteLine<'a>(&'a LineNote);
 
 impl fmt::Display for NoteLine<'_> {
     ghost output = { λ l. Some (note_line l.0.now) };
@@ -142,7 +142,7 @@ fn switch_digit(on: bool) -> u8
     if on { 1 } else { 0 }
 }
 
-fn file_label(filename: &Option<Text>) -> &str
+fn file_label(filename: &Option<PrintableText>) -> &str
     ensures { result.now ≡ file_label filename.now }
 {
     match filename {

@@ -3,13 +3,13 @@
 ghost use Rattle.std.specs.Prelude.{◌≡◌, OnOk, IfOk, IfSome};
 ghost use Rattle.std.specs.Io.Buffered.{writer_contents};
 ghost use Rattle.std.specs.Io.KnownBytes.{Appends};
-ghost use Rattle.printed.specs.Words.{ended};
+ghost use Rattle.printed.specs.Words.{with_line_feed};
 ghost use Rattle.printed.specs.Refusals.{plain, refusal_line};
 ghost use Rattle.commands.specs.World.{AnswersScript, RefusesScript};
 
 use fc_base::Fault;
 use net_script::{ScriptFault, run_script};
-use printed::{REFUSED, Refusal, write_refusal};
+use printed::{PrintedRefusal, REFUSED, write_refusal};
 use std::alloc::Global;
 use std::io;
 use std::io::{BufWriter, ErrorKind, Read, Write};
@@ -51,6 +51,6 @@ pub fn run_world<R: Read, W: Write>(alloc: Global, reader: &mut R, writer: &mut 
 pub fn refuse_script<W: Write>(writer: &mut W, fault: Fault) -> io::Result<u8>
     ensures { IfOk result (RefusesScript fault (W.contents writer.old) (W.contents writer.new)) }
 {
-    write_refusal(writer, Refusal::from(fault))?;
+    write_refusal(writer, PrintedRefusal::from(fault))?;
     Ok(REFUSED)
 }

@@ -5,7 +5,7 @@
 ghost use Rattle.targets.specs.Command.{IsRequest};
 
 use fc_base::Fault;
-use printed::{REFUSED, Refusal, refuse_words};
+use printed::{PrintedRefusal, REFUSED, refuse_words};
 use std::io;
 use std::io::{BufReader, BufWriter, Write};
 use std::process::ExitCode;
@@ -35,7 +35,7 @@ fn answer_request<R: AllocGlobal + Input + Print>(rt: &R, request: Request) -> i
 {
     match BufWriter::with_capacity(rt.alloc(), CAPACITY, io::writer(rt)) {
         Ok(mut writer) => answer_by(rt, request, &mut writer),
-        Err(_) => refuse(&mut io::writer(rt), Refusal::from(Fault::NoMemory)),
+        Err(_) => refuse(&mut io::writer(rt), PrintedRefusal::from(Fault::NoMemory)),
     }
 }
 
@@ -49,7 +49,7 @@ fn answer_by<R: AllocGlobal + Input, W: Write>(
 {
     let alloc = rt.alloc();
     let Ok(mut reader) = BufReader::with_capacity(alloc, CAPACITY, rt.reader()) else {
-        return refuse(writer, Refusal::from(Fault::NoMemory));
+        return refuse(writer, PrintedRefusal::from(Fault::NoMemory));
     };
     match request {
         Request::Write { run, job } => write_job(alloc, run, job, &mut reader, writer),

@@ -9,7 +9,7 @@ use Rattle.server_cell.specs.Cells.{ServerLog}
 use Rattle.server_core.specs.Answers.{job_of_check}
 use Rattle.server_core.specs.Check.{Check, check}
 use Rattle.client_core.specs.declared.received.Received.{Received}
-use Rattle.fleet.specs.declared.ends.End.{End}
+use Rattle.fleet.specs.declared.ends.CheckEnd.{CheckEnd}
 use Rattle.fleet.specs.Ends.{AddsEnds, AreEnds, Checks, IsEnd, IsAt, IsEndAt, jobs_of, jobs_by_server, place_of}
 
 -- The jobs of one server more stand behind those of the others.
@@ -38,7 +38,7 @@ checks_more cells attempt servers server count c counts long last others (inl h)
 checks_more cells attempt servers server count c counts long last others (inr p) = rw (p.0 ∙ long, p.1) last
 
 -- With the ends of the next server, they are those of one server more.
-pub ends_more : (cells : List ServerLog) (came : List Received) (attempt servers : ℕ) (before after : List End) → AddsEnds cells came attempt servers before after → AreEnds cells came attempt servers before → AreEnds cells came attempt (servers + 1) after
+pub ends_more : (cells : List ServerLog) (came : List Received) (attempt servers : ℕ) (before after : List CheckEnd) → AddsEnds cells came attempt servers before after → AreEnds cells came attempt servers before → AreEnds cells came attempt (servers + 1) after
 ends_more cells came attempt servers before after adds are = record {
   counts = are.counts ++ adds.count ∷ [];
   servers_are = omega (arith, length-append are.counts (adds.count ∷ []), are.servers_are);
@@ -54,9 +54,9 @@ job_more number job =
     ap (jobs_of number) (add-one job) ∙ map-append at (numbers_below job) (job ∷ [])
 
 -- With the end of the next job, there are those of one job more.
-pub places_more : (number job : ℕ) (first before after : List End) (end : End) → after ≡ before ++ end ∷ [] → place_of end ≡ (number, job) → map place_of before ≡ map place_of first ++ jobs_of number job → map place_of after ≡ map place_of first ++ jobs_of number (job + 1)
+pub places_more : (number job : ℕ) (first before after : List CheckEnd) (end : CheckEnd) → after ≡ before ++ end ∷ [] → place_of end ≡ (number, job) → map place_of before ≡ map place_of first ++ jobs_of number job → map place_of after ≡ map place_of first ++ jobs_of number (job + 1)
 places_more number job first before after end is place places =
-    ap (λ (ends : List End). map place_of ends) is
+    ap (λ (ends : List CheckEnd). map place_of ends) is
     ∙ map-append place_of before (end ∷ [])
     ∙ ap (λ (l : List (ℕ × ℕ)). l ++ place_of end ∷ []) places
     ∙ append_assoc (map place_of first) (jobs_of number job) (place_of end ∷ [])
@@ -64,7 +64,7 @@ places_more number job first before after end is place places =
     ∙ ap (λ (l : List (ℕ × ℕ)). map place_of first ++ l) (sym (job_more number job))
 
 -- One end more is that of its job, as those before are.
-pub end_more : (cells : List ServerLog) (came : List Received) (attempt : ℕ) (cell : ServerLog) (before : List End) (end : End) → slice_get cells end.server ≡ Some cell → IsEndAt cell came attempt end → All (IsEnd cells came attempt) before → All (IsEnd cells came attempt) (before ++ end ∷ [])
+pub end_more : (cells : List ServerLog) (came : List Received) (attempt : ℕ) (cell : ServerLog) (before : List CheckEnd) (end : CheckEnd) → slice_get cells end.server ≡ Some cell → IsEndAt cell came attempt end → All (IsEnd cells came attempt) before → All (IsEnd cells came attempt) (before ++ end ∷ [])
 end_more cells came attempt cell before end at is all =
     All-append (IsEnd cells came attempt) before (end ∷ []) all (λ k d low. (let first : k ≡ 0 = omega (arith, low) in rw first (cell, at, is)))
 

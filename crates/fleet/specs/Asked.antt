@@ -12,8 +12,8 @@ is_frame (Frame bytes) = true
 is_frame _ = false
 
 -- All that has come to the client but frames, by its history.
-abbrev pub asked : List Logged → List Came
-asked history = filter (λ came. not (is_frame came)) (map (λ logged. logged.came) history)
+abbrev pub asked_of_client : List Logged → List Came
+asked_of_client history = filter (λ came. not (is_frame came)) (map (λ logged. logged.came) history)
 
 -- To begin a run by one text, to trigger it with a cut, and to verify it by another text.
 abbrev pub errand : ℕ → List ℕ → List ℕ → List Came
@@ -22,4 +22,4 @@ errand run write read = Begin write ∷ Trigger run WithCut ∷ Verify run read 
 -- This is all that a client was asked for, whose history is kept with the newest first.
 pub record IsAsked (client : ClientLog) (write read : List ℕ) : Type 0 where
   pub run : ℕ
-  pub asked_is : asked (reverse client.history) ≡ errand run write read
+  pub asked_is : asked_of_client (reverse client.history) ≡ errand run write read

@@ -6,16 +6,16 @@ use Rattle.fc_base.specs.declared.limits.TheConstants.{MAX_JOBS}
 use Rattle.fc_base.specs.declared.report.ReportParts.{ReportParts}
 use Rattle.fc_base.specs.Counted.{numbers_below}
 use Rattle.job_file.specs.declared.job.Job.{Job}
-use Rattle.server_core.specs.Answers.{looked, status}
+use Rattle.server_core.specs.Answers.{shown_entries, status}
 use Rattle.server_core.specs.Check.{check, progress, Refused}
 use Rattle.server_core.specs.Hearing.{FrameEntry, packets_heard}
 use Rattle.server_core.specs.History.{Opening, Entry}
 use Rattle.server_cell.specs.Cells.{ServerLog, IsReplay}
 use Rattle.client_core.specs.declared.received.Received.{Received}
-use Rattle.fleet.specs.declared.ends.End.{End}
+use Rattle.fleet.specs.declared.ends.CheckEnd.{CheckEnd}
 
 -- Whose end it is.
-abbrev pub place_of : End → ℕ × ℕ
+abbrev pub place_of : CheckEnd → ℕ × ℕ
 place_of end = (end.server, end.job)
 
 -- So many jobs of a server, from the first on.
@@ -44,8 +44,8 @@ IsAt cells server Holds = (cell : ServerLog) × (slice_get cells server ≡ Some
 pub record Checks (attempt count : ℕ) (cell : ServerLog) : Type 0 where
   pub past : List FrameEntry
   pub replay : IsReplay cell past
-  pub attempt_is : (status cell.opening (looked (packets_heard cell.opening past))).attempt ≡ attempt
-  pub jobs_are : min MAX_JOBS (length (jobs_checked cell.opening (looked (packets_heard cell.opening past)))) ≡ count
+  pub attempt_is : (status cell.opening (shown_entries (packets_heard cell.opening past))).attempt ≡ attempt
+  pub jobs_are : min MAX_JOBS (length (jobs_checked cell.opening (shown_entries (packets_heard cell.opening past)))) ≡ count
   pub some : 1 ≤ count
 
 -- By its history, a server has refused the state that came for a job of its open check.
@@ -53,21 +53,21 @@ pub record Refuses (job : ℕ) (cell : ServerLog) : Type 0 where
   pub past : List FrameEntry
   pub replay : IsReplay cell past
   pub fault : ℕ
-  pub is_refused : progress cell.opening (looked (packets_heard cell.opening past)) job ≡ Some (Refused fault)
+  pub is_refused : progress cell.opening (shown_entries (packets_heard cell.opening past)) job ≡ Some (Refused fault)
 
 -- The end of a server's job has the report that came of it in this attempt; where none came, the server
 -- has refused its state.
-pub record IsEndAt (cell : ServerLog) (came : List Received) (attempt : ℕ) (end : End) : Type 0 where
+pub record IsEndAt (cell : ServerLog) (came : List Received) (attempt : ℕ) (end : CheckEnd) : Type 0 where
   pub report_is : end.report ≡ report_of came attempt end.server end.job
   pub none_is : IfNone end.report (Refuses end.job cell)
 
 -- So it is of the server that the end names.
-abbrev pub IsEnd : List ServerLog → List Received → ℕ → End → Type 0
+abbrev pub IsEnd : List ServerLog → List Received → ℕ → CheckEnd → Type 0
 IsEnd cells came attempt end = IsAt cells end.server (λ cell. IsEndAt cell came attempt end)
 
 -- The ends are those of so many of these servers, server by server: of each job that a server checks in
 -- this attempt.
-pub record AreEnds (cells : List ServerLog) (came : List Received) (attempt servers : ℕ) (ends : List End) : Type 0 where
+pub record AreEnds (cells : List ServerLog) (came : List Received) (attempt servers : ℕ) (ends : List CheckEnd) : Type 0 where
   pub counts : List ℕ
   pub servers_are : length counts ≡ servers
   pub jobs_are : (server count : ℕ) → slice_get counts server ≡ Some count → IsAt cells server (Checks attempt count)
@@ -75,7 +75,7 @@ pub record AreEnds (cells : List ServerLog) (came : List Received) (attempt serv
   pub ends_are : All (IsEnd cells came attempt) ends
 
 -- The ends of one server more were added.
-pub record AddsEnds (cells : List ServerLog) (came : List Received) (attempt server : ℕ) (before after : List End) : Type 0 where
+pub record AddsEnds (cells : List ServerLog) (came : List Received) (attempt server : ℕ) (before after : List CheckEnd) : Type 0 where
   pub count : ℕ
   pub jobs_are : IsAt cells server (Checks attempt count)
   pub places : map place_of after ≡ map place_of before ++ jobs_of server count

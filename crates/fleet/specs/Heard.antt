@@ -4,10 +4,10 @@ use Rattle.client_core.specs.declared.received.Received.{Received}
 use Rattle.client_core.specs.Hearing.{FrameEntry, packets_heard}
 use Rattle.client_core.specs.Life.{life}
 use Rattle.client_core.specs.Reports.{reports}
-use Rattle.client_core.specs.Words.{looked, noted}
+use Rattle.client_core.specs.Words.{shown_entries, words_noted}
 use Rattle.client_cell.specs.Cells.{ClientLog, IsReplay}
-use Rattle.fleet.specs.declared.ends.End.{End}
-use Rattle.fleet.specs.declared.left.Left.{Left}
+use Rattle.fleet.specs.declared.ends.CheckEnd.{CheckEnd}
+use Rattle.fleet.specs.declared.left.FleetLeft.{FleetLeft}
 use Rattle.fleet.specs.Asked.{IsAsked}
 use Rattle.fleet.specs.Ends.{AreEnds}
 use Rattle.fleet.specs.OneRun.{IsOneRun}
@@ -16,11 +16,11 @@ use Rattle.fleet.specs.OneRun.{IsOneRun}
 pub record HasHeard (client : ClientLog) (attempt : ℕ) (came : List Received) : Type 0 where
   pub past : List FrameEntry
   pub replay : IsReplay client past
-  pub attempt_is : attempt ≡ (noted client.opening (looked (packets_heard client.opening past))).attempts
-  pub reports_are : came ≡ reports (life client.opening (looked (packets_heard client.opening past)))
+  pub attempt_is : attempt ≡ (words_noted client.opening (shown_entries (packets_heard client.opening past))).attempts
+  pub reports_are : came ≡ reports (life client.opening (shown_entries (packets_heard client.opening past)))
 
 -- The ends of so many servers are what the client that is left has heard in its last attempt.
-pub record AreHeard (left : Left) (servers : ℕ) (ends : List End) : Type 0 where
+pub record AreHeard (left : FleetLeft) (servers : ℕ) (ends : List CheckEnd) : Type 0 where
   pub attempt : ℕ
   pub came : List Received
   pub heard : HasHeard left.client attempt came
@@ -28,8 +28,8 @@ pub record AreHeard (left : Left) (servers : ℕ) (ends : List End) : Type 0 whe
 
 -- The ends of so many servers are what the client has heard in one run, which it was asked to begin and to
 -- verify by these texts.
-pub record AreOfOneRun (servers : ℕ) (write read : List ℕ) (ends : List End) : Type 0 where
-  pub left : Left
+pub record AreOfOneRun (servers : ℕ) (write read : List ℕ) (ends : List CheckEnd) : Type 0 where
+  pub left : FleetLeft
   pub one_run : IsOneRun left
   pub asked : IsAsked left.client write read
   pub heard : AreHeard left servers ends

@@ -1,7 +1,7 @@
 //! What the client of a fleet was asked for.
 
 ghost use Rattle.std.specs.Prelude.{◌≡◌, IsTrue, Some, OnOk, slice_get};
-ghost use Rattle.fleet.specs.Asked.{IsAsked, is_frame, asked, errand};
+ghost use Rattle.fleet.specs.Asked.{IsAsked, is_frame, asked_of_client, errand};
 
 use fc_base::RunNo;
 use fleet_threads::{Client, FleetFault};
@@ -30,7 +30,7 @@ pub(crate) fn look_for_errand(
 
 /// Whether this is the history of a client that was asked for just that.
 fn is_errand(history: &History, run: RunNo, write: &[u8], read: &[u8]) -> bool
-    ensures { IsTrue result → asked history.now.items ≡ errand run write.now read.now }
+    ensures { IsTrue result → asked_of_client history.now.items ≡ errand run write.now read.now }
 {
     let mut done = 0;
     for at in 0..history.len() {

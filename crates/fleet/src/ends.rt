@@ -3,14 +3,14 @@
 ghost use Rattle.std.specs.Prelude.{◌≡◌, min, length, List, IfOk, OnOk};
 ghost use Rattle.fc_base.specs.declared.limits.TheConstants.{MAX_JOBS};
 ghost use Rattle.server_core.specs.History.{Opening};
-ghost use Rattle.server_core.specs.Answers.{looked};
+ghost use Rattle.server_core.specs.Answers.{shown_entries};
 ghost use Rattle.server_core.specs.Hearing.{FrameEntry, packets_heard};
 ghost use Rattle.server_core.specs.FrameEnds.{StandsFor};
 ghost use Rattle.disk_model.specs.MemNotes.{note_of};
 ghost use Rattle.fleet.specs.Ends.{AddsEnds, Checks, IsEndAt, Refuses, jobs_checked, place_of, report_of};
 ghost use Rattle.fleet.specs.Heard.{AreHeard};
 
-use crate::left::Left;
+use crate::left::FleetLeft;
 use client_core::Received;
 use disk_model::MemNotes;
 use fc_base::{Attempt, CheckReport, JobNo, MAX_JOBS, ServerNo};
@@ -21,7 +21,7 @@ use std::alloc::Global;
 /// How the check of a job has ended: by its report, or by none, where the job is of another shape than
 /// the state that was kept of it (`Misfit`).
 #[derive(Clone, Copy, Debug)]
-pub struct End {
+pub struct CheckEnd {
     pub server: ServerNo,
     pub job: JobNo,
     pub report: Option<CheckReport>,
@@ -32,7 +32,11 @@ pub struct End {
 ///
 /// `NoMemory`; that a node is off, a server isn't there or has no open check of that attempt, or a job of it
 /// neither a report nor a refusal, is astray.
-pub(crate) fn ends_of(alloc: Global, left: &Left, servers: u32) -> Result<Vec<End>, FleetFault>
+pub(crate) fn ends_of(
+    alloc: Global,
+    left: &FleetLeft,
+    servers: u32,
+) -> Result<Vec<CheckEnd>, FleetFault>
     ensures { IfOk result (λ ends. AreHeard left.now servers ends.items) }
 {
     let Some(core) = left.client.client() else {
@@ -52,9 +56,10 @@ fn add_ends(
     reports: &[Received],
     attempt: Attempt,
     number: u32,
-    ends: &mut Vec<End>,
+    ends: &mut Vec<CheckEnd>,
 ) -> Result<(), FleetFault>
-    ensures { OnOk result (AddsEnds servers.now reports.now attempt number ends.old.items ends.new.items) }
+    ensures { OnOk result
+        (AddsEnds servers.now reports.now attempt number ends.old.items ends.new.items) }
 {
     let Some(server) = servers.get(number as usize) else {
         return Err(FleetFault::NoServer);
@@ -84,7 +89,7 @@ fn jobs_in(server: &Server, attempt: Attempt) -> Result<u32, FleetFault>
 /// How many jobs the open check of a server has.
 fn count_of(core: &server_core::Server<MemNotes>) -> u32
     ensures { (o : Opening) (past : List FrameEntry) → StandsFor note_of core.now o past →
-        result ≡ min MAX_JOBS (length (jobs_checked o (looked (packets_heard o past)))) }
+        result ≡ min MAX_JOBS (length (jobs_checked o (shown_entries (packets_heard o past)))) }
 {
     for job in 0..MAX_JOBS {
         if core.check_job(JobNo(job)).is_none() {
@@ -101,7 +106,7 @@ fn end_of(
     attempt: Attempt,
     number: ServerNo,
     job: JobNo,
-) -> Result<End, FleetFault>
+) -> Result<CheckEnd, FleetFault>
     ensures place { IfOk result (λ end. place_of end ≡ (number, job)) }
     ensures end { IfOk result (IsEndAt server.now reports.now attempt) }
 {
@@ -109,7 +114,7 @@ fn end_of(
     if report.is_none() {
         look_for_refusal(server, job)?;
     }
-    Ok(End {
+    Ok(CheckEnd {
         server: number,
         job,
         report,

@@ -7,8 +7,8 @@ ghost use Rattle.fleet.specs.Heard.{AreHeard, AreOfOneRun};
 ghost use Rattle.fleet.specs.OneRun.{IsOneRun};
 
 use crate::asked::look_for_errand;
-use crate::ends::{End, ends_of};
-use crate::left::{Left, take_apart};
+use crate::ends::{CheckEnd, ends_of};
+use crate::left::{FleetLeft, take_apart};
 use fc_base::{Fault, MAX_TEXT, RunNo};
 use fleet_threads::{FleetFault, Opened, Plan, Ran, Trigger, open, run_threads};
 use std::alloc::Global;
@@ -36,7 +36,7 @@ pub fn run_fleet<R: Threads + Wait + Sync, T: Trigger, G: Gate + Sync>(
     read: &[u8],
     trigger: &mut T,
     gate: &G,
-) -> Result<Vec<End>, FleetFault>
+) -> Result<Vec<CheckEnd>, FleetFault>
     requires servers { (1 ≤ servers) × (servers ≤ MAX_SERVERS) }
     requires workers { (1 ≤ workers) × (workers ≤ MAX_WORKERS) }
     ensures { IfOk result (λ ends. AreOfOneRun servers write.now read.now ends.items) }
@@ -55,7 +55,7 @@ pub fn run_and_leave<R: Threads + Wait + Sync, T: Trigger, G: Gate + Sync>(
     read: &[u8],
     trigger: &mut T,
     gate: &G,
-) -> Result<(Vec<End>, Left), FleetFault>
+) -> Result<(Vec<CheckEnd>, FleetLeft), FleetFault>
     requires servers { (1 ≤ servers) × (servers ≤ MAX_SERVERS) }
     requires workers { (1 ≤ workers) × (workers ≤ MAX_WORKERS) }
     ensures heard { IfOk result (λ ran. AreHeard ran.1 servers ran.0.items) }
@@ -84,7 +84,7 @@ fn run_to_the_end<R: Threads + Wait + Sync, T: Trigger, G: Gate + Sync>(
     plan: Plan<'_, '_>,
     trigger: &mut T,
     gate: &G,
-) -> Result<(Left, Result<RunNo, FleetFault>), FleetFault>
+) -> Result<(FleetLeft, Result<RunNo, FleetFault>), FleetFault>
     requires servers { (1 ≤ servers) × (servers ≤ MAX_SERVERS) }
     requires workers { (1 ≤ plan.workers) × (plan.workers ≤ MAX_WORKERS) }
     ensures { IfOk result (λ ran. IsOneRun ran.0) }
@@ -106,12 +106,12 @@ fn run_to_the_end<R: Threads + Wait + Sync, T: Trigger, G: Gate + Sync>(
 /// The ends of so many servers, from what is left of a run by these texts.
 fn ends_of_run(
     alloc: Global,
-    left: &Left,
+    left: &FleetLeft,
     run: RunNo,
     servers: u32,
     write: &[u8],
     read: &[u8],
-) -> Result<Vec<End>, FleetFault>
+) -> Result<Vec<CheckEnd>, FleetFault>
     ensures heard { IfOk result (λ ends. AreHeard left.now servers ends.items) }
     ensures asked { IfOk result (λ _. IsAsked left.now.client write.now read.now) }
 {

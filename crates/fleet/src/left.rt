@@ -12,7 +12,7 @@ use std::alloc::Global;
 
 /// What is left of a fleet that has ended: the network, the nodes with their histories, the seats of all
 /// servers, and all that has happened in one order, the oldest first.
-pub struct Left {
+pub struct FleetLeft {
     pub hub: Hub,
     pub client: Client,
     pub servers: Vec<Server>,
@@ -21,9 +21,9 @@ pub struct Left {
 }
 
 /// By hand, so that the crates above need no proof of it.
-impl Drop for Left {
+impl Drop for FleetLeft {
     fn drop(self) {
-        let Left {
+        let FleetLeft {
             hub: _,
             client: _,
             servers: _,
@@ -39,7 +39,7 @@ pub(crate) fn take_apart(
     nodes: Nodes,
     posts: Vec<Seat>,
     hands: Vec<Hand>,
-) -> Result<Left, Fault>
+) -> Result<FleetLeft, Fault>
     ensures { IfOk result IsOneRun }
 {
     let Nodes {
@@ -68,14 +68,14 @@ fn put_in_order(
     client: Client,
     servers: Vec<Server>,
     seats: Vec<Seat>,
-) -> Result<Left, Fault>
+) -> Result<FleetLeft, Fault>
     ensures { IfOk result IsOneRun }
 {
     let order = match assemble(alloc, &hub, &client, &servers, &seats) {
         Ok(Assembled { order }) => order,
         Err(fault) => return Err(fault.fault()),
     };
-    Ok(Left {
+    Ok(FleetLeft {
         hub,
         client,
         servers,

@@ -15,8 +15,8 @@ mod fleet;
 mod left;
 
 pub use assembly::Place;
-pub use ends::End;
+pub use ends::CheckEnd;
 pub use fleet::{run_and_leave, run_fleet};
 pub use fleet_threads::{Client, FleetFault, Server, Trigger, run_post};
-pub use left::Left;
+pub use left::FleetLeft;
 pub use workers::{Gate, OpenGate};

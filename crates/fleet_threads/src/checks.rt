@@ -7,7 +7,7 @@ use crate::nodes::{Nodes, Server, add};
 use crate::post::post;
 use disk_model::MemDisk;
 use fc_base::{Attempt, CheckReport, Fault, JobNo, JobRecord, Key, MAX_JOBS, MAX_WORKERS};
-use parallel_checks::{Task, check_jobs};
+use parallel_checks::{CheckTask, check_jobs};
 use server_cell::Report;
 use server_core::Progress;
 use std::alloc::Global;
@@ -101,7 +101,7 @@ fn tasks_of<R: Wait>(
     alloc: Global,
     nodes: &Nodes,
     dues: &[Due],
-) -> Result<Vec<Task<MemDisk>>, FleetFault> {
+) -> Result<Vec<CheckTask<MemDisk>>, FleetFault> {
     let mut tasks = Vec::new(alloc);
     for due in dues {
         add(&mut tasks, task_of(rt, alloc, nodes, due)?)?;
@@ -115,13 +115,13 @@ fn task_of<R: Wait>(
     alloc: Global,
     nodes: &Nodes,
     due: &Due,
-) -> Result<Task<MemDisk>, FleetFault> {
+) -> Result<CheckTask<MemDisk>, FleetFault> {
     let state = if due.has_state {
         Some(state_of(rt, nodes, due)?)
     } else {
         None
     };
-    Ok(Task {
+    Ok(CheckTask {
         rec: due.rec,
         key: due.key,
         state,

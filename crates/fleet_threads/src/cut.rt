@@ -4,7 +4,7 @@ ghost use Rattle.std.specs.Prelude.{◌≡◌, length};
 
 use disk_model::{MemDisk, Notes};
 use fc_base::Fault;
-use node_history::Told;
+use node_history::CallerAnswer;
 use server_cell::{Seat, ServerCell, Task};
 use std::sync::{Mutex, Wait};
 use std::thread;
@@ -78,7 +78,7 @@ fn start_again<N: Notes + Drop>(cell: &mut ServerCell<N>, seat: &mut Seat) -> Re
 }
 
 /// That it was done, and no more.
-fn done(answer: Result<Told, Fault>) -> Result<(), Fault> {
+fn done(answer: Result<CallerAnswer, Fault>) -> Result<(), Fault> {
     match answer {
         Ok(_) => Ok(()),
         Err(fault) => Err(fault),

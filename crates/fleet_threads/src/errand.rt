@@ -9,7 +9,7 @@ use crate::flags::Flags;
 use crate::nodes::Nodes;
 use crate::post::post;
 use crate::trigger::Trigger;
-use client_cell::{Command, Request};
+use client_cell::{ClientCommand, ClientRequest};
 use fc_base::{Attempt, Fault, MAX_TEXT, MAX_WORKERS, RunNo};
 use messages::{Act, Text};
 use node_history::Answer;
@@ -66,7 +66,7 @@ fn write_until_cut<R: Wait, T: Trigger>(
     wait_for(rt, nodes, flags, &Awaited::Writing(run))?;
     flags.start();
     wait_for_trigger(rt, flags, trigger)?;
-    cut_all(rt, nodes, run)?;
+    trigger_cuts(rt, nodes, run)?;
     wait_for(rt, nodes, flags, &Awaited::Restarted(run))
 }
 
@@ -116,28 +116,33 @@ fn wait_for_trigger<R: Wait, T: Trigger>(
 
 /// Has the client begin a run.
 fn begin<R: Wait>(rt: &R, nodes: &Nodes, text: Text) -> Result<RunNo, FleetFault> {
-    match ask(rt, nodes, Request::Begin(text))? {
+    match ask(rt, nodes, ClientRequest::Begin(text))? {
         Answer::Run(run) => Ok(run),
         _ => Err(FleetFault::OtherAnswer),
     }
 }
 
 /// Has the client trigger the run, and with it the cut of each server.
-fn cut_all<R: Wait>(rt: &R, nodes: &Nodes, run: RunNo) -> Result<(), Fault> {
-    ask(rt, nodes, Request::Trigger(run, Act::Cut))?;
+fn trigger_cuts<R: Wait>(rt: &R, nodes: &Nodes, run: RunNo) -> Result<(), Fault> {
+    ask(rt, nodes, ClientRequest::Trigger(run, Act::Cut))?;
     Ok(())
 }
 
 /// Has the client verify the run.
 fn verify<R: Wait>(rt: &R, nodes: &Nodes, run: RunNo, text: Text) -> Result<Attempt, FleetFault> {
-    match ask(rt, nodes, Request::Verify(run, text))? {
+    match ask(rt, nodes, ClientRequest::Verify(run, text))? {
         Answer::Attempt(attempt) => Ok(attempt),
         _ => Err(FleetFault::OtherAnswer),
     }
 }
 
 /// Asks this of the client, under its lock and that of the hub.
-fn ask<R: Wait>(rt: &R, nodes: &Nodes, request: Request) -> Result<Answer, Fault> {
-    let told = post(rt, &nodes.hub, &nodes.client, Command::Request(request))?;
+fn ask<R: Wait>(rt: &R, nodes: &Nodes, request: ClientRequest) -> Result<Answer, Fault> {
+    let told = post(
+        rt,
+        &nodes.hub,
+        &nodes.client,
+        ClientCommand::Request(request),
+    )?;
     Ok(told.answer)
 }

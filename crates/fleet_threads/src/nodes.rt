@@ -78,9 +78,12 @@ impl Opened {
     fn add_server(&mut self, alloc: Global, number: u32, workers: u32) -> Result<(), FleetFault>
         requires server { number < MAX_SERVERS }
         requires crew { workers ≤ MAX_WORKERS }
-        ensures servers { OnOk result (length self.new.nodes.servers.items ≡ length self.old.nodes.servers.items + 1) }
-        ensures files { OnOk result (length self.new.nodes.files.items ≡ length self.old.nodes.files.items + 1) }
-        ensures posts { OnOk result (length self.new.posts.items ≡ length self.old.posts.items + 1) }
+        ensures servers { OnOk result
+            (length self.new.nodes.servers.items ≡ length self.old.nodes.servers.items + 1) }
+        ensures files { OnOk result
+            (length self.new.nodes.files.items ≡ length self.old.nodes.files.items + 1) }
+        ensures posts { OnOk result
+            (length self.new.posts.items ≡ length self.old.posts.items + 1) }
     {
         let (cell, seats) = open_server(alloc, number, workers)?;
         let boot = boot_of(&cell);

@@ -8,7 +8,7 @@ use disk_model::{MemDisk, Notes};
 use fc_base::Fault;
 use hub::Hub;
 use messages::{Act, Node as NodeName};
-use node_history::{Node, Told};
+use node_history::{CallerAnswer, Node};
 use rand_xoshiro::Xoshiro256PlusPlus;
 use rand_xoshiro::rand_core::SeedableRng;
 use rand_xoshiro::rand_core::utils::NextWord;
@@ -144,7 +144,7 @@ pub(crate) fn post<R: Wait, C: Node>(
     hub: &Mutex<Hub>,
     node: &Mutex<C>,
     command: C::Command,
-) -> Result<Told, Fault> {
+) -> Result<CallerAnswer, Fault> {
     let mut node = node.lock(rt);
     let mut hub = hub.lock(rt);
     node.post(&mut hub, command)

@@ -10,8 +10,8 @@ use Rattle.messages.specs.declared.node.Node.{Node}
 use Rattle.messages.specs.Nodes.{node_number, is_node}
 use Rattle.hub.specs.declared.line.Line.{Line}
 use Rattle.hub.specs.Network.{empty, IsSpelled}
-use Rattle.hub.specs.Kept.{list_of, with_list, without, IsTakenBelow, IsKept}
-use Rattle.hub.specs.Waiting.{is_same_node, is_for, waiting, node_of}
+use Rattle.hub.specs.Kept.{list_of, with_list, without_frame, IsTakenBelow, IsKept}
+use Rattle.hub.specs.Waiting.{is_same_node, is_for, waiting_frames, node_of}
 use Rattle.hub.proofs.NodeLemmas.{number_below, same_node, is_same_as_itself, other_number}
 use Rattle.hub.proofs.WaitingLemmas.{waiting_none, untouched, touched, one_more, none_more}
 
@@ -54,10 +54,10 @@ for_is f to node e = rw e refl
 
 queue_by : (frames : List (List ℕ)) (f : List ℕ) (journal : List Line) (lists : List (List ℕ)) (to node : Node) (b : Bool) → is_same_node to node ≡ b
     → IsKept (record { frames = frames; journal = journal }) lists → node_of f ≡ Some to → is_node to ≡ true
-    → list_of (with_list lists to (list_of lists to ++ length frames ∷ [])) node ≡ waiting (record { frames = frames ++ f ∷ []; journal = journal }) node
+    → list_of (with_list lists to (list_of lists to ++ length frames ∷ [])) node ≡ waiting_frames (record { frames = frames ++ f ∷ []; journal = journal }) node
 queue_by frames f journal lists to node true e kept is valid =
     let same : to ≡ node = same_node to node e in
-    subst (λ (n : Node). list_of (with_list lists to (list_of lists to ++ length frames ∷ [])) n ≡ waiting (record { frames = frames ++ f ∷ []; journal = journal }) n) same
+    subst (λ (n : Node). list_of (with_list lists to (list_of lists to ++ length frames ∷ [])) n ≡ waiting_frames (record { frames = frames ++ f ∷ []; journal = journal }) n) same
     (list_same lists to (list_of lists to ++ length frames ∷ []) kept.long valid
     ∙ ap (λ (ns : List ℕ). ns ++ length frames ∷ []) (kept.waiting to)
     ∙ sym (one_more frames f journal to kept.taken (for_is f to to is ∙ is_same_as_itself to)))
@@ -88,17 +88,17 @@ kept_sender frames journal lists node at sent kept = record {
   waiting = λ other. kept.waiting other ∙ sym (untouched frames (record { node = node; at = at; taken = None; sent = sent }) journal other (λ i. none_taken (is_same_node node other)));
 }
 
-list_took : (lists : List (List ℕ)) (node : Node) (n : ℕ) → length lists ≡ MAX_NODES → (valid : Bool) → is_node node ≡ valid → list_of (without lists node (Some n)) node ≡ filter (λ k. not (n == k)) (list_of lists node)
+list_took : (lists : List (List ℕ)) (node : Node) (n : ℕ) → length lists ≡ MAX_NODES → (valid : Bool) → is_node node ≡ valid → list_of (without_frame lists node (Some n)) node ≡ filter (λ k. not (n == k)) (list_of lists node)
 list_took lists node n long true e = list_same lists node (filter (λ k. not (n == k)) (list_of lists node)) long e
 list_took lists node n long false e = rw e refl
 
 taker_by : (frames : List (List ℕ)) (journal : List Line) (lists : List (List ℕ)) (node : Node) (at n sent : ℕ) (other : Node) (b valid : Bool) → is_same_node node other ≡ b → is_node node ≡ valid
     → IsKept (record { frames = frames; journal = journal }) lists
-    → list_of (without lists node (Some n)) other ≡ waiting (record { frames = frames; journal = record { node = node; at = at; taken = Some n; sent = sent } ∷ journal }) other
+    → list_of (without_frame lists node (Some n)) other ≡ waiting_frames (record { frames = frames; journal = record { node = node; at = at; taken = Some n; sent = sent } ∷ journal }) other
 taker_by frames journal lists node at n sent other true valid e is kept =
     let same : node ≡ other = same_node node other e in
     let line : Line = record { node = node; at = at; taken = Some n; sent = sent } in
-    subst (λ (o : Node). list_of (without lists node (Some n)) o ≡ waiting (record { frames = frames; journal = line ∷ journal }) o) same
+    subst (λ (o : Node). list_of (without_frame lists node (Some n)) o ≡ waiting_frames (record { frames = frames; journal = line ∷ journal }) o) same
     (list_took lists node n kept.long valid is
     ∙ ap (filter (λ k. not (n == k))) (kept.waiting node)
     ∙ sym (touched frames line journal node n (λ i. rw (is_same_as_itself node) refl)))
@@ -108,7 +108,7 @@ taker_by frames journal lists node at n sent other false valid e is kept =
 
 -- An entry that took a frame, whose number isn't among those that wait for the node any more.
 kept_taker : (frames : List (List ℕ)) (journal : List Line) (lists : List (List ℕ)) (node : Node) (at n sent : ℕ) → n < length frames → IsKept (record { frames = frames; journal = journal }) lists
-    → IsKept (record { frames = frames; journal = record { node = node; at = at; taken = Some n; sent = sent } ∷ journal }) (without lists node (Some n))
+    → IsKept (record { frames = frames; journal = record { node = node; at = at; taken = Some n; sent = sent } ∷ journal }) (without_frame lists node (Some n))
 kept_taker frames journal lists node at n sent below kept = record {
   spelled = kept.spelled;
   taken = All-cons (IsTakenBelow (length frames)) (record { node = node; at = at; taken = Some n; sent = sent }) journal (λ i e. let same : n ≡ i = cc in omega (arith, below, same)) kept.taken;
@@ -131,6 +131,6 @@ kept_none lists e = record {
 
 -- The entry of an event that took or sent frames.
 pub kept_entry : (frames : List (List ℕ)) (journal : List Line) (lists : List (List ℕ)) (node : Node) (at sent : ℕ) (taken : Option ℕ) → ForSome taken (λ i. i < length frames)
-    → IsKept (record { frames = frames; journal = journal }) lists → IsKept (record { frames = frames; journal = record { node = node; at = at; taken = taken; sent = sent } ∷ journal }) (without lists node taken)
+    → IsKept (record { frames = frames; journal = journal }) lists → IsKept (record { frames = frames; journal = record { node = node; at = at; taken = taken; sent = sent } ∷ journal }) (without_frame lists node taken)
 kept_entry frames journal lists node at sent None below kept = kept_sender frames journal lists node at sent kept
 kept_entry frames journal lists node at sent (Some n) below kept = kept_taker frames journal lists node at n sent (below n refl) kept

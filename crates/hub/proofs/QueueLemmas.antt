@@ -7,7 +7,7 @@ use Rattle.std.proofs.lemmas.List.{get_or_default, get_or-map, map-set}
 use Rattle.messages.specs.declared.limits.TheConstants.{MAX_NODES}
 use Rattle.messages.specs.declared.node.Node.{Node}
 use Rattle.messages.specs.Nodes.{node_number, is_node}
-use Rattle.hub.specs.Kept.{least, without}
+use Rattle.hub.specs.Kept.{least, without_frame}
 use Rattle.hub.proofs.NodeLemmas.{placed, number_below}
 
 -- ---- a number of an ascending list
@@ -86,7 +86,7 @@ all_empty f (v ∷ vs) n e each =
 
 -- What a node took is out of its list.
 pub take_items : {V : Type 0} (f : V → List ℕ) (vs : List V) (lists : List (List ℕ)) (node : Node) (taken : Option ℕ) (n place : ℕ) (v d : V) → map f vs ≡ lists → length vs ≡ MAX_NODES → taken ≡ Some n
-    → Some place ≡ (if is_node node then Some (node_number node) else None) → f v ≡ filter (λ k. not (n == k)) (f (get_or vs place d)) → map f (slice_set vs place v) ≡ without lists node taken
+    → Some place ≡ (if is_node node then Some (node_number node) else None) → f v ≡ filter (λ k. not (n == k)) (f (get_or vs place d)) → map f (slice_set vs place v) ≡ without_frame lists node taken
 take_items f vs lists node taken n place v d lists_are long taken_is place_is v_is =
     let at = placed node place (node_number node) (is_node node) place_is in
     let valid : is_node node ≡ true = at.0 in

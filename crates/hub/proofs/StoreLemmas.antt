@@ -2,13 +2,13 @@
 use Rattle.std.proofs.Common.{◌≡◌, refl, ◌∙◌, ap, ℕ, zero, suc, ◌-◌, ◌<◌, ◌≤◌, arith, List, [], ◌∷◌, ◌++◌, length, drop, Some}
 use Rattle.std.specs.Prelude.{slice_get, slice_index, slice_range}
 use Rattle.std.proofs.lemmas.List.{drop_at, length-append, length-drop, take_all, take-append-le, drop-append-le}
-use Rattle.messages.specs.FramesOf.{parted, RiseTo}
+use Rattle.messages.specs.FramesOf.{parts_between, RiseTo}
 
-pub length-parted : (start : ℕ) (ends bytes : List ℕ) → length (parted start ends bytes) ≡ length ends
+pub length-parted : (start : ℕ) (ends bytes : List ℕ) → length (parts_between start ends bytes) ≡ length ends
 length-parted start [] bytes = refl
 length-parted start (end ∷ ends) bytes = ap suc (length-parted end ends bytes)
 
-parted_get : (start : ℕ) (ends b : List ℕ) (i : ℕ) → i < length ends → slice_get (parted start ends b) i ≡ Some (slice_range b (slice_index (start ∷ ends) i) (slice_index ends i))
+parted_get : (start : ℕ) (ends b : List ℕ) (i : ℕ) → i < length ends → slice_get (parts_between start ends b) i ≡ Some (slice_range b (slice_index (start ∷ ends) i) (slice_index ends i))
 parted_get start [] b i h = absurd (omega (arith, h))
 parted_get start (end ∷ ends) b zero h = refl
 parted_get start (end ∷ ends) b (suc i) h = parted_get end ends b i (omega (arith, h))
@@ -29,7 +29,7 @@ get_in ends known last i start rise known_is below start_is = rw start_is (rise_
 
 -- It is the frame with that number.
 pub get_is : (ends b known bytes : List ℕ) (i start : ℕ) → known ≡ ends → bytes ≡ b → i < length known → start ≡ slice_index (0 ∷ known) i
-    → slice_get (parted 0 ends b) i ≡ Some (slice_range bytes start (slice_index known i))
+    → slice_get (parts_between 0 ends b) i ≡ Some (slice_range bytes start (slice_index known i))
 get_is ends b known bytes i start known_is bytes_is below start_is = rw (← known_is, ← bytes_is, start_is) (parted_get 0 known bytes i below)
 
 -- A frame behind those that are there.
@@ -40,7 +40,7 @@ rise_more start (end ∷ ends) mid last h le = (h.0, rise_more end ends mid last
 last_part : (b f : List ℕ) → slice_range (b ++ f) (length b) (length (b ++ f)) ≡ f
 last_part b f = rw (drop_at b f (length b) refl) (take_all (length (b ++ f) - length b) f (omega (arith, length-append b f)))
 
-parted_more : (start : ℕ) (ends b f : List ℕ) → RiseTo start ends (length b) → parted start (ends ++ length (b ++ f) ∷ []) (b ++ f) ≡ parted start ends b ++ f ∷ []
+parted_more : (start : ℕ) (ends b f : List ℕ) → RiseTo start ends (length b) → parts_between start (ends ++ length (b ++ f) ∷ []) (b ++ f) ≡ parts_between start ends b ++ f ∷ []
 parted_more start [] b f h = ap (λ (n : ℕ). slice_range (b ++ f) n (length (b ++ f)) ∷ []) h ∙ ap (λ (x : List ℕ). x ∷ []) (last_part b f)
 parted_more start (end ∷ ends) b f h =
     let to : end ≤ length b = rise_le end ends (length b) h.1 in
@@ -52,6 +52,6 @@ pub pushed_rise : (ends b f new_ends new_bytes : List ℕ) (end : ℕ) → RiseT
 pushed_rise ends b f new_ends new_bytes end rise bytes_are end_is ends_are =
     rw (ends_are, end_is) (rise_more 0 ends (length b) (length new_bytes) rise (omega (arith, ap length bytes_are, length-append b f)))
 
-pub pushed_frames : (ends b f new_ends new_bytes : List ℕ) (end : ℕ) (old : List (List ℕ)) → RiseTo 0 ends (length b) → parted 0 ends b ≡ old → new_bytes ≡ b ++ f → end ≡ length new_bytes → new_ends ≡ ends ++ end ∷ [] → parted 0 new_ends new_bytes ≡ old ++ f ∷ []
+pub pushed_frames : (ends b f new_ends new_bytes : List ℕ) (end : ℕ) (old : List (List ℕ)) → RiseTo 0 ends (length b) → parts_between 0 ends b ≡ old → new_bytes ≡ b ++ f → end ≡ length new_bytes → new_ends ≡ ends ++ end ∷ [] → parts_between 0 new_ends new_bytes ≡ old ++ f ∷ []
 pushed_frames ends b f new_ends new_bytes end old rise old_is bytes_are end_is ends_are =
     rw (ends_are, end_is, bytes_are, ← old_is) (parted_more 0 ends b f rise)

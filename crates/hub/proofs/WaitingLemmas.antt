@@ -14,7 +14,7 @@ use Rattle.messages.specs.declared.node.Node.{Node}
 use Rattle.hub.specs.declared.line.Line.{Line}
 use Rattle.hub.specs.Network.{Network, empty}
 use Rattle.hub.specs.Kept.{IsTakenBelow}
-use Rattle.hub.specs.Waiting.{is_same_node, is_for, is_taken_by, is_waiting, waiting}
+use Rattle.hub.specs.Waiting.{is_same_node, is_for, is_taken_by, is_waiting, waiting_frames}
 
 -- ---- they ascend
 
@@ -34,12 +34,12 @@ below_increase n = λ k h.
     let long = length_numbers_below n in
     omega (arith, number_at n k (omega (arith, h, long)), number_at n (k + 1) (omega (arith, h, long)))
 
-pub waiting_increase : (net : Network) (node : Node) → IsStrictlyIncreasing (waiting net node)
-unfolding waiting
+pub waiting_increase : (net : Network) (node : Node) → IsStrictlyIncreasing (waiting_frames net node)
+unfolding waiting_frames
 waiting_increase net node = IsStrictlyIncreasing-filter (is_waiting net node) (numbers_below (length net.frames)) (below_increase (length net.frames))
 
-pub waiting_none : (node : Node) → waiting empty node ≡ []
-unfolding waiting
+pub waiting_none : (node : Node) → waiting_frames empty node ≡ []
+unfolding waiting_frames
 waiting_none node = refl
 
 -- ---- an entry more
@@ -70,24 +70,24 @@ filter_same p q [] each = refl
 filter_same p q (x ∷ xs) each = rw (each x, filter_same p q xs each) refl
 
 with_entry : (frames : List (List ℕ)) (l : Line) (journal : List Line) (node : Node)
-    → waiting (record { frames = frames; journal = l ∷ journal }) node ≡ filter (λ i. not (is_taken_by node i l)) (waiting (record { frames = frames; journal = journal }) node)
-unfolding waiting
+    → waiting_frames (record { frames = frames; journal = l ∷ journal }) node ≡ filter (λ i. not (is_taken_by node i l)) (waiting_frames (record { frames = frames; journal = journal }) node)
+unfolding waiting_frames
 with_entry frames l journal node =
     filter_both (is_waiting (record { frames = frames; journal = l ∷ journal }) node) (is_waiting (record { frames = frames; journal = journal }) node) (λ i. not (is_taken_by node i l)) (numbers_below (length frames))
     (λ i. both (option_map_or (is_for node) (slice_get frames i) false) (is_taken_by node i l) (list_any (is_taken_by node i) journal))
 
 -- By an entry that took no frame, or of another node, no frame fewer waits.
 pub untouched : (frames : List (List ℕ)) (l : Line) (journal : List Line) (node : Node) → ((i : ℕ) → is_taken_by node i l ≡ false)
-    → waiting (record { frames = frames; journal = l ∷ journal }) node ≡ waiting (record { frames = frames; journal = journal }) node
+    → waiting_frames (record { frames = frames; journal = l ∷ journal }) node ≡ waiting_frames (record { frames = frames; journal = journal }) node
 untouched frames l journal node none =
-    with_entry frames l journal node ∙ filter_all (λ i. not (is_taken_by node i l)) (waiting (record { frames = frames; journal = journal }) node) (λ i. ap not (none i))
+    with_entry frames l journal node ∙ filter_all (λ i. not (is_taken_by node i l)) (waiting_frames (record { frames = frames; journal = journal }) node) (λ i. ap not (none i))
 
 -- By an entry of the node that took frame n, that one doesn't wait any more.
 pub touched : (frames : List (List ℕ)) (l : Line) (journal : List Line) (node : Node) (n : ℕ) → ((i : ℕ) → is_taken_by node i l ≡ (n == i))
-    → waiting (record { frames = frames; journal = l ∷ journal }) node ≡ filter (λ i. not (n == i)) (waiting (record { frames = frames; journal = journal }) node)
+    → waiting_frames (record { frames = frames; journal = l ∷ journal }) node ≡ filter (λ i. not (n == i)) (waiting_frames (record { frames = frames; journal = journal }) node)
 touched frames l journal node n that =
     with_entry frames l journal node
-    ∙ filter_same (λ i. not (is_taken_by node i l)) (λ i. not (n == i)) (waiting (record { frames = frames; journal = journal }) node) (λ i. ap not (that i))
+    ∙ filter_same (λ i. not (is_taken_by node i l)) (λ i. not (n == i)) (waiting_frames (record { frames = frames; journal = journal }) node) (λ i. ap not (that i))
 
 -- ---- a frame more
 
@@ -120,22 +120,22 @@ last_waits frames f journal node b below e =
     rw (get_last frames f, not_taken node journal (length frames) below, e) (elim b as (λ v. (v && not false) ≡ v) [ true ↦ refl | false ↦ refl ])
 
 more_below : (frames : List (List ℕ)) (f : List ℕ) (journal : List Line) (node : Node)
-    → filter (is_waiting (record { frames = frames ++ f ∷ []; journal = journal }) node) (numbers_below (length frames)) ≡ waiting (record { frames = frames; journal = journal }) node
-unfolding waiting
+    → filter (is_waiting (record { frames = frames ++ f ∷ []; journal = journal }) node) (numbers_below (length frames)) ≡ waiting_frames (record { frames = frames; journal = journal }) node
+unfolding waiting_frames
 more_below frames f journal node =
     filter_agree_below (is_waiting (record { frames = frames ++ f ∷ []; journal = journal }) node) (is_waiting (record { frames = frames; journal = journal }) node) (length frames) (same_below frames f journal node)
 
 waiting_of : (frames : List (List ℕ)) (f : List ℕ) (journal : List Line) (node : Node)
-    → waiting (record { frames = frames ++ f ∷ []; journal = journal }) node
+    → waiting_frames (record { frames = frames ++ f ∷ []; journal = journal }) node
     ≡ filter (is_waiting (record { frames = frames ++ f ∷ []; journal = journal }) node) (numbers_below (suc (length frames)))
-unfolding waiting
+unfolding waiting_frames
 waiting_of frames f journal node =
     let long : length (frames ++ f ∷ []) ≡ suc (length frames) = omega (arith, length_push frames f) in
     ap (λ (n : ℕ). filter (is_waiting (record { frames = frames ++ f ∷ []; journal = journal }) node) (numbers_below n)) long
 
 -- A frame for the node waits behind those that do.
 pub one_more : (frames : List (List ℕ)) (f : List ℕ) (journal : List Line) (node : Node) → All (IsTakenBelow (length frames)) journal → is_for node f ≡ true
-    → waiting (record { frames = frames ++ f ∷ []; journal = journal }) node ≡ waiting (record { frames = frames; journal = journal }) node ++ length frames ∷ []
+    → waiting_frames (record { frames = frames ++ f ∷ []; journal = journal }) node ≡ waiting_frames (record { frames = frames; journal = journal }) node ++ length frames ∷ []
 one_more frames f journal node below e =
     waiting_of frames f journal node
     ∙ filter_next (is_waiting (record { frames = frames ++ f ∷ []; journal = journal }) node) (length frames) (last_waits frames f journal node true below e)
@@ -143,7 +143,7 @@ one_more frames f journal node below e =
 
 -- One for another doesn't.
 pub none_more : (frames : List (List ℕ)) (f : List ℕ) (journal : List Line) (node : Node) → All (IsTakenBelow (length frames)) journal → is_for node f ≡ false
-    → waiting (record { frames = frames ++ f ∷ []; journal = journal }) node ≡ waiting (record { frames = frames; journal = journal }) node
+    → waiting_frames (record { frames = frames ++ f ∷ []; journal = journal }) node ≡ waiting_frames (record { frames = frames; journal = journal }) node
 none_more frames f journal node below e =
     waiting_of frames f journal node
     ∙ filter_not_next (is_waiting (record { frames = frames ++ f ∷ []; journal = journal }) node) (length frames) (last_waits frames f journal node false below e)

@@ -6,7 +6,7 @@ use Rattle.messages.specs.declared.node.Node.{Node}
 use Rattle.messages.specs.Nodes.{node_number, is_node}
 use Rattle.hub.specs.declared.line.Line.{Line}
 use Rattle.hub.specs.Network.{Network, IsSpelled}
-use Rattle.hub.specs.Waiting.{waiting}
+use Rattle.hub.specs.Waiting.{waiting_frames}
 use Rattle.hub.specs.Journal.{IsLegal}
 
 -- Frames one behind the other, and for how many more of them, and of their bytes, there is room.
@@ -34,9 +34,9 @@ abbrev pub with_list : List (List ℕ) → Node → List ℕ → List (List ℕ)
 with_list lists node list = if is_node node then slice_set lists (node_number node) list else lists
 
 -- The lists without the number that a node took, if it took one.
-abbrev pub without : List (List ℕ) → Node → Option ℕ → List (List ℕ)
-without lists node None = lists
-without lists node (Some n) = with_list lists node (filter (λ k. not (n == k)) (list_of lists node))
+abbrev pub without_frame : List (List ℕ) → Node → Option ℕ → List (List ℕ)
+without_frame lists node None = lists
+without_frame lists node (Some n) = with_list lists node (filter (λ k. not (n == k)) (list_of lists node))
 
 -- The frame that an entry took is one of the first n.
 abbrev pub IsTakenBelow : ℕ → Line → Type 0
@@ -47,7 +47,7 @@ pub record IsKept (net : Network) (lists : List (List ℕ)) : Type 0 where
   pub spelled : All IsSpelled net.frames
   pub taken : All (IsTakenBelow (length net.frames)) net.journal
   pub long : length lists ≡ MAX_NODES
-  pub waiting : (node : Node) → list_of lists node ≡ waiting net node
+  pub waiting : (node : Node) → list_of lists node ≡ waiting_frames net node
 
 -- With these frames more, whatever the journal was, the network is kept as it was before.
 abbrev pub StayKept : List (List ℕ) → List (List ℕ) → List (List ℕ) → List (List ℕ) → Type 0

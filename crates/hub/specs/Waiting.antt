@@ -34,9 +34,9 @@ abbrev pub is_waiting : Network → Node → ℕ → Bool
 is_waiting net node i = option_map_or (is_for node) (slice_get net.frames i) false && not (list_any (is_taken_by node i) net.journal)
 
 -- The numbers of the frames to a node that it hasn't taken, ascending.
-unfoldable pub waiting : Network → Node → List ℕ
-waiting net node = filter (is_waiting net node) (numbers_below (length net.frames))
+unfoldable pub waiting_frames : Network → Node → List ℕ
+waiting_frames net node = filter (is_waiting net node) (numbers_below (length net.frames))
 
 -- The one of them at word mod their number, if there are any.
-abbrev pub picked : ℕ → List ℕ → Option ℕ
-picked word frames = slice_get frames (word % length frames)
+abbrev pub picked_frame : ℕ → List ℕ → Option ℕ
+picked_frame word frames = slice_get frames (word % length frames)

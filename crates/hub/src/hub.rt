@@ -5,7 +5,7 @@ ghost use Rattle.std.specs.Option.{ForSome};
 ghost use Rattle.hub.specs.Network.{empty, line_of, HasRoom, IsSpelled};
 ghost use Rattle.hub.specs.Journal.{IsLegal};
 ghost use Rattle.hub.specs.Kept.{StayKept};
-ghost use Rattle.hub.specs.Waiting.{node_of, waiting, picked};
+ghost use Rattle.hub.specs.Waiting.{node_of, waiting_frames, picked_frame};
 ghost use Rattle.messages.specs.Nodes.{is_node};
 
 use crate::line::Line;
@@ -93,7 +93,7 @@ impl Hub {
     /// Of the frames to a node that it hasn't taken, the oldest first, the number of the one at `word`
     /// mod their number; `None` where there are none.
     pub fn pick(&self, node: Node, word: u64) -> Option<u64>
-        ensures { result ≡ picked word (waiting self.now.net node) }
+        ensures { result ≡ picked_frame word (waiting_frames self.now.net node) }
     {
         let numbers = self.queues.of(node);
         if numbers.is_empty() {
@@ -117,11 +117,13 @@ impl Hub {
     /// Notes an event of a node, at a place in its own list: it took a frame, or none, and sent these.
     /// A frame may be taken again.
     pub fn note(&mut self, node: Node, at: u64, taken: Option<u64>, sent: &Frames)
-        requires room { HasRoom self.old.room (length sent.now) (sum_by (λ frame. length frame) sent.now) }
+        requires room { HasRoom self.old.room (length sent.now)
+            (sum_by (λ frame. length frame) sent.now) }
         requires taken { ForSome taken (λ i. i < length self.old.net.frames) }
         requires spelled { All IsSpelled sent.now }
         ensures frames { self.new.net.frames ≡ self.old.net.frames ++ sent.now }
-        ensures journal { self.new.net.journal ≡ line_of node at taken (length sent.now) ++ self.old.net.journal }
+        ensures journal { self.new.net.journal
+            ≡ line_of node at taken (length sent.now) ++ self.old.net.journal }
     {
         if taken.is_none() && sent.len() == 0 {
             return;

@@ -4,7 +4,7 @@ ghost use Rattle.std.specs.Prelude.{◌≡◌, ◌+◌, ◌≤◌, ◌==◌, [],
 ghost use Rattle.std.specs.List.Sorted.{IsStrictlyIncreasing};
 ghost use Rattle.messages.specs.declared.limits.TheConstants.{MAX_NODES};
 ghost use Rattle.messages.specs.Nodes.{node_number, is_node};
-ghost use Rattle.hub.specs.Kept.{list_of, with_list, without};
+ghost use Rattle.hub.specs.Kept.{list_of, with_list, without_frame};
 
 use crate::line::Line;
 use fc_base::MAX_SERVERS;
@@ -69,7 +69,8 @@ impl Queues {
     pub fn push(&mut self, node: Node, number: u64)
         requires node { IsTrue (is_node node) }
         requires room { 1 ≤ self.old.more }
-        ensures lists { self.new.lists ≡ with_list self.old.lists node (list_of self.old.lists node ++ number ∷ []) }
+        ensures lists { self.new.lists
+            ≡ with_list self.old.lists node (list_of self.old.lists node ++ number ∷ []) }
         ensures room { self.old.more ≤ self.new.more + 1 }
     {
         let list = &mut self.lists[node.number() as usize];
@@ -79,7 +80,7 @@ impl Queues {
     /// Takes the frame that an entry took, if it took one, out of the list of its node, where it is there.
     pub fn take(&mut self, line: &Line)
         requires { IsStrictlyIncreasing (list_of self.old.lists line.now.node) }
-        ensures lists { self.new.lists ≡ without self.old.lists line.now.node line.now.taken }
+        ensures lists { self.new.lists ≡ without_frame self.old.lists line.now.node line.now.taken }
         ensures room { self.old.more ≤ self.new.more }
     {
         let Some(number) = line.taken else {

@@ -14,13 +14,13 @@ pub(crate) struct Store {
 
 impl Model for Store {
     ghost use Rattle.std.specs.Prelude.{◌-◌, length, vec_len, vec_capacity};
-    ghost use Rattle.messages.specs.FramesOf.{parted, RiseTo};
+    ghost use Rattle.messages.specs.FramesOf.{parts_between, RiseTo};
     ghost use Rattle.hub.specs.Kept.{Stored};
 
     ghost Value = { Stored };
 
     ghost view = { λ s. record {
-      frames = parted 0 s.ends.items s.bytes.items;
+      frames = parts_between 0 s.ends.items s.bytes.items;
       more = vec_capacity s.ends - vec_len s.ends;
       bytes = vec_capacity s.bytes - vec_len s.bytes;
     } };
@@ -48,7 +48,8 @@ impl Store {
 
     /// The bytes of one, `None` where there are no more than `index`.
     pub fn get(&self, index: usize) -> Option<&[u8]>
-        ensures { MatchOption result (length self.now.frames ≤ index) (λ bytes. slice_get self.now.frames index ≡ Some bytes.now) }
+        ensures { MatchOption result (length self.now.frames ≤ index)
+            (λ bytes. slice_get self.now.frames index ≡ Some bytes.now) }
     {
         let ends = self.ends.as_slice();
         if index >= ends.len() {

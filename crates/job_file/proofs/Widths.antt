@@ -19,7 +19,7 @@ use Rattle.job_file.specs.declared.option.OptionName.TheVariants as names
 use Rattle.job_file.specs.declared.option.Setting.{Setting}
 use Rattle.job_file.specs.declared.option.Setting.TheVariants as set
 use Rattle.job_file.specs.Number.{numeral, fitting, is_hexadecimal, number_of}
-use Rattle.job_file.specs.Setting.{read_write_of, switch_or_on, copies_of, verify_of, pattern_of, filename_of, needed, setting_of, option_named, is_ignored}
+use Rattle.job_file.specs.Setting.{read_write_of, switch_or_on, copies_of, verify_of, pattern_of, filename_of, required_value, setting_of, option_named, is_ignored}
 use Rattle.job_file.specs.Settings.{verify_pattern_in, last_in}
 use Rattle.job_file.specs.Line.{is_skipped, is_section_name, section_named, section_of, is_option_name, name_in, value_in, with_setting, with_option, option_of, content_of, line_of, lines_of}
 use Rattle.job_file.specs.Bytes.{trimmed}
@@ -103,7 +103,7 @@ mapped : {X : Type 0} (f : X → Setting) (x : Option X) → ((v : X) → Settin
 mapped f None h = tt
 mapped f (Some v) h = h v
 
-needed_fits : {X : Type 0} (of : List ℕ → Option X) (f : X → Setting) (value : Option (List ℕ)) → ((v : X) → SettingFits (f v)) → SomeFits (needed of f value)
+needed_fits : {X : Type 0} (of : List ℕ → Option X) (f : X → Setting) (value : Option (List ℕ)) → ((v : X) → SettingFits (f v)) → SomeFits (required_value of f value)
 needed_fits of f None h = tt
 needed_fits of f (Some value) h = mapped f (of value) h
 

@@ -6,7 +6,7 @@ use Rattle.job_file.specs.declared.fault.JobFault.{JobFault}
 use Rattle.job_file.specs.declared.fault.JobFault.TheVariants.{TooLong, NotAscii, BadLine, UnknownOption, BadValue, NoJobs, TooManyJobs, SharedFile, MixedPhases, NoMemory}
 use Rattle.job_file.specs.declared.job.Job.{Job}
 use Rattle.job_file.specs.declared.job.JobSet.{JobSet}
-use Rattle.job_file.specs.declared.job.Note.{Note}
+use Rattle.job_file.specs.declared.job.LineNote.{LineNote}
 use Rattle.job_file.specs.declared.job.Phase.{Phase}
 use Rattle.job_file.specs.declared.job.Phase.TheVariants.{Read, Write}
 use Rattle.job_file.specs.declared.line.Line.{Line}
@@ -50,12 +50,12 @@ line_faults number inside [] = []
 line_faults number inside (l ∷ ls) = faults_in number inside l ++ line_faults (number + 1) (inside || opens l) ls
 
 -- A line whose option has no effect gives a note.
-abbrev pub note_in : ℕ → Line → List Note
+abbrev pub note_in : ℕ → Line → List LineNote
 note_in number (line.Ignored name) = record { line = number; option = name } ∷ []
 note_in number _ = []
 
 -- The notes of lines, numbered on from a number.
-abbrev pub notes_from : ℕ → List Line → List Note
+abbrev pub notes_from : ℕ → List Line → List LineNote
 notes_from number [] = []
 notes_from number (l ∷ ls) = note_in number l ++ notes_from (number + 1) ls
 

@@ -48,5 +48,5 @@ drafts_after (scope.Job draft) defaults drafts below =
     drafts ++ (record draft { settings = with_all draft.settings (own_options below) } ∷ drafts_with defaults below)
 
 -- The same of all that the reader keeps.
-abbrev pub coming : Reader → List Line → List Draft
-coming reader below = drafts_after reader.scope reader.defaults reader.drafts.items below
+abbrev pub drafts_coming : Reader → List Line → List Draft
+drafts_coming reader below = drafts_after reader.scope reader.defaults reader.drafts.items below

@@ -109,25 +109,25 @@ abbrev pub filename_of : List ℕ → Option (List ℕ)
 filename_of value = if nat_lt 0 (length value) && list_all is_text_byte value then Some value else None
 
 -- A value that an option has to have.
-abbrev pub needed : {X : Type 0} → (List ℕ → Option X) → (X → Setting) → Option (List ℕ) → Option Setting
-needed value_of setting None = None
-needed value_of setting (Some value) = option_map setting (value_of value)
+abbrev pub required_value : {X : Type 0} → (List ℕ → Option X) → (X → Setting) → Option (List ℕ) → Option Setting
+required_value value_of setting None = None
+required_value value_of setting (Some value) = option_map setting (value_of value)
 
 -- An option with the value behind its `=`.
 abbrev pub setting_of : OptionName → Option (List ℕ) → Option Setting
-setting_of ReadWrite value = needed read_write_of set.ReadWrite value
-setting_of BlockSize value = needed number_of set.BlockSize value
-setting_of Size value = needed number_of set.Size value
-setting_of IoSize value = needed number_of set.IoSize value
-setting_of NumberIos value = needed number_of set.NumberIos value
-setting_of IoDepth value = needed number_of set.IoDepth value
-setting_of XWindow value = needed number_of set.XWindow value
-setting_of NumJobs value = needed copies_of set.NumJobs value
-setting_of RandSeed value = needed number_of set.RandSeed value
+setting_of ReadWrite value = required_value read_write_of set.ReadWrite value
+setting_of BlockSize value = required_value number_of set.BlockSize value
+setting_of Size value = required_value number_of set.Size value
+setting_of IoSize value = required_value number_of set.IoSize value
+setting_of NumberIos value = required_value number_of set.NumberIos value
+setting_of IoDepth value = required_value number_of set.IoDepth value
+setting_of XWindow value = required_value number_of set.XWindow value
+setting_of NumJobs value = required_value copies_of set.NumJobs value
+setting_of RandSeed value = required_value number_of set.RandSeed value
 setting_of NoRandomMap value = option_map set.NoRandomMap (switch_or_on value)
-setting_of Verify value = needed verify_of set.Verify value
-setting_of VerifyPattern value = needed pattern_of set.VerifyPattern value
+setting_of Verify value = required_value verify_of set.Verify value
+setting_of VerifyPattern value = required_value pattern_of set.VerifyPattern value
 setting_of VerifyFatal value = option_map set.VerifyFatal (switch_or_on value)
 setting_of VerifyStateSave value = option_map set.VerifyStateSave (switch_or_on value)
 setting_of VerifyStateLoad value = option_map set.VerifyStateLoad (switch_or_on value)
-setting_of Filename value = needed filename_of set.Filename value
+setting_of Filename value = required_value filename_of set.Filename value

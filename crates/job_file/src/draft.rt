@@ -7,7 +7,7 @@ use crate::fault::JobFault;
 use crate::job::Job;
 use crate::option::ReadWrite;
 use crate::settings::Settings;
-use crate::text::{Name, Text};
+use crate::text::{Name, PrintableText};
 use fc_base::{JobNo, JobParts, JobRecord, Kind, Verify};
 use std::alloc::{AllocError, Global};
 
@@ -191,7 +191,7 @@ impl<'a> Draft<'a> {
         }
     }
 
-    fn filename(&self, alloc: Global) -> Result<Option<Text>, AllocError>
+    fn filename(&self, alloc: Global) -> Result<Option<PrintableText>, AllocError>
         ensures { IfOk result (λ filename. filename ≡ self.now.settings.filename) }
     {
         match &self.settings.filename {

@@ -3,7 +3,7 @@
 ghost use Rattle.std.specs.Prelude.{◌≡◌, ◌≤◌, length};
 ghost use Rattle.fc_base.specs.declared.limits.TheConstants.{MAX_JOBS};
 
-use crate::text::Text;
+use crate::text::PrintableText;
 use fc_base::JobRecord;
 use std::alloc::Global;
 use std::marker::Model;
@@ -19,9 +19,9 @@ pub enum Phase {
 #[derive(Debug)]
 pub struct Job {
     /// The name of its section.
-    pub name: Text,
+    pub name: PrintableText,
     /// fio's `filename`: a label, since job i has file slot i.
-    pub filename: Option<Text>,
+    pub filename: Option<PrintableText>,
     pub rec: JobRecord,
     /// Its state is kept at the trigger (fio's `verify_state_save`).
     pub save: bool,
@@ -93,53 +93,53 @@ impl Jobs {
 
 /// A line whose option is accepted and has no effect.
 #[derive(Debug, Drop)]
-pub struct Note {
+pub struct LineNote {
     /// The line, counted from 1.
     pub line: u32,
     /// The option as it is spelled there.
-    pub option: Text,
+    pub option: PrintableText,
 }
 
 /// Notes, in the order of the lines.
 #[derive(Debug)]
-pub struct Notes {
-    notes: Vec<Note>,
+pub struct LineNotes {
+    notes: Vec<LineNote>,
 }
 
 /// By hand, so that the crates above need no proof of it.
-impl Drop for Notes {
+impl Drop for LineNotes {
     fn drop(self) {
-        let Notes { notes: _ } = self;
+        let LineNotes { notes: _ } = self;
     }
 }
 
-impl Model for Notes {
+impl Model for LineNotes {
     ghost use Rattle.std.specs.Prelude.{List};
-    ghost use Rattle.job_file.specs.declared.job.Note.{Note};
+    ghost use Rattle.job_file.specs.declared.job.LineNote.{LineNote};
 
-    ghost Value = { List Note };
+    ghost Value = { List LineNote };
 
     ghost view = { λ n. n.notes.items };
 }
 
-impl Notes {
+impl LineNotes {
     /// The list of these notes.
-    pub fn from_vec(notes: Vec<Note>) -> Notes
+    pub fn from_vec(notes: Vec<LineNote>) -> LineNotes
         ensures { result ≡ notes.items }
     {
-        Notes { notes }
+        LineNotes { notes }
     }
 
     /// The notes, with the memory that they lie in.
-    pub fn into_vec(self) -> Vec<Note>
+    pub fn into_vec(self) -> Vec<LineNote>
         ensures { result.items ≡ self }
     {
-        let Notes { notes } = self;
+        let LineNotes { notes } = self;
         notes
     }
 
     /// The notes, borrowed.
-    pub fn as_slice(&self) -> &[Note]
+    pub fn as_slice(&self) -> &[LineNote]
         ensures { result.now ≡ self.now }
     {
         &self.notes
@@ -151,7 +151,7 @@ impl Notes {
 pub struct JobSet {
     pub phase: Phase,
     pub jobs: Jobs,
-    pub notes: Notes,
+    pub notes: LineNotes,
     ghost some: { 1 ≤ length jobs },
     ghost few: { length jobs ≤ MAX_JOBS },
 }

@@ -26,7 +26,7 @@ mod text;
 mod value;
 
 pub use fault::JobFault;
-pub use job::{Job, JobSet, Jobs, Note, Notes, Phase};
+pub use job::{Job, JobSet, Jobs, LineNote, LineNotes, Phase};
 pub use law::{examples, jobs_are_within_limits, jobs_fit};
 pub use parser::parse;
-pub use text::Text;
+pub use text::PrintableText;

@@ -8,9 +8,9 @@ ghost use Rattle.job_file.specs.JobSet.{byte_faults, count_faults, same_file, sh
 use crate::bytes::is_text;
 use crate::draft::Draft;
 use crate::fault::JobFault;
-use crate::job::{Job, JobSet, Jobs, Notes, Phase};
+use crate::job::{Job, JobSet, Jobs, LineNotes, Phase};
 use crate::reader::{Contents, contents_of};
-use crate::text::Text;
+use crate::text::PrintableText;
 use fc_base::{JobNo, MAX_JOBS, MAX_TEXT};
 use std::alloc::Global;
 
@@ -30,7 +30,7 @@ pub fn parse(alloc: Global, text: &[u8]) -> Result<JobSet, JobFault>
     Ok(JobSet {
         phase,
         jobs: Jobs::from_vec(jobs),
-        notes: Notes::from_vec(notes),
+        notes: LineNotes::from_vec(notes),
     })
 }
 
@@ -127,7 +127,7 @@ fn shares_file(earlier: &[Job], job: &Job) -> bool
         .any(|other| same_file(&other.filename, &job.filename))
 }
 
-fn same_file(name: &Option<Text>, other: &Option<Text>) -> bool
+fn same_file(name: &Option<PrintableText>, other: &Option<PrintableText>) -> bool
     ensures { result ≡ same_file name.now other.now }
 {
     match (name, other) {

@@ -3,7 +3,7 @@
 ghost use Rattle.std.specs.Prelude.{◌≡◌, ◌+◌, ◌<◌, ◌≤◌, ◌==◌, Bool, false, ◌||◌, List, [], ◌∷◌, ◌++◌, length, position, OnOk, IfErr};
 ghost use Rattle.std.specs.Str.Lines.{lines, strip_carriage_return};
 ghost use Rattle.job_file.specs.declared.draft.Draft.{Draft};
-ghost use Rattle.job_file.specs.declared.job.Note.{Note};
+ghost use Rattle.job_file.specs.declared.job.LineNote.{LineNote};
 ghost use Rattle.job_file.specs.declared.line.Line.{Line};
 ghost use Rattle.job_file.specs.Fault.{Checks, Gives};
 ghost use Rattle.job_file.specs.JobSet.{faults_in, line_faults, opens, note_in, notes_from};
@@ -13,7 +13,7 @@ ghost use Rattle.job_file.specs.Settings.{none_set};
 
 use crate::draft::Draft;
 use crate::fault::JobFault;
-use crate::job::Note;
+use crate::job::LineNote;
 use crate::line::{Line, line_of};
 use crate::option::Setting;
 use crate::settings::Settings;
@@ -40,22 +40,23 @@ struct Reader<'a> {
     /// The jobs whose sections are over.
     drafts: Vec<Draft<'a>>,
     /// The lines that have no effect.
-    notes: Vec<Note>,
+    notes: Vec<LineNote>,
 }
 
 /// What all lines have said.
 #[derive(Drop)]
 pub(crate) struct Contents<'a> {
     pub(crate) drafts: Vec<Draft<'a>>,
-    pub(crate) notes: Vec<Note>,
+    pub(crate) notes: Vec<LineNote>,
 }
 
 impl<'a> Reader<'a> {
-    ghost use Rattle.job_file.specs.Reader.{is_inside, draft_in, coming, drafts_with};
+    ghost use Rattle.job_file.specs.Reader.{is_inside, draft_in, drafts_coming, drafts_with};
 
     fn new(alloc: Global) -> Reader<'a>
         ensures outside { is_inside result.scope ≡ false }
-        ensures coming { (below : List Line) → coming result below ≡ drafts_with none_set below }
+        ensures coming { (below : List Line) →
+            drafts_coming result below ≡ drafts_with none_set below }
         ensures notes { result.notes.items ≡ [] }
     {
         Reader {
@@ -72,7 +73,8 @@ impl<'a> Reader<'a> {
         ensures inside { OnOk result
             (is_inside self.new.scope ≡ (is_inside self.old.scope || opens line.entry)) }
         ensures coming { OnOk result
-            ((below : List Line) → coming self.new below ≡ coming self.old (line.entry ∷ below)) }
+            ((below : List Line) →
+            drafts_coming self.new below ≡ drafts_coming self.old (line.entry ∷ below)) }
         ensures notes { OnOk result
             (self.new.notes.items ≡ self.old.notes.items ++ note_in number line.entry) }
     {
@@ -113,8 +115,8 @@ impl<'a> Reader<'a> {
             (faults_in number (is_inside self.old.scope) (Line.Set setting.entry)) }
         ensures inside { is_inside self.new.scope ≡ is_inside self.old.scope }
         ensures coming { OnOk result
-            ((below : List Line) → coming self.new below
-            ≡ coming self.old (Line.Set setting.entry ∷ below)) }
+            ((below : List Line) → drafts_coming self.new below
+            ≡ drafts_coming self.old (Line.Set setting.entry ∷ below)) }
         ensures notes { self.new.notes.items ≡ self.old.notes.items }
     {
         match &mut self.scope {
@@ -131,8 +133,8 @@ impl<'a> Reader<'a> {
             (faults_in number (is_inside self.old.scope) (Line.Ignored name.now)) }
         ensures inside { is_inside self.new.scope ≡ is_inside self.old.scope }
         ensures coming { OnOk result
-            ((below : List Line) → coming self.new below
-            ≡ coming self.old (Line.Ignored name.now ∷ below)) }
+            ((below : List Line) → drafts_coming self.new below
+            ≡ drafts_coming self.old (Line.Ignored name.now ∷ below)) }
         ensures notes { OnOk result
             (self.new.notes.items ≡ self.old.notes.items
             ++ note_in number (Line.Ignored name.now)) }
@@ -141,7 +143,7 @@ impl<'a> Reader<'a> {
             return Err(JobFault::BadLine(number));
         }
         let option = name.copied(alloc)?;
-        self.notes.push(Note {
+        self.notes.push(LineNote {
             line: number,
             option,
         })?;
@@ -150,9 +152,9 @@ impl<'a> Reader<'a> {
 
     /// Ends the section that is open, and gives what the lines have said.
     fn finish(mut self) -> Result<Contents<'a>, JobFault>
-        ensures { Gives {Y = List Draft × List Note}
+        ensures { Gives {Y = List Draft × List LineNote}
             (λ c. (c.drafts.items, c.notes.items)) result []
-            (coming self.entry [], self.entry.notes.items) }
+            (drafts_coming self.entry [], self.entry.notes.items) }
     {
         self.open(Scope::Outside)?;
         let Reader {
@@ -168,7 +170,7 @@ impl<'a> Reader<'a> {
 /// What the lines of a text say, or the fault of the first faulty line.
 pub(crate) fn contents_of(alloc: Global, text: &[u8]) -> Result<Contents<'_>, JobFault>
     requires { length text.now ≤ MAX_TEXT }
-    ensures { Gives {Y = List Draft × List Note} (λ c. (c.drafts.items, c.notes.items)) result
+    ensures { Gives {Y = List Draft × List LineNote} (λ c. (c.drafts.items, c.notes.items)) result
         (line_faults 1 false (lines_of text.now))
         (drafts_of (lines_of text.now), notes_from 1 (lines_of text.now)) }
 {

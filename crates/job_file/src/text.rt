@@ -9,18 +9,18 @@ use std::marker::Model;
 
 /// A text of its own, such as a job's name: printable ASCII, tabs and carriage returns.
 #[derive(Debug)]
-pub struct Text {
+pub struct PrintableText {
     string: String,
 }
 
 /// By hand, so that the crates above need no proof of it.
-impl Drop for Text {
+impl Drop for PrintableText {
     fn drop(self) {
-        let Text { string: _ } = self;
+        let PrintableText { string: _ } = self;
     }
 }
 
-impl Model for Text {
+impl Model for PrintableText {
     ghost use Rattle.std.specs.Prelude.{ℕ, List, string_bytes};
 
     ghost Value = { List ℕ };
@@ -28,19 +28,19 @@ impl Model for Text {
     ghost view = { λ t. string_bytes t.string };
 }
 
-impl Text {
+impl PrintableText {
     /// The text that this string has.
-    pub fn from_string(string: String) -> Text
+    pub fn from_string(string: String) -> PrintableText
         ensures { result ≡ string_bytes string }
     {
-        Text { string }
+        PrintableText { string }
     }
 
     /// The text as a string.
     pub fn into_string(self) -> String
         ensures { string_bytes result ≡ self }
     {
-        let Text { string } = self;
+        let PrintableText { string } = self;
         string
     }
 
@@ -87,13 +87,13 @@ impl<'a> Name<'a> {
     }
 
     /// A copy of the name, apart from the job file.
-    pub(crate) fn copied(&self, alloc: Global) -> Result<Text, AllocError>
+    pub(crate) fn copied(&self, alloc: Global) -> Result<PrintableText, AllocError>
         ensures { IfOk result (λ text. text ≡ self.now) }
     {
         let string = match str::from_utf8(self.bytes) {
             Ok(text) => String::from_str(alloc, text)?,
             Err(_) => unreachable!(),
         };
-        Ok(Text { string })
+        Ok(PrintableText { string })
     }
 }

@@ -6,7 +6,7 @@ mod options;
 mod sets;
 
 use fc_base::{JobNo, JobParts};
-use job_file::{Job, JobFault, Jobs, Note, Notes, Phase, Text, parse};
+use job_file::{Job, JobFault, Jobs, LineNote, LineNotes, Phase, PrintableText, parse};
 use std::alloc::{AllocError, Global};
 use std::process::Abort;
 use std::test::Fail;
@@ -19,7 +19,7 @@ fn answer(alloc: Global, text: &[u8]) -> Result<String, AllocError> {
     }
 }
 
-fn lines_of(alloc: Global, notes: &[Note], jobs: &[Job]) -> Result<String, AllocError> {
+fn lines_of(alloc: Global, notes: &[LineNote], jobs: &[Job]) -> Result<String, AllocError> {
     let mut lines = String::new(alloc);
     for note in notes {
         writeln!(lines, "{} {}", note.line, note.option.as_str())?;
@@ -133,10 +133,10 @@ fn lists_and_texts(rt: HostRuntime) {
 
 /// A text that went through the option of a note in a list.
 fn text_again(alloc: Global) -> Option<String> {
-    let option = Text::from_string(String::from_str(alloc, "direct").ok()?);
+    let option = PrintableText::from_string(String::from_str(alloc, "direct").ok()?);
     let mut notes = Vec::new(alloc);
-    notes.push(Note { line: 2, option }).ok()?;
-    let note = Notes::from_vec(notes).into_vec().pop()?;
+    notes.push(LineNote { line: 2, option }).ok()?;
+    let note = LineNotes::from_vec(notes).into_vec().pop()?;
     Some(note.option.into_string())
 }
 

@@ -3,7 +3,7 @@ use Rattle.std.proofs.Common.{inl, inr, ℕ, ◌+◌, ◌≤◌, List, length, O
 use Rattle.std.proofs.lemmas.Bool.{cases_lt}
 use Rattle.bounded_input.specs.Input.{IsRead, ReadsAreFronts, ShortReadsAreWhole}
 use Rattle.live.specs.declared.run.TheConstants.{MAX_INPUT}
-use Rattle.printed.specs.declared.refusal.Refusal.{Refusal}
+use Rattle.printed.specs.declared.refusal.PrintedRefusal.{PrintedRefusal}
 use Rattle.live.specs.Live.{HasSoundTexts, IsLiveRefusal}
 
 -- What holds of the front holds of the whole, if it does where the front is all that may be read.
@@ -32,17 +32,17 @@ runs_whole short_reads fronts answer Runs old new bytes sound read runs =
     whole short_reads fronts (λ text. IfOk answer (Runs text)) old new bytes (λ text long below. no_ends answer Runs bytes text sound runs long) read runs
 
 -- A refusal of a front that is too long is that of the whole.
-too_long : (text bytes : List ℕ) (refusal : Refusal) → MAX_INPUT + 1 ≤ length bytes → length bytes ≤ length text → IsLiveRefusal bytes refusal → IsLiveRefusal text refusal
+too_long : (text bytes : List ℕ) (refusal : PrintedRefusal) → MAX_INPUT + 1 ≤ length bytes → length bytes ≤ length text → IsLiveRefusal bytes refusal → IsLiveRefusal text refusal
 too_long text bytes refusal long below (inl unread) = inl unread
 too_long text bytes refusal long below (inr (inl refused)) = inr (inl (omega (arith, long, below), refused.1))
 too_long text bytes refusal long below (inr (inr short)) = absurd (omega (arith, long, short.0))
 
-long_refused : {X : Type 0} (answer : Result X Refusal) (text bytes : List ℕ) → MAX_INPUT + 1 ≤ length bytes → length bytes ≤ length text → IfErr answer (IsLiveRefusal bytes) → IfErr answer (IsLiveRefusal text)
+long_refused : {X : Type 0} (answer : Result X PrintedRefusal) (text bytes : List ℕ) → MAX_INPUT + 1 ≤ length bytes → length bytes ≤ length text → IfErr answer (IsLiveRefusal bytes) → IfErr answer (IsLiveRefusal text)
 long_refused (Ok x) text bytes long below refused = tt
 long_refused (Err refusal) text bytes long below refused = too_long text bytes refusal long below refused
 
 -- So is each refusal.
-pub refused_whole : ShortReadsAreWhole → ReadsAreFronts → {X : Type 0} (answer : Result X Refusal) (old new : Option (List ℕ)) (bytes : List ℕ)
+pub refused_whole : ShortReadsAreWhole → ReadsAreFronts → {X : Type 0} (answer : Result X PrintedRefusal) (old new : Option (List ℕ)) (bytes : List ℕ)
     → IsRead (MAX_INPUT + 1) old new bytes → IfErr answer (IsLiveRefusal bytes) → IfSome old (λ text. IfErr answer (IsLiveRefusal text))
 refused_whole short_reads fronts answer old new bytes read refused =
     whole short_reads fronts (λ text. IfErr answer (IsLiveRefusal text)) old new bytes (λ text long below. long_refused answer text bytes long below refused) read refused

@@ -2,20 +2,21 @@
 
 ghost use Rattle.std.specs.Prelude.{◌≡◌, OnOk, Some, None};
 ghost use Rattle.std.specs.Io.KnownBytes.{Appends};
-ghost use Rattle.printed.specs.Words.{spaced, ended};
+ghost use Rattle.printed.specs.Words.{with_blanks_between, with_line_feed};
 ghost use Rattle.live.specs.Live.{end_words, end_line, end_lines, ends_text, ends_status, has_misfit, is_faulty, counts_faults};
 
 use crate::run::{FAULTY, PRINTED};
 use fc_base::{CheckReport, Fault};
-use fleet::End;
+use fleet::CheckEnd;
 use printed::{REFUSED, write_report_words};
 use std::io;
 use std::io::Write;
 
 /// Writes a line for each end, `report S J` and the words of its report, or `refused S J 67 Misfit`, and
 /// then the line `assembled`.
-pub(crate) fn write_ends<W: Write>(writer: &mut W, ends: &[End]) -> io::Result<()>
-    ensures { OnOk result (Appends (W.contents writer.old) (W.contents writer.new) (ends_text ends.now)) }
+pub(crate) fn write_ends<W: Write>(writer: &mut W, ends: &[CheckEnd]) -> io::Result<()>
+    ensures { OnOk result
+        (Appends (W.contents writer.old) (W.contents writer.new) (ends_text ends.now)) }
 {
     write_lines(writer, ends)?;
     writeln!(writer, "assembled")?;
@@ -23,8 +24,9 @@ pub(crate) fn write_ends<W: Write>(writer: &mut W, ends: &[End]) -> io::Result<(
 }
 
 /// Writes a line for each end.
-fn write_lines<W: Write>(writer: &mut W, ends: &[End]) -> io::Result<()>
-    ensures { OnOk result (Appends (W.contents writer.old) (W.contents writer.new) (end_lines ends.now)) }
+fn write_lines<W: Write>(writer: &mut W, ends: &[CheckEnd]) -> io::Result<()>
+    ensures { OnOk result
+        (Appends (W.contents writer.old) (W.contents writer.new) (end_lines ends.now)) }
 {
     for end in ends {
         write_end(writer, end)?;
@@ -33,8 +35,10 @@ fn write_lines<W: Write>(writer: &mut W, ends: &[End]) -> io::Result<()>
 }
 
 /// Writes the line of an end.
-fn write_end<W: Write>(writer: &mut W, end: &End) -> io::Result<()>
-    ensures { OnOk result (Appends (W.contents writer.old) (W.contents writer.new) (ended (end_line end.now))) }
+fn write_end<W: Write>(writer: &mut W, end: &CheckEnd) -> io::Result<()>
+    ensures { OnOk result
+        (Appends (W.contents writer.old) (W.contents writer.new)
+        (with_line_feed (end_line end.now))) }
 {
     match &end.report {
         Some(report) => write_report(writer, end, report),
@@ -43,9 +47,9 @@ fn write_end<W: Write>(writer: &mut W, end: &End) -> io::Result<()>
 }
 
 /// Writes the line of an end that has this report.
-fn write_report<W: Write>(writer: &mut W, end: &End, report: &CheckReport) -> io::Result<()>
+fn write_report<W: Write>(writer: &mut W, end: &CheckEnd, report: &CheckReport) -> io::Result<()>
     ensures { OnOk result (Appends (W.contents writer.old) (W.contents writer.new)
-        (ended (spaced (end_words end.now (Some report.now))))) }
+        (with_line_feed (with_blanks_between (end_words end.now (Some report.now))))) }
 {
     write!(writer, "report {} {} ", end.server.0, end.job.0)?;
     write_report_words(writer, report)?;
@@ -53,9 +57,9 @@ fn write_report<W: Write>(writer: &mut W, end: &End, report: &CheckReport) -> io
 }
 
 /// Writes the line of an end whose state doesn't fit.
-fn write_misfit<W: Write>(writer: &mut W, end: &End) -> io::Result<()>
+fn write_misfit<W: Write>(writer: &mut W, end: &CheckEnd) -> io::Result<()>
     ensures { OnOk result (Appends (W.contents writer.old) (W.contents writer.new)
-        (ended (spaced (end_words end.now None)))) }
+        (with_line_feed (with_blanks_between (end_words end.now None)))) }
 {
     let fault = Fault::Misfit;
     writeln!(
@@ -68,7 +72,7 @@ fn write_misfit<W: Write>(writer: &mut W, end: &End) -> io::Result<()>
 }
 
 /// The exit status of these ends.
-pub(crate) fn status_of(ends: &[End]) -> u8
+pub(crate) fn status_of(ends: &[CheckEnd]) -> u8
     ensures { result ≡ ends_status ends.now }
 {
     if has_misfit(ends) {
@@ -81,14 +85,14 @@ pub(crate) fn status_of(ends: &[End]) -> u8
 }
 
 /// Whether some state doesn't fit.
-fn has_misfit(ends: &[End]) -> bool
+fn has_misfit(ends: &[CheckEnd]) -> bool
     ensures { result ≡ has_misfit ends.now }
 {
     ends.iter().any(|end| end.report.is_none())
 }
 
 /// Whether some report has faults.
-fn is_faulty(ends: &[End]) -> bool
+fn is_faulty(ends: &[CheckEnd]) -> bool
     ensures { result ≡ is_faulty ends.now }
 {
     ends.iter().any(|end| has_faults(&end.report))

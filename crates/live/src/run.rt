@@ -11,9 +11,9 @@ use crate::texts::texts_of;
 use bounded_input::{read_input, read_law};
 use commands::FleetSize;
 use fc_base::{Fault, MAX_TEXT};
-use fleet::{End, FleetFault, Trigger, run_fleet};
+use fleet::{CheckEnd, FleetFault, Trigger, run_fleet};
 use job_file::{Phase, parse};
-use printed::{REFUSED, Refusal, write_refusal};
+use printed::{PrintedRefusal, REFUSED, write_refusal};
 use std::alloc::Global;
 use std::io;
 use std::io::{Read, Write};
@@ -77,10 +77,12 @@ fn ends_of_input<H: Threads + Wait + Sync, T: Trigger, R: Read>(
     size: FleetSize,
     trigger: &mut T,
     reader: &mut R,
-) -> Result<Vec<End>, Refusal>
+) -> Result<Vec<CheckEnd>, PrintedRefusal>
     requires { IsFleetSize size }
-    ensures runs { IfSome (R.remaining reader.old) (λ input. IfOk result (λ ends. RunsTexts size.servers input ends.items)) }
-    ensures refused { IfSome (R.remaining reader.old) (λ input. IfErr result (IsLiveRefusal input)) }
+    ensures runs { IfSome (R.remaining reader.old)
+        (λ input. IfOk result (λ ends. RunsTexts size.servers input ends.items)) }
+    ensures refused { IfSome (R.remaining reader.old)
+        (λ input. IfErr result (IsLiveRefusal input)) }
     ensures read { HasRead (MAX_INPUT + 1) (R.remaining reader.old) (R.remaining reader.new) }
 {
     read_law();
@@ -95,13 +97,13 @@ fn ends_of_texts<H: Threads + Wait + Sync, T: Trigger>(
     size: FleetSize,
     trigger: &mut T,
     input: &[u8],
-) -> Result<Vec<End>, Refusal>
+) -> Result<Vec<CheckEnd>, PrintedRefusal>
     requires { IsFleetSize size }
     ensures runs { IfOk result (λ ends. RunsTexts size.servers input.now ends.items) }
     ensures refused { IfErr result (IsLiveRefusal input.now) }
 {
     if input.len() > MAX_INPUT {
-        return Err(Refusal::from(Fault::JobTooLong));
+        return Err(PrintedRefusal::from(Fault::JobTooLong));
     }
     let texts = texts_of(input);
     let (writing, reading) = (texts.writing, texts.reading);
@@ -116,17 +118,17 @@ fn ends_of_texts<H: Threads + Wait + Sync, T: Trigger>(
 }
 
 /// Why a fleet ended with a fault.
-fn refusal_of_fleet(fault: FleetFault) -> Refusal
+fn refusal_of_fleet(fault: FleetFault) -> PrintedRefusal
     ensures { result ≡ of_fleet fault }
 {
     match fault {
-        FleetFault::Refused(fault) => Refusal::from(fault),
-        _ => Refusal::from(Fault::Unlike),
+        FleetFault::Refused(fault) => PrintedRefusal::from(fault),
+        _ => PrintedRefusal::from(Fault::Unlike),
     }
 }
 
 /// Refuses two texts of which one isn't taken, for the first that isn't.
-fn check_texts(alloc: Global, writing: &[u8], reading: &[u8]) -> Result<(), Refusal>
+fn check_texts(alloc: Global, writing: &[u8], reading: &[u8]) -> Result<(), PrintedRefusal>
     ensures sound { IfOk result (λ _. IsSound Writes writing.now × IsSound Reads reading.now) }
     ensures refused { IfErr result (IsRefusedFor writing.now reading.now) }
 {
@@ -135,7 +137,7 @@ fn check_texts(alloc: Global, writing: &[u8], reading: &[u8]) -> Result<(), Refu
 }
 
 /// Refuses a text that has a fault, or whose jobs do the other.
-fn check_text(alloc: Global, text: &[u8], phase: Phase) -> Result<(), Refusal>
+fn check_text(alloc: Global, text: &[u8], phase: Phase) -> Result<(), PrintedRefusal>
     ensures sound { IfOk result (λ _. IsSound phase text.now) }
     ensures unfit { IfErr result (IsUnfit phase text.now) }
 {
@@ -143,6 +145,6 @@ fn check_text(alloc: Global, text: &[u8], phase: Phase) -> Result<(), Refusal>
     if set.phase == phase {
         Ok(())
     } else {
-        Err(Refusal::from(Fault::WrongPhase))
+        Err(PrintedRefusal::from(Fault::WrongPhase))
     }
 }

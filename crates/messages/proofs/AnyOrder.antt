@@ -15,7 +15,7 @@ use Rattle.messages.specs.declared.places.Filled.{Filled}
 use Rattle.messages.specs.Assemblies.{Row}
 use Rattle.messages.specs.Tags.{is_tag}
 use Rattle.messages.specs.Pieces.{tag_of, places, bytes_at, pieces_of}
-use Rattle.messages.specs.Assemblies.{filled_at, unless_filled, fill, after_these, joined, filled_of, with_piece, completed, Look, Waits, Gives, look_at, has_tag, replaced, put, taken_at, taken}
+use Rattle.messages.specs.Assemblies.{filled_at, unless_filled, fill, after_these, joined_bytes, filled_of, with_piece, completed_body, Look, Waits, Gives, look_by_body, has_tag, with_row_replaced, with_row, rows_after_body, rows_after_piece}
 use Rattle.messages.specs.PieceLaws.{IsPartOf, has_place, has_places, all_taken, PiecesGiveTheBytes, PiecesGiveThePacket}
 use Rattle.messages.proofs.Cutting.{slices, slices_all}
 use Rattle.messages.proofs.TagLemmas.{is_tag_self}
@@ -32,9 +32,9 @@ in_rest : (t u : Bool) → t ≡ false → (if t then true else u) ≡ true → 
 in_rest true u e h = absurd cc
 in_rest false u e h = h
 
-replaced_found : (tag : Tag) (fs : List Filled) (rows : List Row) → has_tag tag rows ≡ true → filled_of tag (replaced tag fs rows) ≡ fs
+replaced_found : (tag : Tag) (fs : List Filled) (rows : List Row) → has_tag tag rows ≡ true → filled_of tag (with_row_replaced tag fs rows) ≡ fs
 replaced_found tag fs [] h = absurd cc
-replaced_found tag fs (row ∷ rows) h = found_again tag fs row rows (replaced tag fs rows) (is_tag row.tag tag) refl (λ e. replaced_found tag fs rows (in_rest (is_tag row.tag tag) (has_tag tag rows) e h))
+replaced_found tag fs (row ∷ rows) h = found_again tag fs row rows (with_row_replaced tag fs rows) (is_tag row.tag tag) refl (λ e. replaced_found tag fs rows (in_rest (is_tag row.tag tag) (has_tag tag rows) e h))
 
 not_here : (t u : Bool) → (if t then true else u) ≡ false → (t ≡ false) × (u ≡ false)
 not_here true u h = absurd cc
@@ -54,7 +54,7 @@ last_found : (tag : Tag) (fs : List Filled) (rows : List Row) → has_tag tag ro
 last_found tag fs [] h = rw (is_tag_self tag) refl
 last_found tag fs (row ∷ rows) h = let p = not_here (is_tag row.tag tag) (has_tag tag rows) h in rw p.0 (last_found tag fs rows p.1)
 
-put_found : (tag : Tag) (fs : List Filled) (rows : List Row) (t : Bool) → has_tag tag rows ≡ t → filled_of tag (put t tag fs rows) ≡ fs
+put_found : (tag : Tag) (fs : List Filled) (rows : List Row) (t : Bool) → has_tag tag rows ≡ t → filled_of tag (with_row t tag fs rows) ≡ fs
 put_found tag fs rows true h = replaced_found tag fs rows h
 put_found tag fs rows false h =
     let row : Row = record { tag = tag; filled = fs } in
@@ -104,10 +104,10 @@ both_parts true true x y = refl
 both_parts true false x y = refl
 both_parts false u x y = refl
 
-joined_these : (b : List ℕ) (qs : List PieceParts) (fs : List Filled) → AreThese b qs fs → (ats : List ℕ) → joined fs ats ≡ (if has_places qs ats then Some (slices b ats) else None)
+joined_these : (b : List ℕ) (qs : List PieceParts) (fs : List Filled) → AreThese b qs fs → (ats : List ℕ) → joined_bytes fs ats ≡ (if has_places qs ats then Some (slices b ats) else None)
 joined_these b qs fs are [] = refl
 joined_these b qs fs are (at ∷ ats) =
-    ap (λ r. after_these r (joined fs ats)) (are at)
+    ap (λ r. after_these r (joined_bytes fs ats)) (are at)
     ∙ ap (λ r. after_these (expected b (has_place qs at) at) r) (joined_these b qs fs are ats)
     ∙ both_parts (has_place qs at) (has_places qs ats) (bytes_at b at) (slices b ats)
 
@@ -135,9 +135,9 @@ filled_for : (tag : Tag) (b : List ℕ) (q : PieceParts) → IsPartOf tag b q �
 filled_for tag b q part qs rows are = filled_by b q part.bytes_are qs (filled_of q.tag rows) (subst (λ (t : Tag). AreThese b qs (filled_of t rows)) (sym part.tag_is) are)
 
 now_completed : (tag : Tag) (b : List ℕ) (q : PieceParts) → IsPartOf tag b q → (qs : List PieceParts) (rows : List Row) → AreThese b qs (filled_of tag rows)
-    → completed rows q ≡ (if has_places (q ∷ qs) (places tag.length) then Some (slices b (places tag.length)) else None)
+    → completed_body rows q ≡ (if has_places (q ∷ qs) (places tag.length) then Some (slices b (places tag.length)) else None)
 now_completed tag b q part qs rows are =
-    ap (λ (t : Tag). joined (with_piece rows q) (places t.length)) part.tag_is
+    ap (λ (t : Tag). joined_bytes (with_piece rows q) (places t.length)) part.tag_is
     ∙ joined_these b (q ∷ qs) (with_piece rows q) (filled_for tag b q part qs rows are) (places tag.length)
 
 none_of : (t : Bool) (x : List ℕ) → t ≡ false → ◌≡◌ {A = Option (List ℕ)} (if t then Some x else None) None
@@ -145,12 +145,12 @@ none_of true x h = absurd cc
 none_of false x h = refl
 
 taken_found : (tag : Tag) (b : List ℕ) (q : PieceParts) → IsPartOf tag b q → (qs : List PieceParts) (rows : List Row) → AreThese b qs (filled_of tag rows)
-    → has_places (q ∷ qs) (places tag.length) ≡ false → AreThese b (q ∷ qs) (filled_of tag (taken rows q))
+    → has_places (q ∷ qs) (places tag.length) ≡ false → AreThese b (q ∷ qs) (filled_of tag (rows_after_piece rows q))
 taken_found tag b q part qs rows are lacks =
     let none = now_completed tag b q part qs rows are ∙ none_of (has_places (q ∷ qs) (places tag.length)) (slices b (places tag.length)) lacks in
-    let left : taken rows q ≡ put (has_tag q.tag rows) q.tag (with_piece rows q) rows = ap (λ o. taken_at o q (with_piece rows q) rows) none in
-    let here : filled_of q.tag (taken rows q) ≡ with_piece rows q = ap (filled_of q.tag) left ∙ put_found q.tag (with_piece rows q) rows (has_tag q.tag rows) refl in
-    let found : filled_of tag (taken rows q) ≡ with_piece rows q = ap (λ (t : Tag). filled_of t (taken rows q)) (sym part.tag_is) ∙ here in
+    let left : rows_after_piece rows q ≡ with_row (has_tag q.tag rows) q.tag (with_piece rows q) rows = ap (λ o. rows_after_body o q (with_piece rows q) rows) none in
+    let here : filled_of q.tag (rows_after_piece rows q) ≡ with_piece rows q = ap (filled_of q.tag) left ∙ put_found q.tag (with_piece rows q) rows (has_tag q.tag rows) refl in
+    let found : filled_of tag (rows_after_piece rows q) ≡ with_piece rows q = ap (λ (t : Tag). filled_of t (rows_after_piece rows q)) (sym part.tag_is) ∙ here in
     subst (AreThese b (q ∷ qs)) (sym found) (filled_for tag b q part qs rows are)
 
 first_in : (q : PieceParts) (qs : List PieceParts) → Contains (q ∷ qs) q
@@ -163,7 +163,7 @@ come_together tag b rows absent (q ∷ qs) all lacks =
     let before = come_together tag b rows absent qs (λ x h. all x (Contains-append_right (q ∷ []) qs x h)) (one_piece_less q qs (places tag.length) lacks) in
     taken_found tag b q (all q (first_in q qs)) qs (all_taken rows qs) before lacks
 
-given_or_waits : (q : PieceParts) (b : List ℕ) (t : Bool) → look_at q (if t then Some b else None) ≡ (if t then look_at q (Some b) else Waits)
+given_or_waits : (q : PieceParts) (b : List ℕ) (t : Bool) → look_by_body q (if t then Some b else None) ≡ (if t then look_by_body q (Some b) else Waits)
 given_or_waits q b true = refl
 given_or_waits q b false = refl
 
@@ -173,8 +173,8 @@ the_bytes b len e = ap (λ (n : ℕ). slices b (places n)) (sym e) ∙ slices_al
 pub pieces_give_the_bytes : PiecesGiveTheBytes
 pieces_give_the_bytes tag b len rows absent qs all lacks q part =
     let before = come_together tag b rows absent qs all lacks in
-    ap (look_at q) (now_completed tag b q part qs (all_taken rows qs) before)
-    ∙ ap (λ (x : List ℕ). look_at q (if has_places (q ∷ qs) (places tag.length) then Some x else None)) (the_bytes b tag.length len)
+    ap (look_by_body q) (now_completed tag b q part qs (all_taken rows qs) before)
+    ∙ ap (λ (x : List ℕ). look_by_body q (if has_places (q ∷ qs) (places tag.length) then Some x else None)) (the_bytes b tag.length len)
     ∙ given_or_waits q b (has_places (q ∷ qs) (places tag.length))
 
 part_of : (p : PacketParts) (q : PieceParts) → Contains (pieces_of p) q → IsPartOf (tag_of p.body) (spelled_body p.body) q
@@ -184,6 +184,6 @@ part_of p q h =
 
 pub pieces_give_the_packet : ReadsBack → PiecesGiveThePacket
 pieces_give_the_packet law p packet cut rows absent qs all lacks q is =
-    let given : look_at q (Some (spelled_body p.body)) ≡ Gives p = subst (λ (x : PieceParts). look_at x (Some (spelled_body p.body)) ≡ Gives p) (at_its_place p q is) (gives_body law p (in_range p packet) q.at) in
+    let given : look_by_body q (Some (spelled_body p.body)) ≡ Gives p = subst (λ (x : PieceParts). look_by_body x (Some (spelled_body p.body)) ≡ Gives p) (at_its_place p q is) (gives_body law p (in_range p packet) q.at) in
     pieces_give_the_bytes (tag_of p.body) (spelled_body p.body) (length-spelled_body p.body) rows absent qs (λ x h. part_of p x (all x h)) lacks q (part_of p q is)
     ∙ ap (λ (x : Look). if has_places (q ∷ qs) (places (length_of p.body)) then x else Waits) given

@@ -20,7 +20,7 @@ use Rattle.messages.specs.Pieces.{is_cut, tag_in, tag_of, places, bytes_at, piec
 use Rattle.messages.specs.declared.places.Filled.{Filled}
 use Rattle.messages.specs.Assemblies.{Row}
 use Rattle.messages.specs.Tags.{is_tag}
-use Rattle.messages.specs.Assemblies.{filled_at, unless_filled, joined, filled_of, with_piece, completed, Look, Waits, Gives, NoPacket, packet_of, of_tag, look_at, look, without, has_tag, replaced, put, taken_at, taken}
+use Rattle.messages.specs.Assemblies.{filled_at, unless_filled, joined_bytes, filled_of, with_piece, completed_body, Look, Waits, Gives, NoPacket, packet_of, of_tag, look_by_body, look_at_piece, without_tag, has_tag, with_row_replaced, with_row, rows_after_body, rows_after_piece}
 use Rattle.messages.specs.PieceLaws.{OneBodyOfEachTag, ArePackets, WasCut, AreCut, WasSent, OnlySentComesTogether, GivesThis, OnlyWholeBodiesAreGiven}
 use Rattle.messages.proofs.Cutting.{slices, slices_all, AreOf, joined_slices}
 use Rattle.messages.proofs.TagLemmas.{is_tag_self, same_tag}
@@ -75,18 +75,18 @@ sent_or : (sent : List PacketParts) (t : Bool) (xs ys : List Row) → WasSent se
 sent_or sent true xs ys v w = v
 sent_or sent false xs ys v w = w
 
-without_sent : (sent : List PacketParts) (tag : Tag) (rows : List Row) → WasSent sent rows → WasSent sent (without tag rows)
+without_sent : (sent : List PacketParts) (tag : Tag) (rows : List Row) → WasSent sent rows → WasSent sent (without_tag tag rows)
 without_sent sent tag [] w = tt
-without_sent sent tag (row ∷ rows) w = sent_or sent (is_tag row.tag tag) rows (row ∷ without tag rows) w.1 (w.0, without_sent sent tag rows w.1)
+without_sent sent tag (row ∷ rows) w = sent_or sent (is_tag row.tag tag) rows (row ∷ without_tag tag rows) w.1 (w.0, without_sent sent tag rows w.1)
 
 replaced_here : (sent : List PacketParts) (tag : Tag) (fs : List Filled) (row : Row) (rows more : List Row) (t : Bool) → (t ≡ true → row.tag ≡ tag) → AreCut sent tag fs → AreCut sent row.tag row.filled → WasSent sent rows → WasSent sent more
     → WasSent sent (if t then record { tag = row.tag; filled = fs } ∷ rows else row ∷ more)
 replaced_here sent tag fs row rows more true is a b w v = (subst (λ x. AreCut sent x fs) (sym (is refl)) a, w)
 replaced_here sent tag fs row rows more false is a b w v = (b, v)
 
-replaced_sent : (sent : List PacketParts) (tag : Tag) (fs : List Filled) (rows : List Row) → AreCut sent tag fs → WasSent sent rows → WasSent sent (replaced tag fs rows)
+replaced_sent : (sent : List PacketParts) (tag : Tag) (fs : List Filled) (rows : List Row) → AreCut sent tag fs → WasSent sent rows → WasSent sent (with_row_replaced tag fs rows)
 replaced_sent sent tag fs [] a w = tt
-replaced_sent sent tag fs (row ∷ rows) a w = replaced_here sent tag fs row rows (replaced tag fs rows) (is_tag row.tag tag) (same_tag row.tag tag) a w.0 w.1 (replaced_sent sent tag fs rows a w.1)
+replaced_sent sent tag fs (row ∷ rows) a w = replaced_here sent tag fs row rows (with_row_replaced tag fs rows) (is_tag row.tag tag) (same_tag row.tag tag) a w.0 w.1 (replaced_sent sent tag fs rows a w.1)
 
 row_more : (sent : List PacketParts) (row : Row) (rows : List Row) → AreCut sent row.tag row.filled → WasSent sent rows → WasSent sent (rows ++ row ∷ [])
 row_more sent row [] a w = (a, tt)
@@ -97,21 +97,21 @@ dropped_sent sent zero rows w = w
 dropped_sent sent (suc n) [] w = tt
 dropped_sent sent (suc n) (row ∷ rows) w = dropped_sent sent n rows w.1
 
-put_sent : (sent : List PacketParts) (t : Bool) (tag : Tag) (fs : List Filled) (rows : List Row) → AreCut sent tag fs → WasSent sent rows → WasSent sent (put t tag fs rows)
+put_sent : (sent : List PacketParts) (t : Bool) (tag : Tag) (fs : List Filled) (rows : List Row) → AreCut sent tag fs → WasSent sent rows → WasSent sent (with_row t tag fs rows)
 put_sent sent true tag fs rows a w = replaced_sent sent tag fs rows a w
 put_sent sent false tag fs rows a w =
     let row : Row = record { tag = tag; filled = fs } in
     dropped_sent sent (length (rows ++ row ∷ []) - MAX_TAGS) (rows ++ row ∷ []) (row_more sent row rows a w)
 
-taken_at_sent : (sent : List PacketParts) (o : Option (List ℕ)) (q : PieceParts) (fs : List Filled) (rows : List Row) → AreCut sent q.tag fs → WasSent sent rows → WasSent sent (taken_at o q fs rows)
+taken_at_sent : (sent : List PacketParts) (o : Option (List ℕ)) (q : PieceParts) (fs : List Filled) (rows : List Row) → AreCut sent q.tag fs → WasSent sent rows → WasSent sent (rows_after_body o q fs rows)
 taken_at_sent sent None q fs rows a w = put_sent sent (has_tag q.tag rows) q.tag fs rows a w
 taken_at_sent sent (Some b) q fs rows a w = without_sent sent q.tag rows w
 
 with_piece_cut : (sent : List PacketParts) (rows : List Row) (q : PieceParts) → WasSent sent rows → WasCut sent q.tag q.at q.bytes → AreCut sent q.tag (with_piece rows q)
 with_piece_cut sent rows q w c = filled_more sent q.tag q (filled_at (filled_of q.tag rows) q.at) (filled_of q.tag rows) (filled_of_cut sent q.tag rows w) c
 
-pub taken_sent : (sent : List PacketParts) (rows : List Row) (q : PieceParts) → WasSent sent rows → WasCut sent q.tag q.at q.bytes → WasSent sent (taken rows q)
-taken_sent sent rows q w c = taken_at_sent sent (completed rows q) q (with_piece rows q) rows (with_piece_cut sent rows q w c) w
+pub taken_sent : (sent : List PacketParts) (rows : List Row) (q : PieceParts) → WasSent sent rows → WasCut sent q.tag q.at q.bytes → WasSent sent (rows_after_piece rows q)
+taken_sent sent rows q w c = taken_at_sent sent (completed_body rows q) q (with_piece rows q) rows (with_piece_cut sent rows q w c) w
 
 -- A completed body is that of the one packet of its tag.
 
@@ -128,7 +128,7 @@ are_of sent one p s cut fs a at x h =
     let same : w.packet.body ≡ p.body = one w.packet p w.was_sent s w.cut cut w.tag_is in
     ap (λ (b : Body). bytes_at (spelled_body b) at) (sym same) ∙ w.bytes_are
 
-pub whole_body : (b : Body) (fs : List Filled) (x : List ℕ) → AreOf (spelled_body b) fs → joined fs (places (length_of b)) ≡ Some x → spelled_body b ≡ x
+pub whole_body : (b : Body) (fs : List Filled) (x : List ℕ) → AreOf (spelled_body b) fs → joined_bytes fs (places (length_of b)) ≡ Some x → spelled_body b ≡ x
 whole_body b fs x are h =
     let len : length (spelled_body b) ≡ length_of b = length-spelled_body b in
     sym (slices_all (spelled_body b)) ∙ ap (λ (n : ℕ). slices (spelled_body b) (places n)) len ∙ joined_slices (spelled_body b) fs are (places (length_of b)) x h
@@ -137,28 +137,28 @@ gives_tagged : (q : PieceParts) (b : Body) (t : Bool) (p : Look) → t ≡ true 
 gives_tagged q b true p h = refl
 gives_tagged q b false p h = absurd cc
 
-pub gives_body : ReadsBack → (p : PacketParts) → InRange p → (at : ℕ) → look_at (piece_at p at) (Some (spelled_body p.body)) ≡ Gives p
+pub gives_body : ReadsBack → (p : PacketParts) → InRange p → (at : ℕ) → look_by_body (piece_at p at) (Some (spelled_body p.body)) ≡ Gives p
 gives_body law p h at =
     ap (of_tag (piece_at p at)) (body_at-spelled law p.body h.body h.keeps)
     ∙ gives_tagged (piece_at p at) p.body (is_tag (tag_of p.body) (tag_of p.body)) (Gives p) (is_tag_self (tag_of p.body))
 
-told : ReadsBack → (p : PacketParts) → InRange p → (at : ℕ) (fs : List Filled) → AreOf (spelled_body p.body) fs → (o : Option (List ℕ)) → joined fs (places (length_of p.body)) ≡ o
-    → (look_at (piece_at p at) o ≡ Waits) ⊎ (look_at (piece_at p at) o ≡ Gives p)
+told : ReadsBack → (p : PacketParts) → InRange p → (at : ℕ) (fs : List Filled) → AreOf (spelled_body p.body) fs → (o : Option (List ℕ)) → joined_bytes fs (places (length_of p.body)) ≡ o
+    → (look_by_body (piece_at p at) o ≡ Waits) ⊎ (look_by_body (piece_at p at) o ≡ Gives p)
 told law p h at fs are None e = inl refl
-told law p h at fs are (Some x) e = inr (ap (λ (b : List ℕ). look_at (piece_at p at) (Some b)) (sym (whole_body p.body fs x are e)) ∙ gives_body law p h at)
+told law p h at fs are (Some x) e = inr (ap (λ (b : List ℕ). look_by_body (piece_at p at) (Some b)) (sym (whole_body p.body fs x are e)) ∙ gives_body law p h at)
 
 of_place : ReadsBack → (sent : List PacketParts) → ArePackets sent → OneBodyOfEachTag sent → (rows : List Row) → WasSent sent rows
     → (p : PacketParts) → Contains sent p → is_cut p.body ≡ true → (at : ℕ)
-    → ((look rows (piece_at p at) ≡ Waits) ⊎ (look rows (piece_at p at) ≡ Gives p)) × WasSent sent (taken rows (piece_at p at))
+    → ((look_at_piece rows (piece_at p at) ≡ Waits) ⊎ (look_at_piece rows (piece_at p at) ≡ Gives p)) × WasSent sent (rows_after_piece rows (piece_at p at))
 of_place law sent packets one rows w p s cut at =
     let c : WasCut sent (tag_of p.body) at (bytes_at (spelled_body p.body) at) = record { packet = p; was_sent = s; cut = cut; tag_is = refl; bytes_are = refl } in
     let fs = with_piece rows (piece_at p at) in
     let are = are_of sent one p s cut fs (with_piece_cut sent rows (piece_at p at) w c) in
-    (told law p (in_range p (packets p s)) at fs are (completed rows (piece_at p at)) refl, taken_sent sent rows (piece_at p at) w c)
+    (told law p (in_range p (packets p s)) at fs are (completed_body rows (piece_at p at)) refl, taken_sent sent rows (piece_at p at) w c)
 
 pub only_sent_comes_together : ReadsBack → OnlySentComesTogether
 only_sent_comes_together law sent packets one rows w p s q is =
-    subst (λ (x : PieceParts). ((look rows x ≡ Waits) ⊎ (look rows x ≡ Gives p)) × WasSent sent (taken rows x)) (at_its_place p q is.1) (of_place law sent packets one rows w p s is.0 q.at)
+    subst (λ (x : PieceParts). ((look_at_piece rows x ≡ Waits) ⊎ (look_at_piece rows x ≡ Gives p)) × WasSent sent (rows_after_piece rows x)) (at_its_place p q is.1) (of_place law sent packets one rows w p s is.0 q.at)
 
 -- What is given, and when.
 
@@ -182,7 +182,7 @@ given_of : (q : PieceParts) (o : Option Body) (p : PacketParts) → of_tag q o �
 given_of q None p h = absurd cc
 given_of q (Some b) p h = given_by q b p (is_tag (tag_in b q.tag.length) q.tag) refl h
 
-given_at : (rows : List Row) (q : PieceParts) (p : PacketParts) (o : Option (List ℕ)) → completed rows q ≡ o → look_at q o ≡ Gives p → GivesThis rows q p
+given_at : (rows : List Row) (q : PieceParts) (p : PacketParts) (o : Option (List ℕ)) → completed_body rows q ≡ o → look_by_body q o ≡ Gives p → GivesThis rows q p
 given_at rows q p None e h = absurd cc
 given_at rows q p (Some bytes) e h =
     let g = given_of q (body_at q.tag.whole bytes) p h in
@@ -192,10 +192,10 @@ gives_by : (q : PieceParts) (p : PacketParts) (t : Bool) → t ≡ true → p �
 gives_by q p true e same = ap (λ (x : PacketParts). Gives x) (sym same)
 gives_by q p false e same = absurd cc
 
-gives_it : (rows : List Row) (q : PieceParts) (p : PacketParts) → GivesThis rows q p → look rows q ≡ Gives p
+gives_it : (rows : List Row) (q : PieceParts) (p : PacketParts) → GivesThis rows q p → look_at_piece rows q ≡ Gives p
 gives_it rows q p g =
-    ap (look_at q) g.whole ∙ ap (of_tag q) g.body
+    ap (look_by_body q) g.whole ∙ ap (of_tag q) g.body
     ∙ gives_by q p (is_tag (tag_in p.body q.tag.length) q.tag) (is_tag_of (tag_in p.body q.tag.length) q.tag (is_tag (tag_in p.body q.tag.length) q.tag) refl g.tag_is) g.packet
 
 pub only_whole_bodies : OnlyWholeBodiesAreGiven
-only_whole_bodies rows q p = (given_at rows q p (completed rows q) refl, gives_it rows q p)
+only_whole_bodies rows q p = (given_at rows q p (completed_body rows q) refl, gives_it rows q p)

@@ -6,7 +6,7 @@ use Rattle.std.proofs.lemmas.List.{drop_all, drop-drop, take-append-drop}
 use Rattle.messages.specs.declared.limits.TheConstants.{CHUNK_LIMIT}
 use Rattle.messages.specs.Pieces.{places_from, places, bytes_at}
 use Rattle.messages.specs.declared.places.Filled.{Filled}
-use Rattle.messages.specs.Assemblies.{filled_at, after_these, joined}
+use Rattle.messages.specs.Assemblies.{filled_at, after_these, joined_bytes}
 
 -- The bytes at these places.
 abbrev pub slices : List ℕ → List ℕ → List ℕ
@@ -36,10 +36,10 @@ two_parts None r x h = absurd cc
 two_parts (Some y) None x h = absurd cc
 two_parts (Some y) (Some z) x h = (y, z, refl, refl, cc)
 
-pub joined_slices : (b : List ℕ) (fs : List Filled) → AreOf b fs → (ats x : List ℕ) → joined fs ats ≡ Some x → slices b ats ≡ x
+pub joined_slices : (b : List ℕ) (fs : List Filled) → AreOf b fs → (ats x : List ℕ) → joined_bytes fs ats ≡ Some x → slices b ats ≡ x
 joined_slices b fs are [] x h = cc
 joined_slices b fs are (at ∷ ats) x h =
-    let p = two_parts (filled_at fs at) (joined fs ats) x h in
+    let p = two_parts (filled_at fs at) (joined_bytes fs ats) x h in
     let first : bytes_at b at ≡ p.0 = are at p.0 p.2 in
     let rest : slices b ats ≡ p.1 = joined_slices b fs are ats p.1 p.3 in
     rw (first, rest) p.4

@@ -17,7 +17,7 @@ use Rattle.fc_base.specs.Layouts.{spelled}
 use Rattle.messages.specs.declared.limits.TheConstants.{CHUNK_LIMIT, MAX_BODY, MAX_FRAME, PIECE_HEAD}
 use Rattle.messages.specs.Pieces.{is_cut, tag_in, tag_of, places_from, places, cut_at, piece_at, pieces_of}
 use Rattle.messages.specs.FrameBytes.{piece_layout, piece_numbers, piece_header, piece_spelling, frame_spelling}
-use Rattle.messages.specs.FramesOf.{parted, RiseTo, spelled_piece, spelled_frames, AreFew}
+use Rattle.messages.specs.FramesOf.{parts_between, RiseTo, spelled_piece, spelled_frames, AreFew}
 use Rattle.messages.proofs.LayoutLemmas.{length-spelled}
 use Rattle.messages.proofs.BodyLemmas.{length-spelled_body}
 use Rattle.messages.proofs.FrameLemmas.{length-header_of}
@@ -32,11 +32,11 @@ length-piece_spelling q =
       length-spelled piece_layout (piece_numbers q) refl,
     )
 
-pub length-parted : (start : ℕ) (ends bytes : List ℕ) → length (parted start ends bytes) ≡ length ends
+pub length-parted : (start : ℕ) (ends bytes : List ℕ) → length (parts_between start ends bytes) ≡ length ends
 length-parted start [] bytes = refl
 length-parted start (end ∷ ends) bytes = ap suc (length-parted end ends bytes)
 
-pub parted_get : (start : ℕ) (ends b : List ℕ) (i : ℕ) → i < length ends → slice_get (parted start ends b) i ≡ Some (slice_range b (slice_index (start ∷ ends) i) (slice_index ends i))
+pub parted_get : (start : ℕ) (ends b : List ℕ) (i : ℕ) → i < length ends → slice_get (parts_between start ends b) i ≡ Some (slice_range b (slice_index (start ∷ ends) i) (slice_index ends i))
 parted_get start [] b i h = absurd (omega (arith, h))
 parted_get start (end ∷ ends) b zero h = refl
 parted_get start (end ∷ ends) b (suc i) h = parted_get end ends b i (omega (arith, h))
@@ -64,7 +64,7 @@ rise_fits start [] last n limit h fits = All-nil (λ (end : ℕ). n + end < limi
 rise_fits start (end ∷ ends) last n limit h fits = All-cons (λ (end : ℕ). n + end < limit) end ends (omega (arith, fits, rise_le end ends last h.1)) (rise_fits end ends last n limit h.1 fits)
 
 -- Parts of bytes with more behind them, of bytes with more before them, and parts one behind the other.
-parted_before : (start : ℕ) (ends b c : List ℕ) → RiseTo start ends (length b) → parted start ends (b ++ c) ≡ parted start ends b
+parted_before : (start : ℕ) (ends b c : List ℕ) → RiseTo start ends (length b) → parts_between start ends (b ++ c) ≡ parts_between start ends b
 parted_before start [] b c h = refl
 parted_before start (end ∷ ends) b c h =
     let to : end ≤ length b = rise_le end ends (length b) h.1 in
@@ -72,7 +72,7 @@ parted_before start (end ∷ ends) b c h =
     let part : end - start ≤ length (drop start b) = omega (arith, to, length-drop start b) in
     rw (drop-append-le start b c from, take-append-le (end - start) (drop start b) c part) (ap (λ (xs : List (List ℕ)). slice_range b start end ∷ xs) (parted_before end ends b c h.1))
 
-parted_behind : (b c : List ℕ) (at start : ℕ) (ends : List ℕ) → at ≡ length b + start → parted at (map (λ end. length b + end) ends) (b ++ c) ≡ parted start ends c
+parted_behind : (b c : List ℕ) (at start : ℕ) (ends : List ℕ) → at ≡ length b + start → parts_between at (map (λ end. length b + end) ends) (b ++ c) ≡ parts_between start ends c
 parted_behind b c at start [] at_is = refl
 parted_behind b c at start (end ∷ ends) at_is =
     let len : length b + end - at ≡ end - start = omega (arith, at_is) in
@@ -80,8 +80,8 @@ parted_behind b c at start (end ∷ ends) at_is =
     ap (λ (n : ℕ). drop n (b ++ c)) at_is ∙ sym (drop-drop start (length b) (b ++ c)) ∙ ap (λ (bs : List ℕ). drop start bs) (drop_at b c (length b) refl) in
     rw (len, from) (ap (λ (xs : List (List ℕ)). slice_range c start end ∷ xs) (parted_behind b c (length b + end) end ends refl))
 
-parted_two : (start : ℕ) (ends : List ℕ) (mid : ℕ) (more bytes : List ℕ) → RiseTo start ends mid → parted start (ends ++ more) bytes ≡ parted start ends bytes ++ parted mid more bytes
-parted_two start [] mid more bytes h = ap (λ (n : ℕ). parted n more bytes) h
+parted_two : (start : ℕ) (ends : List ℕ) (mid : ℕ) (more bytes : List ℕ) → RiseTo start ends mid → parts_between start (ends ++ more) bytes ≡ parts_between start ends bytes ++ parts_between mid more bytes
+parted_two start [] mid more bytes h = ap (λ (n : ℕ). parts_between n more bytes) h
 parted_two start (end ∷ ends) mid more bytes h = ap (λ (xs : List (List ℕ)). slice_range bytes start end ∷ xs) (parted_two end ends mid more bytes h.1)
 
 -- The part that is all of the bytes.
@@ -89,12 +89,12 @@ whole : (b : List ℕ) → slice_range b 0 (length b) ≡ b
 whole b = take_all (length b - 0) b (omega arith)
 
 -- Frames behind frames.
-pub parted_append : (ends others b c : List ℕ) → RiseTo 0 ends (length b) → parted 0 (ends ++ map (λ end. length b + end) others) (b ++ c) ≡ parted 0 ends b ++ parted 0 others c
+pub parted_append : (ends others b c : List ℕ) → RiseTo 0 ends (length b) → parts_between 0 (ends ++ map (λ end. length b + end) others) (b ++ c) ≡ parts_between 0 ends b ++ parts_between 0 others c
 parted_append ends others b c h =
     let at : length b ≡ length b + 0 = omega arith in
     parted_two 0 ends (length b) (map (λ end. length b + end) others) (b ++ c) h
-    ∙ ap (λ (fs : List (List ℕ)). fs ++ parted (length b) (map (λ end. length b + end) others) (b ++ c)) (parted_before 0 ends b c h)
-    ∙ ap (λ (fs : List (List ℕ)). parted 0 ends b ++ fs) (parted_behind b c (length b) 0 others at)
+    ∙ ap (λ (fs : List (List ℕ)). fs ++ parts_between (length b) (map (λ end. length b + end) others) (b ++ c)) (parted_before 0 ends b c h)
+    ∙ ap (λ (fs : List (List ℕ)). parts_between 0 ends b ++ fs) (parted_behind b c (length b) 0 others at)
 
 pub rise_both : (ends others b c : List ℕ) → RiseTo 0 ends (length b) → RiseTo 0 others (length c) → RiseTo 0 (ends ++ map (λ end. length b + end) others) (length (b ++ c))
 rise_both ends others b c h m =
@@ -195,7 +195,7 @@ pub get_in : (ends known : List ℕ) (last i start : ℕ) → RiseTo 0 ends last
 get_in ends known last i start rise known_is below start_is = rw start_is (rise_at 0 known last i (rw known_is rise) below)
 
 pub get_is : (ends b known bytes : List ℕ) (i start : ℕ) → known ≡ ends → bytes ≡ b → i < length known → start ≡ slice_index (0 ∷ known) i
-    → slice_get (parted 0 ends b) i ≡ Some (slice_range bytes start (slice_index known i))
+    → slice_get (parts_between 0 ends b) i ≡ Some (slice_range bytes start (slice_index known i))
 get_is ends b known bytes i start known_is bytes_is below start_is = rw (← known_is, ← bytes_is, start_is) (parted_get 0 known bytes i below)
 
 pub more_ends : (ends others old known new b bytes : List ℕ) → new ≡ old ++ map (λ end. length bytes + end) known → old ≡ ends → known ≡ others → bytes ≡ b
@@ -203,7 +203,7 @@ pub more_ends : (ends others old known new b bytes : List ℕ) → new ≡ old +
 more_ends ends others old known new b bytes new_is old_is known_is bytes_is = rw (← old_is, ← known_is, ← bytes_is) new_is
 
 pub appended : (ends others b c new_ends new_bytes : List ℕ) (old other : List (List ℕ)) → new_ends ≡ ends ++ map (λ end. length b + end) others → new_bytes ≡ b ++ c → RiseTo 0 ends (length b)
-    → parted 0 ends b ≡ old → parted 0 others c ≡ other → parted 0 new_ends new_bytes ≡ old ++ other
+    → parts_between 0 ends b ≡ old → parts_between 0 others c ≡ other → parts_between 0 new_ends new_bytes ≡ old ++ other
 appended ends others b c new_ends new_bytes old other ends_are bytes_are rise old_is other_is = rw (ends_are, bytes_are, ← old_is, ← other_is) (parted_append ends others b c rise)
 
 pub piece_short : (out before : List ℕ) (q : PieceParts) → before ≡ [] → out ≡ before ++ piece_spelling q → length q.bytes ≤ CHUNK_LIMIT → length out ≤ MAX_FRAME
@@ -214,13 +214,13 @@ pub record IsCutting (piece : ℕ → List ℕ) (len at : ℕ) (ends bytes : Lis
   pub rise : RiseTo 0 ends (length bytes)
   pub left : ℕ
   pub enough : len ≤ at + left
-  pub rest : parted 0 ends bytes ++ map piece (places_from left at len) ≡ map piece (places len)
+  pub rest : parts_between 0 ends bytes ++ map piece (places_from left at len) ≡ map piece (places len)
 
 pub cut_none : (piece : ℕ → List ℕ) (len : ℕ) (ends bytes : List ℕ) → ends ≡ [] → bytes ≡ [] → IsCutting piece len 0 ends bytes
 cut_none piece len ends bytes no_ends no_bytes = rw (no_ends, no_bytes) (record { rise = refl; left = len; enough = omega arith; rest = refl })
 
 cut_step : (piece : ℕ → List ℕ) (len at left : ℕ) (ends bytes : List ℕ) → RiseTo 0 ends (length bytes) → at < len → len ≤ at + left
-    → parted 0 ends bytes ++ map piece (places_from left at len) ≡ map piece (places len) → IsCutting piece len (at + CHUNK_LIMIT) (ends ++ (length bytes + length (piece at)) ∷ []) (bytes ++ piece at)
+    → parts_between 0 ends bytes ++ map piece (places_from left at len) ≡ map piece (places len) → IsCutting piece len (at + CHUNK_LIMIT) (ends ++ (length bytes + length (piece at)) ∷ []) (bytes ++ piece at)
 cut_step piece len at zero ends bytes rise lt enough rest = absurd (omega (arith, lt, enough))
 cut_step piece len at (suc left) ends bytes rise lt enough rest = record {
   rise = rise_both ends (length (piece at) ∷ []) bytes (piece at) rise (omega arith, refl);
@@ -228,9 +228,9 @@ cut_step piece len at (suc left) ends bytes rise lt enough rest = record {
   enough = omega (arith, enough);
   rest =
       ap (λ (xs : List (List ℕ)). xs ++ map piece (places_from left (at + CHUNK_LIMIT) len)) (parted_append ends (length (piece at) ∷ []) bytes (piece at) rise)
-      ∙ ap (λ (x : List ℕ). parted 0 ends bytes ++ x ∷ [] ++ map piece (places_from left (at + CHUNK_LIMIT) len)) (whole (piece at))
-      ∙ append_assoc (parted 0 ends bytes) (piece at ∷ []) (map piece (places_from left (at + CHUNK_LIMIT) len))
-      ∙ ap (λ (ats : List ℕ). parted 0 ends bytes ++ map piece ats) (sym (one_place left at len lt))
+      ∙ ap (λ (x : List ℕ). parts_between 0 ends bytes ++ x ∷ [] ++ map piece (places_from left (at + CHUNK_LIMIT) len)) (whole (piece at))
+      ∙ append_assoc (parts_between 0 ends bytes) (piece at ∷ []) (map piece (places_from left (at + CHUNK_LIMIT) len))
+      ∙ ap (λ (ats : List ℕ). parts_between 0 ends bytes ++ map piece ats) (sym (one_place left at len lt))
       ∙ rest;
 }
 
@@ -240,9 +240,9 @@ cut_one piece len at end ends bytes new_ends new_bytes so_far lt end_is ends_are
     let to : end ≡ length bytes + length (piece at) = end_is ∙ ap length bytes_are ∙ length-append bytes (piece at) in
     rw (ends_are, bytes_are, to) (cut_step piece len at so_far.left ends bytes so_far.rise lt so_far.enough so_far.rest)
 
-pub cut_all : (piece : ℕ → List ℕ) (len at : ℕ) (ends bytes : List ℕ) → IsCutting piece len at ends bytes → len ≤ at → parted 0 ends bytes ≡ map piece (places len)
+pub cut_all : (piece : ℕ → List ℕ) (len at : ℕ) (ends bytes : List ℕ) → IsCutting piece len at ends bytes → len ≤ at → parts_between 0 ends bytes ≡ map piece (places len)
 cut_all piece len at ends bytes so_far h =
-    sym (append-nil (parted 0 ends bytes)) ∙ ap (λ (ats : List ℕ). parted 0 ends bytes ++ map piece ats) (sym (no_place so_far.left at len h)) ∙ so_far.rest
+    sym (append-nil (parts_between 0 ends bytes)) ∙ ap (λ (ats : List ℕ). parts_between 0 ends bytes ++ map piece ats) (sym (no_place so_far.left at len h)) ∙ so_far.rest
 
 pub body_in : (p : PacketParts) (bytes body : List ℕ) → bytes ≡ spelling p → body ≡ drop 16 bytes → body ≡ spelled_body p.body
 body_in p bytes body spelled is =

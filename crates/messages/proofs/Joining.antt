@@ -7,7 +7,7 @@ use Rattle.messages.specs.declared.limits.TheConstants.{CHUNK_LIMIT, MAX_BODY}
 use Rattle.messages.specs.declared.piece.PieceParts.{PieceParts}
 use Rattle.messages.specs.declared.places.Filled.{Filled}
 use Rattle.messages.specs.Pieces.{tag_in, places_from, places}
-use Rattle.messages.specs.Assemblies.{filled_at, unless_filled, fill, after_these, joined, Gives, NoPacket, packet_of, of_tag, look_at, LookAnswers}
+use Rattle.messages.specs.Assemblies.{filled_at, unless_filled, fill, after_these, joined_bytes, Gives, NoPacket, packet_of, of_tag, look_by_body, LookAnswers}
 use Rattle.messages.specs.declared.body.Body.{Body}
 use Rattle.messages.specs.Nodes.{is_node}
 use Rattle.messages.specs.Ranges.{is_run}
@@ -60,7 +60,7 @@ with_the_piece q fs at = with_it q fs at (filled_at fs q.at) refl (λ e. ap (fil
 pub record IsLooking (fs : List Filled) (len at : ℕ) : Type 0 where
   pub left : ℕ
   pub enough : len ≤ at + left
-  pub same : is_some (joined fs (places_from left at len)) ≡ is_some (joined fs (places len))
+  pub same : is_some (joined_bytes fs (places_from left at len)) ≡ is_some (joined_bytes fs (places len))
 
 pub look_none : (fs : List Filled) (len : ℕ) → IsLooking fs len 0
 look_none fs len = record { left = len; enough = omega arith; same = refl }
@@ -69,47 +69,47 @@ behind_one : (x : List ℕ) (o : Option (List ℕ)) → is_some (after_these (So
 behind_one x None = refl
 behind_one x (Some y) = refl
 
-look_step : (fs : List Filled) (len at left : ℕ) (x : List ℕ) → at < len → len ≤ at + left → is_some (joined fs (places_from left at len)) ≡ is_some (joined fs (places len))
+look_step : (fs : List Filled) (len at left : ℕ) (x : List ℕ) → at < len → len ≤ at + left → is_some (joined_bytes fs (places_from left at len)) ≡ is_some (joined_bytes fs (places len))
     → filled_at fs at ≡ Some x → IsLooking fs len (at + CHUNK_LIMIT)
 look_step fs len at zero x lt enough same e = absurd (omega (arith, lt, enough))
 look_step fs len at (suc left) x lt enough same e = record {
   left = left;
   enough = omega (arith, enough);
   same =
-      sym (behind_one x (joined fs (places_from left (at + CHUNK_LIMIT) len)))
-      ∙ ap (λ (o : Option (List ℕ)). is_some (after_these o (joined fs (places_from left (at + CHUNK_LIMIT) len)))) (sym e)
-      ∙ ap (λ (ats : List ℕ). is_some (joined fs ats)) (sym (one_place left at len lt))
+      sym (behind_one x (joined_bytes fs (places_from left (at + CHUNK_LIMIT) len)))
+      ∙ ap (λ (o : Option (List ℕ)). is_some (after_these o (joined_bytes fs (places_from left (at + CHUNK_LIMIT) len)))) (sym e)
+      ∙ ap (λ (ats : List ℕ). is_some (joined_bytes fs ats)) (sym (one_place left at len lt))
       ∙ same;
 }
 
 pub look_one : (fs : List Filled) (len at : ℕ) (x : List ℕ) → IsLooking fs len at → at < len → filled_at fs at ≡ Some x → IsLooking fs len (at + CHUNK_LIMIT)
 look_one fs len at x so_far lt e = look_step fs len at so_far.left x lt so_far.enough so_far.same e
 
-lacks_here : (fs : List Filled) (len at left : ℕ) → at < len → len ≤ at + left → filled_at fs at ≡ None → joined fs (places_from left at len) ≡ None
+lacks_here : (fs : List Filled) (len at left : ℕ) → at < len → len ≤ at + left → filled_at fs at ≡ None → joined_bytes fs (places_from left at len) ≡ None
 lacks_here fs len at zero lt enough e = absurd (omega (arith, lt, enough))
 lacks_here fs len at (suc left) lt enough e =
-    ap (joined fs) (one_place left at len lt) ∙ ap (λ (o : Option (List ℕ)). after_these o (joined fs (places_from left (at + CHUNK_LIMIT) len))) e
+    ap (joined_bytes fs) (one_place left at len lt) ∙ ap (λ (o : Option (List ℕ)). after_these o (joined_bytes fs (places_from left (at + CHUNK_LIMIT) len))) e
 
 -- The bytes so far, and those that are still to come.
 pub record IsJoining (fs : List Filled) (len at : ℕ) (out : List ℕ) : Type 0 where
   pub left : ℕ
   pub enough : len ≤ at + left
-  pub same : after_these (Some out) (joined fs (places_from left at len)) ≡ joined fs (places len)
+  pub same : after_these (Some out) (joined_bytes fs (places_from left at len)) ≡ joined_bytes fs (places len)
 
 after_both : (out x : List ℕ) (o : Option (List ℕ)) → after_these (Some (out ++ x)) o ≡ after_these (Some out) (after_these (Some x) o)
 after_both out x None = refl
 after_both out x (Some y) = ap (λ (z : List ℕ). Some z) (append_assoc out x y)
 
-join_step : (fs : List Filled) (len at left : ℕ) (out x : List ℕ) → at < len → len ≤ at + left → after_these (Some out) (joined fs (places_from left at len)) ≡ joined fs (places len)
+join_step : (fs : List Filled) (len at left : ℕ) (out x : List ℕ) → at < len → len ≤ at + left → after_these (Some out) (joined_bytes fs (places_from left at len)) ≡ joined_bytes fs (places len)
     → filled_at fs at ≡ Some x → IsJoining fs len (at + CHUNK_LIMIT) (out ++ x)
 join_step fs len at zero out x lt enough same e = absurd (omega (arith, lt, enough))
 join_step fs len at (suc left) out x lt enough same e = record {
   left = left;
   enough = omega (arith, enough);
   same =
-      after_both out x (joined fs (places_from left (at + CHUNK_LIMIT) len))
-      ∙ ap (λ (o : Option (List ℕ)). after_these (Some out) (after_these o (joined fs (places_from left (at + CHUNK_LIMIT) len)))) (sym e)
-      ∙ ap (λ (ats : List ℕ). after_these (Some out) (joined fs ats)) (sym (one_place left at len lt))
+      after_both out x (joined_bytes fs (places_from left (at + CHUNK_LIMIT) len))
+      ∙ ap (λ (o : Option (List ℕ)). after_these (Some out) (after_these o (joined_bytes fs (places_from left (at + CHUNK_LIMIT) len)))) (sym e)
+      ∙ ap (λ (ats : List ℕ). after_these (Some out) (joined_bytes fs ats)) (sym (one_place left at len lt))
       ∙ same;
 }
 
@@ -140,7 +140,7 @@ no_memory_of : (q : PieceParts) (o : Option Body) → LookAnswers (Err NoMemory)
 no_memory_of q None = inr refl
 no_memory_of q (Some b) = no_memory_by q b (is_tag (tag_in b q.tag.length) q.tag)
 
-pub no_memory : (q : PieceParts) (o : Option (List ℕ)) → is_some o ≡ true → LookAnswers (Err NoMemory) (look_at q o)
+pub no_memory : (q : PieceParts) (o : Option (List ℕ)) → is_some o ≡ true → LookAnswers (Err NoMemory) (look_by_body q o)
 no_memory q None e = absurd cc
 no_memory q (Some bytes) e = no_memory_of q (body_at q.tag.whole bytes)
 

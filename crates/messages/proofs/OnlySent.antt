@@ -9,8 +9,8 @@ use Rattle.messages.specs.declared.frame.Frame.{Frame}
 use Rattle.messages.specs.declared.frame.Frame.TheVariants.{Whole, Piece}
 use Rattle.messages.specs.Assemblies.{Row}
 use Rattle.messages.specs.Pieces.{is_cut, pieces_of, frames_of}
-use Rattle.messages.specs.Assemblies.{Waits, Gives, look, given}
-use Rattle.messages.specs.PieceLaws.{OneBodyOfEachTag, ArePackets, WasSent, IsPieceOf, left_by, together, AreFramesOf, GivesOneOf, OnlySentIsGiven}
+use Rattle.messages.specs.Assemblies.{Waits, Gives, look_at_piece, look_at_frame}
+use Rattle.messages.specs.PieceLaws.{OneBodyOfEachTag, ArePackets, WasSent, IsPieceOf, left_by, rows_of_frames, AreFramesOf, GivesOneOf, OnlySentIsGiven}
 use Rattle.verify_state.specs.Laws.{ReadsBack}
 use Rattle.messages.proofs.Assembled.{of_map, only_in, only_sent_comes_together}
 
@@ -30,10 +30,10 @@ whole_or_piece p f h = of_either p f (is_cut p.body) refl h
 -- What a frame of a sent packet gives and leaves.
 
 record Steps (sent : List PacketParts) (rows : List Row) (f : Frame) : Type 0 where
-  pub gives : (given rows f ≡ Waits) ⊎ GivesOneOf sent rows f
+  pub gives : (look_at_frame rows f ≡ Waits) ⊎ GivesOneOf sent rows f
   pub leaves : WasSent sent (left_by rows f)
 
-by_piece : (sent : List PacketParts) (rows : List Row) (p : PacketParts) → Contains sent p → (q : PieceParts) → Contains (frames_of p) (Piece q) → (look rows q ≡ Waits) ⊎ (look rows q ≡ Gives p) → (look rows q ≡ Waits) ⊎ GivesOneOf sent rows (Piece q)
+by_piece : (sent : List PacketParts) (rows : List Row) (p : PacketParts) → Contains sent p → (q : PieceParts) → Contains (frames_of p) (Piece q) → (look_at_piece rows q ≡ Waits) ⊎ (look_at_piece rows q ≡ Gives p) → (look_at_piece rows q ≡ Waits) ⊎ GivesOneOf sent rows (Piece q)
 by_piece sent rows p s q is (inl waits) = inl waits
 by_piece sent rows p s q is (inr gives) = inr (record { packet = p; was_sent = s; is_frame = is; gives = gives })
 
@@ -55,11 +55,11 @@ first f fs = Contains-append_left (f ∷ []) fs f (zero, omega arith, refl)
 others : (sent : List PacketParts) (f : Frame) (fs : List Frame) → AreFramesOf sent (f ∷ fs) → AreFramesOf sent fs
 others sent f fs are g h = are g (Contains-append_right (f ∷ []) fs g h)
 
-together_sent : ReadsBack → (sent : List PacketParts) → ArePackets sent → OneBodyOfEachTag sent → (fs : List Frame) → AreFramesOf sent fs → WasSent sent (together fs)
+together_sent : ReadsBack → (sent : List PacketParts) → ArePackets sent → OneBodyOfEachTag sent → (fs : List Frame) → AreFramesOf sent fs → WasSent sent (rows_of_frames fs)
 together_sent law sent packets one [] are = tt
 together_sent law sent packets one (f ∷ fs) are =
-    (step law sent packets one (together fs) (together_sent law sent packets one fs (others sent f fs are)) f (are f (first f fs))).leaves
+    (step law sent packets one (rows_of_frames fs) (together_sent law sent packets one fs (others sent f fs are)) f (are f (first f fs))).leaves
 
 pub only_sent_is_given : ReadsBack → OnlySentIsGiven
 only_sent_is_given law sent packets one f fs are =
-    (step law sent packets one (together fs) (together_sent law sent packets one fs (others sent f fs are)) f (are f (first f fs))).gives
+    (step law sent packets one (rows_of_frames fs) (together_sent law sent packets one fs (others sent f fs are)) f (are f (first f fs))).gives

@@ -15,7 +15,7 @@ use Rattle.messages.specs.declared.places.Filled.{Filled}
 use Rattle.messages.specs.Kinds.{number_of}
 use Rattle.messages.specs.Pieces.{places}
 use Rattle.messages.specs.Tags.{is_tag}
-use Rattle.messages.specs.Assemblies.{joined, Row, fill, filled_of, with_piece, completed, without, has_tag, replaced, newest, put, taken_at, taken}
+use Rattle.messages.specs.Assemblies.{joined_bytes, Row, fill, filled_of, with_piece, completed_body, without_tag, has_tag, with_row_replaced, newest, with_row, rows_after_body, rows_after_piece}
 use Rattle.messages.proofs.TagLemmas.{same_kind}
 
 -- Tags are equal where they are the same.
@@ -50,8 +50,8 @@ pub record Stands (tag : Tag) (rows : List Row) (i : ℕ) : Type 0 where
   pub inside : i < length rows
   pub has : has_tag tag rows ≡ true
   pub filled : (d : Row) → filled_of tag rows ≡ (get_or rows i d).filled
-  pub left : without tag rows ≡ remove rows i
-  pub changed : (d : Row) (fs : List Filled) → replaced tag fs rows ≡ slice_set rows i (record { tag = (get_or rows i d).tag; filled = fs })
+  pub left : without_tag tag rows ≡ remove rows i
+  pub changed : (d : Row) (fs : List Filled) → with_row_replaced tag fs rows ≡ slice_set rows i (record { tag = (get_or rows i d).tag; filled = fs })
 
 abbrev asks : Tag → Row → Bool
 asks tag row = is_tag row.tag tag
@@ -101,7 +101,7 @@ stands tag rows i e =
 pub record Lacks (tag : Tag) (rows : List Row) : Type 0 where
   pub absent : has_tag tag rows ≡ false
   pub empty : filled_of tag rows ≡ []
-  pub left : without tag rows ≡ rows
+  pub left : without_tag tag rows ≡ rows
 
 lacks_here : (tag : Tag) (row : Row) (rows : List Row) (b : Bool) → is_tag row.tag tag ≡ b → nat_lt (cond (not b) (1 + position_or_len (asks tag) rows) 0) (suc (length rows)) ≡ false
     → (nat_lt (position_or_len (asks tag) rows) (length rows) ≡ false → Lacks tag rows) → Lacks tag (row ∷ rows)
@@ -133,24 +133,24 @@ none_of None e = refl
 none_of (Some x) e = absurd cc
 
 -- A piece that completes nothing, by what was looked up for it.
-pub still_waits : (rows : List Row) (q : PieceParts) (fs : List Filled) (t : Tag) (all : Bool) → fs ≡ filled_of t rows → t ≡ q.tag → all ≡ is_some (joined (fill q fs) (places q.tag.length)) → all ≡ false → completed rows q ≡ None
+pub still_waits : (rows : List Row) (q : PieceParts) (fs : List Filled) (t : Tag) (all : Bool) → fs ≡ filled_of t rows → t ≡ q.tag → all ≡ is_some (joined_bytes (fill q fs) (places q.tag.length)) → all ≡ false → completed_body rows q ≡ None
 still_waits rows q fs t all is tag_is told lacks =
     let filled = is ∙ ap (λ (u : Tag). filled_of u rows) tag_is in
-    none_of (completed rows q) (ap (λ (gs : List Filled). is_some (joined (fill q gs) (places q.tag.length))) (sym filled) ∙ sym told ∙ lacks)
+    none_of (completed_body rows q) (ap (λ (gs : List Filled). is_some (joined_bytes (fill q gs) (places q.tag.length))) (sym filled) ∙ sym told ∙ lacks)
 
-taken_waiting : (rows : List Row) (q : PieceParts) → completed rows q ≡ None → taken rows q ≡ put (has_tag q.tag rows) q.tag (with_piece rows q) rows
-taken_waiting rows q e = ap (λ (o : Option (List ℕ)). taken_at o q (with_piece rows q) rows) e
+taken_waiting : (rows : List Row) (q : PieceParts) → completed_body rows q ≡ None → rows_after_piece rows q ≡ with_row (has_tag q.tag rows) q.tag (with_piece rows q) rows
+taken_waiting rows q e = ap (λ (o : Option (List ℕ)). rows_after_body o q (with_piece rows q) rows) e
 
-pub taken_more : (q : PieceParts) (rows : List Row) → has_tag q.tag rows ≡ true → completed rows q ≡ None → replaced q.tag (fill q (filled_of q.tag rows)) rows ≡ taken rows q
+pub taken_more : (q : PieceParts) (rows : List Row) → has_tag q.tag rows ≡ true → completed_body rows q ≡ None → with_row_replaced q.tag (fill q (filled_of q.tag rows)) rows ≡ rows_after_piece rows q
 taken_more q rows there waits =
-    ap (λ (t : Bool). put t q.tag (with_piece rows q) rows) (sym there)
+    ap (λ (t : Bool). with_row t q.tag (with_piece rows q) rows) (sym there)
     ∙ sym (taken_waiting rows q waits)
 
-pub taken_first : (rows : List Row) (q : PieceParts) → has_tag q.tag rows ≡ false → filled_of q.tag rows ≡ [] → completed rows q ≡ None
-    → newest (rows ++ record { tag = q.tag; filled = record { at = q.at; bytes = q.bytes } ∷ [] } ∷ []) ≡ taken rows q
+pub taken_first : (rows : List Row) (q : PieceParts) → has_tag q.tag rows ≡ false → filled_of q.tag rows ≡ [] → completed_body rows q ≡ None
+    → newest (rows ++ record { tag = q.tag; filled = record { at = q.at; bytes = q.bytes } ∷ [] } ∷ []) ≡ rows_after_piece rows q
 taken_first rows q absent none waits =
     ap (λ (fs : List Filled). newest (rows ++ record { tag = q.tag; filled = fill q fs } ∷ [])) (sym none)
-    ∙ ap (λ (there : Bool). put there q.tag (with_piece rows q) rows) (sym absent)
+    ∙ ap (λ (there : Bool). with_row there q.tag (with_piece rows q) rows) (sym absent)
     ∙ sym (taken_waiting rows q waits)
 
 pub on_ok : {X E A B : Type 0} (r : Result X E) → (A → B) → OnOk r A → OnOk r B

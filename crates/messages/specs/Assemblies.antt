@@ -38,9 +38,9 @@ after_these None rest = None
 after_these (Some bytes) None = None
 after_these (Some bytes) (Some rest) = Some (bytes ++ rest)
 
-abbrev pub joined : List Filled → List ℕ → Option (List ℕ)
-joined fs [] = Some []
-joined fs (at ∷ ats) = after_these (filled_at fs at) (joined fs ats)
+abbrev pub joined_bytes : List Filled → List ℕ → Option (List ℕ)
+joined_bytes fs [] = Some []
+joined_bytes fs (at ∷ ats) = after_these (filled_at fs at) (joined_bytes fs ats)
 
 -- The filled places of a tag.
 abbrev pub filled_of : Tag → List Row → List Filled
@@ -52,8 +52,8 @@ abbrev pub with_piece : List Row → PieceParts → List Filled
 with_piece rows q = fill q (filled_of q.tag rows)
 
 -- The whole body that a piece completes.
-abbrev pub completed : List Row → PieceParts → Option (List ℕ)
-completed rows q = joined (with_piece rows q) (places q.tag.length)
+abbrev pub completed_body : List Row → PieceParts → Option (List ℕ)
+completed_body rows q = joined_bytes (with_piece rows q) (places q.tag.length)
 
 -- What a piece gives: nothing yet, a packet, or bytes that aren't a packet with the tag.
 pub data Look : Type 0 where
@@ -69,17 +69,17 @@ abbrev pub of_tag : PieceParts → Option Body → Look
 of_tag q None = NoPacket
 of_tag q (Some b) = if is_tag (tag_in b q.tag.length) q.tag then Gives (packet_of q b) else NoPacket
 
-abbrev pub look_at : PieceParts → Option (List ℕ) → Look
-look_at q None = Waits
-look_at q (Some bytes) = of_tag q (body_at q.tag.whole bytes)
+abbrev pub look_by_body : PieceParts → Option (List ℕ) → Look
+look_by_body q None = Waits
+look_by_body q (Some bytes) = of_tag q (body_at q.tag.whole bytes)
 
-abbrev pub look : List Row → PieceParts → Look
-look rows q = look_at q (completed rows q)
+abbrev pub look_at_piece : List Row → PieceParts → Look
+look_at_piece rows q = look_by_body q (completed_body rows q)
 
 -- Without a tag.
-abbrev pub without : Tag → List Row → List Row
-without tag [] = []
-without tag (row ∷ rows) = if is_tag row.tag tag then rows else row ∷ without tag rows
+abbrev pub without_tag : Tag → List Row → List Row
+without_tag tag [] = []
+without_tag tag (row ∷ rows) = if is_tag row.tag tag then rows else row ∷ without_tag tag rows
 
 -- A tag's row is there.
 abbrev pub has_tag : Tag → List Row → Bool
@@ -87,35 +87,35 @@ has_tag tag [] = false
 has_tag tag (row ∷ rows) = if is_tag row.tag tag then true else has_tag tag rows
 
 -- A tag has these places filled.
-abbrev pub replaced : Tag → List Filled → List Row → List Row
-replaced tag fs [] = []
-replaced tag fs (row ∷ rows) = if is_tag row.tag tag then record { tag = row.tag; filled = fs } ∷ rows else row ∷ replaced tag fs rows
+abbrev pub with_row_replaced : Tag → List Filled → List Row → List Row
+with_row_replaced tag fs [] = []
+with_row_replaced tag fs (row ∷ rows) = if is_tag row.tag tag then record { tag = row.tag; filled = fs } ∷ rows else row ∷ with_row_replaced tag fs rows
 
 -- The newest 128 rows, and no older ones.
 abbrev pub newest : List Row → List Row
 newest rows = drop (length rows - MAX_TAGS) rows
 
-abbrev pub put : Bool → Tag → List Filled → List Row → List Row
-put true tag fs rows = replaced tag fs rows
-put false tag fs rows = newest (rows ++ record { tag = tag; filled = fs } ∷ [])
+abbrev pub with_row : Bool → Tag → List Filled → List Row → List Row
+with_row true tag fs rows = with_row_replaced tag fs rows
+with_row false tag fs rows = newest (rows ++ record { tag = tag; filled = fs } ∷ [])
 
 -- What taking a piece leaves: a completed tag goes, else the piece has filled its place.
-abbrev pub taken_at : Option (List ℕ) → PieceParts → List Filled → List Row → List Row
-taken_at None q fs rows = put (has_tag q.tag rows) q.tag fs rows
-taken_at (Some bytes) q fs rows = without q.tag rows
+abbrev pub rows_after_body : Option (List ℕ) → PieceParts → List Filled → List Row → List Row
+rows_after_body None q fs rows = with_row (has_tag q.tag rows) q.tag fs rows
+rows_after_body (Some bytes) q fs rows = without_tag q.tag rows
 
-abbrev pub taken : List Row → PieceParts → List Row
-taken rows q = taken_at (completed rows q) q (with_piece rows q) rows
+abbrev pub rows_after_piece : List Row → PieceParts → List Row
+rows_after_piece rows q = rows_after_body (completed_body rows q) q (with_piece rows q) rows
 
 -- A piece is kept: it fills a place that was empty, and not the last one.
-pub record IsKept (rows : List Row) (q : PieceParts) : Type 0 where
+pub record IsPieceKept (rows : List Row) (q : PieceParts) : Type 0 where
   pub empty : filled_at (filled_of q.tag rows) q.at ≡ None
-  pub waits : completed rows q ≡ None
+  pub waits : completed_body rows q ≡ None
 
 -- What a frame gives to a node at which this has come together.
-abbrev pub given : List Row → Frame → Look
-given rows (Whole p) = Gives p
-given rows (Piece q) = look rows q
+abbrev pub look_at_frame : List Row → Frame → Look
+look_at_frame rows (Whole p) = Gives p
+look_at_frame rows (Piece q) = look_at_piece rows q
 
 -- What looking answers: the packet or that there is none yet, unless memory ran out, or that the bytes
 -- are no packet with the tag.

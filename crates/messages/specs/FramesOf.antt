@@ -9,9 +9,9 @@ use Rattle.messages.specs.Pieces.{cut_at, frames_of}
 use Rattle.messages.specs.FrameBytes.{piece_spelling, frame_spelling}
 
 -- The parts of bytes that lie one behind the other from a place on, and end at these places.
-abbrev pub parted : ℕ → List ℕ → List ℕ → List (List ℕ)
-parted start [] bytes = []
-parted start (end ∷ ends) bytes = slice_range bytes start end ∷ parted end ends bytes
+abbrev pub parts_between : ℕ → List ℕ → List ℕ → List (List ℕ)
+parts_between start [] bytes = []
+parts_between start (end ∷ ends) bytes = slice_range bytes start end ∷ parts_between end ends bytes
 
 -- Places that never fall from a first one on, and end at a last one.
 abbrev pub RiseTo : ℕ → List ℕ → ℕ → Type 0

@@ -6,7 +6,7 @@ use Rattle.messages.specs.declared.piece.PieceParts.{PieceParts}
 use Rattle.messages.specs.declared.frame.Frame.{Frame}
 use Rattle.messages.specs.declared.frame.Frame.TheVariants.{Whole, Piece}
 use Rattle.messages.specs.Assemblies as looks
-use Rattle.messages.specs.Assemblies.{Row, Look, look, taken}
+use Rattle.messages.specs.Assemblies.{Row, Look, look_at_piece, rows_after_piece}
 
 -- What has to be known of a node: E are the entries of its list of packets, L is what a save left.
 pub record Rules (E L : Type 0) : Type 0 where
@@ -43,7 +43,7 @@ said_by looks.NoPacket = Spoils
 -- A whole packet says itself, and a piece what comes together with it.
 abbrev pub meaning : {E L : Type 0} → Rules E L → Heard E → Frame → Meaning
 meaning r h (Whole p) = Says p
-meaning r h (Piece q) = if r.takes h.entries q then said_by (look h.rows q) else Strays
+meaning r h (Piece q) = if r.takes h.entries q then said_by (look_at_piece h.rows q) else Strays
 
 -- The entry that is heard: only a packet is one.
 abbrev pub heard_by : {E L : Type 0} → Rules E L → L → Meaning → Option E
@@ -60,9 +60,9 @@ entry_of r h (Happens e) = Some e
 -- What has come together behind a piece: one that isn't for the node, and one whose packet is
 -- refused, leave it as it was, and the others are taken.
 abbrev pub rows_by : {E L : Type 0} → Rules E L → Heard E → PieceParts → Meaning → List Row
-rows_by r h q (Says p) = if r.refuses h.entries p then h.rows else taken h.rows q
-rows_by r h q Waits = taken h.rows q
-rows_by r h q Spoils = taken h.rows q
+rows_by r h q (Says p) = if r.refuses h.entries p then h.rows else rows_after_piece h.rows q
+rows_by r h q Waits = rows_after_piece h.rows q
+rows_by r h q Spoils = rows_after_piece h.rows q
 rows_by r h q Strays = h.rows
 
 -- What has come together behind what happens: a whole packet leaves it as it was, and a cut or a

@@ -10,7 +10,7 @@ use Rattle.messages.specs.Assemblies.{Row}
 use Rattle.messages.specs.Bodies.{spelled_body, length_of, body_at}
 use Rattle.messages.specs.Laws.{IsPacket}
 use Rattle.messages.specs.Pieces.{is_cut, tag_in, tag_of, places, bytes_at, pieces_of, frames_of}
-use Rattle.messages.specs.Assemblies.{Waits, Gives, completed, packet_of, look_at, look, taken, has_tag, given}
+use Rattle.messages.specs.Assemblies.{Waits, Gives, completed_body, packet_of, look_by_body, look_at_piece, rows_after_piece, has_tag, look_at_frame}
 
 -- A piece of a body of these bytes, whoever sends it.
 pub record IsPartOf (tag : Tag) (bytes : List ℕ) (q : PieceParts) : Type 0 where
@@ -29,7 +29,7 @@ has_places qs (at ∷ ats) = has_place qs at && has_places qs ats
 -- What taking these leaves, the newest first.
 abbrev pub all_taken : List Row → List PieceParts → List Row
 all_taken rows [] = rows
-all_taken rows (q ∷ qs) = taken (all_taken rows qs) q
+all_taken rows (q ∷ qs) = rows_after_piece (all_taken rows qs) q
 
 -- The pieces of any bytes, in any order and with repeats, give what the bytes say at the last place
 -- that lacked one, and nothing before.
@@ -38,7 +38,7 @@ PiecesGiveTheBytes =
     (tag : Tag) (bytes : List ℕ) → length bytes ≡ tag.length → (rows : List Row) → has_tag tag rows ≡ false
     → (qs : List PieceParts) → ((x : PieceParts) → Contains qs x → IsPartOf tag bytes x) → has_places qs (places tag.length) ≡ false
     → (q : PieceParts) → IsPartOf tag bytes q
-    → look (all_taken rows qs) q ≡ (if has_places (q ∷ qs) (places tag.length) then look_at q (Some bytes) else Waits)
+    → look_at_piece (all_taken rows qs) q ≡ (if has_places (q ∷ qs) (places tag.length) then look_by_body q (Some bytes) else Waits)
 
 -- The pieces of a packet, in any order and with repeats, give it at the last place that lacked one.
 abbrev pub PiecesGiveThePacket : Type 0
@@ -46,13 +46,13 @@ PiecesGiveThePacket =
     (p : PacketParts) → IsPacket p → is_cut p.body ≡ true → (rows : List Row) → has_tag (tag_of p.body) rows ≡ false
     → (qs : List PieceParts) → ((x : PieceParts) → Contains qs x → Contains (pieces_of p) x) → has_places qs (places (length_of p.body)) ≡ false
     → (q : PieceParts) → Contains (pieces_of p) q
-    → look (all_taken rows qs) q ≡ (if has_places (q ∷ qs) (places (length_of p.body)) then Gives p else Waits)
+    → look_at_piece (all_taken rows qs) q ≡ (if has_places (q ∷ qs) (places (length_of p.body)) then Gives p else Waits)
 
 -- A piece gives this packet: it fills the last place of its tag, and the bytes in order are a body
 -- with that tag, which the packet has, with the ends of the piece.
 pub record GivesThis (rows : List Row) (q : PieceParts) (p : PacketParts) : Type 0 where
   pub bytes : List ℕ
-  pub whole : completed rows q ≡ Some bytes
+  pub whole : completed_body rows q ≡ Some bytes
   pub body : body_at q.tag.whole bytes ≡ Some p.body
   pub tag_is : tag_in p.body q.tag.length ≡ q.tag
   pub packet : p ≡ packet_of q p.body
@@ -60,7 +60,7 @@ pub record GivesThis (rows : List Row) (q : PieceParts) (p : PacketParts) : Type
 -- That is so exactly where looking gives the packet.
 abbrev pub OnlyWholeBodiesAreGiven : Type 0
 OnlyWholeBodiesAreGiven =
-    (rows : List Row) (q : PieceParts) (p : PacketParts) → (look rows q ≡ Gives p → GivesThis rows q p) × (GivesThis rows q p → look rows q ≡ Gives p)
+    (rows : List Row) (q : PieceParts) (p : PacketParts) → (look_at_piece rows q ≡ Gives p → GivesThis rows q p) × (GivesThis rows q p → look_at_piece rows q ≡ Gives p)
 
 -- Among these packets, a tag names one body.
 abbrev pub OneBodyOfEachTag : List PacketParts → Type 0
@@ -96,17 +96,17 @@ abbrev pub OnlySentComesTogether : Type 0
 OnlySentComesTogether =
     (sent : List PacketParts) → ArePackets sent → OneBodyOfEachTag sent → (rows : List Row) → WasSent sent rows
     → (p : PacketParts) → Contains sent p → (q : PieceParts) → IsPieceOf p q
-    → ((look rows q ≡ Waits) ⊎ (look rows q ≡ Gives p)) × WasSent sent (taken rows q)
+    → ((look_at_piece rows q ≡ Waits) ⊎ (look_at_piece rows q ≡ Gives p)) × WasSent sent (rows_after_piece rows q)
 
 -- What a frame leaves: a piece is taken, and a whole packet leaves what has come together as it was.
 abbrev pub left_by : List Row → Frame → List Row
 left_by rows (Whole p) = rows
-left_by rows (Piece q) = taken rows q
+left_by rows (Piece q) = rows_after_piece rows q
 
 -- What has come together of these frames, the newest first, where nothing had.
-abbrev pub together : List Frame → List Row
-together [] = []
-together (f ∷ fs) = left_by (together fs) f
+abbrev pub rows_of_frames : List Frame → List Row
+rows_of_frames [] = []
+rows_of_frames (f ∷ fs) = left_by (rows_of_frames fs) f
 
 -- Each is a frame of one of these packets.
 abbrev pub AreFramesOf : List PacketParts → List Frame → Type 0
@@ -117,11 +117,11 @@ pub record GivesOneOf (sent : List PacketParts) (rows : List Row) (f : Frame) : 
   pub packet : PacketParts
   pub was_sent : Contains sent packet
   pub is_frame : Contains (frames_of packet) f
-  pub gives : given rows f ≡ Gives packet
+  pub gives : look_at_frame rows f ≡ Gives packet
 
 -- Whatever frames of some packets came before, in any order and with any repeats and losses, a frame of one of them
 -- gives nothing yet, or one of them.
 abbrev pub OnlySentIsGiven : Type 0
 OnlySentIsGiven =
     (sent : List PacketParts) → ArePackets sent → OneBodyOfEachTag sent → (f : Frame) (fs : List Frame) → AreFramesOf sent (f ∷ fs)
-    → (given (together fs) f ≡ Waits) ⊎ GivesOneOf sent (together fs) f
+    → (look_at_frame (rows_of_frames fs) f ≡ Waits) ⊎ GivesOneOf sent (rows_of_frames fs) f

@@ -4,7 +4,7 @@ ghost use Rattle.std.specs.Prelude.{◌≡◌, OnOk, OnErr, [], ◌∷◌, ◌++
 ghost use Rattle.std.specs.List.{position};
 ghost use Rattle.messages.specs.Bodies.{body_at};
 ghost use Rattle.messages.specs.Tags.{is_tag};
-ghost use Rattle.messages.specs.Assemblies.{filled_of, look, of_tag, taken, without, newest, IsKept, LookAnswers};
+ghost use Rattle.messages.specs.Assemblies.{filled_of, look_at_piece, of_tag, rows_after_piece, without_tag, newest, IsPieceKept, LookAnswers};
 
 use crate::limits::MAX_TAGS;
 use crate::packet::{Packet, PacketParts};
@@ -65,7 +65,7 @@ impl Assembly {
     /// `FrameBadField` is answered where the bytes are no packet with that tag, `NoMemory` where memory
     /// runs out, which it may only for a piece that fills the last place.
     pub fn look(&self, piece: &Piece) -> Result<Option<Packet>, Fault>
-        ensures { LookAnswers result (look self.now piece.now) }
+        ensures { LookAnswers result (look_at_piece self.now piece.now) }
     {
         match join(self.alloc, self.filled_of(piece.tag()), piece) {
             Ok(Some(bytes)) => packet_of(self.alloc, piece, &bytes),
@@ -78,9 +78,9 @@ impl Assembly {
     /// the last place takes the tag out. A tag beyond 128 drops the oldest. Memory is needed only for
     /// a piece that is kept, and where it runs out nothing changes.
     pub fn take(&mut self, piece: &Piece) -> Result<(), AllocError>
-        ensures taken { OnOk result (self.new ≡ taken self.old piece.now) }
+        ensures taken { OnOk result (self.new ≡ rows_after_piece self.old piece.now) }
         ensures same { OnErr result (self.new ≡ self.old) }
-        ensures kept { OnErr result (IsKept self.old piece.now) }
+        ensures kept { OnErr result (IsPieceKept self.old piece.now) }
     {
         if is_completed(self.filled_of(piece.tag()), piece) {
             self.drop(piece.tag());
@@ -95,7 +95,7 @@ impl Assembly {
 
     /// Forgets a tag.
     pub fn drop(&mut self, tag: Tag)
-        ensures { self.new ≡ without tag self.old }
+        ensures { self.new ≡ without_tag tag self.old }
     {
         if let Some(place) = self.place_of(tag) {
             let _ = self.rows.remove(place);
@@ -121,7 +121,8 @@ impl Assembly {
 
     /// Begins a row with a piece.
     fn begin(&mut self, piece: &Piece) -> Result<(), AllocError>
-        ensures begun { OnOk result (self.new ≡ newest (self.old ++ record { tag = piece.now.tag; filled = record { at = piece.now.at; bytes = piece.now.bytes } ∷ [] } ∷ [])) }
+        ensures begun { OnOk result
+            (self.new ≡ newest (self.old ++ record { tag = piece.now.tag; filled = record { at = piece.now.at; bytes = piece.now.bytes } ∷ [] } ∷ [])) }
         ensures same { OnErr result (self.new ≡ self.old) }
     {
         let places = Places::new(self.alloc, piece)?;

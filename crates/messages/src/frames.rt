@@ -26,11 +26,11 @@ impl Drop for Frames {
 
 impl Model for Frames {
     ghost use Rattle.std.specs.Prelude.{List, ℕ, length};
-    ghost use Rattle.messages.specs.FramesOf.{parted, RiseTo};
+    ghost use Rattle.messages.specs.FramesOf.{parts_between, RiseTo};
 
     ghost Value = { List (List ℕ) };
 
-    ghost view = { λ f. parted 0 f.ends.items f.bytes.items };
+    ghost view = { λ f. parts_between 0 f.ends.items f.bytes.items };
 
     ghost invariant = { λ f. RiseTo 0 f.ends.items (length f.bytes.items) };
 }
@@ -67,7 +67,8 @@ impl Frames {
 
     /// The bytes of one, in constant time; `None` where there are no more than `index`.
     pub fn get(&self, index: usize) -> Option<&[u8]>
-        ensures { MatchOption result (length self.now ≤ index) (λ bytes. slice_get self.now index ≡ Some bytes.now) }
+        ensures { MatchOption result (length self.now ≤ index)
+            (λ bytes. slice_get self.now index ≡ Some bytes.now) }
     {
         let ends = self.ends.as_slice();
         if index >= ends.len() {
@@ -124,7 +125,10 @@ fn one(alloc: Global, bytes: Vec<u8>) -> Result<Frames, AllocError>
 /// The pieces of a packet whose body has these bytes.
 fn cut(alloc: Global, packet: &Packet, body: &[u8]) -> Result<Frames, AllocError>
     requires { length body.now ≤ MAX_BODY }
-    ensures { IfOk result (λ frames. frames ≡ map (spelled_piece packet.now.from packet.now.to (tag_in packet.now.body (length body.now)) body.now) (places (length body.now))) }
+    ensures { IfOk result
+        (λ frames. frames ≡ map
+        (spelled_piece packet.now.from packet.now.to
+        (tag_in packet.now.body (length body.now)) body.now) (places (length body.now))) }
 {
     let count = body.len().div_ceil(CHUNK_LIMIT);
     let mut bytes = Vec::with_capacity(alloc, body.len() + PIECE_HEAD * count)?;
@@ -142,7 +146,9 @@ fn cut(alloc: Global, packet: &Packet, body: &[u8]) -> Result<Frames, AllocError
 fn put_chunk(out: &mut Vec<u8>, packet: &Packet, body: &[u8], at: usize) -> Result<(), AllocError>
     requires place { at ≤ length body.now }
     requires long { length body.now ≤ MAX_BODY }
-    ensures { OnOk result (out.new.items ≡ out.old.items ++ spelled_piece packet.now.from packet.now.to (tag_in packet.now.body (length body.now)) body.now at) }
+    ensures { OnOk result
+        (out.new.items ≡ out.old.items ++ spelled_piece packet.now.from packet.now.to
+        (tag_in packet.now.body (length body.now)) body.now at) }
 {
     let tag = packet.body().tag(body.len() as u32);
     let chunk = chunk_at(body, at);

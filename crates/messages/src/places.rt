@@ -2,7 +2,7 @@
 
 ghost use Rattle.std.specs.Prelude.{◌≡◌, ◌∷◌, [], None, Some, IfOk, OnOk, OnErr, MatchOption, is_some, true};
 ghost use Rattle.messages.specs.Pieces.{places};
-ghost use Rattle.messages.specs.Assemblies.{filled_at, fill, joined};
+ghost use Rattle.messages.specs.Assemblies.{filled_at, fill, joined_bytes};
 
 use crate::chunk::Chunk;
 use crate::limits::CHUNK_LIMIT;
@@ -41,7 +41,8 @@ impl Model for Places {
 
 /// What a piece fills its place with.
 fn filling(alloc: Global, piece: &Piece) -> Result<Filled, AllocError>
-    ensures { IfOk result (λ filled. filled ≡ record { at = piece.now.at; bytes = piece.now.bytes }) }
+    ensures { IfOk result
+        (λ filled. filled ≡ record { at = piece.now.at; bytes = piece.now.bytes }) }
 {
     Ok(Filled {
         at: piece.at(),
@@ -52,7 +53,8 @@ fn filling(alloc: Global, piece: &Piece) -> Result<Filled, AllocError>
 impl Places {
     /// The place of this piece alone.
     pub(crate) fn new(alloc: Global, piece: &Piece) -> Result<Places, AllocError>
-        ensures { IfOk result (λ places. places ≡ record { at = piece.now.at; bytes = piece.now.bytes } ∷ []) }
+        ensures { IfOk result
+            (λ places. places ≡ record { at = piece.now.at; bytes = piece.now.bytes } ∷ []) }
     {
         let filled = filling(alloc, piece)?;
         Ok(Places {
@@ -84,7 +86,8 @@ impl Places {
 
 /// The bytes at a place, where it is filled.
 fn bytes_at(filled: &[Filled], at: u32) -> Option<&[u8]>
-    ensures { MatchOption result (filled_at filled.now at ≡ None) (λ bytes. filled_at filled.now at ≡ Some bytes.now) }
+    ensures { MatchOption result (filled_at filled.now at ≡ None)
+        (λ bytes. filled_at filled.now at ≡ Some bytes.now) }
 {
     for filled in filled {
         if filled.at == at {
@@ -96,7 +99,8 @@ fn bytes_at(filled: &[Filled], at: u32) -> Option<&[u8]>
 
 /// The bytes at a place, once a piece is there too.
 fn bytes_with<'a>(filled: &'a [Filled], piece: &'a Piece, at: u32) -> Option<&'a [u8]>
-    ensures { MatchOption result (filled_at (fill piece.now filled.now) at ≡ None) (λ bytes. filled_at (fill piece.now filled.now) at ≡ Some bytes.now) }
+    ensures { MatchOption result (filled_at (fill piece.now filled.now) at ≡ None)
+        (λ bytes. filled_at (fill piece.now filled.now) at ≡ Some bytes.now) }
 {
     match bytes_at(filled, at) {
         Some(bytes) => Some(bytes),
@@ -107,7 +111,8 @@ fn bytes_with<'a>(filled: &'a [Filled], piece: &'a Piece, at: u32) -> Option<&'a
 
 /// Whether a piece fills the last place.
 pub(crate) fn is_completed(filled: &[Filled], piece: &Piece) -> bool
-    ensures { result ≡ is_some (joined (fill piece.now filled.now) (places piece.now.tag.length)) }
+    ensures { result
+        ≡ is_some (joined_bytes (fill piece.now filled.now) (places piece.now.tag.length)) }
 {
     let length = piece.length();
     let mut at = 0;
@@ -126,8 +131,12 @@ pub(crate) fn join(
     filled: &[Filled],
     piece: &Piece,
 ) -> Result<Option<Vec<u8>>, AllocError>
-    ensures bytes { IfOk result (λ o. MatchOption o (joined (fill piece.now filled.now) (places piece.now.tag.length) ≡ None) (λ bytes. joined (fill piece.now filled.now) (places piece.now.tag.length) ≡ Some bytes.items)) }
-    ensures complete { OnErr result (is_some (joined (fill piece.now filled.now) (places piece.now.tag.length)) ≡ true) }
+    ensures bytes { IfOk result
+        (λ o. MatchOption o (joined_bytes (fill piece.now filled.now) (places piece.now.tag.length)
+        ≡ None) (λ bytes. joined_bytes (fill piece.now filled.now) (places piece.now.tag.length)
+        ≡ Some bytes.items)) }
+    ensures complete { OnErr result
+        (is_some (joined_bytes (fill piece.now filled.now) (places piece.now.tag.length)) ≡ true) }
 {
     if !is_completed(filled, piece) {
         return Ok(None);

@@ -116,7 +116,8 @@ fn fields_of(bytes: &[u8]) -> Result<HeaderFields, Fault>
 /// The ends of a frame of so many bytes, which is as long as its header says, and at most `limit`
 /// behind it.
 fn ends_of(fields: HeaderFields, limit: u32, len: usize) -> Result<Ends, Fault>
-    ensures { EndsAre result (end_faults fields.from fields.to fields.len limit len) fields.from fields.to }
+    ensures { EndsAre result
+        (end_faults fields.from fields.to fields.len limit len) fields.from fields.to }
 {
     let from = Node::numbered(fields.from).ok_or(Fault::FrameBadField)?;
     let to = Node::numbered(fields.to).ok_or(Fault::FrameBadField)?;

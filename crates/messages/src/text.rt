@@ -33,7 +33,8 @@ impl Model for Text {
 impl Text {
     /// The text of these bytes; where they are too many, they come back.
     pub fn make(bytes: Vec<u8>) -> Result<Text, Vec<u8>>
-        ensures { result ≡ (if nat_le (length bytes.items) MAX_TEXT then Ok bytes.items else Err bytes) }
+        ensures { result
+            ≡ (if nat_le (length bytes.items) MAX_TEXT then Ok bytes.items else Err bytes) }
     {
         if bytes.len() <= MAX_TEXT {
             Ok(Text { bytes })

@@ -48,8 +48,12 @@ pub fn encode(alloc: Global, packet: &Packet) -> Result<Vec<u8>, AllocError>
 
 /// The frame of a packet, but for the length, which is 0.
 fn framed(alloc: Global, packet: &Packet) -> Result<Vec<u8>, AllocError>
-    ensures bytes { IfOk result (λ bytes. bytes.items ≡ header_of packet.now.from packet.now.to packet.now.body 0 ++ spelled_body packet.now.body) }
-    ensures len { IfOk result (λ bytes. (length bytes.items ≡ 16 + length_of packet.now.body) × (length_of packet.now.body ≤ MAX_BODY)) }
+    ensures bytes { IfOk result
+        (λ bytes. bytes.items
+        ≡ header_of packet.now.from packet.now.to packet.now.body 0 ++ spelled_body packet.now.body) }
+    ensures len { IfOk result
+        (λ bytes. (length bytes.items ≡ 16 + length_of packet.now.body)
+        × (length_of packet.now.body ≤ MAX_BODY)) }
 {
     verify_state::one_spelling();
     packet.keeps_its_ranges();
@@ -69,7 +73,9 @@ fn put_len(frame: &mut [u8], len: u32)
 
 /// Appends the header of a body that has no bytes.
 fn put_header(out: &mut Vec<u8>, kind: PacketKind, from: Node, to: Node) -> Result<(), AllocError>
-    ensures { OnOk result (out.new.items ≡ out.old.items ++ spelled header (70 ∷ 67 ∷ 1 ∷ number_of kind ∷ node_number from ∷ node_number to ∷ 0 ∷ [])) }
+    ensures { OnOk result
+        (out.new.items ≡ out.old.items ++ spelled header
+        (70 ∷ 67 ∷ 1 ∷ number_of kind ∷ node_number from ∷ node_number to ∷ 0 ∷ [])) }
 {
     put_u8(out, b'F')?;
     put_u8(out, b'C')?;
@@ -148,7 +154,8 @@ fn put_state(out: &mut Vec<u8>, jobs: u32, state: &VerifyState) -> Result<(), Al
 
 #[tactic(auto, unfolding(crate::specs::Bodies::spelled_state))]
 fn put_saved(out: &mut Vec<u8>, attempt: Attempt, state: &VerifyState) -> Result<(), AllocError>
-    ensures { OnOk result (out.new.items ≡ out.old.items ++ spelled_body (Saved attempt state.now)) }
+    ensures { OnOk result
+        (out.new.items ≡ out.old.items ++ spelled_body (Saved attempt state.now)) }
 {
     put_u64(out, attempt.0)?;
     state.push_to(out)
@@ -167,7 +174,8 @@ fn put_verify(
     attempt: Attempt,
     text: &Text,
 ) -> Result<(), AllocError>
-    ensures { OnOk result (out.new.items ≡ out.old.items ++ spelled_body (Verify run attempt text.now)) }
+    ensures { OnOk result
+        (out.new.items ≡ out.old.items ++ spelled_body (Verify run attempt text.now)) }
 {
     put_u64(out, run.0)?;
     put_u64(out, attempt.0)?;
@@ -183,7 +191,8 @@ fn put_report(
     report: &ReportParts,
 ) -> Result<(), AllocError>
     requires { IsTrue (is_report report.now) }
-    ensures { OnOk result (out.new.items ≡ out.old.items ++ spelled_body (Report run attempt job jobs report.now)) }
+    ensures { OnOk result
+        (out.new.items ≡ out.old.items ++ spelled_body (Report run attempt job jobs report.now)) }
 {
     put_u64(out, run.0)?;
     put_u64(out, attempt.0)?;
@@ -194,7 +203,10 @@ fn put_report(
 
 fn put_findings(out: &mut Vec<u8>, report: &ReportParts) -> Result<(), AllocError>
     requires { IsTrue (is_report report.now) }
-    ensures { OnOk result (out.new.items ≡ out.old.items ++ (spelled (w8 ∷ w32 ∷ w32 ∷ w32 ∷ w32 ∷ []) (end_number report.now.end ∷ end_at report.now.end ∷ report.now.checked ∷ report.now.faults ∷ length report.now.first ∷ []) ++ spelled_blocks report.now.first)) }
+    ensures { OnOk result
+        (out.new.items ≡ out.old.items ++
+        (spelled (w8 ∷ w32 ∷ w32 ∷ w32 ∷ w32 ∷ [])
+        (end_number report.now.end ∷ end_at report.now.end ∷ report.now.checked ∷ report.now.faults ∷ length report.now.first ∷ []) ++ spelled_blocks report.now.first)) }
 {
     let first = report.first.as_slice();
     put_end(out, report.end)?;
@@ -205,7 +217,9 @@ fn put_findings(out: &mut Vec<u8>, report: &ReportParts) -> Result<(), AllocErro
 }
 
 fn put_end(out: &mut Vec<u8>, end: ReportEnd) -> Result<(), AllocError>
-    ensures { OnOk result (out.new.items ≡ out.old.items ++ (bytes_of w8 (end_number end) ++ bytes_of w32 (end_at end))) }
+    ensures { OnOk result
+        (out.new.items ≡ out.old.items ++
+        (bytes_of w8 (end_number end) ++ bytes_of w32 (end_at end))) }
 {
     let (number, at) = match end {
         ReportEnd::Whole => (0, 0),

@@ -18,8 +18,8 @@ use Rattle.mirror_core.specs.History.{Entry, Met, Cut, Restart}
 use Rattle.mirror_core.specs.Requests.{request_in}
 use Rattle.mirror_core.specs.Refusals.{refusal_by}
 use Rattle.mirror_core.specs.Saves.{Addition, Grant, Keep, with_addition, unless_kept, unless_refused, addition_of, due_by, noted_after}
-use Rattle.mirror_core.specs.Words.{is_on, noted, generation, kept}
-use Rattle.mirror_core.specs.Laws.{FirstKeptStays, GenerationsRise, KeptWasSent, NotedWasSent, packet_in, came, from_client}
+use Rattle.mirror_core.specs.Words.{is_on, words_noted, generation, kept_state}
+use Rattle.mirror_core.specs.Laws.{FirstKeptStays, GenerationsRise, KeptWasSent, NotedWasSent, packet_in, packets_come, from_client}
 use Rattle.mirror_core.proofs.ListLemmas.{one}
 use Rattle.mirror_core.proofs.RequestLemmas.{asked_copy}
 
@@ -34,8 +34,8 @@ noted_stays stays key new None n s h = h
 noted_stays stays key true (Some a) n s h = added_stays stays key a n s h
 noted_stays stays key false (Some a) n s h = h
 
-stays_after : FoundStays → (o : Noted) (e : Entry) (past : List Entry) (key : Key) (s : State) → kept o past key ≡ Some s → kept o (e ∷ past) key ≡ Some s
-stays_after stays o (Met f left) past key s h = noted_stays stays key (has_new left) (due_by (is_on past) (noted o past) f) (noted o past) s h
+stays_after : FoundStays → (o : Noted) (e : Entry) (past : List Entry) (key : Key) (s : State) → kept_state o past key ≡ Some s → kept_state o (e ∷ past) key ≡ Some s
+stays_after stays o (Met f left) past key s h = noted_stays stays key (has_new left) (due_by (is_on past) (words_noted o past) f) (words_noted o past) s h
 stays_after stays o Cut past key s h = h
 stays_after stays o Restart past key s h = h
 
@@ -74,7 +74,7 @@ after_rises n false (Some a) h = omega arith
 
 rises_after : (o : Noted) (e : Entry) (past : List Entry) → generation o past ≤ generation o (e ∷ past)
 rises_after o (Met f left) past =
-    after_rises (noted o past) (has_new left) (due_by (is_on past) (noted o past) f) (free_rises (noted o past) (refusal_by (is_on past) (noted o past) f) (addition_of (noted o past) (request_in f)) (asked_rises (noted o past) (request_in f)))
+    after_rises (words_noted o past) (has_new left) (due_by (is_on past) (words_noted o past) f) (free_rises (words_noted o past) (refusal_by (is_on past) (words_noted o past) f) (addition_of (words_noted o past) (request_in f)) (asked_rises (words_noted o past) (request_in f)))
 rises_after o Cut past = omega arith
 rises_after o Restart past = omega arith
 
@@ -106,19 +106,19 @@ asked_came only n new None (Some (Copy state)) key s h = elim (copy_only only n 
 copy_in : (f : Frame) (left : Left) (s : State) → request_in f ≡ Some (Copy s) → Contains (packet_in (Met f left)) (from_client s)
 copy_in f left s h = rw (asked_copy f s h) (one (from_client s) (from_client s) refl)
 
-earlier : (o : Noted) (e : Entry) (past : List Entry) (key : Key) (s : State) → (kept o [] key ≡ Some s) ⊎ Contains (came past) (from_client s) → (kept o [] key ≡ Some s) ⊎ Contains (came (e ∷ past)) (from_client s)
+earlier : (o : Noted) (e : Entry) (past : List Entry) (key : Key) (s : State) → (kept_state o [] key ≡ Some s) ⊎ Contains (packets_come past) (from_client s) → (kept_state o [] key ≡ Some s) ⊎ Contains (packets_come (e ∷ past)) (from_client s)
 earlier o e past key s (inl h) = inl h
-earlier o e past key s (inr h) = inr (Contains-append_right (packet_in e) (came past) (from_client s) h)
+earlier o e past key s (inr h) = inr (Contains-append_right (packet_in e) (packets_come past) (from_client s) h)
 
-now_or_earlier : (o : Noted) (f : Frame) (left : Left) (past : List Entry) (key : Key) (s : State) → (kept o past key ≡ Some s) ⊎ (request_in f ≡ Some (Copy s))
-    → (kept o past key ≡ Some s → (kept o [] key ≡ Some s) ⊎ Contains (came past) (from_client s)) → (kept o [] key ≡ Some s) ⊎ Contains (came (Met f left ∷ past)) (from_client s)
+now_or_earlier : (o : Noted) (f : Frame) (left : Left) (past : List Entry) (key : Key) (s : State) → (kept_state o past key ≡ Some s) ⊎ (request_in f ≡ Some (Copy s))
+    → (kept_state o past key ≡ Some s → (kept_state o [] key ≡ Some s) ⊎ Contains (packets_come past) (from_client s)) → (kept_state o [] key ≡ Some s) ⊎ Contains (packets_come (Met f left ∷ past)) (from_client s)
 now_or_earlier o f left past key s (inl h) k = earlier o (Met f left) past key s (k h)
-now_or_earlier o f left past key s (inr h) k = inr (Contains-append_left (packet_in (Met f left)) (came past) (from_client s) (copy_in f left s h))
+now_or_earlier o f left past key s (inr h) k = inr (Contains-append_left (packet_in (Met f left)) (packets_come past) (from_client s) (copy_in f left s h))
 
 pub kept_was_sent : FoundOrLast → KeptWasSent
 kept_was_sent only o [] key s h = inl h
 kept_was_sent only o (Met f left ∷ past) key s h =
-    now_or_earlier o f left past key s (asked_came only (noted o past) (has_new left) (refusal_by (is_on past) (noted o past) f) (request_in f) key s h) (λ e. kept_was_sent only o past key s e)
+    now_or_earlier o f left past key s (asked_came only (words_noted o past) (has_new left) (refusal_by (is_on past) (words_noted o past) f) (request_in f) key s h) (λ e. kept_was_sent only o past key s e)
 kept_was_sent only o (Cut ∷ past) key s h = earlier o Cut past key s (kept_was_sent only o past key s h)
 kept_was_sent only o (Restart ∷ past) key s h = earlier o Restart past key s (kept_was_sent only o past key s h)
 
@@ -140,18 +140,18 @@ asked_last n new None None s h = inl h
 asked_last n new None (Some (Fetch g)) s h = inl (grant_none (nat_lt n.generation g) new n g s h)
 asked_last n new None (Some (Copy state)) s h = elim (copy_last n new state s (kept_of state.key n.kept) h) [ inl e ↦ inl e | inr e ↦ inr (ap (λ x. Some (Copy x)) e) ]
 
-sent_earlier : (o : Noted) (e : Entry) (past : List Entry) (s : State) → Contains o.kept s ⊎ Contains (came past) (from_client s) → Contains o.kept s ⊎ Contains (came (e ∷ past)) (from_client s)
+sent_earlier : (o : Noted) (e : Entry) (past : List Entry) (s : State) → Contains o.kept s ⊎ Contains (packets_come past) (from_client s) → Contains o.kept s ⊎ Contains (packets_come (e ∷ past)) (from_client s)
 sent_earlier o e past s (inl h) = inl h
-sent_earlier o e past s (inr h) = inr (Contains-append_right (packet_in e) (came past) (from_client s) h)
+sent_earlier o e past s (inr h) = inr (Contains-append_right (packet_in e) (packets_come past) (from_client s) h)
 
-sent_now_or_earlier : (o : Noted) (f : Frame) (left : Left) (past : List Entry) (s : State) → Contains (noted o past).kept s ⊎ (request_in f ≡ Some (Copy s))
-    → (Contains (noted o past).kept s → Contains o.kept s ⊎ Contains (came past) (from_client s)) → Contains o.kept s ⊎ Contains (came (Met f left ∷ past)) (from_client s)
+sent_now_or_earlier : (o : Noted) (f : Frame) (left : Left) (past : List Entry) (s : State) → Contains (words_noted o past).kept s ⊎ (request_in f ≡ Some (Copy s))
+    → (Contains (words_noted o past).kept s → Contains o.kept s ⊎ Contains (packets_come past) (from_client s)) → Contains o.kept s ⊎ Contains (packets_come (Met f left ∷ past)) (from_client s)
 sent_now_or_earlier o f left past s (inl h) k = sent_earlier o (Met f left) past s (k h)
-sent_now_or_earlier o f left past s (inr h) k = inr (Contains-append_left (packet_in (Met f left)) (came past) (from_client s) (copy_in f left s h))
+sent_now_or_earlier o f left past s (inr h) k = inr (Contains-append_left (packet_in (Met f left)) (packets_come past) (from_client s) (copy_in f left s h))
 
 pub noted_was_sent : NotedWasSent
 noted_was_sent o [] s h = inl h
 noted_was_sent o (Met f left ∷ past) s h =
-    sent_now_or_earlier o f left past s (asked_last (noted o past) (has_new left) (refusal_by (is_on past) (noted o past) f) (request_in f) s h) (λ e. noted_was_sent o past s e)
+    sent_now_or_earlier o f left past s (asked_last (words_noted o past) (has_new left) (refusal_by (is_on past) (words_noted o past) f) (request_in f) s h) (λ e. noted_was_sent o past s e)
 noted_was_sent o (Cut ∷ past) s h = sent_earlier o Cut past s (noted_was_sent o past s h)
 noted_was_sent o (Restart ∷ past) s h = sent_earlier o Restart past s (noted_was_sent o past s h)

@@ -22,8 +22,8 @@ use Rattle.mirror_core.specs.History.{Entry, Met, Cut, Restart}
 use Rattle.mirror_core.specs.Requests.{request_in, IsRequest}
 use Rattle.mirror_core.specs.Refusals.{differs, lacks_room, faults_of_request, refusal_by}
 use Rattle.mirror_core.specs.Saves.{Grant, Keep, with_addition, unless_kept, unless_refused, addition_by, addition_of, noted_after}
-use Rattle.mirror_core.specs.Words.{is_on, noted}
-use Rattle.mirror_core.specs.Laws.{packet_in, came, NotesKeepRanges}
+use Rattle.mirror_core.specs.Words.{is_on, words_noted}
+use Rattle.mirror_core.specs.Laws.{packet_in, packets_come, NotesKeepRanges}
 use Rattle.mirror_core.proofs.ListLemmas.{all_append}
 use Rattle.mirror_core.proofs.RequestLemmas.{asked_range, room_fault, taken_in}
 
@@ -94,7 +94,7 @@ step apart new n (Some f) q h i = i
 step apart new n None None h i = i
 step apart new n None (Some a) h i = let k = h refl a refl in request_step apart new n a k.0 k.1 i
 
-pub in_entry : (e : Entry) (past : List Entry) → AllByRecursion IsPacket (packet_in e ++ came past) → AllByRecursion IsPacket (packet_in e) × AllByRecursion IsPacket (came past)
+pub in_entry : (e : Entry) (past : List Entry) → AllByRecursion IsPacket (packet_in e ++ packets_come past) → AllByRecursion IsPacket (packet_in e) × AllByRecursion IsPacket (packets_come past)
 in_entry (Met (Whole p) left) past h = ((h.0, tt), h.1)
 in_entry (Met (Piece q) left) past h = (tt, h)
 in_entry Cut past h = (tt, h)
@@ -104,8 +104,8 @@ pub notes_keep_ranges : KeysStayApart → NotesKeepRanges
 notes_keep_ranges apart o [] k h = k
 notes_keep_ranges apart o (Met f left ∷ past) k h =
     let p = in_entry (Met f left) past h in
-    step apart (has_new left) (noted o past) (refusal_by (is_on past) (noted o past) f) (request_in f)
-    (λ free a asked. ((taken_in (is_on past) (noted o past) (request_in f) a free asked).1, asked_range f left a p.0 asked))
+    step apart (has_new left) (words_noted o past) (refusal_by (is_on past) (words_noted o past) f) (request_in f)
+    (λ free a asked. ((taken_in (is_on past) (words_noted o past) (request_in f) a free asked).1, asked_range f left a p.0 asked))
     (notes_keep_ranges apart o past k p.1)
 notes_keep_ranges apart o (Cut ∷ past) k h = notes_keep_ranges apart o past k h
 notes_keep_ranges apart o (Restart ∷ past) k h = notes_keep_ranges apart o past k h
@@ -128,8 +128,8 @@ apart_step apart new n None None h = h
 apart_step apart new n None (Some (Copy s)) h = copy_apart apart new n s (kept_of s.key n.kept) refl h
 apart_step apart new n None (Some (Fetch g)) h = fetch_apart new (nat_lt n.generation g) n g h
 
-pub keys_apart : KeysStayApart → (o : Noted) (past : List Entry) → has_distinct_keys o.kept ≡ true → has_distinct_keys (noted o past).kept ≡ true
+pub keys_apart : KeysStayApart → (o : Noted) (past : List Entry) → has_distinct_keys o.kept ≡ true → has_distinct_keys (words_noted o past).kept ≡ true
 keys_apart apart o [] h = h
-keys_apart apart o (Met f left ∷ past) h = apart_step apart (has_new left) (noted o past) (refusal_by (is_on past) (noted o past) f) (request_in f) (keys_apart apart o past h)
+keys_apart apart o (Met f left ∷ past) h = apart_step apart (has_new left) (words_noted o past) (refusal_by (is_on past) (words_noted o past) f) (request_in f) (keys_apart apart o past h)
 keys_apart apart o (Cut ∷ past) h = keys_apart apart o past h
 keys_apart apart o (Restart ∷ past) h = keys_apart apart o past h

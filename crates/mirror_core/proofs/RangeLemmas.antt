@@ -23,8 +23,8 @@ use Rattle.mirror_core.specs.Bounds.{AreShort, FramesAreShort}
 use Rattle.mirror_core.specs.History.{Met, Cut, Restart}
 use Rattle.mirror_core.specs.Note.{IsNoted}
 use Rattle.mirror_core.specs.Requests.{request_in, IsRequest}
-use Rattle.mirror_core.specs.Words.{noted, is_answered}
-use Rattle.mirror_core.specs.Packets.{to_client, copy_of, packets_for, framed}
+use Rattle.mirror_core.specs.Words.{words_noted, is_answered}
+use Rattle.mirror_core.specs.Packets.{to_client, copy_of, packets_for, frame_bytes}
 use Rattle.mirror_core.specs.Laws.{NotesKeepRanges, PacketsAreInRange}
 use Rattle.mirror_core.proofs.ListLemmas.{map_of, all_where}
 use Rattle.mirror_core.proofs.NotedLemmas.{in_entry}
@@ -52,8 +52,8 @@ asked_in_range n (Some (Fetch g)) i h =
 pub packets_are_in_range : NotesKeepRanges → PacketsAreInRange
 packets_are_in_range ranges o past (Met f left) i h =
     let came = in_entry (Met f left) past h in
-    all_where IsPacket (is_answered o past f left) (packets_for (noted o past) (request_in f))
-    (λ a. asked_in_range (noted o past) (request_in f) (ranges o past i came.1) (λ r e. asked_range f left r came.0 e))
+    all_where IsPacket (is_answered o past f left) (packets_for (words_noted o past) (request_in f))
+    (λ a. asked_in_range (words_noted o past) (request_in f) (ranges o past i came.1) (λ r e. asked_range f left r came.0 e))
 packets_are_in_range ranges o past Cut i h = tt
 packets_are_in_range ranges o past Restart i h = tt
 
@@ -77,13 +77,13 @@ one_copy bounded s k =
     let long = copy_length s in
     subst (AreCopies 1) (sym (uncut s few)) (record { count = omega arith; total = omega (arith, few, long) })
 
-all_copies : LengthsAreBounded → (states : List State) → AllByRecursion IsState states → AreCopies (length states) (framed (map copy_of states))
+all_copies : LengthsAreBounded → (states : List State) → AllByRecursion IsState states → AreCopies (length states) (frame_bytes (map copy_of states))
 all_copies bounded [] h = record { count = omega arith; total = omega arith }
 all_copies bounded (s ∷ states) h =
     let first = one_copy bounded s h.0 in
     let rest = all_copies bounded states h.1 in
     let frames = spelled_frames (copy_of s) in
-    let more = framed (map copy_of states) in
+    let more = frame_bytes (map copy_of states) in
     record {
       count = omega (arith, length-append frames more, first.count, rest.count);
       total = omega (arith, sum_by-append (λ (frame : List ℕ). length frame) frames more, first.total, rest.total);
@@ -93,31 +93,31 @@ one_grant : (g : ℕ) → sum_by (λ frame. length frame) (spelled_frames (to_cl
 unfolding bytes_of
 one_grant g = refl
 
-one_ok : (run server job : ℕ) → sum_by (λ frame. length frame) (framed (to_client (bodies.CopyOk run server job) ∷ [])) ≡ 32
+one_ok : (run server job : ℕ) → sum_by (λ frame. length frame) (frame_bytes (to_client (bodies.CopyOk run server job) ∷ [])) ≡ 32
 unfolding bytes_of
 one_ok run server job = refl
 
 no_frames : AreShort []
 no_frames = record { few = omega arith; short = omega arith }
 
-asked_short : LengthsAreBounded → (n : Noted) (q : Option Request) → IsNoted n → AreShort (framed (packets_for n q))
+asked_short : LengthsAreBounded → (n : Noted) (q : Option Request) → IsNoted n → AreShort (frame_bytes (packets_for n q))
 asked_short bounded n None i = no_frames
 asked_short bounded n (Some (Copy s)) i = record { few = omega arith; short = omega (arith, one_ok s.key.run s.key.server s.key.job) }
 asked_short bounded n (Some (Fetch g)) i =
     let grant = spelled_frames (to_client (bodies.Granted g)) in
-    let copies = framed (map copy_of n.kept) in
+    let copies = frame_bytes (map copy_of n.kept) in
     let c = all_copies bounded n.kept i.states in
     record {
       few = omega (arith, length-append grant copies, c.count, i.count);
       short = omega (arith, sum_by-append (λ (frame : List ℕ). length frame) grant copies, one_grant g, c.total, i.count);
     }
 
-short_where : (b : Bool) (ps : List PacketParts) → AreShort (framed ps) → AreShort (framed (if b then ps else []))
+short_where : (b : Bool) (ps : List PacketParts) → AreShort (frame_bytes ps) → AreShort (frame_bytes (if b then ps else []))
 short_where true ps h = h
 short_where false ps h = no_frames
 
 pub frames_are_short : NotesKeepRanges → LengthsAreBounded → FramesAreShort
 frames_are_short ranges bounded o past (Met f left) i h =
-    short_where (is_answered o past f left) (packets_for (noted o past) (request_in f)) (asked_short bounded (noted o past) (request_in f) (ranges o past i (in_entry (Met f left) past h).1))
+    short_where (is_answered o past f left) (packets_for (words_noted o past) (request_in f)) (asked_short bounded (words_noted o past) (request_in f) (ranges o past i (in_entry (Met f left) past h).1))
 frames_are_short ranges bounded o past Cut i h = no_frames
 frames_are_short ranges bounded o past Restart i h = no_frames

@@ -25,7 +25,7 @@ use Rattle.mirror_core.specs.History.{Entry, Met, Cut, Restart}
 use Rattle.mirror_core.specs.Requests.{request_in}
 use Rattle.mirror_core.specs.Refusals.{faults_of_request}
 use Rattle.mirror_core.specs.Saves.{Grant, unless_kept, unless_refused, addition_by, addition_of, noted_after, is_answer}
-use Rattle.mirror_core.specs.Words.{is_on, noted, refusal, is_answered}
+use Rattle.mirror_core.specs.Words.{is_on, words_noted, refusal, is_answered}
 use Rattle.mirror_core.specs.Packets.{to_client, copy_of, replies, packets, packets_for}
 use Rattle.mirror_core.specs.Laws.{GoesToClient, PacketsGoToTheClient, CopiesAreKept, CopiesAreNoted, CopyOksAreFor, GrantsAreNoted}
 use Rattle.mirror_core.proofs.ListLemmas.{all_map, all_where, none_in, behind_one, first_or_behind, where_so}
@@ -40,7 +40,7 @@ asked_goes n (Some (Copy state)) = ((refl, refl, refl), tt)
 asked_goes n (Some (Fetch g)) = ((refl, refl, refl), all_map GoesToClient copy_of n.kept (λ s. (refl, refl, refl)))
 
 pub packets_go_to_the_client : PacketsGoToTheClient
-packets_go_to_the_client o past (Met f left) = all_where GoesToClient (is_answered o past f left) (packets_for (noted o past) (request_in f)) (λ a. asked_goes (noted o past) (request_in f))
+packets_go_to_the_client o past (Met f left) = all_where GoesToClient (is_answered o past f left) (packets_for (words_noted o past) (request_in f)) (λ a. asked_goes (words_noted o past) (request_in f))
 packets_go_to_the_client o past Cut = tt
 packets_go_to_the_client o past Restart = tt
 
@@ -49,10 +49,10 @@ packets_go_to_the_client o past Restart = tt
 -- A packet that is sent replies to what the frame asks for, which isn't refused and is saved where that is due.
 record Replied (o : Noted) (past : List Entry) (f : Frame) (left : Left) (p : PacketParts) : Type 0 where
   request : Request
-  free : faults_of_request (noted o past) request ≡ []
-  answers : is_answer (addition_by (noted o past) request) left ≡ true
-  sent : Contains (replies (noted o past) request) p
-  noted_is : noted o (Met f left ∷ past) ≡ noted_after (has_new left) (addition_by (noted o past) request) (noted o past)
+  free : faults_of_request (words_noted o past) request ≡ []
+  answers : is_answer (addition_by (words_noted o past) request) left ≡ true
+  sent : Contains (replies (words_noted o past) request) p
+  noted_is : words_noted o (Met f left ∷ past) ≡ noted_after (has_new left) (addition_by (words_noted o past) request) (words_noted o past)
 
 asked_for : (n : Noted) (q : Option Request) (p : PacketParts) → Contains (packets_for n q) p → (r : Request) × (q ≡ Some r) × Contains (replies n r) p
 asked_for n None p h = absurd (none_in p h)
@@ -60,7 +60,7 @@ asked_for n (Some r) p h = (r, refl, h)
 
 replied : (o : Noted) (past : List Entry) (f : Frame) (left : Left) (p : PacketParts) → Contains (packets o past (Met f left)) p → Replied o past f left p
 replied o past f left p h =
-    let n = noted o past in
+    let n = words_noted o past in
     let w = where_so (is_answered o past f left) (packets_for n (request_in f)) p h in
     let a = answered_due (refusal o past f) (addition_of n (request_in f)) left w.0 in
     let r = asked_for n (request_in f) p w.1 in
@@ -109,7 +109,7 @@ granted_noted n g left false e f a = grind (arith, nat_tests)
 pub grants_are_noted : GrantsAreNoted
 grants_are_noted o past (Met f left) g h =
     let r = replied o past f left (to_client (bodies.Granted g)) h in
-    let n = noted o past in
+    let n = words_noted o past in
     let is : r.request ≡ Fetch g = granted_by n r.request g r.sent in
     let free : faults_of_request n (Fetch g) ≡ [] = subst (λ x. faults_of_request n x ≡ []) is r.free in
     let answers : is_answer (addition_by n (Fetch g)) left ≡ true = subst (λ x. is_answer (addition_by n x) left ≡ true) is r.answers in
@@ -149,12 +149,12 @@ has_one last n LostOld None s h a = cc
 pub copy_oks_are_for : LastIsFound → CopyOksAreFor
 copy_oks_are_for last o past (Met f left) run server job h =
     let r = replied o past f left (to_client (bodies.CopyOk run server job)) h in
-    let n = noted o past in
+    let n = words_noted o past in
     let c = copied_by n r.request run server job r.sent in
     let s : State = c.0 in
     let answers : is_answer (addition_by n (Copy s)) left ≡ true = subst (λ x. is_answer (addition_by n x) left ≡ true) c.1 r.answers in
     let k = has_one last n left (kept_of s.key n.kept) s refl answers in
-    (k.0, subst (λ (key : Key). kept_of key (noted o (Met f left ∷ past)).kept ≡ Some k.0) c.2 (ap (λ (m : Noted). kept_of s.key m.kept) (r.noted_is ∙ ap (λ x. noted_after (has_new left) (addition_by n x) n) c.1) ∙ k.1))
+    (k.0, subst (λ (key : Key). kept_of key (words_noted o (Met f left ∷ past)).kept ≡ Some k.0) c.2 (ap (λ (m : Noted). kept_of s.key m.kept) (r.noted_is ∙ ap (λ x. noted_after (has_new left) (addition_by n x) n) c.1) ∙ k.1))
 copy_oks_are_for last o past Cut run server job h = absurd (none_in (to_client (bodies.CopyOk run server job)) h)
 copy_oks_are_for last o past Restart run server job h = absurd (none_in (to_client (bodies.CopyOk run server job)) h)
 
@@ -168,7 +168,7 @@ copy_kept n (Fetch g) s h = elim (grant_or_copy n g (copy_of s) h) [
 ]
 
 pub copies_are_noted : CopiesAreNoted
-copies_are_noted o past (Met f left) s h = let r = replied o past f left (copy_of s) h in copy_kept (noted o past) r.request s r.sent
+copies_are_noted o past (Met f left) s h = let r = replied o past f left (copy_of s) h in copy_kept (words_noted o past) r.request s r.sent
 copies_are_noted o past Cut s h = absurd (none_in (copy_of s) h)
 copies_are_noted o past Restart s h = absurd (none_in (copy_of s) h)
 
@@ -203,4 +203,4 @@ found_apart has last (k ∷ kept) s h d =
     ]
 
 pub copies_are_kept : FoundHasItsKey → LastIsFound → KeysStayApart → CopiesAreKept
-copies_are_kept has last apart o past entry s i h = found_apart has last (noted o past).kept s (copies_are_noted o past entry s h) (keys_apart apart o past i.keys)
+copies_are_kept has last apart o past entry s i h = found_apart has last (words_noted o past).kept s (copies_are_noted o past entry s h) (keys_apart apart o past i.keys)

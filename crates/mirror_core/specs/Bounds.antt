@@ -5,7 +5,7 @@ use Rattle.mirror_core.specs.declared.noted.Noted.{Noted}
 use Rattle.mirror_core.specs.History.{Entry}
 use Rattle.mirror_core.specs.Laws.{CameInRange}
 use Rattle.mirror_core.specs.Note.{IsNoted}
-use Rattle.mirror_core.specs.Packets.{packets, framed}
+use Rattle.mirror_core.specs.Packets.{packets, frame_bytes}
 
 -- At most 1,025 frames, of together 160,000 bytes: a grant, and a copy of each kept state.
 pub record AreShort (frames : List (List ℕ)) : Type 0 where
@@ -16,4 +16,4 @@ pub record AreShort (frames : List (List ℕ)) : Type 0 where
 abbrev pub FramesAreShort : Type 0
 FramesAreShort =
     (o : Noted) (past : List Entry) (entry : Entry) → IsNoted o → CameInRange (entry ∷ past) →
-    AreShort (framed (packets o past entry))
+    AreShort (frame_bytes (packets o past entry))

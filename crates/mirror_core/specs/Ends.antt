@@ -14,13 +14,13 @@ use Rattle.mirror_core.specs.declared.mirror.Mirror.{Mirror}
 use Rattle.mirror_core.specs.History.{Entry, Met}
 use Rattle.mirror_core.specs.Note.{spelling}
 use Rattle.mirror_core.specs.Saves.{Addition, with_addition}
-use Rattle.mirror_core.specs.Words.{noted, refusal, due}
-use Rattle.mirror_core.specs.Packets.{packets, framed}
+use Rattle.mirror_core.specs.Words.{words_noted, refusal, due}
+use Rattle.mirror_core.specs.Packets.{packets, frame_bytes}
 use Rattle.mirror_core.specs.Stands.{StandsFor}
 
 -- What an answered frame leaves in the list: it saved, where it was due to.
-abbrev pub answered : Noted → List Entry → Frame → Entry
-answered o past f = Met f (saved_for (due o past f))
+abbrev pub answered_entry : Noted → List Entry → Frame → Entry
+answered_entry o past f = Met f (saved_for (due o past f))
 
 -- The steps of a mirror: its note, what its list says of a frame, and what is sent. A refused frame
 -- leaves it as it was.
@@ -32,8 +32,8 @@ steps note o = record {
   refusal = refusal o;
   due = due o;
   met = Met;
-  spelled = λ past. spelling (noted o past);
-  Sends = λ past f frames. frames ≡ framed (packets o past (answered o past f));
+  spelled = λ past. spelling (words_noted o past);
+  Sends = λ past f frames. frames ≡ frame_bytes (packets o past (answered_entry o past f));
   Stays = λ past f mirror. StandsFor note mirror o past;
 }
 

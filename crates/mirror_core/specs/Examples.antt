@@ -16,25 +16,25 @@ use Rattle.messages.specs.declared.node.Node.TheVariants as nodes
 use Rattle.mirror_core.specs.Note.{blank}
 use Rattle.mirror_core.specs.History.{Entry, Met, Cut, Restart}
 use Rattle.mirror_core.specs.Saves.{Grant, Keep}
-use Rattle.mirror_core.specs.Words.{is_on, refusal, due, generation, kept, looked}
+use Rattle.mirror_core.specs.Words.{is_on, refusal, due, generation, kept_state, shown_entries}
 use Rattle.mirror_core.specs.Packets.{packets}
 
 -- The client says this to the mirror.
-abbrev pub said : Body → Frame
-said body = Whole (record { from = nodes.Client; to = nodes.Mirror; body = body })
+abbrev pub client_says : Body → Frame
+client_says body = Whole (record { from = nodes.Client; to = nodes.Mirror; body = body })
 
 -- A frame that is answered: it saves where it has something to save.
-abbrev pub met : List Entry → Frame → Entry
-met past f = Met f (saved_for (due blank past f))
+abbrev pub answered_entry : List Entry → Frame → Entry
+answered_entry past f = Met f (saved_for (due blank past f))
 
 -- The list of these frames, the newest first, behind these entries.
-abbrev pub behind : List Entry → List Frame → List Entry
-behind past [] = past
-behind past (f ∷ frames) = met (behind past frames) f ∷ behind past frames
+abbrev pub with_frames : List Entry → List Frame → List Entry
+with_frames past [] = past
+with_frames past (f ∷ frames) = answered_entry (with_frames past frames) f ∷ with_frames past frames
 
 -- What is sent in answer to a frame.
-abbrev pub sent : List Entry → Frame → List Body
-sent past f = map (λ p. p.body) (packets blank past (met past f))
+abbrev pub sent_bodies : List Entry → Frame → List Body
+sent_bodies past f = map (λ p. p.body) (packets blank past (answered_entry past f))
 
 -- The state of job 1 of run 1 at server 0, which has issued so many of its two writes.
 abbrev pub state : ℕ → State
@@ -57,55 +57,55 @@ state issued = record {
 }
 
 -- A mirror over a blank note.
-abbrev pub opened : List Entry
-opened = Restart ∷ []
+abbrev pub after_opening : List Entry
+after_opening = Restart ∷ []
 
 -- The first client asks for its generation.
-abbrev pub granted : List Entry
-granted = behind opened (said (bodies.Fetch 1) ∷ [])
+abbrev pub after_grant : List Entry
+after_grant = with_frames after_opening (client_says (bodies.Fetch 1) ∷ [])
 
 -- It sends a copy.
 abbrev pub kept_one : List Entry
-kept_one = behind granted (said (bodies.Copy (state 2)) ∷ [])
+kept_one = with_frames after_grant (client_says (bodies.Copy (state 2)) ∷ [])
 
 -- The next client asks for its own.
 abbrev pub granted_next : List Entry
-granted_next = behind kept_one (said (bodies.Fetch 2) ∷ [])
+granted_next = with_frames kept_one (client_says (bodies.Fetch 2) ∷ [])
 
 -- A generation is saved before it is granted, and is granted again without a save; the kept states follow;
 -- an older one is refused.
 pub record Grants : Type 0 where
-  pub saves : due blank opened (said (bodies.Fetch 1)) ≡ Some (Grant 1)
-  pub first : sent opened (said (bodies.Fetch 1)) ≡ bodies.Granted 1 ∷ []
-  pub saved_once : due blank kept_one (said (bodies.Fetch 1)) ≡ None
+  pub saves : due blank after_opening (client_says (bodies.Fetch 1)) ≡ Some (Grant 1)
+  pub first : sent_bodies after_opening (client_says (bodies.Fetch 1)) ≡ bodies.Granted 1 ∷ []
+  pub saved_once : due blank kept_one (client_says (bodies.Fetch 1)) ≡ None
   pub again :
-      sent kept_one (said (bodies.Fetch 1)) ≡ bodies.Granted 1 ∷ (bodies.Copy (state 2) ∷ [])
-  pub saves_next : due blank kept_one (said (bodies.Fetch 2)) ≡ Some (Grant 2)
+      sent_bodies kept_one (client_says (bodies.Fetch 1)) ≡ bodies.Granted 1 ∷ (bodies.Copy (state 2) ∷ [])
+  pub saves_next : due blank kept_one (client_says (bodies.Fetch 2)) ≡ Some (Grant 2)
   pub next :
-      sent kept_one (said (bodies.Fetch 2)) ≡ bodies.Granted 2 ∷ (bodies.Copy (state 2) ∷ [])
-  pub old : refusal blank granted_next (said (bodies.Fetch 1)) ≡ Some Old
+      sent_bodies kept_one (client_says (bodies.Fetch 2)) ≡ bodies.Granted 2 ∷ (bodies.Copy (state 2) ∷ [])
+  pub old : refusal blank granted_next (client_says (bodies.Fetch 1)) ≡ Some Old
 
 -- A state is saved and then reported as kept, and again without a save; another state of its key is
 -- refused.
 pub record KeepsTheFirst : Type 0 where
-  pub saves : due blank granted (said (bodies.Copy (state 2))) ≡ Some (Keep (state 2))
-  pub told : sent granted (said (bodies.Copy (state 2))) ≡ bodies.CopyOk 1 0 1 ∷ []
-  pub kept : kept blank kept_one (record { run = 1; server = 0; job = 1 }) ≡ Some (state 2)
-  pub saved_once : due blank kept_one (said (bodies.Copy (state 2))) ≡ None
-  pub again : sent kept_one (said (bodies.Copy (state 2))) ≡ bodies.CopyOk 1 0 1 ∷ []
-  pub conflict : refusal blank kept_one (said (bodies.Copy (state 1))) ≡ Some Conflict
+  pub saves : due blank after_grant (client_says (bodies.Copy (state 2))) ≡ Some (Keep (state 2))
+  pub told : sent_bodies after_grant (client_says (bodies.Copy (state 2))) ≡ bodies.CopyOk 1 0 1 ∷ []
+  pub kept : kept_state blank kept_one (record { run = 1; server = 0; job = 1 }) ≡ Some (state 2)
+  pub saved_once : due blank kept_one (client_says (bodies.Copy (state 2))) ≡ None
+  pub again : sent_bodies kept_one (client_says (bodies.Copy (state 2))) ≡ bodies.CopyOk 1 0 1 ∷ []
+  pub conflict : refusal blank kept_one (client_says (bodies.Copy (state 1))) ≡ Some Conflict
 
 -- What isn't the client's, isn't the mirror's, is of another kind, or is a piece is misdirected.
 pub record TakesItsOwn : Type 0 where
   pub from_a_server :
-      refusal blank granted (Whole (record { from = nodes.Server 0; to = nodes.Mirror; body = bodies.Fetch 1 }))
+      refusal blank after_grant (Whole (record { from = nodes.Server 0; to = nodes.Mirror; body = bodies.Fetch 1 }))
       ≡ Some Misdirected
   pub to_the_client :
-      refusal blank granted (Whole (record { from = nodes.Client; to = nodes.Client; body = bodies.Fetch 1 }))
+      refusal blank after_grant (Whole (record { from = nodes.Client; to = nodes.Client; body = bodies.Fetch 1 }))
       ≡ Some Misdirected
-  pub of_another_kind : refusal blank granted (said (bodies.Granted 1)) ≡ Some Misdirected
+  pub of_another_kind : refusal blank after_grant (client_says (bodies.Granted 1)) ≡ Some Misdirected
   pub in_pieces :
-      refusal blank granted (Piece (record {
+      refusal blank after_grant (Piece (record {
         from = nodes.Client;
         to = nodes.Mirror;
         tag = record { whole = kinds.Copy; run = 1; number = 0; server = 0; job = 1; length = 136 };
@@ -114,24 +114,24 @@ pub record TakesItsOwn : Type 0 where
       })) ≡ Some Misdirected
 
 -- A copy whose save failed.
-abbrev pub lost : Left → List Entry
-lost left = Met (said (bodies.Copy (state 2))) left ∷ granted
+abbrev pub after_lost_copy : Left → List Entry
+after_lost_copy left = Met (client_says (bodies.Copy (state 2))) left ∷ after_grant
 
 -- A mirror whose save failed sends nothing and is down until it is restarted; it then keeps the state where
 -- the note has the new bytes. What only looks answers as before.
 pub record GoesDown : Type 0 where
-  pub sends_nothing : packets blank granted (Met (said (bodies.Copy (state 2))) LostNew) ≡ []
-  pub off : is_on (lost LostNew) ≡ false
-  pub down : refusal blank (lost LostNew) (said (bodies.Fetch 1)) ≡ Some Down
-  pub looks : looked (lost LostNew) ≡ granted
-  pub has_new : due blank (Restart ∷ lost LostNew) (said (bodies.Copy (state 2))) ≡ None
+  pub sends_nothing : packets blank after_grant (Met (client_says (bodies.Copy (state 2))) LostNew) ≡ []
+  pub off : is_on (after_lost_copy LostNew) ≡ false
+  pub down : refusal blank (after_lost_copy LostNew) (client_says (bodies.Fetch 1)) ≡ Some Down
+  pub looks : shown_entries (after_lost_copy LostNew) ≡ after_grant
+  pub has_new : due blank (Restart ∷ after_lost_copy LostNew) (client_says (bodies.Copy (state 2))) ≡ None
   pub has_old :
-      due blank (Restart ∷ lost LostOld) (said (bodies.Copy (state 2))) ≡ Some (Keep (state 2))
+      due blank (Restart ∷ after_lost_copy LostOld) (client_says (bodies.Copy (state 2))) ≡ Some (Keep (state 2))
 
 -- A cut loses neither the generation nor a state.
 pub record ForgetsNothing : Type 0 where
-  pub off : refusal blank (Cut ∷ granted_next) (said (bodies.Fetch 2)) ≡ Some Down
+  pub off : refusal blank (Cut ∷ granted_next) (client_says (bodies.Fetch 2)) ≡ Some Down
   pub generation : generation blank (Restart ∷ (Cut ∷ granted_next)) ≡ 2
   pub states :
-      sent (Restart ∷ (Cut ∷ granted_next)) (said (bodies.Fetch 3))
+      sent_bodies (Restart ∷ (Cut ∷ granted_next)) (client_says (bodies.Fetch 3))
       ≡ bodies.Granted 3 ∷ (bodies.Copy (state 2) ∷ [])

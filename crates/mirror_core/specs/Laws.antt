@@ -13,7 +13,7 @@ use Rattle.messages.specs.Laws.{IsPacket}
 use Rattle.mirror_core.specs.declared.noted.Noted.{Noted}
 use Rattle.mirror_core.specs.Note.{IsNoted}
 use Rattle.mirror_core.specs.History.{Entry, Met}
-use Rattle.mirror_core.specs.Words.{is_on, noted, generation, kept, looked}
+use Rattle.mirror_core.specs.Words.{is_on, words_noted, generation, kept_state, shown_entries}
 use Rattle.mirror_core.specs.Packets.{to_client, copy_of, packets}
 
 -- The packet that an event brings.
@@ -22,13 +22,13 @@ packet_in (Met (Whole p) left) = p ∷ []
 packet_in _ = []
 
 -- The packets that came, the newest first.
-abbrev pub came : List Entry → List PacketParts
-came [] = []
-came (entry ∷ past) = packet_in entry ++ came past
+abbrev pub packets_come : List Entry → List PacketParts
+packets_come [] = []
+packets_come (entry ∷ past) = packet_in entry ++ packets_come past
 
 -- All that came is within its ranges.
 abbrev pub CameInRange : List Entry → Type 0
-CameInRange past = AllByRecursion IsPacket (came past)
+CameInRange past = AllByRecursion IsPacket (packets_come past)
 
 -- A copy of the client's to the mirror.
 abbrev pub from_client : State → PacketParts
@@ -38,7 +38,7 @@ from_client state = record { from = nodes.Client; to = nodes.Mirror; body = bodi
 abbrev pub FirstKeptStays : Type 0
 FirstKeptStays =
     (o : Noted) (newer past : List Entry) (key : Key) (state : State) →
-    kept o past key ≡ Some state → kept o (newer ++ past) key ≡ Some state
+    kept_state o past key ≡ Some state → kept_state o (newer ++ past) key ≡ Some state
 
 -- The generation never falls.
 abbrev pub GenerationsRise : Type 0
@@ -48,26 +48,26 @@ GenerationsRise =
 -- A state that is kept, and was not at the opening, came in a Copy of the client.
 abbrev pub KeptWasSent : Type 0
 KeptWasSent =
-    (o : Noted) (past : List Entry) (key : Key) (state : State) → kept o past key ≡ Some state →
-    (kept o [] key ≡ Some state) ⊎ Contains (came past) (from_client state)
+    (o : Noted) (past : List Entry) (key : Key) (state : State) → kept_state o past key ≡ Some state →
+    (kept_state o [] key ≡ Some state) ⊎ Contains (packets_come past) (from_client state)
 
 -- Each state in the note was there at the opening, or came in a Copy of the client.
 abbrev pub NotedWasSent : Type 0
 NotedWasSent =
-    (o : Noted) (past : List Entry) (state : State) → Contains (noted o past).kept state →
-    Contains o.kept state ⊎ Contains (came past) (from_client state)
+    (o : Noted) (past : List Entry) (state : State) → Contains (words_noted o past).kept state →
+    Contains o.kept state ⊎ Contains (packets_come past) (from_client state)
 
 -- Each Copy that is sent has the kept state of its key.
 abbrev pub CopiesAreKept : Type 0
 CopiesAreKept =
     (o : Noted) (past : List Entry) (entry : Entry) (state : State) → IsNoted o →
-    Contains (packets o past entry) (copy_of state) → kept o past state.key ≡ Some state
+    Contains (packets o past entry) (copy_of state) → kept_state o past state.key ≡ Some state
 
 -- Each Copy that is sent is of a state in the note.
 abbrev pub CopiesAreNoted : Type 0
 CopiesAreNoted =
     (o : Noted) (past : List Entry) (entry : Entry) (state : State) →
-    Contains (packets o past entry) (copy_of state) → Contains (noted o past).kept state
+    Contains (packets o past entry) (copy_of state) → Contains (words_noted o past).kept state
 
 -- A CopyOk is sent only for a state that is kept by then.
 abbrev pub CopyOksAreFor : Type 0
@@ -75,7 +75,7 @@ CopyOksAreFor =
     (o : Noted) (past : List Entry) (entry : Entry) (run server job : ℕ) →
     Contains (packets o past entry) (to_client (bodies.CopyOk run server job)) →
     (state : State)
-    × (kept o (entry ∷ past) (record { run = run; server = server; job = job }) ≡ Some state)
+    × (kept_state o (entry ∷ past) (record { run = run; server = server; job = job }) ≡ Some state)
 
 -- A Granted is sent only of the generation that the note has by then.
 abbrev pub GrantsAreNoted : Type 0
@@ -96,12 +96,12 @@ PacketsGoToTheClient =
 
 -- A mirror that is on answers its looks from all that came.
 abbrev pub LooksAtAll : Type 0
-LooksAtAll = (past : List Entry) → is_on past ≡ true → looked past ≡ past
+LooksAtAll = (past : List Entry) → is_on past ≡ true → shown_entries past ≡ past
 
 -- A note that keeps its ranges goes on to, where the packets that come keep theirs.
 abbrev pub NotesKeepRanges : Type 0
 NotesKeepRanges =
-    (o : Noted) (past : List Entry) → IsNoted o → CameInRange past → IsNoted (noted o past)
+    (o : Noted) (past : List Entry) → IsNoted o → CameInRange past → IsNoted (words_noted o past)
 
 -- What is sent is within the ranges of packets, where what came is within its.
 abbrev pub PacketsAreInRange : Type 0

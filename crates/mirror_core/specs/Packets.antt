@@ -12,7 +12,7 @@ use Rattle.mirror_core.specs.declared.request.Request.{Request}
 use Rattle.mirror_core.specs.declared.request.Request.TheVariants.{Copy, Fetch}
 use Rattle.mirror_core.specs.History.{Entry, Met, Cut, Restart}
 use Rattle.mirror_core.specs.Requests.{request_in}
-use Rattle.mirror_core.specs.Words.{noted, is_answered}
+use Rattle.mirror_core.specs.Words.{words_noted, is_answered}
 
 -- A packet of the mirror to the client.
 abbrev pub to_client : Body → PacketParts
@@ -37,15 +37,15 @@ packets_for n (Some request) = replies n request
 -- The packets that an event sends.
 abbrev pub packets : Noted → List Entry → Entry → List PacketParts
 packets o past (Met f left) =
-    if is_answered o past f left then packets_for (noted o past) (request_in f) else []
+    if is_answered o past f left then packets_for (words_noted o past) (request_in f) else []
 packets o past Cut = []
 packets o past Restart = []
 
 -- All packets that were ever sent, the oldest first.
-abbrev pub sent : Noted → List Entry → List PacketParts
-sent o [] = []
-sent o (entry ∷ past) = sent o past ++ packets o past entry
+abbrev pub sent_packets : Noted → List Entry → List PacketParts
+sent_packets o [] = []
+sent_packets o (entry ∷ past) = sent_packets o past ++ packets o past entry
 
 -- The bytes of the frames that carry these packets, in their order.
-abbrev pub framed : List PacketParts → List (List ℕ)
-framed packets = flat_map spelled_frames packets
+abbrev pub frame_bytes : List PacketParts → List (List ℕ)
+frame_bytes packets = flat_map spelled_frames packets

@@ -22,20 +22,20 @@ is_on (Restart ∷ past) = true
 
 -- What the note says: what it said at the opening, and what was added by each save that left the new
 -- bytes.
-abbrev pub noted : Noted → List Entry → Noted
-noted o [] = o
-noted o (Met f left ∷ past) =
-    noted_after (has_new left) (due_by (is_on past) (noted o past) f) (noted o past)
-noted o (Cut ∷ past) = noted o past
-noted o (Restart ∷ past) = noted o past
+abbrev pub words_noted : Noted → List Entry → Noted
+words_noted o [] = o
+words_noted o (Met f left ∷ past) =
+    noted_after (has_new left) (due_by (is_on past) (words_noted o past) f) (words_noted o past)
+words_noted o (Cut ∷ past) = words_noted o past
+words_noted o (Restart ∷ past) = words_noted o past
 
 -- Why a frame is refused.
 abbrev pub refusal : Noted → List Entry → Frame → Option Fault
-refusal o past f = refusal_by (is_on past) (noted o past) f
+refusal o past f = refusal_by (is_on past) (words_noted o past) f
 
 -- What a frame is due to add to the note.
 abbrev pub due : Noted → List Entry → Frame → Option Addition
-due o past f = due_by (is_on past) (noted o past) f
+due o past f = due_by (is_on past) (words_noted o past) f
 
 -- A frame makes a save where it is due to add something.
 abbrev pub would_save : Noted → List Entry → Frame → Bool
@@ -47,16 +47,16 @@ is_answered o past f left = is_none (refusal o past f) && is_answer (due o past 
 
 -- The generation that the mirror has granted.
 abbrev pub generation : Noted → List Entry → ℕ
-generation o past = (noted o past).generation
+generation o past = (words_noted o past).generation
 
 -- The kept state of a key: that of the opening, else the first that came and was saved.
-abbrev pub kept : Noted → List Entry → Key → Option State
-kept o past key = kept_of key (noted o past).kept
+abbrev pub kept_state : Noted → List Entry → Key → Option State
+kept_state o past key = kept_of key (words_noted o past).kept
 
 -- What the calls that only look answer from: all that came, but for what came from a failed save on.
-abbrev pub looked : List Entry → List Entry
-looked [] = []
-looked (Met f left ∷ past) =
-    if is_on past then (if is_lost left then past else Met f left ∷ past) else looked past
-looked (Cut ∷ past) = []
-looked (Restart ∷ past) = Restart ∷ past
+abbrev pub shown_entries : List Entry → List Entry
+shown_entries [] = []
+shown_entries (Met f left ∷ past) =
+    if is_on past then (if is_lost left then past else Met f left ∷ past) else shown_entries past
+shown_entries (Cut ∷ past) = []
+shown_entries (Restart ∷ past) = Restart ∷ past

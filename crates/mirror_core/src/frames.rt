@@ -4,7 +4,7 @@ ghost use Rattle.std.specs.Prelude.{◌≡◌, [], ◌∷◌, ◌++◌, map, IsT
 ghost use Rattle.std.specs.List.{flat_map};
 ghost use Rattle.messages.specs.Ranges.{is_body, is_generation};
 ghost use Rattle.messages.specs.declared.body.Body.TheVariants.{CopyOk, Granted};
-ghost use Rattle.mirror_core.specs.Packets.{to_client, copy_of, framed};
+ghost use Rattle.mirror_core.specs.Packets.{to_client, copy_of, frame_bytes};
 
 use fc_base::{Generation, Key};
 use messages::{Body, Frames, Node, Packet, PacketParts, frames_of};
@@ -14,7 +14,7 @@ use verify_state::VerifyState;
 /// Appends the frames of a packet to the client.
 fn say(alloc: Global, body: Body, frames: &mut Frames) -> Result<(), AllocError>
     requires { IsTrue (is_body body) }
-    ensures { OnOk result (frames.new ≡ frames.old ++ framed (to_client body ∷ [])) }
+    ensures { OnOk result (frames.new ≡ frames.old ++ frame_bytes (to_client body ∷ [])) }
 {
     let packet = Packet::new(PacketParts {
         from: Node::Mirror,
@@ -28,7 +28,8 @@ fn say(alloc: Global, body: Body, frames: &mut Frames) -> Result<(), AllocError>
 /// The frames that say that the state of a key is kept.
 pub(crate) fn copy_ok(alloc: Global, key: Key) -> Result<Frames, AllocError>
     requires { IsTrue (is_body (CopyOk key.run key.server key.job)) }
-    ensures { IfOk result (λ frames. frames ≡ framed (to_client (CopyOk key.run key.server key.job) ∷ [])) }
+    ensures { IfOk result
+        (λ frames. frames ≡ frame_bytes (to_client (CopyOk key.run key.server key.job) ∷ [])) }
 {
     let mut frames = Frames::new(alloc);
     let Key { run, server, job } = key;
@@ -43,7 +44,8 @@ pub(crate) fn granted(
     states: &[VerifyState],
 ) -> Result<Frames, AllocError>
     requires { IsTrue (is_generation generation) }
-    ensures { IfOk result (λ frames. frames ≡ framed (to_client (Granted generation) ∷ map copy_of states.now)) }
+    ensures { IfOk result
+        (λ frames. frames ≡ frame_bytes (to_client (Granted generation) ∷ map copy_of states.now)) }
 {
     let mut frames = Frames::new(alloc);
     let generation = Generation(generation);
@@ -54,7 +56,8 @@ pub(crate) fn granted(
 
 /// Appends the frames of a copy of each of these states.
 fn say_copies(alloc: Global, states: &[VerifyState], frames: &mut Frames) -> Result<(), AllocError>
-    ensures { OnOk result (frames.new ≡ frames.old ++ flat_map (λ s. framed (copy_of s ∷ [])) states.now) }
+    ensures { OnOk result
+        (frames.new ≡ frames.old ++ flat_map (λ s. frame_bytes (copy_of s ∷ [])) states.now) }
 {
     for state in states {
         say(alloc, Body::Copy { state: *state }, frames)?;

@@ -7,7 +7,7 @@ ghost use Rattle.mirror_core.specs.History.{Entry};
 ghost use Rattle.mirror_core.specs.Note.{Says};
 ghost use Rattle.mirror_core.specs.Refusals.{IsAdmitted};
 ghost use Rattle.mirror_core.specs.Requests.{IsRequest};
-ghost use Rattle.mirror_core.specs.Words.{is_on, noted, generation, kept, looked, would_save};
+ghost use Rattle.mirror_core.specs.Words.{is_on, words_noted, generation, kept_state, shown_entries, would_save};
 
 mod deliver;
 mod save;
@@ -59,7 +59,8 @@ impl<N: Notes> Mirror<N> {
 
     /// The notes of a mirror that is taken off.
     pub fn off(self) -> N
-        ensures { (o : Opening) (past : List Entry) → StandsFor N.note self o past → Says (N.note result).bytes (noted o past) }
+        ensures { (o : Opening) (past : List Entry) → StandsFor N.note self o past →
+            Says (N.note result).bytes (words_noted o past) }
     {
         let Mirror {
             alloc: _,
@@ -72,7 +73,8 @@ impl<N: Notes> Mirror<N> {
 
     /// Whether it is on: a mirror whose save failed is down until it is restarted.
     pub fn on(&self) -> bool
-        ensures { (o : Opening) (past : List Entry) → StandsFor N.note self.now o past → result ≡ is_on past }
+        ensures { (o : Opening) (past : List Entry) → StandsFor N.note self.now o past →
+            result ≡ is_on past }
     {
         !self.down
     }
@@ -80,7 +82,7 @@ impl<N: Notes> Mirror<N> {
     /// The greatest generation that was asked for, 0 where none was. Where a save has failed, up to it.
     pub fn generation(&self) -> u64
         ensures { (o : Opening) (past : List Entry) → StandsFor N.note self.now o past →
-            result ≡ generation o (looked past) }
+            result ≡ generation o (shown_entries past) }
     {
         self.noted.generation
     }
@@ -88,7 +90,7 @@ impl<N: Notes> Mirror<N> {
     /// The kept state of a key. Where a save has failed, up to it.
     pub fn kept(&self, key: Key) -> Option<&VerifyState>
         ensures { (o : Opening) (past : List Entry) → StandsFor N.note self.now o past →
-            option_copied result ≡ kept o (looked past) key }
+            option_copied result ≡ kept_state o (shown_entries past) key }
     {
         self.noted.kept.get(key)
     }

@@ -1,8 +1,8 @@
 -- Numbers behind one another.
 use Rattle.std.proofs.Common.{◌≡◌, ℕ, ◌==◌, false, List, [], ◌∷◌, length, Option, Some, None, refl, ◌∙◌, ap}
 use Rattle.std.specs.Prelude.{option_map, option_and_then}
-use Rattle.net_script.specs.declared.line.Line.{Line}
-use Rattle.net_script.specs.declared.line.Line.TheVariants.{Unread}
+use Rattle.net_script.specs.declared.line.ScriptLine.{ScriptLine}
+use Rattle.net_script.specs.declared.line.ScriptLine.TheVariants.{Unread}
 use Rattle.net_script.specs.Words.{number_of}
 use Rattle.net_script.specs.Arguments.{read_as, numbers_of, numbers, leading, one, two, three, four}
 
@@ -20,7 +20,7 @@ leads_words (w ∷ ws) a rest is = by_number (number_of w) is
         ap (λ p. option_map (λ ns. p.0 ∷ ns) (numbers_of p.1)) both
 
 module _ (ws : List (List ℕ)) (a : ℕ) (rest : List (List ℕ)) (is : leading ws ≡ Some (a, rest)) where
-  pub one_alone : (line : ℕ → Line) → (length rest == 0) ≡ false → numbers (one line) ws ≡ Unread
+  pub one_alone : (line : ℕ → ScriptLine) → (length rest == 0) ≡ false → numbers (one line) ws ≡ Unread
   one_alone line more = ap (read_as (one line)) (leads_words ws a rest is) ∙ by_rest rest more
     where
       by_numbers : (w : List ℕ) (ws : List (List ℕ)) (ns : Option (List ℕ)) (n : Option ℕ)
@@ -33,7 +33,7 @@ module _ (ws : List (List ℕ)) (a : ℕ) (rest : List (List ℕ)) (is : leading
       by_rest [] more = absurd cc
       by_rest (w ∷ ws) more = by_numbers w ws (numbers_of ws) (number_of w)
 
-  pub two_behind : (line : ℕ → ℕ → Line) → numbers (two line) ws ≡ numbers (one (line a)) rest
+  pub two_behind : (line : ℕ → ℕ → ScriptLine) → numbers (two line) ws ≡ numbers (one (line a)) rest
   two_behind line = ap (read_as (two line)) (leads_words ws a rest is) ∙ by_numbers (numbers_of rest)
     where
       by_numbers : (ns : Option (List ℕ)) → read_as (two line) (option_map (λ ns. a ∷ ns) ns) ≡ read_as (one (line a)) ns
@@ -42,7 +42,7 @@ module _ (ws : List (List ℕ)) (a : ℕ) (rest : List (List ℕ)) (is : leading
       by_numbers (Some (b ∷ [])) = refl
       by_numbers (Some (b ∷ c ∷ ns)) = refl
 
-  pub three_behind : (line : ℕ → ℕ → ℕ → Line) → numbers (three line) ws ≡ numbers (two (line a)) rest
+  pub three_behind : (line : ℕ → ℕ → ℕ → ScriptLine) → numbers (three line) ws ≡ numbers (two (line a)) rest
   three_behind line = ap (read_as (three line)) (leads_words ws a rest is) ∙ by_numbers (numbers_of rest)
     where
       by_numbers : (ns : Option (List ℕ)) → read_as (three line) (option_map (λ ns. a ∷ ns) ns) ≡ read_as (two (line a)) ns
@@ -52,7 +52,7 @@ module _ (ws : List (List ℕ)) (a : ℕ) (rest : List (List ℕ)) (is : leading
       by_numbers (Some (b ∷ c ∷ [])) = refl
       by_numbers (Some (b ∷ c ∷ d ∷ ns)) = refl
 
-  pub four_behind : (line : ℕ → ℕ → ℕ → ℕ → Line) → numbers (four line) ws ≡ numbers (three (line a)) rest
+  pub four_behind : (line : ℕ → ℕ → ℕ → ℕ → ScriptLine) → numbers (four line) ws ≡ numbers (three (line a)) rest
   four_behind line = ap (read_as (four line)) (leads_words ws a rest is) ∙ by_numbers (numbers_of rest)
     where
       by_numbers : (ns : Option (List ℕ)) → read_as (four line) (option_map (λ ns. a ∷ ns) ns) ≡ read_as (three (line a)) ns

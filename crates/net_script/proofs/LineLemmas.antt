@@ -5,7 +5,7 @@ use Rattle.std.proofs.lemmas.Bool.Decides.{nat_tests}
 use Rattle.std.proofs.lemmas.List.{take-append-drop}
 use Rattle.std.proofs.lemmas.List.Splits.{slice_split_first, length-slice_split}
 use Rattle.net_script.specs.Words.{is_line_feed, ended_parts, lines_of}
-use Rattle.printed.specs.Words.{ended}
+use Rattle.printed.specs.Words.{with_line_feed}
 
 -- Each part before the last is a line.
 ended_more : (x : List ℕ) (parts : List (List ℕ)) → 0 < length parts → ended_parts (x ∷ parts) ≡ x ∷ ended_parts parts
@@ -66,7 +66,7 @@ feed_stands (x ∷ xs) within = by_head (feed_stands xs) (is_line_feed x) refl
 
 -- So the script is the line, its end, and what is behind.
 pub first_bytes : (script : List ℕ) (len : ℕ) → len ≡ position_or_len is_line_feed script → len < length script
-    → script ≡ ended (take len script) ++ drop (len + 1) script
+    → script ≡ with_line_feed (take len script) ++ drop (len + 1) script
 first_bytes script len is within =
     let stands : drop len script ≡ 10 ∷ drop (len + 1) script =
     ap (λ n. drop n script) is ∙ feed_stands script (omega (arith, is, within)) ∙ ap (λ n. 10 ∷ drop (n + 1) script) (sym is) in

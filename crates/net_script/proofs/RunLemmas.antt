@@ -13,7 +13,7 @@ use Rattle.net_world.specs.World.{world}
 use Rattle.net_script.specs.declared.command.Command.{Command}
 use Rattle.net_script.specs.declared.running.commands.Ran.TheVariants.{Answered}
 use Rattle.net_script.specs.Commands.{happens}
-use Rattle.printed.specs.Words.{ended}
+use Rattle.printed.specs.Words.{with_line_feed}
 use Rattle.net_script.specs.Orders.{Order, Asks}
 use Rattle.net_script.specs.Printed.{lines_at, refusal_line}
 use Rattle.net_script.specs.Script.{lines_in, are_commands, some_faults, finds_fault, status_by, status_in}
@@ -30,7 +30,7 @@ pub record RunSoFar (setup : Setup) (before : List Happening) (all left : List O
   pub lines : (more : List Order) → lines_in setup before (asked ++ more) ≡ lines_in setup before asked ++ lines_in setup behind more
   pub commands : (more : List Order) → are_commands (asked ++ more) ≡ are_commands more
   pub found : (more : List Order) → some_faults setup before (asked ++ more) ≡ (faults || some_faults setup behind more)
-  pub written : Appends old now (flat_map ended (lines_in setup before asked))
+  pub written : Appends old now (flat_map with_line_feed (lines_in setup before asked))
 
 pub none_run : (setup : Setup) (before : List Happening) (all : List Order) (w : World) (old : Option (List ℕ)) → StandsFor setup (world setup before) w
     → RunSoFar setup before all all w old old false
@@ -68,7 +68,7 @@ command_run setup before all left w new old mid now faults more_faults line comm
       ∙ or_assoc faults (finds_fault setup s.behind e) (some_faults setup (e ∷ s.behind) more)
       ∙ ap (λ b. (faults || b) || some_faults setup (e ∷ s.behind) more) (sym come.2);
   written = subst (Appends old now)
-      (sym (flat_map-append ended (lines_in setup before s.asked) (lines_at setup (world setup s.behind) e)) ∙ ap (flat_map ended) (sym asked_lines))
+      (sym (flat_map-append with_line_feed (lines_in setup before s.asked) (lines_at setup (world setup s.behind) e)) ∙ ap (flat_map with_line_feed) (sym asked_lines))
       (Appends-trans old mid now _ _ s.written come.0);
 }
   where
@@ -102,7 +102,7 @@ command_run setup before all left w new old mid now faults more_faults line comm
 
 -- Memory ran out at a command.
 pub lacks : (setup : Setup) (before : List Happening) (all left : List Order) (w : World) (old mid now : Option (List ℕ)) (faults : Bool) (status line : ℕ) (command : Command) (text : List ℕ) (rest : List Order)
-    → (s : RunSoFar setup before all left w old mid faults) → left ≡ Asks line command text ∷ rest → Appends mid now (ended (refusal_line NoMemory)) → status ≡ 2
+    → (s : RunSoFar setup before all left w old mid faults) → left ≡ Asks line command text ∷ rest → Appends mid now (with_line_feed (refusal_line NoMemory)) → status ≡ 2
     → RunOrders (lines_in setup before) are_commands (status_in setup before) all old now status
 lacks setup before all left w old mid now faults status line command text rest s next wrote ends = inr (record {
   before = s.asked;

@@ -8,7 +8,7 @@ use Rattle.std.proofs.lemmas.Bool.Decides.{nat_tests}
 use Rattle.fc_base.specs.declared.fault.Fault.TheVariants.{NoMemory}
 use Rattle.bounded_input.specs.Input.{IsRead}
 use Rattle.net_world.specs.Setup.{Setup}
-use Rattle.printed.specs.Words.{ended}
+use Rattle.printed.specs.Words.{with_line_feed}
 use Rattle.net_script.specs.Orders.{Order, Opens, orders_of}
 use Rattle.net_script.specs.Printed.{refusal_line}
 use Rattle.net_script.specs.Script.{are_commands, lines_in, lines_of_orders, status_in, status_of_orders, reads_well, is_too_long, text_of, status_of}
@@ -29,7 +29,7 @@ opened line setup orders old mid new status ok (inr soon) = inr (record {
 })
 
 -- No memory for the world.
-pub no_world : (line : ℕ) (setup : Setup) (orders : List Order) (old new : Option (List ℕ)) → Appends old new (ended (refusal_line NoMemory))
+pub no_world : (line : ℕ) (setup : Setup) (orders : List Order) (old new : Option (List ℕ)) → Appends old new (with_line_feed (refusal_line NoMemory))
     → RunOrders lines_of_orders reads_well status_of_orders (Opens line setup ∷ orders) old new 2
 no_world line setup orders old new wrote = inr (record {
   before = [];
@@ -57,7 +57,7 @@ is_long : (script : List ℕ) → 1048576 < length script → is_too_long script
 is_long script long = grind (arith, nat_tests)
 
 text_of_long : (script : List ℕ) → 1048576 < length script → text_of script ≡ codes "too long\n"
-text_of_long script long = ap (λ b. cond b (codes "too long\n") (flat_map ended (lines_of_orders (orders_of script)))) (is_long script long)
+text_of_long script long = ap (λ b. cond b (codes "too long\n") (flat_map with_line_feed (lines_of_orders (orders_of script)))) (is_long script long)
 
 status_of_long : (script : List ℕ) → 1048576 < length script → status_of script ≡ 2
 status_of_long script long = ap (λ b. cond b 2 (status_of_orders (orders_of script))) (is_long script long)

@@ -7,44 +7,44 @@ use Rattle.net_script.specs.declared.command.Saving.{Saving}
 use Rattle.net_script.specs.declared.command.Saving.TheVariants.{Begin, Verify, Deliver, Restart, Renew}
 use Rattle.net_script.specs.declared.command.Command.{Command}
 use Rattle.net_script.specs.declared.command.Command.TheVariants.{Saves, CutShort, Trigger, Stop, Tick, Issue, Land, Done, Fail, Rot, Check, Cut, LoseNote}
-use Rattle.net_script.specs.declared.line.Line.{Line}
-use Rattle.net_script.specs.declared.line.Line.TheVariants.{Servers, Asks, Unread}
+use Rattle.net_script.specs.declared.line.ScriptLine.{ScriptLine}
+use Rattle.net_script.specs.declared.line.ScriptLine.TheVariants.{Servers, Asks, Unread}
 use Rattle.net_script.specs.Words.{number_of}
 use Rattle.net_script.specs.Arguments.{read_as, alone, maybe, numbers, numbers_of, one, two, three, four, node, node_of, place, sectors_of}
-use Rattle.net_script.specs.Table.{Row, named, or_unread, by_table, act_of, triggered, trigger, land, rot, world_of, servers, saving, asking, of_jobs, cuts, table, AsksFew}
+use Rattle.net_script.specs.Table.{Row, read_by_row, or_unread, by_table, act_of, trigger_line, trigger, land, rot, world_of, servers, saving_rows, asking_rows, job_rows, cut_rows, table, AsksFew}
 
 -- So it is with each row.
 abbrev EachAsksFew : List Row → Type 0
 EachAsksFew [] = Unit {0}
 EachAsksFew (r ∷ rows) = ((behind : List (List ℕ)) → AsksFew (r.reads behind)) × EachAsksFew rows
 
-read_few : {X : Type 0} (line : X → Line) → ((x : X) → AsksFew (line x)) → (x : Option X) → AsksFew (read_as line x)
+read_few : {X : Type 0} (line : X → ScriptLine) → ((x : X) → AsksFew (line x)) → (x : Option X) → AsksFew (read_as line x)
 read_few line few None = tt
 read_few line few (Some x) = few x
 
-alone_few : (line : Line) → AsksFew line → (words : List (List ℕ)) → AsksFew (alone line words)
+alone_few : (line : ScriptLine) → AsksFew line → (words : List (List ℕ)) → AsksFew (alone line words)
 alone_few line few [] = few
 alone_few line few (word ∷ words) = tt
 
-one_few : (line : ℕ → Line) → ((a : ℕ) → AsksFew (line a)) → (ns : List ℕ) → AsksFew (one line ns)
+one_few : (line : ℕ → ScriptLine) → ((a : ℕ) → AsksFew (line a)) → (ns : List ℕ) → AsksFew (one line ns)
 one_few line few [] = tt
 one_few line few (a ∷ []) = few a
 one_few line few (a ∷ b ∷ ns) = tt
 
-two_few : (line : ℕ → ℕ → Line) → ((a b : ℕ) → AsksFew (line a b)) → (ns : List ℕ) → AsksFew (two line ns)
+two_few : (line : ℕ → ℕ → ScriptLine) → ((a b : ℕ) → AsksFew (line a b)) → (ns : List ℕ) → AsksFew (two line ns)
 two_few line few [] = tt
 two_few line few (a ∷ []) = tt
 two_few line few (a ∷ b ∷ []) = few a b
 two_few line few (a ∷ b ∷ c ∷ ns) = tt
 
-three_few : (line : ℕ → ℕ → ℕ → Line) → ((a b c : ℕ) → AsksFew (line a b c)) → (ns : List ℕ) → AsksFew (three line ns)
+three_few : (line : ℕ → ℕ → ℕ → ScriptLine) → ((a b c : ℕ) → AsksFew (line a b c)) → (ns : List ℕ) → AsksFew (three line ns)
 three_few line few [] = tt
 three_few line few (a ∷ []) = tt
 three_few line few (a ∷ b ∷ []) = tt
 three_few line few (a ∷ b ∷ c ∷ []) = few a b c
 three_few line few (a ∷ b ∷ c ∷ d ∷ ns) = tt
 
-four_few : (line : ℕ → ℕ → ℕ → ℕ → Line) → ((a b c d : ℕ) → AsksFew (line a b c d)) → (ns : List ℕ) → AsksFew (four line ns)
+four_few : (line : ℕ → ℕ → ℕ → ℕ → ScriptLine) → ((a b c d : ℕ) → AsksFew (line a b c d)) → (ns : List ℕ) → AsksFew (four line ns)
 four_few line few [] = tt
 four_few line few (a ∷ []) = tt
 four_few line few (a ∷ b ∷ []) = tt
@@ -52,7 +52,7 @@ four_few line few (a ∷ b ∷ c ∷ []) = tt
 four_few line few (a ∷ b ∷ c ∷ d ∷ []) = few a b c d
 four_few line few (a ∷ b ∷ c ∷ d ∷ e ∷ ns) = tt
 
-node_few : (line : Node → Line) → ((n : Node) → AsksFew (line n)) → (words : List (List ℕ)) → AsksFew (node line words)
+node_few : (line : Node → ScriptLine) → ((n : Node) → AsksFew (line n)) → (words : List (List ℕ)) → AsksFew (node line words)
 node_few line few [] = tt
 node_few line few (word ∷ []) = read_few line few (node_of word)
 node_few line few (word ∷ next ∷ words) = tt
@@ -74,7 +74,7 @@ servers_few (count ∷ behind) =
 trigger_few : (words : List (List ℕ)) → AsksFew (trigger words)
 trigger_few [] = tt
 trigger_few (run ∷ behind) =
-    read_few (λ r. triggered r (act_of behind)) (λ r. read_few (λ a. Asks (Trigger r a)) (λ a. tt) (act_of behind)) (number_of run)
+    read_few (λ r. trigger_line r (act_of behind)) (λ r. read_few (λ a. Asks (Trigger r a)) (λ a. tt) (act_of behind)) (number_of run)
 
 rot_few : (s j sector byte : ℕ) → AsksFew (rot s j sector byte)
 rot_few s j sector byte = by_bound (nat_le byte 255)
@@ -89,11 +89,11 @@ land_few words =
     (λ mask. read_few (three (λ s j k. Asks (Land (place s) (place j) k mask))) (three_few (λ s j k. Asks (Land (place s) (place j) k mask)) (λ s j k. tt)) (numbers_of (take 3 words)))
     (sectors_of (drop 3 words))
 
-named_few : (rows : List Row) → EachAsksFew rows → (word : List ℕ) (behind : List (List ℕ)) → AsksFew (or_unread (named rows word behind))
+named_few : (rows : List Row) → EachAsksFew rows → (word : List ℕ) (behind : List (List ℕ)) → AsksFew (or_unread (read_by_row rows word behind))
 named_few [] few word behind = tt
 named_few (r ∷ rows) few word behind = by_word (bytes_eq word r.word) (named_few rows few.1 word behind)
   where
-    by_word : (is : Bool) → AsksFew (or_unread (named rows word behind)) → AsksFew (or_unread (cond is (Some (r.reads behind)) (named rows word behind)))
+    by_word : (is : Bool) → AsksFew (or_unread (read_by_row rows word behind)) → AsksFew (or_unread (cond is (Some (r.reads behind)) (read_by_row rows word behind)))
     by_word true rest = few.0 behind
     by_word false rest = rest
 
@@ -105,7 +105,7 @@ both_few : (rows more : List Row) → EachAsksFew rows → EachAsksFew more → 
 both_few [] more few rest = rest
 both_few (r ∷ rows) more few rest = (few.0, both_few rows more few.1 rest)
 
-saving_few : (ask : Saving → Command) → EachAsksFew (saving ask)
+saving_few : (ask : Saving → Command) → EachAsksFew (saving_rows ask)
 saving_few ask = (
   alone_few (Asks (ask Begin)) tt,
   (
@@ -123,7 +123,7 @@ saving_few ask = (
   ),
 )
 
-asking_few : EachAsksFew asking
+asking_few : EachAsksFew asking_rows
 asking_few = (
   servers_few,
   (
@@ -138,7 +138,7 @@ asking_few = (
   ),
 )
 
-jobs_few : EachAsksFew of_jobs
+jobs_few : EachAsksFew job_rows
 jobs_few = (
   (λ ws. read_few (two (λ s j. Asks (Issue (place s) (place j)))) (two_few (λ s j. Asks (Issue (place s) (place j))) (λ s j. tt)) (numbers_of ws)),
   (
@@ -159,13 +159,13 @@ jobs_few = (
   ),
 )
 
-cuts_few : EachAsksFew cuts
+cuts_few : EachAsksFew cut_rows
 cuts_few = (
   node_few (λ n. Asks (Cut n)) (λ n. tt),
   (
-    by_table_few (saving (CutShort false)) (saving_few (CutShort false)),
+    by_table_few (saving_rows (CutShort false)) (saving_few (CutShort false)),
     (
-      by_table_few (saving (CutShort true)) (saving_few (CutShort true)),
+      by_table_few (saving_rows (CutShort true)) (saving_few (CutShort true)),
       (
         alone_few (Asks LoseNote) tt,
         tt,
@@ -176,7 +176,7 @@ cuts_few = (
 
 table_few : EachAsksFew table
 unfolding table
-table_few = both_few (saving Saves) (asking ++ (of_jobs ++ cuts)) (saving_few Saves) (both_few asking (of_jobs ++ cuts) asking_few (both_few of_jobs cuts jobs_few cuts_few))
+table_few = both_few (saving_rows Saves) (asking_rows ++ (job_rows ++ cut_rows)) (saving_few Saves) (both_few asking_rows (job_rows ++ cut_rows) asking_few (both_few job_rows cut_rows jobs_few cuts_few))
 
 -- Each row of the table asks for 1 to 8 servers, where it asks for any.
 pub few_by_table : (words : List (List ℕ)) → AsksFew (by_table table words)

@@ -2,49 +2,49 @@
 use Rattle.std.proofs.Common.{◌≡◌, ℕ, Bool, true, false, cond, List, [], ◌∷◌, ◌++◌, Option, Some, None, refl, sym, ◌∙◌, ap}
 use Rattle.std.specs.Option.{option_or}
 use Rattle.std.specs.Prelude.{option_map, option_and_then, bytes_eq}
-use Rattle.net_script.specs.declared.line.Line.{Line}
-use Rattle.net_script.specs.declared.line.Line.TheVariants.{Asks}
+use Rattle.net_script.specs.declared.line.ScriptLine.{ScriptLine}
+use Rattle.net_script.specs.declared.line.ScriptLine.TheVariants.{Asks}
 use Rattle.net_script.specs.declared.command.Command.TheVariants.{Saves, Land}
 use Rattle.net_script.specs.Words.{number_of}
 use Rattle.net_script.specs.Arguments.{read_as, numbers_of, numbers, leading, three, place, sectors_of}
-use Rattle.net_script.specs.Table.{Row, named, or_unread, table, saving, asking, of_jobs, cuts, land}
+use Rattle.net_script.specs.Table.{Row, read_by_row, or_unread, table, saving_rows, asking_rows, job_rows, cut_rows, land}
 
 -- A word's row is looked for in the first rows, and then in those behind.
 pub named_behind : (rows more : List Row) (word : List ℕ) (behind : List (List ℕ))
-    → named (rows ++ more) word behind ≡ option_or (named rows word behind) (named more word behind)
+    → read_by_row (rows ++ more) word behind ≡ option_or (read_by_row rows word behind) (read_by_row more word behind)
 named_behind [] more word behind = refl
 named_behind (r ∷ rows) more word behind = by_word (bytes_eq word r.word) (named_behind rows more word behind)
   where
-    by_word : (is : Bool) → named (rows ++ more) word behind ≡ option_or (named rows word behind) (named more word behind)
-        → cond is (Some (r.reads behind)) (named (rows ++ more) word behind)
-        ≡ option_or (cond is (Some (r.reads behind)) (named rows word behind)) (named more word behind)
+    by_word : (is : Bool) → read_by_row (rows ++ more) word behind ≡ option_or (read_by_row rows word behind) (read_by_row more word behind)
+        → cond is (Some (r.reads behind)) (read_by_row (rows ++ more) word behind)
+        ≡ option_or (cond is (Some (r.reads behind)) (read_by_row rows word behind)) (read_by_row more word behind)
     by_word true rest = refl
     by_word false rest = rest
 
 -- A row that is among the first.
-pub among : (rows more : List Row) (word : List ℕ) (behind : List (List ℕ)) (line : Line)
-    → Some line ≡ named rows word behind → line ≡ or_unread (named (rows ++ more) word behind)
+pub among : (rows more : List Row) (word : List ℕ) (behind : List (List ℕ)) (line : ScriptLine)
+    → Some line ≡ read_by_row rows word behind → line ≡ or_unread (read_by_row (rows ++ more) word behind)
 among rows more word behind line is =
-    sym (ap or_unread (named_behind rows more word behind ∙ ap (λ l. option_or l (named more word behind)) (sym is)))
+    sym (ap or_unread (named_behind rows more word behind ∙ ap (λ l. option_or l (read_by_row more word behind)) (sym is)))
 
 -- A row that isn't among them is one behind them.
-pub not_among : (rows more : List Row) (word : List ℕ) (behind : List (List ℕ)) (found : Option Line)
-    → found ≡ named rows word behind → ((line : Line) → found ≡ Some line → ⊥)
-    → or_unread (named more word behind) ≡ or_unread (named (rows ++ more) word behind)
+pub not_among : (rows more : List Row) (word : List ℕ) (behind : List (List ℕ)) (found : Option ScriptLine)
+    → found ≡ read_by_row rows word behind → ((line : ScriptLine) → found ≡ Some line → ⊥)
+    → or_unread (read_by_row more word behind) ≡ or_unread (read_by_row (rows ++ more) word behind)
 not_among rows more word behind None is none =
-    sym (ap or_unread (named_behind rows more word behind ∙ ap (λ l. option_or l (named more word behind)) (sym is)))
+    sym (ap or_unread (named_behind rows more word behind ∙ ap (λ l. option_or l (read_by_row more word behind)) (sym is)))
 not_among rows more word behind (Some line) is none = absurd (none line refl)
 
 -- A row of each of the four parts of the table.
 module _ (word : List ℕ) (behind : List (List ℕ)) where
-  pub saves : (line : Line) → Some line ≡ named (saving Saves) word behind → line ≡ or_unread (named table word behind)
+  pub saves : (line : ScriptLine) → Some line ≡ read_by_row (saving_rows Saves) word behind → line ≡ or_unread (read_by_row table word behind)
   unfolding table
-  saves line is = among (saving Saves) (asking ++ (of_jobs ++ cuts)) word behind line is
+  saves line is = among (saving_rows Saves) (asking_rows ++ (job_rows ++ cut_rows)) word behind line is
 
-  pub not_saves : (found : Option Line) → found ≡ named (saving Saves) word behind → ((line : Line) → found ≡ Some line → ⊥)
-      → or_unread (named (asking ++ (of_jobs ++ cuts)) word behind) ≡ or_unread (named table word behind)
+  pub not_saves : (found : Option ScriptLine) → found ≡ read_by_row (saving_rows Saves) word behind → ((line : ScriptLine) → found ≡ Some line → ⊥)
+      → or_unread (read_by_row (asking_rows ++ (job_rows ++ cut_rows)) word behind) ≡ or_unread (read_by_row table word behind)
   unfolding table
-  not_saves found is none = not_among (saving Saves) (asking ++ (of_jobs ++ cuts)) word behind found is none
+  not_saves found is none = not_among (saving_rows Saves) (asking_rows ++ (job_rows ++ cut_rows)) word behind found is none
 
 led : (w : List ℕ) (ws : List (List ℕ)) (a : ℕ) (rest : List (List ℕ)) → leading (w ∷ ws) ≡ Some (a, rest)
     → (number_of w ≡ Some a) × (ws ≡ rest)

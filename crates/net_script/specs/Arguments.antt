@@ -2,12 +2,12 @@
 use Rattle.std.specs.Prelude.{ℕ, Bool, true, false, ◌-◌, ◌^◌, min, List, [], ◌∷◌, Option, Some, None, option_map, option_and_then, bytes_eq, codes, if◌then◌else◌}
 use Rattle.messages.specs.declared.node.Node.{Node}
 use Rattle.messages.specs.declared.node.Node.TheVariants.{Server, Client, Mirror}
-use Rattle.net_script.specs.declared.line.Line.{Line}
-use Rattle.net_script.specs.declared.line.Line.TheVariants.{Unread}
+use Rattle.net_script.specs.declared.line.ScriptLine.{ScriptLine}
+use Rattle.net_script.specs.declared.line.ScriptLine.TheVariants.{Unread}
 use Rattle.net_script.specs.Words.{number_of}
 
 -- What is read of arguments; where that is nothing the line can't be read.
-abbrev pub read_as : {X : Type 0} → (X → Line) → Option X → Line
+abbrev pub read_as : {X : Type 0} → (X → ScriptLine) → Option X → ScriptLine
 read_as line None = Unread
 read_as line (Some x) = line x
 
@@ -23,7 +23,7 @@ leading [] = None
 leading (word ∷ words) = option_map (λ n. (n, words)) (number_of word)
 
 -- No words stand behind the command's own.
-abbrev pub alone : Line → List (List ℕ) → Line
+abbrev pub alone : ScriptLine → List (List ℕ) → ScriptLine
 alone line [] = line
 alone line _ = Unread
 
@@ -34,24 +34,24 @@ maybe name (word ∷ []) = if bytes_eq word name then Some true else None
 maybe name _ = None
 
 -- One number, two, three, or four.
-abbrev pub one : (ℕ → Line) → List ℕ → Line
+abbrev pub one : (ℕ → ScriptLine) → List ℕ → ScriptLine
 one line (a ∷ []) = line a
 one line _ = Unread
 
-abbrev pub two : (ℕ → ℕ → Line) → List ℕ → Line
+abbrev pub two : (ℕ → ℕ → ScriptLine) → List ℕ → ScriptLine
 two line (a ∷ b ∷ []) = line a b
 two line _ = Unread
 
-abbrev pub three : (ℕ → ℕ → ℕ → Line) → List ℕ → Line
+abbrev pub three : (ℕ → ℕ → ℕ → ScriptLine) → List ℕ → ScriptLine
 three line (a ∷ b ∷ c ∷ []) = line a b c
 three line _ = Unread
 
-abbrev pub four : (ℕ → ℕ → ℕ → ℕ → Line) → List ℕ → Line
+abbrev pub four : (ℕ → ℕ → ℕ → ℕ → ScriptLine) → List ℕ → ScriptLine
 four line (a ∷ b ∷ c ∷ d ∷ []) = line a b c d
 four line _ = Unread
 
 -- The words are all numbers, and are read as such.
-abbrev pub numbers : (List ℕ → Line) → List (List ℕ) → Line
+abbrev pub numbers : (List ℕ → ScriptLine) → List (List ℕ) → ScriptLine
 numbers line words = read_as line (numbers_of words)
 
 -- A number of a server or job. None has one of more than 32 bits: those are as the greatest.
@@ -66,7 +66,7 @@ node_of word =
     else option_map (λ n. Server (place n)) (number_of word)
 
 -- One word, a node.
-abbrev pub node : (Node → Line) → List (List ℕ) → Line
+abbrev pub node : (Node → ScriptLine) → List (List ℕ) → ScriptLine
 node line (word ∷ []) = read_as line (node_of word)
 node line _ = Unread
 

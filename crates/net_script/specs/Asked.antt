@@ -6,6 +6,6 @@ use Rattle.net_script.specs.declared.table.cuts.Asked.{Asked}
 use Rattle.net_script.specs.declared.table.cuts.Asked.TheVariants.{AsItIs, CutShort}
 
 -- The command, as it is or cut short.
-abbrev pub asked : Asked → Saving → Command
-asked AsItIs command = commands.Saves command
-asked (CutShort landed) command = commands.CutShort landed command
+abbrev pub saving_command : Asked → Saving → Command
+saving_command AsItIs command = commands.Saves command
+saving_command (CutShort landed) command = commands.CutShort landed command

@@ -1,14 +1,14 @@
 -- What a script asks for, in its order.
 use Rattle.std.specs.Prelude.{ℕ, ◌+◌, Bool, true, false, not, List, [], ◌∷◌, ◌++◌, length, bytes_eq, codes, if◌then◌else◌}
 use Rattle.std.specs.List.{list_any, before_first, flat_map}
-use Rattle.printed.specs.Words.{ended}
+use Rattle.printed.specs.Words.{with_line_feed}
 use Rattle.net_world.specs.Setup.{Setup, setup_of}
 use Rattle.net_script.specs.declared.command.Saving.{Saving}
 use Rattle.net_script.specs.declared.command.Saving.TheVariants.{Begin, Verify}
 use Rattle.net_script.specs.declared.command.Command.{Command}
 use Rattle.net_script.specs.declared.command.Command.TheVariants.{Saves, CutShort}
-use Rattle.net_script.specs.declared.line.Line.{Line}
-use Rattle.net_script.specs.declared.line.Line.TheVariants as lines
+use Rattle.net_script.specs.declared.line.ScriptLine.{ScriptLine}
+use Rattle.net_script.specs.declared.line.ScriptLine.TheVariants as lines
 use Rattle.net_script.specs.Words.{lines_of}
 use Rattle.net_script.specs.Table.{line_of}
 
@@ -25,7 +25,7 @@ closes line = bytes_eq line (codes ".")
 
 -- The text of the lines before the one that closes it.
 abbrev pub text_in : List (List ℕ) → List ℕ
-text_in below = flat_map ended (before_first closes below)
+text_in below = flat_map with_line_feed (before_first closes below)
 
 -- `begin` and `verify` have a text below them.
 abbrev pub has_text_in : Saving → Bool
@@ -40,7 +40,7 @@ has_text (CutShort landed command) = has_text_in command
 has_text _ = false
 
 -- A text stands below the line.
-abbrev pub opens_text : Line → Bool
+abbrev pub opens_text : ScriptLine → Bool
 opens_text (lines.Asks command) = has_text command
 opens_text _ = false
 
@@ -52,7 +52,7 @@ with_text number command below =
     else Fails number (number + length below)
 
 -- The order of a line with this number, above these lines.
-abbrev pub order_of : ℕ → Line → List (List ℕ) → List Order
+abbrev pub order_of : ℕ → ScriptLine → List (List ℕ) → List Order
 order_of number lines.Skipped below = []
 order_of number (lines.Servers config) below = Opens number (setup_of config) ∷ []
 order_of number (lines.Asks command) below =

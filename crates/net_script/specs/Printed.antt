@@ -2,7 +2,7 @@
 use Rattle.std.specs.Prelude.{ℕ, ◌+◌, Bool, false, nat_lt, List, [], ◌∷◌, ◌++◌, length, Option, Some, None, codes, decimal, slice_get}
 use Rattle.std.specs.Option.{option_map}
 use Rattle.fc_base.specs.declared.fault.Fault.{Fault}
-use Rattle.printed.specs.Words.{spaced}
+use Rattle.printed.specs.Words.{with_blanks_between}
 use Rattle.printed.specs.Reports.{report_words}
 use Rattle.printed.specs.Refusals as printed
 use Rattle.engine.specs.declared.issue.Issue.{Issue}
@@ -16,8 +16,8 @@ use Rattle.messages.specs.declared.reading.look.FrameLook.{FrameLook}
 use Rattle.messages.specs.FrameBytes.{frame_spelling}
 use Rattle.messages.specs.Looks.{look_of, sort_name}
 use Rattle.net_world.specs.Setup.{Setup}
-use Rattle.net_world.specs.declared.told.Answer.{Answer}
-use Rattle.net_world.specs.declared.told.Answer.TheVariants.{Plain, Run, Attempt, Issued, Checked}
+use Rattle.net_world.specs.declared.told.WorldAnswer.{WorldAnswer}
+use Rattle.net_world.specs.declared.told.WorldAnswer.TheVariants.{Plain, Run, Attempt, Issued, Checked}
 use Rattle.net_world.specs.Happenings.{Happening, Deliver}
 use Rattle.net_world.specs.Frames.{frames_sent, frames_of_step, to_of}
 use Rattle.net_world.specs.Changes.{Change, Met, Landed, Rotted, steps}
@@ -35,7 +35,7 @@ issue_words Finished = codes "finished" ∷ []
 issue_words Stopped = codes "stopped" ∷ []
 
 -- The words of an answer.
-abbrev pub answer_words : Answer → List (List ℕ)
+abbrev pub answer_words : WorldAnswer → List (List ℕ)
 answer_words Plain = []
 answer_words (Run run) = codes "run" ∷ decimal run ∷ []
 answer_words (Attempt attempt) = codes "attempt" ∷ decimal attempt ∷ []
@@ -43,11 +43,11 @@ answer_words (Issued issue) = issue_words issue
 answer_words (Checked report) = codes "report" ∷ report_words report
 
 -- The line of an answer.
-abbrev pub answer_line : Answer → List ℕ
-answer_line answer = spaced (codes "ok" ∷ answer_words answer)
+abbrev pub answer_line : WorldAnswer → List ℕ
+answer_line answer = with_blanks_between (codes "ok" ∷ answer_words answer)
 
 -- A report has faults.
-abbrev pub has_faults : Answer → Bool
+abbrev pub has_faults : WorldAnswer → Bool
 has_faults (Checked report) = nat_lt 0 report.faults
 has_faults Plain = false
 has_faults (Run run) = false
@@ -60,7 +60,7 @@ refusal_line fault = printed.refusal_line (printed.plain fault)
 
 -- The line of a bad line.
 abbrev pub bad_line : ℕ → List ℕ
-bad_line number = spaced (codes "bad" ∷ codes "line" ∷ decimal number ∷ [])
+bad_line number = with_blanks_between (codes "bad" ∷ codes "line" ∷ decimal number ∷ [])
 
 -- A node's word.
 abbrev pub node_word : Node → List ℕ
@@ -71,7 +71,7 @@ node_word Mirror = codes "mirror"
 -- The line of a frame that was sent: its number, the nodes, its kind and its length.
 abbrev pub frame_line : ℕ → FrameLook → ℕ → List ℕ
 frame_line i look len =
-    spaced (codes "sent" ∷ decimal i ∷ node_word look.from ∷ node_word look.to ∷ sort_name look.kind
+    with_blanks_between (codes "sent" ∷ decimal i ∷ node_word look.from ∷ node_word look.to ∷ sort_name look.kind
     ∷ decimal len ∷ [])
 
 abbrev pub sent_line : ℕ → Frame → List ℕ
@@ -83,10 +83,10 @@ sent_lines i [] = []
 sent_lines i (f ∷ fs) = sent_line i f ∷ sent_lines (i + 1) fs
 
 -- The frames that are sent with a change.
-abbrev pub frames_with : Setup → List Change → Change → List Frame
-frames_with setup past (Met step) = frames_of_step setup (steps past) step
-frames_with setup past (Landed s j k mask) = []
-frames_with setup past (Rotted s j sector bytes) = []
+abbrev pub frames_of_change : Setup → List Change → Change → List Frame
+frames_of_change setup past (Met step) = frames_of_step setup (steps past) step
+frames_of_change setup past (Landed s j k mask) = []
+frames_of_change setup past (Rotted s j sector bytes) = []
 
 -- The node to which a frame comes.
 abbrev pub addressee : Setup → List Change → Happening → Option Node
@@ -95,7 +95,7 @@ addressee setup past e = None
 
 -- The line of a cut that a server asks for.
 abbrev pub cut_line : Node → List ℕ
-cut_line node = spaced (codes "act" ∷ codes "cut" ∷ node_word node ∷ [])
+cut_line node = with_blanks_between (codes "act" ∷ codes "cut" ∷ node_word node ∷ [])
 
 -- A server asks for the cut where a frame came to it.
 abbrev pub act_lines : Option Node → Act → List (List ℕ)
@@ -108,7 +108,7 @@ abbrev pub lines_by : Setup → List Change → Happening → Outcome → List (
 lines_by setup past e (Refuses fault) = refusal_line fault ∷ []
 lines_by setup past e (Drops step) = refusal_line FrameBadField ∷ []
 lines_by setup past e (Does change) =
-    (answer_line (answer setup past e) ∷ sent_lines (length (frames_sent setup (steps past))) (frames_with setup past change))
+    (answer_line (answer setup past e) ∷ sent_lines (length (frames_sent setup (steps past))) (frames_of_change setup past change))
     ++ act_lines (addressee setup past e) (act setup past change)
 
 -- The lines of what happens.

@@ -7,7 +7,7 @@ use Rattle.bounded_input.specs.declared.input.InputFault.{InputFault as Unread}
 use Rattle.bounded_input.specs.declared.input.InputFault.TheVariants as unread
 use Rattle.net_script.specs.declared.script_fault.ScriptFault.{ScriptFault}
 use Rattle.net_script.specs.declared.script_fault.ScriptFault.TheVariants as faults
-use Rattle.printed.specs.Words.{ended, Finishes}
+use Rattle.printed.specs.Words.{with_line_feed, Finishes}
 use Rattle.net_script.specs.Orders.{Order, orders_of}
 use Rattle.net_script.specs.Printed.{refusal_line}
 use Rattle.net_script.specs.Script.{lines_of_orders, reads_well, text_of, status_of, is_too_long}
@@ -20,12 +20,12 @@ pub record EndedSoon (lines : List Order → List (List ℕ)) (reads : List Orde
   pub rest : List Order
   pub split : orders ≡ before ++ (lacking ∷ rest)
   pub lacks : IsTrue (reads (before ++ lacking ∷ []))
-  pub finishes : Finishes (flat_map ended (lines before) ++ ended (refusal_line NoMemory)) 2 old new status
+  pub finishes : Finishes (flat_map with_line_feed (lines before) ++ with_line_feed (refusal_line NoMemory)) 2 old new status
 
 -- Orders have run: all of their lines are written, and the status is theirs; or memory ran out.
 abbrev pub RunOrders : (List Order → List (List ℕ)) → (List Order → Bool) → (List Order → ℕ) → List Order → Option (List ℕ) → Option (List ℕ) → ℕ → Type 0
 RunOrders lines reads wanted orders old new status =
-    Finishes (flat_map ended (lines orders)) (wanted orders) old new status
+    Finishes (flat_map with_line_feed (lines orders)) (wanted orders) old new status
     ⊎ EndedSoon lines reads orders old new status
 
 -- A script has run: what it prints is written, and its status is answered; or memory ran out.

@@ -2,12 +2,12 @@
 use Rattle.std.specs.Prelude.{ℕ, Bool, true, false, ◌||◌, nat_lt, List, [], ◌∷◌, ◌++◌, length, codes, if◌then◌else◌}
 use Rattle.std.specs.List.{flat_map}
 use Rattle.net_world.specs.Setup.{Setup}
-use Rattle.net_world.specs.declared.told.Answer.{Answer}
+use Rattle.net_world.specs.declared.told.WorldAnswer.{WorldAnswer}
 use Rattle.net_world.specs.Happenings.{Happening}
 use Rattle.net_world.specs.Outcomes.{Outcome, Does, Refuses, Drops, outcome}
 use Rattle.net_world.specs.World.{world, answer}
 use Rattle.net_script.specs.Commands.{happens}
-use Rattle.printed.specs.Words.{ended}
+use Rattle.printed.specs.Words.{with_line_feed}
 use Rattle.net_script.specs.Orders.{Order, Opens, Asks, Fails, orders_of}
 use Rattle.net_script.specs.Printed.{lines_at, bad_line, has_faults}
 
@@ -41,7 +41,7 @@ reads_well (Opens line setup ∷ orders) = are_commands orders
 reads_well (order ∷ orders) = false
 
 -- What comes of it isn't refused, and tells of faults.
-abbrev pub tells_faults : Answer → Outcome → Bool
+abbrev pub tells_faults : WorldAnswer → Outcome → Bool
 tells_faults answer (Does change) = has_faults answer
 tells_faults answer (Refuses fault) = false
 tells_faults answer (Drops step) = false
@@ -82,7 +82,7 @@ is_too_long script = nat_lt 1048576 (length script)
 abbrev pub text_of : List ℕ → List ℕ
 text_of script =
     if is_too_long script then codes "too long\n"
-    else flat_map ended (lines_of_orders (orders_of script))
+    else flat_map with_line_feed (lines_of_orders (orders_of script))
 
 -- Its status.
 abbrev pub status_of : List ℕ → ℕ

@@ -3,18 +3,19 @@
 ghost use Rattle.std.specs.Prelude.{◌≡◌, ℕ, [], ◌==◌, length, MatchOption, min, ◌-◌, ◌^◌};
 ghost use Rattle.std.specs.Option.{option_map};
 ghost use Rattle.messages.specs.declared.node.Node.{Node as ANode};
-ghost use Rattle.net_script.specs.declared.line.Line.{Line as ALine};
+ghost use Rattle.net_script.specs.declared.line.ScriptLine.{ScriptLine as ALine};
 ghost use Rattle.net_script.specs.Words.{words_of};
 ghost use Rattle.net_script.specs.Arguments.{read_as, leading, alone, maybe, numbers, one, two, three, four, node, node_of, place, first_sectors, sectors_of};
 
-use crate::line::Line;
+use crate::line::ScriptLine;
 use crate::words::{is_word, number_of, split_word};
 use fc_base::ServerNo;
 use messages::Node;
 
 /// The number that the first word spells, and what stands behind it.
 pub(crate) fn leading_number(words: &[u8]) -> Option<(u64, &[u8])>
-    ensures { option_map (λ parts. (parts.0, words_of parts.1.now)) result ≡ leading (words_of words.now) }
+    ensures { option_map (λ parts. (parts.0, words_of parts.1.now)) result
+        ≡ leading (words_of words.now) }
 {
     let (word, rest) = split_word(words)?;
     Some((number_of(word)?, rest))
@@ -28,10 +29,14 @@ pub(crate) fn is_end(words: &[u8]) -> bool
 }
 
 /// This line, where no word is left.
-pub(crate) fn alone(line: Line, words: &[u8]) -> Line
+pub(crate) fn alone(line: ScriptLine, words: &[u8]) -> ScriptLine
     ensures { result ≡ alone line (words_of words.now) }
 {
-    if is_end(words) { line } else { Line::Unread }
+    if is_end(words) {
+        line
+    } else {
+        ScriptLine::Unread
+    }
 }
 
 /// Whether this word is left: it and no more, or none. `None` where others are.

@@ -1,25 +1,29 @@
 //! The event that a command makes happen.
 
 ghost use Rattle.std.specs.Prelude.{◌≡◌, IfOk, replicate};
-ghost use Rattle.net_world.specs.Events.{plainly, happening};
+ghost use Rattle.net_world.specs.Events.{plain_happening, happening};
 ghost use Rattle.net_script.specs.Commands.{saving_happens, happens};
 
 use crate::command::{Command, Saving};
-use net_world::{Event, PlainEvent};
+use net_world::{PlainEvent, WorldEvent};
 use std::alloc::{AllocError, Global};
 
 /// How many bytes a sector has.
 const SECTOR: usize = 512;
 
 /// The event of a command, with the text below it.
-pub(crate) fn event_of(alloc: Global, command: &Command, text: &[u8]) -> Result<Event, AllocError>
+pub(crate) fn event_of(
+    alloc: Global,
+    command: &Command,
+    text: &[u8],
+) -> Result<WorldEvent, AllocError>
     ensures { IfOk result (λ event. happening event ≡ happens command.now text.now) }
 {
     let event = match *command {
         Command::Saves(command) => saving_event(alloc, &command, text)?,
         Command::CutShort { landed, command } => {
             let event = saving_event(alloc, &command, text)?;
-            return Ok(Event::CutIn { landed, event });
+            return Ok(WorldEvent::CutIn { landed, event });
         }
         Command::Trigger { run, act } => PlainEvent::Trigger { run, act },
         Command::Stop(run) => PlainEvent::StopRun { run },
@@ -53,12 +57,12 @@ pub(crate) fn event_of(alloc: Global, command: &Command, text: &[u8]) -> Result<
         Command::Cut(node) => PlainEvent::Cut { node },
         Command::LoseNote => PlainEvent::LoseNote,
     };
-    Ok(Event::Plain(event))
+    Ok(WorldEvent::Plain(event))
 }
 
 /// The event of a command in which a node may save.
 fn saving_event(alloc: Global, command: &Saving, text: &[u8]) -> Result<PlainEvent, AllocError>
-    ensures { IfOk result (λ event. plainly event ≡ saving_happens command.now text.now) }
+    ensures { IfOk result (λ event. plain_happening event ≡ saving_happens command.now text.now) }
 {
     Ok(match *command {
         Saving::Begin => PlainEvent::Begin {

@@ -22,7 +22,7 @@ mod told;
 mod words;
 
 pub use command::{Command, Saving};
-pub use line::Line;
+pub use line::ScriptLine;
 pub use running::{MAX_SCRIPT, run_script};
 pub use script_fault::ScriptFault;
 pub use table::line_of;

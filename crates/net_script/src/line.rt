@@ -5,7 +5,7 @@ use net_world::Config;
 
 /// What a line asks for.
 #[derive(Clone, Copy, Debug, PartialEq, Eq)]
-pub enum Line {
+pub enum ScriptLine {
     /// Nothing: it has no words, or its first begins with `#`.
     Skipped,
     /// `servers N`, `servers N mirror`: a world of so many, 1 to 8.

@@ -3,11 +3,11 @@
 ghost use Rattle.std.specs.Prelude.{◌≡◌, ◌⊎◌, ◌+◌, ◌<◌, ◌≤◌, ⊤, [], ◌∷◌, ◌++◌, true, false, length, MatchOption, if◌then◌else◌};
 ghost use Rattle.std.specs.List.{list_any, position_or_len};
 ghost use Rattle.net_script.specs.Words.{is_line_feed, lines_of};
-ghost use Rattle.printed.specs.Words.{ended};
+ghost use Rattle.printed.specs.Words.{with_line_feed};
 ghost use Rattle.net_script.specs.Orders.{Asks, closes, text_in, with_text, has_text_in, has_text, orders_from, orders_of};
 
 use crate::command::{Command, Saving};
-use crate::line::Line;
+use crate::line::ScriptLine;
 use crate::order::Order;
 use crate::table::line_of;
 
@@ -48,15 +48,15 @@ impl<'a> Orders<'a> {
             let number = self.number;
             let line = self.take_line();
             match line_of(line) {
-                Line::Skipped => {}
-                Line::Servers(config) => {
+                ScriptLine::Skipped => {}
+                ScriptLine::Servers(config) => {
                     return Some(Order::Opens {
                         line: number,
                         config,
                     });
                 }
-                Line::Asks(command) => return Some(self.asked(number, command)),
-                Line::Unread => {
+                ScriptLine::Asks(command) => return Some(self.asked(number, command)),
+                ScriptLine::Unread => {
                     return Some(Order::Fails {
                         line: number,
                         at: number,
@@ -72,7 +72,9 @@ impl<'a> Orders<'a> {
         requires room { self.old.number + length self.old.rest.now ≤ u64.MAX }
         requires above { self.old.number ≡ line + 1 }
         ensures order { as_order result ∷ orders_left self.new
-            ≡ (if has_text command then with_text line command (lines_of self.old.rest.now) else Asks line command []) ∷ orders_from (line + 1) (has_text command) (lines_of self.old.rest.now) }
+            ≡ (if has_text command then with_text line command
+            (lines_of self.old.rest.now) else Asks line command []) ∷ orders_from (line + 1)
+            (has_text command) (lines_of self.old.rest.now) }
         ensures shorter { length self.new.rest.now ≤ length self.old.rest.now }
         ensures number { self.new.number + length self.new.rest.now ≤ u64.MAX }
     {
@@ -101,9 +103,12 @@ impl<'a> Orders<'a> {
     fn take_text(&mut self) -> Option<&'a [u8]>
         requires { self.old.number + length self.old.rest.now ≤ u64.MAX }
         ensures text { MatchOption result (list_any closes (lines_of self.old.rest.now) ≡ false)
-            (λ text. (list_any closes (lines_of self.old.rest.now) ≡ true) × (text_in (lines_of self.old.rest.now) ≡ text.now)) }
-        ensures last { MatchOption result (self.new.number ≡ self.old.number + length (lines_of self.old.rest.now)) (λ _. ⊤) }
-        ensures orders { orders_from self.old.number true (lines_of self.old.rest.now) ≡ orders_left self.new }
+            (λ text. (list_any closes (lines_of self.old.rest.now) ≡ true)
+            × (text_in (lines_of self.old.rest.now) ≡ text.now)) }
+        ensures last { MatchOption result
+            (self.new.number ≡ self.old.number + length (lines_of self.old.rest.now)) (λ _. ⊤) }
+        ensures orders { orders_from self.old.number true (lines_of self.old.rest.now)
+            ≡ orders_left self.new }
         ensures shorter { length self.new.rest.now ≤ length self.old.rest.now }
         ensures number { self.new.number + length self.new.rest.now ≤ u64.MAX }
     {
@@ -123,7 +128,8 @@ impl<'a> Orders<'a> {
         requires some { 0 < length self.old.rest.now }
         requires room { self.old.number + length self.old.rest.now ≤ u64.MAX }
         ensures lines { lines_of self.old.rest.now ≡ result.now ∷ lines_of self.new.rest.now }
-        ensures bytes { (self.old.rest.now ≡ ended result.now ++ self.new.rest.now) ⊎ (self.new.rest.now ≡ []) }
+        ensures bytes { (self.old.rest.now ≡ with_line_feed result.now ++ self.new.rest.now)
+            ⊎ (self.new.rest.now ≡ []) }
         ensures shorter { length self.new.rest.now < length self.old.rest.now }
         ensures number { self.new.number ≡ self.old.number + 1 }
     {
@@ -138,7 +144,8 @@ impl<'a> Orders<'a> {
 fn first_line(script: &[u8]) -> (&[u8], &[u8])
     requires { 0 < length script.now }
     ensures lines { lines_of script.now ≡ result.0.now ∷ lines_of result.1.now }
-    ensures bytes { (script.now ≡ ended result.0.now ++ result.1.now) ⊎ (result.1.now ≡ []) }
+    ensures bytes { (script.now ≡ with_line_feed result.0.now ++ result.1.now)
+        ⊎ (result.1.now ≡ []) }
     ensures shorter { length result.1.now < length script.now }
 {
     let len = line_len(script);

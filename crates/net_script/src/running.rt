@@ -5,7 +5,7 @@ ghost use Rattle.std.specs.Io.KnownBytes.{Appends};
 ghost use Rattle.fc_base.specs.declared.limits.TheConstants.{MAX_SERVERS};
 ghost use Rattle.net_world.specs.Setup.{setup_of};
 ghost use Rattle.net_script.specs.Left.{orders_left};
-ghost use Rattle.printed.specs.Words.{ended};
+ghost use Rattle.printed.specs.Words.{with_line_feed};
 ghost use Rattle.net_script.specs.Orders.{Opens, orders_of};
 ghost use Rattle.net_script.specs.Printed.{bad_line, refusal_line};
 ghost use Rattle.net_script.specs.Script.{lines_of_orders, reads_well, status_of_orders};
@@ -21,7 +21,7 @@ use crate::script_fault::ScriptFault;
 use bounded_input::read_input;
 use fc_base::Fault;
 use net_world::{Config, World};
-use printed::{REFUSED, Refusal};
+use printed::{PrintedRefusal, REFUSED};
 use std::alloc::Global;
 use std::io;
 use std::io::{Read, Write};
@@ -53,7 +53,8 @@ pub fn run_script<R: Read, W: Write>(
     reader: &mut R,
     writer: &mut W,
 ) -> Result<u8, ScriptFault>
-    ensures { IfSome (R.remaining reader.old) (λ script. Runs script (W.contents writer.old) (W.contents writer.new) result) }
+    ensures { IfSome (R.remaining reader.old)
+        (λ script. Runs script (W.contents writer.old) (W.contents writer.new) result) }
 {
     let script = read_input(alloc, reader, MAX_SCRIPT + 1, MAX_READS)?;
     let status = answer(alloc, script.as_slice(), writer)?;
@@ -75,7 +76,8 @@ fn answer<W: Write>(alloc: Global, script: &[u8], writer: &mut W) -> io::Result<
 /// Runs a script that isn't too long.
 fn run_text<W: Write>(alloc: Global, script: &[u8], writer: &mut W) -> io::Result<u8>
     requires { length script.now ≤ MAX_SCRIPT }
-    ensures { IfOk result (RunOrders lines_of_orders reads_well status_of_orders (orders_of script.now)
+    ensures { IfOk result
+        (RunOrders lines_of_orders reads_well status_of_orders (orders_of script.now)
         (W.contents writer.old) (W.contents writer.new)) }
 {
     let mut orders = Orders::of(script);
@@ -99,7 +101,8 @@ fn open_world<W: Write>(
     requires few { config.servers ≤ MAX_SERVERS }
     requires room { orders.old.number + length orders.old.rest.now ≤ u64.MAX }
     ensures { (line : ℕ) → IfOk result (RunOrders lines_of_orders reads_well status_of_orders
-        (Opens line (setup_of config) ∷ orders_left orders.old) (W.contents writer.old) (W.contents writer.new)) }
+        (Opens line (setup_of config) ∷ orders_left orders.old) (W.contents writer.old)
+        (W.contents writer.new)) }
 {
     match World::new(alloc, config) {
         Ok(mut world) => run_opened(alloc, &mut world, orders, writer),
@@ -110,17 +113,17 @@ fn open_world<W: Write>(
 /// Answers that there is no memory for a world.
 fn refuse_world<W: Write>(writer: &mut W) -> io::Result<u8>
     ensures text { OnOk result (Appends (W.contents writer.old) (W.contents writer.new)
-        (ended (refusal_line Fault.NoMemory))) }
+        (with_line_feed (refusal_line Fault.NoMemory))) }
     ensures status { IfOk result (λ status. status ≡ 2) }
 {
-    writeln!(writer, "{}", Refusal::from(Fault::NoMemory))?;
+    writeln!(writer, "{}", PrintedRefusal::from(Fault::NoMemory))?;
     Ok(REFUSED)
 }
 
 /// Answers a bad line.
 fn refuse_line<W: Write>(writer: &mut W, line: u64) -> io::Result<u8>
     ensures text { OnOk result (Appends (W.contents writer.old) (W.contents writer.new)
-        (ended (bad_line line))) }
+        (with_line_feed (bad_line line))) }
     ensures status { IfOk result (λ status. status ≡ 2) }
 {
     writeln!(writer, "{}", BadLine(line))?;

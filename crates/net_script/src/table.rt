@@ -8,29 +8,29 @@ mod cuts;
 mod jobs;
 mod runs;
 
-use crate::line::Line;
+use crate::line::ScriptLine;
 use crate::words::split_word;
 
 /// What a line of a script asks for, whatever its bytes are. Blanks around words mean nothing, and words are
 /// matched as they are written.
-pub fn line_of(line: &[u8]) -> Line
+pub fn line_of(line: &[u8]) -> ScriptLine
     ensures value { result ≡ line_of line.now }
     ensures few { AsksFew result }
 {
     match split_word(line) {
         Some((word, words)) => {
             if word.starts_with(b"#") {
-                Line::Skipped
+                ScriptLine::Skipped
             } else {
                 asked(word, words)
             }
         }
-        None => Line::Skipped,
+        None => ScriptLine::Skipped,
     }
 }
 
 /// What the row of a word says of the words behind it.
-fn asked(word: &[u8], words: &[u8]) -> Line
+fn asked(word: &[u8], words: &[u8]) -> ScriptLine
     ensures { result ≡ by_table table (word.now ∷ words_of words.now) }
 {
     if let Some(line) = cuts::saving(word, words) {
@@ -44,6 +44,6 @@ fn asked(word: &[u8], words: &[u8]) -> Line
     }
     match cuts::cuts(word, words) {
         Some(line) => line,
-        None => Line::Unread,
+        None => ScriptLine::Unread,
     }
 }

@@ -7,7 +7,7 @@ ghost use Rattle.std.specs.Io.KnownBytes.{Appends};
 ghost use Rattle.messages.specs.declared.frame.Frame.{Frame};
 ghost use Rattle.messages.specs.Looks.{LooksAtFrames};
 ghost use Rattle.net_world.specs.Sending.{sent_in};
-ghost use Rattle.printed.specs.Words.{ended};
+ghost use Rattle.printed.specs.Words.{with_line_feed};
 ghost use Rattle.printed.specs.Reports.{end_words, block_words};
 ghost use Rattle.net_script.specs.Printed.{answer_line, answer_words, issue_words, has_faults, act_lines, sent_lines};
 ghost use Rattle.printed.specs.Words.{blank_before};
@@ -17,7 +17,7 @@ use crate::output::{CutLine, FrameLine};
 use engine::Issue;
 use fc_base::CheckReport;
 use messages::{Act, Node, look_at};
-use net_world::{Answer, Sent, Told};
+use net_world::{Sent, Told, WorldAnswer};
 use printed::write_report_words;
 use std::io;
 use std::io::{ErrorKind, Write};
@@ -30,9 +30,11 @@ pub(crate) fn write_told<W: Write>(
     frames: &Sent,
     addressee: Option<Node>,
 ) -> io::Result<()>
-    ensures { (sent : List Frame) → AreBytesOf sent told.now.first told.now.sent (sent_in frames.now) →
+    ensures { (sent : List Frame) →
+        AreBytesOf sent told.now.first told.now.sent (sent_in frames.now) →
         OnOk result (Appends (W.contents writer.old) (W.contents writer.new)
-        (flat_map ended ((answer_line told.now.answer ∷ sent_lines told.now.first sent) ++ act_lines addressee told.now.act))) }
+        (flat_map with_line_feed
+        ((answer_line told.now.answer ∷ sent_lines told.now.first sent) ++ act_lines addressee told.now.act))) }
 {
     write_answer(writer, &told.answer)?;
     write_sent(writer, frames, told.first, told.sent)?;
@@ -40,21 +42,25 @@ pub(crate) fn write_told<W: Write>(
 }
 
 /// Writes the line of an answer.
-fn write_answer<W: Write>(writer: &mut W, answer: &Answer) -> io::Result<()>
-    ensures { OnOk result (Appends (W.contents writer.old) (W.contents writer.new) (ended (answer_line answer.now))) }
+fn write_answer<W: Write>(writer: &mut W, answer: &WorldAnswer) -> io::Result<()>
+    ensures { OnOk result
+        (Appends (W.contents writer.old) (W.contents writer.new)
+        (with_line_feed (answer_line answer.now))) }
 {
     match answer {
-        Answer::Plain => writeln!(writer, "ok"),
-        Answer::Run(run) => writeln!(writer, "ok run {}", run.0),
-        Answer::Attempt(attempt) => writeln!(writer, "ok attempt {}", attempt.0),
-        Answer::Issued(issue) => write_issue(writer, issue),
-        Answer::Checked(report) => write_report(writer, report.as_report()),
+        WorldAnswer::Plain => writeln!(writer, "ok"),
+        WorldAnswer::Run(run) => writeln!(writer, "ok run {}", run.0),
+        WorldAnswer::Attempt(attempt) => writeln!(writer, "ok attempt {}", attempt.0),
+        WorldAnswer::Issued(issue) => write_issue(writer, issue),
+        WorldAnswer::Checked(report) => write_report(writer, report.as_report()),
     }
 }
 
 /// Writes the line of what a worker is told that asks for a write.
 fn write_issue<W: Write>(writer: &mut W, issue: &Issue) -> io::Result<()>
-    ensures { OnOk result (Appends (W.contents writer.old) (W.contents writer.new) (ended (answer_line (Answer.Issued issue.now)))) }
+    ensures { OnOk result
+        (Appends (W.contents writer.old) (W.contents writer.new)
+        (with_line_feed (answer_line (WorldAnswer.Issued issue.now)))) }
 {
     match issue {
         Issue::Write(ticket) => writeln!(
@@ -72,7 +78,9 @@ fn write_issue<W: Write>(writer: &mut W, issue: &Issue) -> io::Result<()>
 
 /// Writes the line of a report.
 fn write_report<W: Write>(writer: &mut W, report: &CheckReport) -> io::Result<()>
-    ensures { OnOk result (Appends (W.contents writer.old) (W.contents writer.new) (ended (answer_line (Answer.Checked report.now)))) }
+    ensures { OnOk result
+        (Appends (W.contents writer.old) (W.contents writer.new)
+        (with_line_feed (answer_line (WorldAnswer.Checked report.now)))) }
 {
     write!(writer, "ok report ")?;
     write_report_words(writer, report)?;
@@ -82,7 +90,8 @@ fn write_report<W: Write>(writer: &mut W, report: &CheckReport) -> io::Result<()
 /// Writes the lines of so many frames, from one on. An error where there are fewer.
 fn write_sent<W: Write>(writer: &mut W, frames: &Sent, first: u64, count: u64) -> io::Result<()>
     ensures { (sent : List Frame) → AreBytesOf sent first count (sent_in frames.now) →
-        OnOk result (Appends (W.contents writer.old) (W.contents writer.new) (flat_map ended (sent_lines first sent))) }
+        OnOk result (Appends (W.contents writer.old) (W.contents writer.new)
+        (flat_map with_line_feed (sent_lines first sent))) }
 {
     for offset in 0..count {
         let Some(line) = frame_line(frames, first, offset) else {
@@ -95,8 +104,10 @@ fn write_sent<W: Write>(writer: &mut W, frames: &Sent, first: u64, count: u64) -
 
 /// The line of the frame that lies so many behind the first.
 fn frame_line(frames: &Sent, first: u64, offset: u64) -> Option<FrameLine>
-    ensures { IfSome result (λ line. (bytes : List ℕ) × (slice_get (sent_in frames.now) (first + offset) ≡ Some bytes)
-        × (line.number ≡ first + offset) × (line.len ≡ length bytes) × LooksAtFrames bytes (Some line.look)) }
+    ensures { IfSome result
+        (λ line. (bytes : List ℕ) × (slice_get (sent_in frames.now) (first + offset) ≡ Some bytes)
+        × (line.number ≡ first + offset) × (line.len ≡ length bytes)
+        × LooksAtFrames bytes (Some line.look)) }
 {
     let number = first.checked_add(offset)?;
     let index = usize::try_from(number).ok()?;
@@ -111,7 +122,9 @@ fn frame_line(frames: &Sent, first: u64, offset: u64) -> Option<FrameLine>
 
 /// Writes the line of a cut that a server asks for, to which a frame came.
 fn write_act<W: Write>(writer: &mut W, addressee: Option<Node>, act: Act) -> io::Result<()>
-    ensures { OnOk result (Appends (W.contents writer.old) (W.contents writer.new) (flat_map ended (act_lines addressee act))) }
+    ensures { OnOk result
+        (Appends (W.contents writer.old) (W.contents writer.new)
+        (flat_map with_line_feed (act_lines addressee act))) }
 {
     match (addressee, act) {
         (Some(node), Act::Cut) => writeln!(writer, "{}", CutLine(node)),
@@ -120,11 +133,11 @@ fn write_act<W: Write>(writer: &mut W, addressee: Option<Node>, act: Act) -> io:
 }
 
 /// Whether a report has faults.
-pub(crate) fn has_faults(answer: &Answer) -> bool
+pub(crate) fn has_faults(answer: &WorldAnswer) -> bool
     ensures { result ≡ has_faults answer.now }
 {
     match answer {
-        Answer::Checked(report) => report.as_report().faults() > 0,
+        WorldAnswer::Checked(report) => report.as_report().faults() > 0,
         _ => false,
     }
 }

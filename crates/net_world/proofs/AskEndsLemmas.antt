@@ -18,9 +18,9 @@ use Rattle.client_core.specs.declared.input.Input.TheVariants as inputs
 use Rattle.client_core.specs.History as client
 use Rattle.client_core.specs.Saves.{Addition}
 use Rattle.client_core.specs.Words as words
-use Rattle.client_core.specs.Hearing.{coming, packets_heard}
-use Rattle.client_core.specs.FrameAnswers.{is_drop, sense, refusal, answered}
-use Rattle.net_world.specs.declared.told.Answer.TheVariants as answers
+use Rattle.client_core.specs.Hearing.{coming_of, packets_heard}
+use Rattle.client_core.specs.FrameAnswers.{is_drop, sense, refusal, answered_entry}
+use Rattle.net_world.specs.declared.told.WorldAnswer.TheVariants as answers
 use Rattle.net_world.specs.declared.told.Told.{Told}
 use Rattle.net_world.specs.declared.world.World.{World}
 use Rattle.net_world.specs.Setup.{Setup}
@@ -30,13 +30,13 @@ use Rattle.net_world.specs.Trace.{Step, AtClient, of_client, client_opening}
 use Rattle.net_world.specs.Frames as frames
 use Rattle.net_world.specs.Frames.{FrameStep, OfClient, at_client, frames_sent, frames_of_step, step_heard}
 use Rattle.net_world.specs.Changes.{Change, Met, steps, trace}
-use Rattle.net_world.specs.Barred.{off, barred}
-use Rattle.net_world.specs.Outcomes.{Does, Refuses, stepped, left_for, met_by_client, brings}
-use Rattle.net_world.specs.World.{answer, told_by, told, act, act_of}
+use Rattle.net_world.specs.Barred.{unless_on, barring_fault}
+use Rattle.net_world.specs.Outcomes.{Does, Refuses, outcome_of_step, left_for, met_by_client, brings}
+use Rattle.net_world.specs.World.{answer, told_by, told_of_happening, act, act_of}
 use Rattle.net_world.specs.ClientNodes.{answer_to}
 use Rattle.net_world.specs.Stands.{StandsFor}
 use Rattle.net_world.specs.Ends as ends
-use Rattle.net_world.specs.Ends.{Ends, after}
+use Rattle.net_world.specs.Ends.{Ends, changes_after}
 use Rattle.net_world.specs.Asking as asking
 use Rattle.net_world.specs.Asking.{entries, step_by, IsAnswered, IsBarred, Refuses as ClientRefuses, ClientEnds}
 use Rattle.net_world.proofs.ClientHeardLemmas.{heard_is}
@@ -69,7 +69,7 @@ met_err w t c list fault is h = err_here w t c fault (ap (λ l. words.refusal (c
 
 -- What happens comes to the client as this, and is barred as all that asks for it to be on.
 pub record ComesToClient (w : Setup) (past : List Change) (e : Happening) (i : Input) : Type 0 where
-  pub bar : barred w (trace w past) (frames_sent w (steps past)) e ≡ off w (trace w past) Client
+  pub bar : barring_fault w (trace w past) (frames_sent w (steps past)) e ≡ unless_on w (trace w past) Client
   pub ok : refusal (client_opening w) (entries w past) i ≡ None → brings w past e ≡ Does (Met (step_by w past i))
   pub err : (fault : Fault) → refusal (client_opening w) (entries w past) i ≡ Some fault → brings w past e ≡ Refuses fault
   pub keeps : is_drop (sense (client_opening w) (entries w past) i) ≡ false
@@ -89,14 +89,14 @@ told_is w past e i t new h is =
     (sym (h.told_is
     ∙ ap (λ a. record { answer = a; first = length (frames_sent w (steps past)); sent = length (frames_of_step w (steps past) (step_by w past i)); act = acts.None }) is
     ∙ ap (λ a. record { answer = answer w past e; first = length (frames_sent w (steps past)); sent = length (frames_of_step w (steps past) (step_by w past i)); act = a })
-    (sym (client_act w past (coming (answered (client_opening w) (entries w past) i))))))
+    (sym (client_act w past (coming_of (answered_entry (client_opening w) (entries w past) i))))))
 
 answered_ends : (w : Setup) (past : List Change) (e : Happening) (i : Input) (t : Told) (new : World) → ComesToClient w past e i → ClientEnds w past i new (Ok t) → Ends w past e new (Ok t)
 answered_ends w past e i t new c h =
     does w past e (Met (step_by w past i)) t new (goes w past e (c.bar ∙ h.on) ∙ c.ok h.free) (told_is w past e i t new h c.answers) h.stands
 
 refused_ends : (w : Setup) (past : List Change) (e : Happening) (i : Input) (fault : Fault) (new : World) → ComesToClient w past e i → IsBarred w past fault new ⊎ ClientRefuses w past i fault new
-    → (told w past e ≡ Err fault) × StandsFor w (after w past e) new
+    → (told_of_happening w past e ≡ Err fault) × StandsFor w (changes_after w past e) new
 refused_ends w past e i fault new c (inl b) = refusing w past e fault new (stops w past e fault (c.bar ∙ b.why)) b.unchanged
 refused_ends w past e i fault new c (inr r) = refusing w past e fault new (goes w past e (c.bar ∙ r.on) ∙ c.err fault r.why) (r.unchanged c.keeps)
 
@@ -119,13 +119,13 @@ module _ (w : Setup) (past : List Change) where
   here : packets_heard (client_opening w) (entries w past) ≡ of_client w (trace w past)
   here = heard_is w past
 
-  ok_by : (e : Happening) (c : Call) → brings w past e ≡ stepped (met_by_client w (trace w past) c) → words.refusal (client_opening w) (packets_heard (client_opening w) (entries w past)) c ≡ None
+  ok_by : (e : Happening) (c : Call) → brings w past e ≡ outcome_of_step (met_by_client w (trace w past) c) → words.refusal (client_opening w) (packets_heard (client_opening w) (entries w past)) c ≡ None
       → brings w past e ≡ Does (Met (OfClient (Happens (client.Met c (saved_for (words.due (client_opening w) (packets_heard (client_opening w) (entries w past)) c))))))
-  ok_by e c is free = is ∙ ap stepped (met_ok w (trace w past) c (packets_heard (client_opening w) (entries w past)) here free)
+  ok_by e c is free = is ∙ ap outcome_of_step (met_ok w (trace w past) c (packets_heard (client_opening w) (entries w past)) here free)
 
-  err_by : (e : Happening) (c : Call) → brings w past e ≡ stepped (met_by_client w (trace w past) c) → (fault : Fault)
+  err_by : (e : Happening) (c : Call) → brings w past e ≡ outcome_of_step (met_by_client w (trace w past) c) → (fault : Fault)
       → words.refusal (client_opening w) (packets_heard (client_opening w) (entries w past)) c ≡ Some fault → brings w past e ≡ Refuses fault
-  err_by e c is fault why = is ∙ ap stepped (met_err w (trace w past) c (packets_heard (client_opening w) (entries w past)) fault here why)
+  err_by e c is fault why = is ∙ ap outcome_of_step (met_err w (trace w past) c (packets_heard (client_opening w) (entries w past)) fault here why)
 
   pub begins : (text : List ℕ) → ComesToClient w past (happenings.Begin text) (inputs.Begin text)
   begins text = record {
@@ -133,7 +133,7 @@ module _ (w : Setup) (past : List Change) where
     ok = ok_by (happenings.Begin text) (calls.Begin text) refl;
     err = err_by (happenings.Begin text) (calls.Begin text) refl;
     keeps = refl;
-    answers = ap (λ list. answers.Run ((words.noted (client_opening w) list).runs + 1)) here;
+    answers = ap (λ list. answers.Run ((words.words_noted (client_opening w) list).runs + 1)) here;
   }
 
   pub verifies : (run : ℕ) (text : List ℕ) → ComesToClient w past (happenings.Verify run text) (inputs.Verify run text)
@@ -142,7 +142,7 @@ module _ (w : Setup) (past : List Change) where
     ok = ok_by (happenings.Verify run text) (calls.Verify run text) refl;
     err = err_by (happenings.Verify run text) (calls.Verify run text) refl;
     keeps = refl;
-    answers = ap (λ list. answers.Attempt ((words.noted (client_opening w) list).attempts + 1)) here;
+    answers = ap (λ list. answers.Attempt ((words.words_noted (client_opening w) list).attempts + 1)) here;
   }
 
   pub triggers : (run : ℕ) (asked : Act) → ComesToClient w past (happenings.Trigger run asked) (inputs.Trigger run asked)

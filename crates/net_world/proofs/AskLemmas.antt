@@ -29,7 +29,7 @@ use Rattle.net_world.specs.declared.mirror_node.MirrorNode.{MirrorNode}
 use Rattle.net_world.specs.declared.mirror_node.Mirrored.{Mirrored}
 use Rattle.net_world.specs.declared.server_node.ServerNode.{ServerNode}
 use Rattle.messages.specs.declared.refusal.Act.TheVariants as acts
-use Rattle.net_world.specs.declared.told.Answer.{Answer}
+use Rattle.net_world.specs.declared.told.WorldAnswer.{WorldAnswer}
 use Rattle.net_world.specs.declared.told.Told.{Told}
 use Rattle.net_world.specs.declared.world.World.{World}
 use Rattle.net_world.specs.Setup.{Setup}
@@ -37,7 +37,7 @@ use Rattle.net_world.specs.Trace.{client_opening}
 use Rattle.net_world.specs.Frames.{frames_sent, frames_of_step, client_entries, of_mirror}
 use Rattle.net_world.specs.Changes as changes
 use Rattle.net_world.specs.Changes.{Change, steps, trace}
-use Rattle.net_world.specs.Barred.{off, is_on, unless}
+use Rattle.net_world.specs.Barred.{unless_on, is_on, unless}
 use Rattle.net_world.specs.World.{frames}
 use Rattle.net_world.specs.Sending.{sent_in}
 use Rattle.net_world.specs.ClientNodes as nodes
@@ -53,10 +53,10 @@ use Rattle.net_world.proofs.ServeLemmas.{first_is}
 pub up_is : (w : Setup) (past : List Change) → is_up (client_opening w) (entries w past) ≡ is_on w (trace w past) Client
 up_is w past = ap words.is_on (heard_is w past)
 
-is_there : (w : Setup) (past : List Change) → is_up (client_opening w) (entries w past) ≡ true → off w (trace w past) Client ≡ None
+is_there : (w : Setup) (past : List Change) → is_up (client_opening w) (entries w past) ≡ true → unless_on w (trace w past) Client ≡ None
 is_there w past h = ap (λ on. unless on NodeOff) (sym (up_is w past) ∙ h)
 
-is_off : (w : Setup) (past : List Change) → is_up (client_opening w) (entries w past) ≡ false → off w (trace w past) Client ≡ Some NodeOff
+is_off : (w : Setup) (past : List Change) → is_up (client_opening w) (entries w past) ≡ false → unless_on w (trace w past) Client ≡ Some NodeOff
 is_off w past h = ap (λ on. unless on NodeOff) (sym (up_is w past) ∙ h)
 
 -- ---- what is refused sends nothing
@@ -142,7 +142,7 @@ client_kept w past old new stands h node_is = record {
   files_are = λ s j disk l at. stands.files_are s j disk l (ap (λ (v : Vec MemDisk Global). slice_get v.items (MAX_JOBS * s + j)) (sym h.files_are) ∙ at);
 }
 
-same_told : (first first' sent' : ℕ) (asked : Asked) (answer : Answer) → first ≡ first' → length asked.frames ≡ sent' → asked.answer ≡ answer → told_of first asked ≡ record { answer = answer; first = first'; sent = sent'; act = acts.None }
+same_told : (first first' sent' : ℕ) (asked : Asked) (answer : WorldAnswer) → first ≡ first' → length asked.frames ≡ sent' → asked.answer ≡ answer → told_of first asked ≡ record { answer = answer; first = first'; sent = sent'; act = acts.None }
 same_told first first' sent' asked answer f k a = rw (f, k, a) refl
 
 -- It is answered.
@@ -153,7 +153,7 @@ answered w past e asked first told old new stands h is tells =
     let es = entries w past in
     let a = h.asks o es stands.client_is in
     let sent : asked.frames ≡ map frame_spelling (frames_of_step w (steps past) (step_by w past e)) =
-    a.frames_are ∙ ap (map frame_spelling) (frames_are w past (answers.answered o es e)) in
+    a.frames_are ∙ ap (map frame_spelling) (frames_are w past (answers.answered_entry o es e)) in
     record {
       on = is_there w past a.on;
       free = a.free;
@@ -163,7 +163,7 @@ answered w past e asked first told old new stands h is tells =
           (is ∙ first_is w past old stands)
           (ap (λ (fs : List (List ℕ)). length fs) sent ∙ length-map (frames_of_step w (steps past) (step_by w past e)) frame_spelling)
           a.answer_is;
-      stands = client_stepped w past (answers.answered o es e) asked.frames old new stands h.moved sent a.stands refl;
+      stands = client_stepped w past (answers.answered_entry o es e) asked.frames old new stands h.moved sent a.stands refl;
     }
 
 refused : (w : Setup) (past : List Change) (e : Input) (fault : Fault) (old new : World) → StandsFor w past old → HasAsked e (Err fault) [] old new

@@ -10,8 +10,8 @@ use Rattle.disk_model.specs.declared.left.Left.{Left}
 use Rattle.disk_model.specs.declared.left.Left.TheVariants.{NoSave, Saved, LostNew, LostOld}
 use Rattle.server_core.specs.declared.event.Event.{Event}
 use Rattle.server_core.specs.History.{Opening, Entry, Met, Cut, Restart}
-use Rattle.server_core.specs.Request.{Request, asked}
-use Rattle.server_core.specs.Run.{Work, Halt, halted, goes_on}
+use Rattle.server_core.specs.Request.{Request, request_of}
+use Rattle.server_core.specs.Run.{Work, Halt, halt_of, goes_on}
 use Rattle.server_core.specs.Words.{Staged, boot, last_run, work, due, work_after}
 use Rattle.server_core.specs.Taken.{saved_state, state_of_job, triggers, takes_now, takes, and_those, takings}
 use Rattle.server_core.specs.Laws.{NumbersGrow}
@@ -58,10 +58,10 @@ same_jobs o older list x None e h = tt
 same_jobs o older list x (Some w) e h = sym (e w.run) ∙ h
 
 begun_next : (o : Opening) (past : List Entry) (e : Event) (left : Left) (d : Option Staged) (w : Option Work) → due o past e ≡ d → IsBegun o past w
-    → IsBegun o (Met e left ∷ past) (work_after left d o.me (boot o past) (asked o.me e) w)
+    → IsBegun o (Met e left ∷ past) (work_after left d o.me (boot o past) (request_of o.me e) w)
 unfolding IsBegun
-begun_next o past e NoSave d w is h = same_jobs o past (Met e NoSave ∷ past) (asked o.me e) w (λ r. refl) h
-begun_next o past e Saved None w is h = same_jobs o past (Met e Saved ∷ past) (asked o.me e) w (λ r. sym (ap (λ x. begun_by r x (begun o r past)) is)) h
+begun_next o past e NoSave d w is h = same_jobs o past (Met e NoSave ∷ past) (request_of o.me e) w (λ r. refl) h
+begun_next o past e Saved None w is h = same_jobs o past (Met e Saved ∷ past) (request_of o.me e) w (λ r. sym (ap (λ x. begun_by r x (begun o r past)) is)) h
 begun_next o past e Saved (Some s) w is h = ap (λ x. begun_by s.run x (begun o s.run past)) is ∙ if_same s.run s.jobs (begun o s.run past) (s.run == s.run) (same_number s.run)
 begun_next o past e LostNew d w is h = tt
 begun_next o past e LostOld d w is h = tt
@@ -149,17 +149,17 @@ takes_from run j x w None s h =
 takes_of : (o : Opening) (past : List Entry) (run j : ℕ) (x : Request) (v : Option Work) (s : State) → work o past ≡ v → takes run j x v ≡ Some s → IsOfSet o run j past
 takes_of o past run j x None s is h = absurd cc
 takes_of o past run j x (Some w) s is h =
-    let p = takes_from run j x w (halted w.run w.since) s h in
+    let p = takes_from run j x w (halt_of w.run w.since) s h in
     record { jobs = w.jobs; is = subst (λ r. begun o r past ≡ Some w.jobs) p.0 (work_begun o past w is); within = job_within w j (slice_get w.jobs j) w.since s refl p.1 }
 
-taking_of : (o : Opening) (past : List Entry) (e : Event) (run j : ℕ) (x : Option State) (s : State) → takes run j (asked o.me e) (work o past) ≡ x
+taking_of : (o : Opening) (past : List Entry) (e : Event) (run j : ℕ) (x : Option State) (s : State) → takes run j (request_of o.me e) (work o past) ≡ x
     → (Contains (takings o run j past) s → IsOfSet o run j past) → Contains (and_those x (takings o run j past)) s → IsOfSet o run j past
 taking_of o past e run j None s is f h = f h
-taking_of o past e run j (Some y) s is f h = elim (first_or_rest y (takings o run j past) s h) [ inl same ↦ takes_of o past run j (asked o.me e) (work o past) y refl is | inr i ↦ f i ]
+taking_of o past e run j (Some y) s is f h = elim (first_or_rest y (takings o run j past) s h) [ inl same ↦ takes_of o past run j (request_of o.me e) (work o past) y refl is | inr i ↦ f i ]
 
 pub taken_of_set : NumbersGrow → (o : Opening) (run j : ℕ) (past : List Entry) (s : State) → Contains (takings o run j past) s → IsOfSet o run j past
 taken_of_set grow o run j [] s h = absurd (none_in s h)
 taken_of_set grow o run j (Met e left ∷ past) s h =
-    set_stays grow o run j (Met e left) past (taking_of o past e run j (takes run j (asked o.me e) (work o past)) s refl (taken_of_set grow o run j past s) h)
+    set_stays grow o run j (Met e left) past (taking_of o past e run j (takes run j (request_of o.me e) (work o past)) s refl (taken_of_set grow o run j past s) h)
 taken_of_set grow o run j (Cut ∷ past) s h = set_stays grow o run j Cut past (taken_of_set grow o run j past s h)
 taken_of_set grow o run j (Restart left ∷ past) s h = set_stays grow o run j (Restart left) past (taken_of_set grow o run j past s h)

@@ -14,7 +14,7 @@ use Rattle.messages.specs.declared.node.Node.TheVariants.{Server, Client, Mirror
 use Rattle.messages.specs.Ranges.{is_text, is_generation}
 use Rattle.server_core.specs.declared.event.Event.{Event}
 use Rattle.server_core.specs.History as server
-use Rattle.server_core.specs.Request.{Request, ToStage, ToStart, ToTrigger, ToMark, ToStop, ToVerify, ToHold, ToPassFully, ToIssue, ToEnd, ToReport, ToNobody, asked}
+use Rattle.server_core.specs.Request.{Request, ToStage, ToStart, ToTrigger, ToMark, ToStop, ToVerify, ToHold, ToPassFully, ToIssue, ToEnd, ToReport, ToNobody, request_of}
 use Rattle.server_core.specs.Words as servers
 use Rattle.server_core.specs.Replies.{Now}
 use Rattle.server_core.specs.Check.{progress_in}
@@ -31,8 +31,8 @@ use Rattle.net_world.specs.Happenings as happenings
 use Rattle.net_world.specs.Trace.{Step, of_client, opening_of, client_opening}
 use Rattle.net_world.specs.Frames.{FrameStep, to_of}
 use Rattle.net_world.specs.Writes.{open_at}
-use Rattle.net_world.specs.Barred.{unless, no_mirror, is_on, off, on, unsent, unopen, no_file, unlosable, unfit, barred}
-use Rattle.net_world.specs.Outcomes.{Outcome, Refuses, stepped, unless_fault, where_saved, unless_barred}
+use Rattle.net_world.specs.Barred.{unless, no_mirror, is_on, unless_on, unless_off, unless_sent, unless_open, no_file, unless_losable, unless_unused, barring_fault}
+use Rattle.net_world.specs.Outcomes.{Outcome, Refuses, outcome_of_step, unless_fault, where_saved, unless_barred}
 
 -- ---- no such refusal
 
@@ -45,7 +45,7 @@ FineStep r = r ≡ Err Conflict → ⊥
 unfoldable pub FineCome : Outcome → Type 0
 FineCome o = o ≡ Refuses Conflict → ⊥
 
-pub fine_step : (r : Result FrameStep Fault) → FineStep r → FineCome (stepped r)
+pub fine_step : (r : Result FrameStep Fault) → FineStep r → FineCome (outcome_of_step r)
 unfolding FineStep FineCome
 fine_step (Ok step) f h = cc
 fine_step (Err fault) f h = f (let e : fault ≡ Conflict = cc in ap Err e)
@@ -78,13 +78,13 @@ unfolding Fine
 fine_one true g y h = cc
 fine_one false g y h = y h
 
-pub fine_off : (w : Setup) (t : List Step) (node : Node) → Fine (off w t node)
+pub fine_off : (w : Setup) (t : List Step) (node : Node) → Fine (unless_on w t node)
 unfolding Fine
 fine_off w t (Server s) = fine_two (nat_lt s w.servers) (is_on w t (Server s)) NoServer NodeOff (λ h. cc) (λ h. cc)
 fine_off w t Client = fine_one (is_on w t Client) NodeOff (λ h. cc)
 fine_off w t Mirror = fine_two w.mirror (is_on w t Mirror) NoMirror NodeOff (λ h. cc) (λ h. cc)
 
-pub fine_on : (w : Setup) (t : List Step) (node : Node) → Fine (on w t node)
+pub fine_on : (w : Setup) (t : List Step) (node : Node) → Fine (unless_off w t node)
 unfolding Fine
 fine_on w t (Server s) = fine_two (nat_lt s w.servers) (not (is_on w t (Server s))) NoServer NodeOn (λ h. cc) (λ h. cc)
 fine_on w t Client = fine_one (not (is_on w t Client)) NodeOn (λ h. cc)
@@ -95,14 +95,14 @@ unfolding Fine
 fine_or None b g f y = fine_one b g y
 fine_or (Some fault) b g f y = f
 
-pub fine_unsent : (w : Setup) (t : List Step) (x : Option Frame) → Fine (unsent w t x)
+pub fine_unsent : (w : Setup) (t : List Step) (x : Option Frame) → Fine (unless_sent w t x)
 unfolding Fine
 fine_unsent w t None h = cc
 fine_unsent w t (Some f) h = fine_off w t (to_of f) h
 
-pub fine_unopen : (w : Setup) (t : List Step) (s j k : ℕ) → Fine (unopen w t s j k)
+pub fine_unopen : (w : Setup) (t : List Step) (s j k : ℕ) → Fine (unless_open w t s j k)
 unfolding Fine
-fine_unopen w t s j k = fine_or (off w t (Server s)) (is_some (open_at t s j k)) NoWrite (fine_off w t (Server s)) (λ h. cc)
+fine_unopen w t s j k = fine_or (unless_on w t (Server s)) (is_some (open_at t s j k)) NoWrite (fine_off w t (Server s)) (λ h. cc)
 
 pub fine_file : (w : Setup) (s j : ℕ) → Fine (no_file w s j)
 unfolding Fine
@@ -113,15 +113,15 @@ unfolding Fine
 fine_both None y f g = g
 fine_both (Some fault) y f g = f
 
-pub fine_unlosable : (w : Setup) (t : List Step) → Fine (unlosable w t)
+pub fine_unlosable : (w : Setup) (t : List Step) → Fine (unless_losable w t)
 unfolding Fine
-fine_unlosable w t = fine_both (no_mirror w) (on w t Client) (fine_one w.mirror NoMirror (λ h. cc)) (fine_on w t Client)
+fine_unlosable w t = fine_both (no_mirror w) (unless_off w t Client) (fine_one w.mirror NoMirror (λ h. cc)) (fine_on w t Client)
 
-pub fine_unfit : (w : Setup) (t : List Step) (g : ℕ) → Fine (unfit w t g)
+pub fine_unfit : (w : Setup) (t : List Step) (g : ℕ) → Fine (unless_unused w t g)
 unfolding Fine
 fine_unfit w t g = fine_two (is_generation g) (list_all (λ earlier. nat_lt earlier g) (generations (of_client w t))) BadGeneration UsedGeneration (λ h. cc) (λ h. cc)
 
-pub fine_bar : (w : Setup) (t : List Step) (fs : List Frame) (e : Happening) → Fine (barred w t fs e)
+pub fine_bar : (w : Setup) (t : List Step) (fs : List Frame) (e : Happening) → Fine (barring_fault w t fs e)
 unfolding Fine
 fine_bar w t fs (Begin text) h = fine_off w t Client h
 fine_bar w t fs (Trigger run act) h = fine_off w t Client h
@@ -138,7 +138,7 @@ fine_bar w t fs (happenings.Check s j) h = fine_off w t (Server s) h
 fine_bar w t fs (Cut node) h = fine_off w t node h
 fine_bar w t fs (Restart node) h = fine_on w t node h
 fine_bar w t fs LoseNote h = fine_unlosable w t h
-fine_bar w t fs (Renew g) h = fine_both (unlosable w t) (unfit w t g) (fine_unlosable w t) (fine_unfit w t g) h
+fine_bar w t fs (Renew g) h = fine_both (unless_losable w t) (unless_unused w t g) (fine_unlosable w t) (fine_unfit w t g) h
 fine_bar w t fs (CutIn landed (CutIn again e)) h = cc
 fine_bar w t fs (CutIn landed (Begin text)) h = fine_bar w t fs (Begin text) h
 fine_bar w t fs (CutIn landed (Trigger run act)) h = fine_bar w t fs (Trigger run act) h
@@ -168,7 +168,7 @@ fine_by false b h = cc
 pub fine_asked : (now : Now) (x : Request) → Fine (answers.refusal_of now x)
 unfolding Fine
 fine_asked now (ToEnd ticket end) h = fine_by (ticket.boot == now.boot) (answers.names_open now.run ticket) h
-fine_asked now (ToReport b a j report) h = fine_by (b == now.boot) (answers.is_attempt a now.check && answers.is_ready (progress_in now.check j)) h
+fine_asked now (ToReport b a j report) h = fine_by (b == now.boot) (answers.is_open_attempt a now.check && answers.is_ready (progress_in now.check j)) h
 fine_asked now ToNobody h = cc
 fine_asked now (ToStage r text) h = cc
 fine_asked now (ToStart r) h = cc
@@ -186,7 +186,7 @@ fine_if true x f h = f h
 fine_if false x f h = cc
 
 pub fine_server : (s : ℕ) (list : List server.Entry) (e : Event) → Fine (answers.refusal (opening_of s) list e)
-fine_server s list e = fine_if (servers.is_on list) (answers.refusal_of (answers.now (opening_of s) list) (asked s e)) (fine_asked (answers.now (opening_of s) list) (asked s e))
+fine_server s list e = fine_if (servers.is_on list) (answers.refusal_of (answers.now (opening_of s) list) (request_of s e)) (fine_asked (answers.now (opening_of s) list) (request_of s e))
 
 -- ---- what the client refuses, but for what comes
 
@@ -222,9 +222,9 @@ fine_tick false h = cc
 
 pub fine_call : (w : Setup) (list : List client.Entry) (c : Call) → NoPacket c → Fine (clients.refusal (client_opening w) list c)
 unfolding Fine NoPacket
-fine_call w list (calls.Begin text) k = fine_two_when (not (clients.is_on list)) (not (is_text text)) (not (has_next (clients.peers (client_opening w) list) (clients.noted (client_opening w) list).generation (clients.noted (client_opening w) list).runs)) JobTooLong NumbersSpent (λ h. cc) (λ h. cc)
-fine_call w list (calls.Trigger run act) k = fine_one_when (not (clients.is_on list)) (not (is_begun (clients.noted (client_opening w) list) run)) NoSuchRun (λ h. cc)
-fine_call w list (calls.Stop run) k = fine_one_when (not (clients.is_on list)) (not (is_begun (clients.noted (client_opening w) list) run)) NoSuchRun (λ h. cc)
-fine_call w list (calls.Verify run text) k = fine_three_when (not (clients.is_on list)) (not (is_begun (clients.noted (client_opening w) list) run)) (not (is_text text)) (not (has_next (clients.peers (client_opening w) list) (clients.noted (client_opening w) list).generation (clients.noted (client_opening w) list).attempts))
+fine_call w list (calls.Begin text) k = fine_two_when (not (clients.is_on list)) (not (is_text text)) (not (has_next (clients.peers (client_opening w) list) (clients.words_noted (client_opening w) list).generation (clients.words_noted (client_opening w) list).runs)) JobTooLong NumbersSpent (λ h. cc) (λ h. cc)
+fine_call w list (calls.Trigger run act) k = fine_one_when (not (clients.is_on list)) (not (is_begun (clients.words_noted (client_opening w) list) run)) NoSuchRun (λ h. cc)
+fine_call w list (calls.Stop run) k = fine_one_when (not (clients.is_on list)) (not (is_begun (clients.words_noted (client_opening w) list) run)) NoSuchRun (λ h. cc)
+fine_call w list (calls.Verify run text) k = fine_three_when (not (clients.is_on list)) (not (is_begun (clients.words_noted (client_opening w) list) run)) (not (is_text text)) (not (has_next (clients.peers (client_opening w) list) (clients.words_noted (client_opening w) list).generation (clients.words_noted (client_opening w) list).attempts))
 fine_call w list (calls.Deliver p) k = absurd k
 fine_call w list calls.Tick k = fine_tick (not (clients.is_on list))

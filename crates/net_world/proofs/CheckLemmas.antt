@@ -17,7 +17,7 @@ use Rattle.server_core.specs.Check.{Check, progress_after}
 use Rattle.server_core.specs.Hearing.{packets_heard}
 use Rattle.net_world.specs.declared.ready.Ready.{Ready}
 use Rattle.net_world.specs.declared.served.Served.{Served}
-use Rattle.net_world.specs.declared.told.Answer.TheVariants.{Checked}
+use Rattle.net_world.specs.declared.told.WorldAnswer.TheVariants.{Checked}
 use Rattle.net_world.specs.declared.told.Told.{Told}
 use Rattle.net_world.specs.declared.world.World.{World}
 use Rattle.net_world.specs.Setup.{Setup}
@@ -25,8 +25,8 @@ use Rattle.net_world.specs.Happenings as happenings
 use Rattle.net_world.specs.Trace.{opening_of}
 use Rattle.net_world.specs.Changes.{Change, trace}
 use Rattle.net_world.specs.Contents.{content}
-use Rattle.net_world.specs.Checks.{key_of, report_of, report_by, report_for, check_end, checked_in, checked}
-use Rattle.net_world.specs.Outcomes.{stepped, met_by_server, reported, brings}
+use Rattle.net_world.specs.Checks.{key_of, report_of, report_by, report_for, check_end, end_of_check_in, end_of_check}
+use Rattle.net_world.specs.Outcomes.{outcome_of_step, met_by_server, end_of_check_met, brings}
 use Rattle.net_world.specs.World.{report_in}
 use Rattle.net_world.specs.Telling.{told_of}
 use Rattle.net_world.specs.Stands.{StandsFor, file}
@@ -63,10 +63,10 @@ report_is w past s j ready h r old new is calm checks = by_end checks.1
 
 -- The end of the check.
 pub checked_is : (w : Setup) (past : List Change) (s j : ℕ) (ready : Ready) (h : IsReady w past s j ready) (r : ReportParts) → r ≡ report_of (key_of h.now j) h.job ready.state (content w past s j)
-    → checked w past s j ≡ Some (events.CheckDone ready.boot ready.attempt j r)
+    → end_of_check w past s j ≡ Some (events.CheckDone ready.boot ready.attempt j r)
 checked_is w past s j ready h r is =
     let held = content w past s j in
-    ap (λ x. checked_in x j held) h.is_open
+    ap (λ x. end_of_check_in x j held) h.is_open
     ∙ ap (λ y. check_end h.now j (report_for h.now j y held)) h.has_job
     ∙ ap (check_end h.now j) (by_made h.now j h.job held ready.state h.made)
     ∙ ap (λ x. Some (events.CheckDone h.now.boot h.now.attempt j x)) (sym is)
@@ -88,11 +88,11 @@ check_comes : (w : Setup) (past : List Change) (s j : ℕ) (ready : Ready) (h : 
     → ComesTo w past s (happenings.Check s j) (inputs.CheckDone ready.boot ready.attempt j r)
 check_comes w past s j ready h r is =
     let e = events.CheckDone ready.boot ready.attempt j r in
-    let meets : brings w past (happenings.Check s j) ≡ stepped (met_by_server (trace w past) s e) = ap (λ x. stepped (reported (trace w past) s x)) (checked_is w past s j ready h r is) in
+    let meets : brings w past (happenings.Check s j) ≡ outcome_of_step (met_by_server (trace w past) s e) = ap (λ x. outcome_of_step (end_of_check_met (trace w past) s x)) (checked_is w past s j ready h r is) in
     record {
       bar = refl;
-      ok = λ served new g. meets ∙ ap stepped (met_ok (trace w past) s e (packets_heard (opening_of s) (entries past s)) (heard_is w past s) g.free);
-      err = λ fault new g. meets ∙ ap stepped (met_err (trace w past) s e (packets_heard (opening_of s) (entries past s)) fault (heard_is w past s) g.why);
+      ok = λ served new g. meets ∙ ap outcome_of_step (met_ok (trace w past) s e (packets_heard (opening_of s) (entries past s)) (heard_is w past s) g.free);
+      err = λ fault new g. meets ∙ ap outcome_of_step (met_err (trace w past) s e (packets_heard (opening_of s) (entries past s)) fault (heard_is w past s) g.why);
       keeps = refl;
     }
 
@@ -109,4 +109,4 @@ pub unready_ends : (w : Setup) (past : List Change) (s j : ℕ) (fault : Fault) 
 unready_ends w past s j fault now stands (inl h) = refuses w past (happenings.Check s j) fault now h.1 (stops w past (happenings.Check s j) fault h.0) stands
 unready_ends w past s j fault now stands (inr h) =
     subst (λ x. Ends w past (happenings.Check s j) now (Err x)) (sym h.1)
-    (refuses w past (happenings.Check s j) NotInFlight now refl (goes w past (happenings.Check s j) h.0 ∙ ap (λ x. stepped (reported (trace w past) s x)) h.2) stands)
+    (refuses w past (happenings.Check s j) NotInFlight now refl (goes w past (happenings.Check s j) h.0 ∙ ap (λ x. outcome_of_step (end_of_check_met (trace w past) s x)) h.2) stands)

@@ -31,10 +31,10 @@ use Rattle.net_world.specs.Trace.{of_client, client_opening}
 use Rattle.net_world.specs.Frames.{OfClient, frames_sent, frames_of_step}
 use Rattle.net_world.specs.Changes as changes
 use Rattle.net_world.specs.Changes.{Change, steps, trace}
-use Rattle.net_world.specs.Barred.{off, unless, barred}
-use Rattle.net_world.specs.Outcomes.{Does, Refuses, stepped, where_saved, client_cut_in, client_frame_cut, delivery_cut_in, frame_cut, said_to_client, brings, lost_by}
+use Rattle.net_world.specs.Barred.{unless_on, unless, barring_fault}
+use Rattle.net_world.specs.Outcomes.{Does, Refuses, outcome_of_step, where_saved, client_cut_in, client_frame_cut, delivery_cut_in, frame_cut, said_to_client, brings, lost_by}
 use Rattle.net_world.specs.World.{answer, act}
-use Rattle.net_world.specs.declared.told.Answer.TheVariants.{Plain}
+use Rattle.net_world.specs.declared.told.WorldAnswer.TheVariants.{Plain}
 use Rattle.net_world.specs.Setup.{Setup}
 use Rattle.net_world.specs.Telling.{plainly_told}
 use Rattle.net_world.specs.Sending.{sent_in}
@@ -52,7 +52,7 @@ use Rattle.net_world.proofs.AskEndsLemmas.{client_act}
 -- Within the save of this the client loses its power: it is barred as what the client meets, and comes of
 -- it what is due.
 pub record CutsClient (w : Setup) (past : List Change) (landed : Bool) (e : Happening) (i : Input) : Type 0 where
-  pub bar : barred w (trace w past) (frames_sent w (steps past)) e ≡ off w (trace w past) Client
+  pub bar : barring_fault w (trace w past) (frames_sent w (steps past)) e ≡ unless_on w (trace w past) Client
   pub saves : is_some (due (client_opening w) (entries w past) i) ≡ true → brings w past e ≡ Does (changes.Met (step_of (Met i (lost_by landed))))
   pub none : due (client_opening w) (entries w past) i ≡ None → brings w past e ≡ Refuses NoSave
   pub answered : answer w past e ≡ Plain
@@ -92,7 +92,7 @@ no_answer false x landed = refl
 
 call_silent : (o : client.Opening) (list : List client.Entry) (c : Call) (landed : Bool) → framed.frames_by o list (Some (client.Met c (lost_by landed))) ≡ []
 call_silent o list c landed =
-    ap (λ b. flat_map frames_of (if b then packets_for (words.peers o list) (words.noted o list) (life o list) c else [])) (no_answer (is_none (words.refusal o list c)) (words.due o list c) landed)
+    ap (λ b. flat_map frames_of (if b then packets_for (words.peers o list) (words.words_noted o list) (life o list) c else [])) (no_answer (is_none (words.refusal o list c)) (words.due o list c) landed)
 
 piece_silent : (o : client.Opening) (list : List client.Entry) (landed : Bool) (m : Meaning) → framed.frames_by o list (heard_by (rules o) (lost_by landed) m) ≡ []
 piece_silent o list landed (Says p) = call_silent o list (calls.Deliver p) landed
@@ -111,14 +111,14 @@ no_save x y h = rw h refl
 
 module _ (w : Setup) (past : List Change) (landed : Bool) where
   call_saves : (c : Call) → is_some (words.due (client_opening w) (packets_heard (client_opening w) (entries w past)) c) ≡ true
-      → stepped (client_cut_in w (trace w past) landed c) ≡ Does (changes.Met (OfClient (Happens (client.Met c (lost_by landed)))))
+      → outcome_of_step (client_cut_in w (trace w past) landed c) ≡ Does (changes.Met (OfClient (Happens (client.Met c (lost_by landed)))))
   call_saves c h =
-      ap stepped (some_save (words.due (client_opening w) (of_client w (trace w past)) c) (OfClient (Happens (client.Met c (lost_by landed))))
+      ap outcome_of_step (some_save (words.due (client_opening w) (of_client w (trace w past)) c) (OfClient (Happens (client.Met c (lost_by landed))))
       (ap (λ l. is_some (words.due (client_opening w) l c)) (sym (heard_is w past)) ∙ h))
 
-  call_none : (c : Call) → words.due (client_opening w) (packets_heard (client_opening w) (entries w past)) c ≡ None → stepped (client_cut_in w (trace w past) landed c) ≡ Refuses NoSave
+  call_none : (c : Call) → words.due (client_opening w) (packets_heard (client_opening w) (entries w past)) c ≡ None → outcome_of_step (client_cut_in w (trace w past) landed c) ≡ Refuses NoSave
   call_none c h =
-      ap stepped (no_save (words.due (client_opening w) (of_client w (trace w past)) c) (OfClient (Happens (client.Met c (lost_by landed))))
+      ap outcome_of_step (no_save (words.due (client_opening w) (of_client w (trace w past)) c) (OfClient (Happens (client.Met c (lost_by landed))))
       (ap (λ l. words.due (client_opening w) l c) (sym (heard_is w past)) ∙ h))
 
   pub cuts_begin : (text : List ℕ) → CutsClient w past landed (CutIn landed (Begin text)) (inputs.Begin text)
@@ -186,14 +186,14 @@ module _ (w : Setup) (past : List Change) (landed : Bool) where
   frame_silent (Whole p) = call_silent (client_opening w) (packets_heard (client_opening w) (entries w past)) (calls.Deliver p) landed
   frame_silent (Piece q) = piece_silent (client_opening w) (packets_heard (client_opening w) (entries w past)) landed (meaning (rules (client_opening w)) (heard_at (client_opening w) (entries w past)) (Piece q))
 
-  brings_is : (number : ℕ) (f : Frame) → GoesTo w past number f → brings w past (CutIn landed (Deliver number)) ≡ stepped (client_frame_cut w (trace w past) landed f (said_to_client w (steps past) f))
-  brings_is number f g = ap (λ x. stepped (delivery_cut_in w past landed x)) g.is_sent ∙ ap (λ node. stepped (frame_cut w past landed node f)) g.goes_to
+  brings_is : (number : ℕ) (f : Frame) → GoesTo w past number f → brings w past (CutIn landed (Deliver number)) ≡ outcome_of_step (client_frame_cut w (trace w past) landed f (said_to_client w (steps past) f))
+  brings_is number f g = ap (λ x. outcome_of_step (delivery_cut_in w past landed x)) g.is_sent ∙ ap (λ node. outcome_of_step (frame_cut w past landed node f)) g.goes_to
 
   pub cuts_delivery : (number : ℕ) (f : Frame) → GoesTo w past number f → CutsClient w past landed (CutIn landed (Deliver number)) (inputs.Deliver f)
   cuts_delivery number f g = record {
     bar = frame_bar w past number f g;
-    saves = λ h. brings_is number f g ∙ ap stepped (frame_saves f h);
-    none = λ h. brings_is number f g ∙ ap stepped (frame_none f h);
+    saves = λ h. brings_is number f g ∙ ap outcome_of_step (frame_saves f h);
+    none = λ h. brings_is number f g ∙ ap outcome_of_step (frame_none f h);
     answered = refl;
     silent = sym (frames_are w past (Met (inputs.Deliver f) (lost_by landed))) ∙ frame_silent f;
     asks = client_act w past (Comes f (lost_by landed));

@@ -23,10 +23,10 @@ use Rattle.client_core.specs.History as client
 use Rattle.client_core.specs.History.{Opening}
 use Rattle.client_core.specs.Note.{Says as NoteSays}
 use Rattle.client_core.specs.Words as words
-use Rattle.client_core.specs.Words.{noted}
+use Rattle.client_core.specs.Words.{words_noted}
 use Rattle.client_core.specs.Saves.{Addition, unless_refused, due_by, noted_after}
 use Rattle.client_core.specs.Hearing.{FrameEntry, Met, Cut, rules, heard_at, packets_heard}
-use Rattle.client_core.specs.FrameAnswers.{Sense, Hears, Keeps, Drops, Misses, sense, sense_of, refusal, refusal_in, due, due_in, answered}
+use Rattle.client_core.specs.FrameAnswers.{Sense, Hears, Keeps, Drops, Misses, sense, sense_of, refusal, refusal_in, due, due_in, answered_entry}
 use Rattle.net_world.specs.declared.asked.Asked.{Asked}
 use Rattle.net_world.specs.declared.client_node.ClientNode.{ClientNode}
 use Rattle.net_world.specs.declared.client_node.ClientNode.TheVariants.{On, Off}
@@ -35,12 +35,12 @@ use Rattle.net_world.specs.ClientNodes.{is_up, Stands, IsEmptyIfBlank, Faults, A
 -- ---- what the note says behind what a save left
 
 said : Opening → List FrameEntry → Noted
-said o past = noted o (packets_heard o past)
+said o past = words_noted o (packets_heard o past)
 
-call_left : (o : Opening) (list : List client.Entry) (c : Call) (a b : Left) → has_new a ≡ has_new b → noted o (client.Met c a ∷ list) ≡ noted o (client.Met c b ∷ list)
-call_left o list c a b h = ap (λ new. noted_after new (words.due o list c) (noted o list)) h
+call_left : (o : Opening) (list : List client.Entry) (c : Call) (a b : Left) → has_new a ≡ has_new b → words_noted o (client.Met c a ∷ list) ≡ words_noted o (client.Met c b ∷ list)
+call_left o list c a b h = ap (λ new. noted_after new (words.due o list c) (words_noted o list)) h
 
-piece_left : (o : Opening) (list : List client.Entry) (a b : Left) (m : Meaning) → has_new a ≡ has_new b → noted o (with_entry (heard_by (rules o) a m) list) ≡ noted o (with_entry (heard_by (rules o) b m) list)
+piece_left : (o : Opening) (list : List client.Entry) (a b : Left) (m : Meaning) → has_new a ≡ has_new b → words_noted o (with_entry (heard_by (rules o) a m) list) ≡ words_noted o (with_entry (heard_by (rules o) b m) list)
 piece_left o list a b (Says p) h = call_left o list (calls.Deliver p) a b h
 piece_left o list a b Waits h = refl
 piece_left o list a b Spoils h = refl
@@ -60,21 +60,21 @@ none_new : (x : Option Addition) (n : Noted) → noted_after false x n ≡ n
 none_new None n = refl
 none_new (Some a) n = refl
 
-piece_old : (o : Opening) (list : List client.Entry) (m : Meaning) → noted o (with_entry (heard_by (rules o) LostOld m) list) ≡ noted o list
-piece_old o list (Says p) = none_new (words.due o list (calls.Deliver p)) (noted o list)
+piece_old : (o : Opening) (list : List client.Entry) (m : Meaning) → words_noted o (with_entry (heard_by (rules o) LostOld m) list) ≡ words_noted o list
+piece_old o list (Says p) = none_new (words.due o list (calls.Deliver p)) (words_noted o list)
 piece_old o list Waits = refl
 piece_old o list Spoils = refl
 piece_old o list Strays = refl
 
 same_old : (o : Opening) (past : List FrameEntry) (e : Input) → said o (Met e LostOld ∷ past) ≡ said o past
 unfolding said
-same_old o past (inputs.Begin text) = none_new (words.due o (packets_heard o past) (calls.Begin text)) (noted o (packets_heard o past))
-same_old o past (inputs.Trigger run act) = none_new (words.due o (packets_heard o past) (calls.Trigger run act)) (noted o (packets_heard o past))
-same_old o past (inputs.Stop run) = none_new (words.due o (packets_heard o past) (calls.Stop run)) (noted o (packets_heard o past))
-same_old o past (inputs.Verify run text) = none_new (words.due o (packets_heard o past) (calls.Verify run text)) (noted o (packets_heard o past))
-same_old o past (inputs.Deliver (Whole p)) = none_new (words.due o (packets_heard o past) (calls.Deliver p)) (noted o (packets_heard o past))
+same_old o past (inputs.Begin text) = none_new (words.due o (packets_heard o past) (calls.Begin text)) (words_noted o (packets_heard o past))
+same_old o past (inputs.Trigger run act) = none_new (words.due o (packets_heard o past) (calls.Trigger run act)) (words_noted o (packets_heard o past))
+same_old o past (inputs.Stop run) = none_new (words.due o (packets_heard o past) (calls.Stop run)) (words_noted o (packets_heard o past))
+same_old o past (inputs.Verify run text) = none_new (words.due o (packets_heard o past) (calls.Verify run text)) (words_noted o (packets_heard o past))
+same_old o past (inputs.Deliver (Whole p)) = none_new (words.due o (packets_heard o past) (calls.Deliver p)) (words_noted o (packets_heard o past))
 same_old o past (inputs.Deliver (Piece q)) = piece_old o (packets_heard o past) (meaning (rules o) (heard_at o past) (Piece q))
-same_old o past inputs.Tick = none_new (words.due o (packets_heard o past) calls.Tick) (noted o (packets_heard o past))
+same_old o past inputs.Tick = none_new (words.due o (packets_heard o past) calls.Tick) (words_noted o (packets_heard o past))
 
 -- ---- it is down behind a lost save that was due
 
@@ -118,10 +118,10 @@ saves None h = cc
 saves (Some a) h = refl
 
 -- The new bytes have landed.
-pub landed_new : (o : Opening) (past : List FrameEntry) (e : Input) (node : ClientNode) → is_some (due o past e) ≡ true → Stands o (Cut ∷ answered o past e ∷ past) node → Stands o (Met e LostNew ∷ past) node
+pub landed_new : (o : Opening) (past : List FrameEntry) (e : Input) (node : ClientNode) → is_some (due o past e) ≡ true → Stands o (Cut ∷ answered_entry o past e ∷ past) node → Stands o (Met e LostNew ∷ past) node
 unfolding said
 landed_new o past e node d s =
-    off_again o (Cut ∷ answered o past e ∷ past) (Met e LostNew ∷ past) node s refl (down o past e LostNew refl d)
+    off_again o (Cut ∷ answered_entry o past e ∷ past) (Met e LostNew ∷ past) node s refl (down o past e LostNew refl d)
     (same_left o past e (saved_for (due o past e)) LostNew (ap has_new (saves (due o past e) d)))
 
 -- They haven't.
@@ -147,7 +147,7 @@ up_call true peers n c h = refl
 up_call false peers n c h = absurd cc
 
 up_in : (o : Opening) (list : List client.Entry) (s : Sense) → is_some (due_in o list s) ≡ true → words.is_on list ≡ true
-up_in o list (Hears c) h = up_call (words.is_on list) (words.peers o list) (noted o list) c h
+up_in o list (Hears c) h = up_call (words.is_on list) (words.peers o list) (words_noted o list) c h
 up_in o list (Keeps q) h = absurd cc
 up_in o list (Drops q) h = absurd cc
 up_in o list Misses h = absurd cc
@@ -175,7 +175,7 @@ module _ (o : Opening) (past : List FrameEntry) (e : Input) where
   up d = up_in o (packets_heard o past) (sense o past e) d
 
   -- It was asked, and then cut.
-  pub behind_ok : (asked : Asked) (was new : ClientNode) → is_some (due o past e) ≡ true → Asks o past e was (Ok asked) → (Stands o (answered o past e ∷ past) was → Stands o (Cut ∷ answered o past e ∷ past) new) → CutsIn o past true e new (Ok tt)
+  pub behind_ok : (asked : Asked) (was new : ClientNode) → is_some (due o past e) ≡ true → Asks o past e was (Ok asked) → (Stands o (answered_entry o past e ∷ past) was → Stands o (Cut ∷ answered_entry o past e ∷ past) new) → CutsIn o past true e new (Ok tt)
   behind_ok asked was new d a s = (a.on, d, landed_new o past e new d (s a.stands))
 
   -- It wants for memory.

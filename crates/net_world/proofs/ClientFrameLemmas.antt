@@ -30,12 +30,12 @@ use Rattle.net_world.specs.Trace.{Step, of_client, client_opening}
 use Rattle.net_world.specs.Frames as frames
 use Rattle.net_world.specs.Frames.{FrameStep, OfClient, at_client, frames_sent, to_of}
 use Rattle.net_world.specs.Changes.{Change, Met, steps, trace}
-use Rattle.net_world.specs.Barred.{off, unless, barred, unsent}
-use Rattle.net_world.specs.Outcomes.{Outcome, Does, Refuses, Drops, comes_to_client, comes_to, delivered, said_to_client, brings, outcome}
-use Rattle.net_world.specs.World.{told, told_by, and_outcome}
+use Rattle.net_world.specs.Barred.{unless_on, unless, barring_fault, unless_sent}
+use Rattle.net_world.specs.Outcomes.{Outcome, Does, Refuses, Drops, comes_to_client, comes_to, delivery, said_to_client, brings, outcome}
+use Rattle.net_world.specs.World.{told_of_happening, told_by, and_outcome}
 use Rattle.net_world.specs.Stands.{StandsFor}
 use Rattle.net_world.specs.Ends as ends
-use Rattle.net_world.specs.Ends.{Ends, after}
+use Rattle.net_world.specs.Ends.{Ends, changes_after}
 use Rattle.net_world.specs.Asking as asking
 use Rattle.net_world.specs.Asking.{entries, step_of, step_by, IsBarred, Refuses as ClientRefuses, ClientEnds}
 use Rattle.net_world.proofs.ClientHeardLemmas.{heard_is, hears_same}
@@ -124,7 +124,7 @@ on_of true h = refl
 on_of false h = cc
 
 -- A client that can be reached is on.
-up_of : (w : Setup) (past : List Change) → off w (trace w past) Client ≡ None → words.is_on (packets_heard (client_opening w) (entries w past)) ≡ true
+up_of : (w : Setup) (past : List Change) → unless_on w (trace w past) Client ≡ None → words.is_on (packets_heard (client_opening w) (entries w past)) ≡ true
 up_of w past h = ap words.is_on (heard_is w past) ∙ on_of (words.is_on (of_client w (trace w past))) h
 
 -- It has this number, and goes to the client.
@@ -132,11 +132,11 @@ pub record GoesTo (w : Setup) (past : List Change) (number : ℕ) (f : Frame) : 
   pub is_sent : slice_get (frames_sent w (steps past)) number ≡ Some f
   pub goes_to : to_of f ≡ Client
 
-pub frame_bar : (w : Setup) (past : List Change) (number : ℕ) (f : Frame) → GoesTo w past number f → barred w (trace w past) (frames_sent w (steps past)) (happenings.Deliver number) ≡ off w (trace w past) Client
-frame_bar w past number f g = ap (unsent w (trace w past)) g.is_sent ∙ ap (off w (trace w past)) g.goes_to
+pub frame_bar : (w : Setup) (past : List Change) (number : ℕ) (f : Frame) → GoesTo w past number f → barring_fault w (trace w past) (frames_sent w (steps past)) (happenings.Deliver number) ≡ unless_on w (trace w past) Client
+frame_bar w past number f g = ap (unless_sent w (trace w past)) g.is_sent ∙ ap (unless_on w (trace w past)) g.goes_to
 
 frame_comes : (w : Setup) (past : List Change) (number : ℕ) (f : Frame) → GoesTo w past number f → brings w past (happenings.Deliver number) ≡ comes_to_client w (trace w past) f (said_to_client w (steps past) f)
-frame_comes w past number f g = ap (delivered w past) g.is_sent ∙ ap (λ node. comes_to w past node f) g.goes_to
+frame_comes w past number f g = ap (delivery w past) g.is_sent ∙ ap (λ node. comes_to w past node f) g.goes_to
 
 delivery_ends : (w : Setup) (past : List Change) (number : ℕ) (f : Frame) (t : Told) (new : World) → GoesTo w past number f → ClientEnds w past (inputs.Deliver f) new (Ok t) → Ends w past (happenings.Deliver number) new (Ok t)
 delivery_ends w past number f t new g h =
@@ -148,7 +148,7 @@ delivery_ends w past number f t new g h =
 dropped : (w : Setup) (past : List Change) (f : Frame) (fault : Fault) (e : happenings.Happening) (new : World) → outcome w past e ≡ comes_to_client w (trace w past) f (said_to_client w (steps past) f)
     → ClientRefuses w past (inputs.Deliver f) fault new
     → DroppedOr f fault (is_drop (sense (client_opening w) (entries w past) (inputs.Deliver f))) (comes_to_client w (trace w past) f (said_to_client w (steps past) f))
-    → (told w past e ≡ Err fault) × StandsFor w (after w past e) new
+    → (told_of_happening w past e ≡ Err fault) × StandsFor w (changes_after w past e) new
 unfolding DroppedOr
 dropped w past f fault e new is r (inl d) = refusing w past e fault new (is ∙ d.1) (r.unchanged d.0)
 dropped w past f fault e new is r (inr d) = (
@@ -157,7 +157,7 @@ dropped w past f fault e new is r (inr d) = (
 )
 
 unanswered : (w : Setup) (past : List Change) (number : ℕ) (f : Frame) (fault : Fault) (new : World) → GoesTo w past number f → IsBarred w past fault new ⊎ ClientRefuses w past (inputs.Deliver f) fault new
-    → (told w past (happenings.Deliver number) ≡ Err fault) × StandsFor w (after w past (happenings.Deliver number)) new
+    → (told_of_happening w past (happenings.Deliver number) ≡ Err fault) × StandsFor w (changes_after w past (happenings.Deliver number)) new
 unanswered w past number f fault new g (inl b) =
     refusing w past (happenings.Deliver number) fault new (stops w past (happenings.Deliver number) fault (frame_bar w past number f g ∙ b.why)) b.unchanged
 unanswered w past number f fault new g (inr r) =

@@ -7,7 +7,7 @@ use Rattle.client_core.specs.declared.call.Call.TheVariants as calls
 use Rattle.client_core.specs.declared.input.Input.TheVariants as inputs
 use Rattle.client_core.specs.History as client
 use Rattle.client_core.specs.Hearing as hearing
-use Rattle.client_core.specs.Hearing.{FrameEntry, coming, packets_heard, heard_at}
+use Rattle.client_core.specs.Hearing.{FrameEntry, coming_of, packets_heard, heard_at}
 use Rattle.client_core.specs.FrameAnswers as answers
 use Rattle.client_core.specs.Packets as packets
 use Rattle.net_world.specs.Setup.{Setup}
@@ -21,7 +21,7 @@ use Rattle.net_world.proofs.HearingLemmas.{nodes_hear_their_own}
 next : Setup → Heard client.Entry → Coming client.Entry Left → Heard client.Entry
 next w h c = record { entries = with_entry (entry_of (at_client w) h c) h.entries; rows = rows_of (at_client w) h c }
 
-entry_same : (w : Setup) (h : Heard client.Entry) (c : Coming client.Entry Left) → entry_of (at_client w) h (coming (client_frame_entry c)) ≡ entry_of (at_client w) h c
+entry_same : (w : Setup) (h : Heard client.Entry) (c : Coming client.Entry Left) → entry_of (at_client w) h (coming_of (client_frame_entry c)) ≡ entry_of (at_client w) h c
 entry_same w h (Comes f left) = refl
 entry_same w h (Happens (client.Met (calls.Begin text) left)) = refl
 entry_same w h (Happens (client.Met (calls.Trigger run act) left)) = refl
@@ -34,7 +34,7 @@ entry_same w h (Happens (client.Restart mirror)) = refl
 entry_same w h (Happens (client.Renew g left)) = refl
 entry_same w h (Happens client.Lose) = refl
 
-next_same : (w : Setup) (h : Heard client.Entry) (c : Coming client.Entry Left) → next w h (coming (client_frame_entry c)) ≡ next w h c
+next_same : (w : Setup) (h : Heard client.Entry) (c : Coming client.Entry Left) → next w h (coming_of (client_frame_entry c)) ≡ next w h c
 unfolding next
 next_same w h (Comes f left) = refl
 next_same w h (Happens (client.Met (calls.Begin text) left)) = refl
@@ -48,10 +48,10 @@ next_same w h (Happens (client.Restart mirror)) = refl
 next_same w h (Happens (client.Renew g left)) = refl
 next_same w h (Happens client.Lose) = refl
 
-pub hears_same : (w : Setup) (list : List (Coming client.Entry Left)) → heard (at_client w) (map coming (map client_frame_entry list)) ≡ heard (at_client w) list
+pub hears_same : (w : Setup) (list : List (Coming client.Entry Left)) → heard (at_client w) (map coming_of (map client_frame_entry list)) ≡ heard (at_client w) list
 unfolding next
 hears_same w [] = refl
-hears_same w (c ∷ past) = ap (λ h. next w h (coming (client_frame_entry c))) (hears_same w past) ∙ next_same w (heard (at_client w) past) c
+hears_same w (c ∷ past) = ap (λ h. next w h (coming_of (client_frame_entry c))) (hears_same w past) ∙ next_same w (heard (at_client w) past) c
 
 frames_same : (w : Setup) (list : List client.Entry) (x : Option client.Entry) → answers.frames_by (client_opening w) list x ≡ frames_by (packets.packets (client_opening w)) list x
 frames_same w list None = refl
@@ -67,11 +67,11 @@ sends_same : (w : Setup) (t : List FrameStep) (c : Coming client.Entry Left) →
 sends_same w t c =
     let same = hears_same w (of_client w t) in
     let h = heard (at_client w) (of_client w t) in
-    ap (λ (k : Heard client.Entry). answers.frames_by (client_opening w) k.entries (entry_of (at_client w) k (coming (client_frame_entry c)))) same
+    ap (λ (k : Heard client.Entry). answers.frames_by (client_opening w) k.entries (entry_of (at_client w) k (coming_of (client_frame_entry c)))) same
     ∙ ap (λ x. answers.frames_by (client_opening w) h.entries x) (entry_same w h c)
     ∙ frames_same w h.entries (entry_of (at_client w) h c)
 
-pub entry_again : (e : FrameEntry) → client_frame_entry (coming e) ≡ e
+pub entry_again : (e : FrameEntry) → client_frame_entry (coming_of e) ≡ e
 entry_again (hearing.Met (inputs.Begin text) left) = refl
 entry_again (hearing.Met (inputs.Trigger run act) left) = refl
 entry_again (hearing.Met (inputs.Stop run) left) = refl
@@ -83,6 +83,6 @@ entry_again (hearing.Restart mirror) = refl
 entry_again (hearing.Renew g left) = refl
 entry_again hearing.Lose = refl
 
-pub frames_are : (w : Setup) (past : List Change) (e : FrameEntry) → answers.frames (client_opening w) (client_entries w (steps past)) e ≡ frames_of_step w (steps past) (OfClient (coming e))
+pub frames_are : (w : Setup) (past : List Change) (e : FrameEntry) → answers.frames (client_opening w) (client_entries w (steps past)) e ≡ frames_of_step w (steps past) (OfClient (coming_of e))
 frames_are w past e =
-    ap (answers.frames (client_opening w) (client_entries w (steps past))) (sym (entry_again e)) ∙ sends_same w (steps past) (coming e)
+    ap (answers.frames (client_opening w) (client_entries w (steps past))) (sym (entry_again e)) ∙ sends_same w (steps past) (coming_of e)

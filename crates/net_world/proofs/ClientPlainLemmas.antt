@@ -8,7 +8,7 @@ use Rattle.messages.specs.declared.node.Node.TheVariants.{Client}
 use Rattle.messages.specs.Hearing.{Happens}
 use Rattle.client_core.specs.History as client
 use Rattle.client_core.specs.Note.{is_blank}
-use Rattle.client_core.specs.Words.{noted}
+use Rattle.client_core.specs.Words.{words_noted}
 use Rattle.client_core.specs.Hearing as hearing
 use Rattle.client_core.specs.Hearing.{FrameEntry}
 use Rattle.net_world.specs.declared.told.Told.{Told}
@@ -19,7 +19,7 @@ use Rattle.net_world.specs.Trace.{client_opening}
 use Rattle.net_world.specs.Changes.{Change, Met, trace}
 use Rattle.net_world.specs.Frames.{OfClient}
 use Rattle.net_world.specs.Barred.{unless}
-use Rattle.net_world.specs.Outcomes.{Refuses, stepped, noted_in, outcome}
+use Rattle.net_world.specs.Outcomes.{Refuses, outcome_of_step, noted_in, outcome}
 use Rattle.net_world.specs.Telling.{plainly_told}
 use Rattle.net_world.specs.Sending.{sent_in}
 use Rattle.net_world.specs.ClientNodes as nodes
@@ -58,13 +58,13 @@ pub restart_on : (w : Setup) (past : List Change) → is_up (client_opening w) (
 restart_on w past h = stops w past (Restart Client) NodeOn (ap (λ on. unless (not on) NodeOn) (sym (up_is w past) ∙ h))
 
 pub lacks_is : (w : Setup) (past : List Change) → lacks_note (client_opening w) (entries w past) w.mirror ≡ (w.mirror && is_blank (noted_in w (trace w past)))
-lacks_is w past = ap (λ list. w.mirror && is_blank (noted (client_opening w) list)) (heard_is w past)
+lacks_is w past = ap (λ list. w.mirror && is_blank (words_noted (client_opening w) list)) (heard_is w past)
 
 comes_of : (w : Setup) (past : List Change) → is_up (client_opening w) (entries w past) ≡ false → (b : Bool) → lacks_note (client_opening w) (entries w past) w.mirror ≡ b
-    → outcome w past (Restart Client) ≡ stepped (if b then Err BadNote else Ok (OfClient (Happens (client.Restart w.mirror))))
+    → outcome w past (Restart Client) ≡ outcome_of_step (if b then Err BadNote else Ok (OfClient (Happens (client.Restart w.mirror))))
 comes_of w past h b lacks =
     goes w past (Restart Client) (ap (λ on. unless (not on) NodeOn) (sym (up_is w past) ∙ h))
-    ∙ ap (λ x. stepped (if x then Err BadNote else Ok (OfClient (Happens (client.Restart w.mirror))))) (sym (lacks_is w past) ∙ lacks)
+    ∙ ap (λ x. outcome_of_step (if x then Err BadNote else Ok (OfClient (Happens (client.Restart w.mirror))))) (sym (lacks_is w past) ∙ lacks)
 
 pub restart_plain : (w : Setup) (past : List Change) → is_up (client_opening w) (entries w past) ≡ false → lacks_note (client_opening w) (entries w past) w.mirror ≡ false → IsPlain w past (Restart Client) (step_of (hearing.Restart w.mirror))
 restart_plain w past h noted = record {

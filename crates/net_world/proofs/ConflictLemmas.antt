@@ -18,14 +18,14 @@ use Rattle.client_core.specs.declared.noted.Noted.{Noted}
 use Rattle.state_table.specs.Kept.{kept_of}
 use Rattle.state_table.specs.Laws.{FoundHasItsKey}
 use Rattle.client_core.specs.Refusals.{is_for_client, differs, lacks_room, faults_of_body}
-use Rattle.client_core.specs.Words.{is_on, noted, peers}
+use Rattle.client_core.specs.Words.{is_on, words_noted, peers}
 use Rattle.mirror_core.specs.declared.noted.Noted as mirror_noted
 use Rattle.mirror_core.specs.Requests.{asked_by, is_for_mirror}
 use Rattle.mirror_core.specs.Refusals as mirror_refusals
 use Rattle.mirror_core.specs.Words as mirrors
 use Rattle.net_world.specs.Setup.{Setup}
-use Rattle.net_world.specs.Trace.{Step, IsTrace, of_client, client_opening, opening_of, of_server, of_mirror, mirror_opening, sent}
-use Rattle.net_world.specs.Holders.{taken_of, carried}
+use Rattle.net_world.specs.Trace.{Step, IsTrace, of_client, client_opening, opening_of, of_server, of_mirror, mirror_opening, sent_packets}
+use Rattle.net_world.specs.Holders.{taken_of, carried_state}
 use Rattle.net_world.specs.Passes.{SentStatesWereTaken, WasSent, CarriedStatesWereSent, KeptStatesWereSent, CopiedStatesWereSent, NoPacketConflicts, NoCopyConflicts}
 use Rattle.net_world.specs.Claims.{OfEachList, OfEachTrace}
 use Rattle.net_world.specs.Headline.{OneTaking, StatePacketsAreEqual}
@@ -89,11 +89,11 @@ kept_differs x (Some y) h = (y, refl, not_true (is_same y x) h)
 record Differing (states : List State) (b : Body) : Type 0 where
   pub new : State
   pub old : State
-  pub carries : carried b ≡ Some new
+  pub carries : carried_state b ≡ Some new
   pub found : kept_of new.key states ≡ Some old
   pub other : is_same old new ≡ false
 
-differing_state : (states : List State) (b : Body) (x : State) (l : Bool) → carried b ≡ Some x → slice_get (when (differs x (kept_of x.key states)) Conflict ++ when l TableFull) 0 ≡ Some Conflict → Differing states b
+differing_state : (states : List State) (b : Body) (x : State) (l : Bool) → carried_state b ≡ Some x → slice_get (when (differs x (kept_of x.key states)) Conflict ++ when l TableFull) 0 ≡ Some Conflict → Differing states b
 differing_state states b x l c h =
     let k = kept_differs x (kept_of x.key states) (conflict_differs (differs x (kept_of x.key states)) l h) in
     record { new = x; old = k.0; carries = c; found = k.1; other = k.2 }
@@ -104,7 +104,7 @@ differing n (bodies.Copy x) h = differing_state n.kept (bodies.Copy x) x (lacks_
 differing n _ h = absurd cc
 
 -- Two states that were sent don't differ.
-differs_not : Conflicts → (w : Setup) (t : List Step) (p : PacketParts) (states : List State) → IsTrace w t → Contains (sent w t) p → ((state : State) → Contains states state → WasSent w t state) → Differing states p.body → ⊥
+differs_not : Conflicts → (w : Setup) (t : List Step) (p : PacketParts) (states : List State) → IsTrace w t → Contains (sent_packets w t) p → ((state : State) → Contains states state → WasSent w t state) → Differing states p.body → ⊥
 differs_not laws w t p states trace was sent_so d =
     let new = was_taken laws.taken w t d.new.key d.new refl (laws.in_packets w t trace p d.new was d.carries) in
     let old = was_taken laws.taken w t d.new.key d.old (laws.has d.new.key states d.old d.found) (sent_so d.old (found_in d.new.key states d.old d.found)) in
@@ -115,7 +115,7 @@ differs_not laws w t p states trace was sent_so d =
 
 pub no_packet_conflicts : Conflicts → OfEachTrace NoPacketConflicts
 no_packet_conflicts laws w t trace p was h =
-    let note = noted (client_opening w) (of_client w t) in
+    let note = words_noted (client_opening w) (of_client w t) in
     differs_not laws w t p note.kept trace was (laws.at_client w t trace)
     (differing note p.body (past_the_first (not (is_on (of_client w t))) (not (is_for_client (peers (client_opening w) (of_client w t)) p)) (faults_of_body note p.body) h))
 
@@ -147,7 +147,7 @@ past_down false false n body h = absurd cc
 
 pub no_copy_conflicts : Conflicts → OfEachTrace NoCopyConflicts
 no_copy_conflicts laws w t trace p was h =
-    let note = mirrors.noted mirror_opening (of_mirror t) in
+    let note = mirrors.words_noted mirror_opening (of_mirror t) in
     differs_not laws w t p note.kept trace was (laws.at_mirror w t trace)
     (past_down (not (mirrors.is_on (of_mirror t))) (is_for_mirror p) note p.body h)
 

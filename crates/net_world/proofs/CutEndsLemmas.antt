@@ -21,7 +21,7 @@ use Rattle.server_core.specs.declared.event.Event.TheVariants as events
 use Rattle.server_core.specs.declared.input.Input.TheVariants as inputs
 use Rattle.server_core.specs.History as server
 use Rattle.server_core.specs.History.{Opening}
-use Rattle.server_core.specs.Request.{asked}
+use Rattle.server_core.specs.Request.{request_of}
 use Rattle.server_core.specs.Replies.{replies}
 use Rattle.server_core.specs.Words as words
 use Rattle.server_core.specs.Words.{Staged}
@@ -30,7 +30,7 @@ use Rattle.server_core.specs.Answers.{to_client, sent_by}
 use Rattle.server_core.specs.Hearing as hearing
 use Rattle.server_core.specs.Hearing.{FrameEntry, rules, heard_at, packets_heard}
 use Rattle.server_core.specs.FrameAnswers as framed
-use Rattle.server_core.specs.FrameAnswers.{sense_of, due_in, would_save}
+use Rattle.server_core.specs.FrameAnswers.{sense_of, due_of_sense, would_save}
 use Rattle.net_world.specs.declared.server_node.ServerNode.{ServerNode}
 use Rattle.net_world.specs.declared.world.World.{World}
 use Rattle.net_world.specs.Setup.{Setup}
@@ -38,8 +38,8 @@ use Rattle.net_world.specs.Happenings.{Deliver, Restart, CutIn}
 use Rattle.net_world.specs.Trace.{Step, AtServer, opening_of, of_server}
 use Rattle.net_world.specs.Frames.{FrameStep, frames_sent}
 use Rattle.net_world.specs.Changes.{Change, Met, steps, trace}
-use Rattle.net_world.specs.Barred.{off, on, unsent}
-use Rattle.net_world.specs.Outcomes.{lost_by, where_saved, stepped, said_to_server, server_frame_cut, frame_cut, delivery_cut_in, cut_in}
+use Rattle.net_world.specs.Barred.{unless_on, unless_off, unless_sent}
+use Rattle.net_world.specs.Outcomes.{lost_by, where_saved, outcome_of_step, said_to_server, server_frame_cut, frame_cut, delivery_cut_in, cut_in}
 use Rattle.net_world.specs.World.{act, act_of}
 use Rattle.net_world.specs.ServerNodes as servers
 use Rattle.net_world.specs.ServerNodes.{is_up, has_boot}
@@ -66,7 +66,7 @@ lost_sends me b None bodies h = ap (λ t. flat_map frames_of (to_client me (if t
 lost_sends me b (Some fault) bodies h = refl
 
 event_silent : (o : Opening) (list : List server.Entry) (e : Event) (left : Left) → is_lost left ≡ true → framed.frames_by o list (Some (server.Met e left)) ≡ []
-event_silent o list e left h = lost_sends o.me (is_lost left) (answers.refusal o list e) (replies (answers.now o list) (asked o.me e)) h
+event_silent o list e left h = lost_sends o.me (is_lost left) (answers.refusal o list e) (replies (answers.now o list) (request_of o.me e)) h
 
 piece_silent : (o : Opening) (list : List server.Entry) (m : Meaning) (left : Left) → is_lost left ≡ true → framed.frames_by o list (heard_by (rules o) left m) ≡ []
 piece_silent o list (Says p) left h = event_silent o list (events.Deliver p) left h
@@ -101,14 +101,14 @@ says_none : (t : List Step) (s : ℕ) (landed : Bool) (f : Frame) (p : PacketPar
 says_none t s landed f p list is h =
     none_cut (words.due (opening_of s) (of_server s t) (events.Deliver p)) (step_of s (hearing.Met (inputs.Deliver f) (lost_by landed))) (ap (λ l. is_some (words.due (opening_of s) l (events.Deliver p))) (sym is) ∙ h)
 
-piece_cut : (t : List Step) (s : ℕ) (landed : Bool) (q : PieceParts) (list : List server.Entry) → list ≡ of_server s t → (m : Meaning) → is_some (due_in (opening_of s) list (sense_of q m)) ≡ true
+piece_cut : (t : List Step) (s : ℕ) (landed : Bool) (q : PieceParts) (list : List server.Entry) → list ≡ of_server s t → (m : Meaning) → is_some (due_of_sense (opening_of s) list (sense_of q m)) ≡ true
     → server_frame_cut t s landed (Piece q) m ≡ Ok (step_of s (hearing.Met (inputs.Deliver (Piece q)) (lost_by landed)))
 piece_cut t s landed q list is (Says p) h = says_cut t s landed (Piece q) p list is h
 piece_cut t s landed q list is Waits h = absurd (false_true h)
 piece_cut t s landed q list is Spoils h = absurd (false_true h)
 piece_cut t s landed q list is Strays h = absurd (false_true h)
 
-piece_none : (t : List Step) (s : ℕ) (landed : Bool) (q : PieceParts) (list : List server.Entry) → list ≡ of_server s t → (m : Meaning) → is_some (due_in (opening_of s) list (sense_of q m)) ≡ false
+piece_none : (t : List Step) (s : ℕ) (landed : Bool) (q : PieceParts) (list : List server.Entry) → list ≡ of_server s t → (m : Meaning) → is_some (due_of_sense (opening_of s) list (sense_of q m)) ≡ false
     → server_frame_cut t s landed (Piece q) m ≡ Err NoSave
 piece_none t s landed q list is (Says p) h = says_none t s landed (Piece q) p list is h
 piece_none t s landed q list is Waits h = refl
@@ -129,8 +129,8 @@ frame_not_cut w past s landed (Piece q) h =
     ap (server_frame_cut (trace w past) s landed (Piece q)) (sym (said_is w s past (Piece q)))
     ∙ piece_none (trace w past) s landed q (packets_heard (opening_of s) (entries past s)) (heard_is w past s) (meaning (rules (opening_of s)) (heard_at (opening_of s) (entries past s)) (Piece q)) h
 
-pub cut_bar : (w : Setup) (past : List Change) (number : ℕ) (landed : Bool) (f : Frame) (s : ℕ) → GoesTo w past number f s → unsent w (trace w past) (slice_get (frames_sent w (steps past)) number) ≡ off w (trace w past) (nodes.Server s)
-cut_bar w past number landed f s g = ap (unsent w (trace w past)) g.is_sent ∙ ap (off w (trace w past)) g.goes_to
+pub cut_bar : (w : Setup) (past : List Change) (number : ℕ) (landed : Bool) (f : Frame) (s : ℕ) → GoesTo w past number f s → unless_sent w (trace w past) (slice_get (frames_sent w (steps past)) number) ≡ unless_on w (trace w past) (nodes.Server s)
+cut_bar w past number landed f s g = ap (unless_sent w (trace w past)) g.is_sent ∙ ap (unless_on w (trace w past)) g.goes_to
 
 cut_brings : (w : Setup) (past : List Change) (number : ℕ) (landed : Bool) (f : Frame) (s : ℕ) → GoesTo w past number f s
     → cut_in w past landed (Deliver number) ≡ server_frame_cut (trace w past) s landed f (said_to_server (steps past) s f)
@@ -148,10 +148,10 @@ act_silent w past s (Piece q) left h =
     by_meaning Spoils = refl
     by_meaning Strays = refl
 
-pub frame_cut_plain : (w : Setup) (past : List Change) (number : ℕ) (landed : Bool) (f : Frame) (s : ℕ) → GoesTo w past number f s → off w (trace w past) (nodes.Server s) ≡ None → would_save (opening_of s) (entries past s) f ≡ true
+pub frame_cut_plain : (w : Setup) (past : List Change) (number : ℕ) (landed : Bool) (f : Frame) (s : ℕ) → GoesTo w past number f s → unless_on w (trace w past) (nodes.Server s) ≡ None → would_save (opening_of s) (entries past s) f ≡ true
     → IsPlain w past (CutIn landed (Deliver number)) (step_of s (hearing.Met (inputs.Deliver f) (lost_by landed)))
 frame_cut_plain w past number landed f s g on h = record {
-  comes = goes w past (CutIn landed (Deliver number)) (cut_bar w past number landed f s g ∙ on) ∙ ap stepped (cut_brings w past number landed f s g ∙ frame_is_cut w past s landed f h);
+  comes = goes w past (CutIn landed (Deliver number)) (cut_bar w past number landed f s g ∙ on) ∙ ap outcome_of_step (cut_brings w past number landed f s g ∙ frame_is_cut w past s landed f h);
   answered = refl;
   silent = sym (frames_are w past s (hearing.Met (inputs.Deliver f) (lost_by landed))) ∙ silent (opening_of s) (entries past s) f (lost_by landed) (lost landed);
   asks = act_silent w past s f (lost_by landed) (lost landed);
@@ -164,17 +164,17 @@ frame_cut_ends w past number landed f s node NodeOff old new stands moved l g h 
     refuses w past (CutIn landed (Deliver number)) NodeOff new refl (stops w past (CutIn landed (Deliver number)) NodeOff (cut_bar w past number landed f s g ∙ is_off w past s l h.0)) (server_kept w past s node old new stands moved h.1)
 frame_cut_ends w past number landed f s node NoSave old new stands moved l g h =
     refuses w past (CutIn landed (Deliver number)) NoSave new refl
-    (goes w past (CutIn landed (Deliver number)) (cut_bar w past number landed f s g ∙ is_there w past s l h.0) ∙ ap stepped (cut_brings w past number landed f s g ∙ frame_not_cut w past s landed f h.1))
+    (goes w past (CutIn landed (Deliver number)) (cut_bar w past number landed f s g ∙ is_there w past s l h.0) ∙ ap outcome_of_step (cut_brings w past number landed f s g ∙ frame_not_cut w past s landed f h.1))
     (server_kept w past s node old new stands moved h.2)
 frame_cut_ends w past number landed f s node NoMemory old new stands moved l g h = (refl, server_kept w past s node old new stands moved h.1)
 frame_cut_ends w past number landed f s node _ old new stands moved l g h = absurd h
 
 -- ---- a restart
 
-pub restart_cut_plain : (w : Setup) (past : List Change) (s : ℕ) (landed : Bool) → on w (trace w past) (nodes.Server s) ≡ None → has_boot (opening_of s) (entries past s) ≡ true
+pub restart_cut_plain : (w : Setup) (past : List Change) (s : ℕ) (landed : Bool) → unless_off w (trace w past) (nodes.Server s) ≡ None → has_boot (opening_of s) (entries past s) ≡ true
     → IsPlain w past (CutIn landed (Restart (nodes.Server s))) (step_of s (hearing.Restart (lost_by landed)))
 restart_cut_plain w past s landed h b = record {
-  comes = goes w past (CutIn landed (Restart (nodes.Server s))) h ∙ ap (λ x. stepped (if x then Ok (step_of s (hearing.Restart (lost_by landed))) else Err NoSave)) (sym (boot_is w past s) ∙ b);
+  comes = goes w past (CutIn landed (Restart (nodes.Server s))) h ∙ ap (λ x. outcome_of_step (if x then Ok (step_of s (hearing.Restart (lost_by landed))) else Err NoSave)) (sym (boot_is w past s) ∙ b);
   answered = refl;
   silent = sym (frames_are w past s (hearing.Restart (lost_by landed)));
   asks = refl;
@@ -186,7 +186,7 @@ restart_cut_ends w past s landed node NodeOn old new stands moved l h =
     refuses w past (CutIn landed (Restart (nodes.Server s))) NodeOn new refl (stops w past (CutIn landed (Restart (nodes.Server s))) NodeOn (runs_on w past s l h.0)) (server_kept w past s node old new stands moved h.1)
 restart_cut_ends w past s landed node NoSave old new stands moved l h =
     refuses w past (CutIn landed (Restart (nodes.Server s))) NoSave new refl
-    (goes w past (CutIn landed (Restart (nodes.Server s))) (may_restart w past s l h.0) ∙ ap (λ x. stepped (if x then Ok (step_of s (hearing.Restart (lost_by landed))) else Err NoSave)) (sym (boot_is w past s) ∙ h.1))
+    (goes w past (CutIn landed (Restart (nodes.Server s))) (may_restart w past s l h.0) ∙ ap (λ x. outcome_of_step (if x then Ok (step_of s (hearing.Restart (lost_by landed))) else Err NoSave)) (sym (boot_is w past s) ∙ h.1))
     (server_kept w past s node old new stands moved h.2)
 restart_cut_ends w past s landed node NoMemory old new stands moved l h = (refl, server_kept w past s node old new stands moved h.1)
 restart_cut_ends w past s landed node _ old new stands moved l h = absurd h

@@ -22,47 +22,47 @@ use Rattle.server_core.specs.declared.note.Noted.{Noted}
 use Rattle.server_core.specs.History as server
 use Rattle.server_core.specs.History.{Opening}
 use Rattle.server_core.specs.Note.{Says as NoteSays, SaysOneThing}
-use Rattle.server_core.specs.Request.{Request, ToStart, asked}
+use Rattle.server_core.specs.Request.{Request, ToStart, request_of}
 use Rattle.server_core.specs.Run.{Work}
 use Rattle.server_core.specs.Replies.{Now}
-use Rattle.server_core.specs.Words.{Staged, is_on, boot, last_run, staged, work, is_due, recorded}
+use Rattle.server_core.specs.Words.{Staged, is_on, boot, last_run, staged_run, work, due_by, last_run_after}
 use Rattle.server_core.specs.Words as words
 use Rattle.server_core.specs.Answers.{now, refusal_of}
 use Rattle.server_core.specs.Answers as answers
 use Rattle.server_core.specs.Hearing.{FrameEntry, Met, Cut, Restart, rules, heard_at, packets_heard}
-use Rattle.server_core.specs.FrameAnswers.{sense_of, refusal, refusal_in, due, due_in, would_save, answered}
+use Rattle.server_core.specs.FrameAnswers.{sense_of, refusal, refusal_of_sense, due, due_of_sense, would_save, answered_entry}
 use Rattle.net_world.specs.declared.server_node.ServerNode.{ServerNode}
 use Rattle.net_world.specs.declared.server_node.ServerNode.TheVariants.{On, Off}
-use Rattle.net_world.specs.ServerNodes.{noted, is_up, has_boot, Stands, Steps, Faults, IsOff, Refuses, Restarts, CutsIn, CutsInRestart, no_save, boots}
+use Rattle.net_world.specs.ServerNodes.{words_noted, is_up, has_boot, Stands, Steps, Faults, IsOff, Refuses, Restarts, CutsIn, CutsInRestart, no_save, boots}
 
 false_true : false ≡ true → ⊥
 false_true e = cc
 
 -- A node that is off stands for each list that is off and says the same.
-pub relabel : (o : Opening) (old new : List FrameEntry) (node : ServerNode) → Stands o old node → is_up o old ≡ false → is_up o new ≡ false → noted o (packets_heard o old) ≡ noted o (packets_heard o new) → Stands o new node
+pub relabel : (o : Opening) (old new : List FrameEntry) (node : ServerNode) → Stands o old node → is_up o old ≡ false → is_up o new ≡ false → words_noted o (packets_heard o old) ≡ words_noted o (packets_heard o new) → Stands o new node
 relabel o old new (On server) s off down same = absurd (false_true (sym off ∙ s.1))
 relabel o old new (Off notes) s off down same = (subst (λ x. NoteSays (note_of notes).bytes x) same s.0, down)
 
 -- ---- what is noted of an event, by what its save left
 
 noted_as : (b l : ℕ) (x : Option Staged) (left : Left) → Noted
-noted_as b l x left = record { boot = b; last_run = recorded left x l }
+noted_as b l x left = record { boot = b; last_run = last_run_after left x l }
 
-recorded_same : (a b : Left) (x : Option Staged) (last : ℕ) → has_new a ≡ has_new b → recorded a x last ≡ recorded b x last
+recorded_same : (a b : Left) (x : Option Staged) (last : ℕ) → has_new a ≡ has_new b → last_run_after a x last ≡ last_run_after b x last
 recorded_same a b None last h = refl
 recorded_same a b (Some s) last h = ap (λ t. if t then s.run else last) h
 
-recorded_old : (x : Option Staged) (last : ℕ) → recorded LostOld x last ≡ last
+recorded_old : (x : Option Staged) (last : ℕ) → last_run_after LostOld x last ≡ last
 recorded_old None last = refl
 recorded_old (Some s) last = refl
 
-same_new : (o : Opening) (list : List server.Entry) (e : Event) (a b : Left) → has_new a ≡ has_new b → noted o (server.Met e a ∷ list) ≡ noted o (server.Met e b ∷ list)
+same_new : (o : Opening) (list : List server.Entry) (e : Event) (a b : Left) → has_new a ≡ has_new b → words_noted o (server.Met e a ∷ list) ≡ words_noted o (server.Met e b ∷ list)
 same_new o list e a b h = ap (λ l. noted_with (boot o list) l) (recorded_same a b (words.due o list e) (last_run o list) h)
   where
     noted_with : ℕ → ℕ → Noted
     noted_with x l = record { boot = x; last_run = l }
 
-same_old : (o : Opening) (list : List server.Entry) (e : Event) → noted o list ≡ noted o (server.Met e LostOld ∷ list)
+same_old : (o : Opening) (list : List server.Entry) (e : Event) → words_noted o list ≡ words_noted o (server.Met e LostOld ∷ list)
 same_old o list e = ap (λ l. noted_with (boot o list) l) (sym (recorded_old (words.due o list e) (last_run o list)))
   where
     noted_with : ℕ → ℕ → Noted
@@ -78,8 +78,8 @@ and_false false = refl
 pub record IsLost (o : Opening) (past : List FrameEntry) (f : Frame) : Type 0 where
   pub off_new : is_up o (Met (inputs.Deliver f) LostNew ∷ past) ≡ false
   pub off_old : is_up o (Met (inputs.Deliver f) LostOld ∷ past) ≡ false
-  pub new : noted o (packets_heard o (Met (inputs.Deliver f) Saved ∷ past)) ≡ noted o (packets_heard o (Met (inputs.Deliver f) LostNew ∷ past))
-  pub old : noted o (packets_heard o past) ≡ noted o (packets_heard o (Met (inputs.Deliver f) LostOld ∷ past))
+  pub new : words_noted o (packets_heard o (Met (inputs.Deliver f) Saved ∷ past)) ≡ words_noted o (packets_heard o (Met (inputs.Deliver f) LostNew ∷ past))
+  pub old : words_noted o (packets_heard o past) ≡ words_noted o (packets_heard o (Met (inputs.Deliver f) LostOld ∷ past))
 
 heard_list : Opening → List server.Entry → Left → Meaning → List server.Entry
 heard_list o list left m = with_entry (heard_by (rules o) left m) list
@@ -87,10 +87,10 @@ heard_list o list left m = with_entry (heard_by (rules o) left m) list
 record LostPiece (o : Opening) (list : List server.Entry) (m : Meaning) : Type 0 where
   off_new : is_on (heard_list o list LostNew m) ≡ false
   off_old : is_on (heard_list o list LostOld m) ≡ false
-  new : noted o (heard_list o list Saved m) ≡ noted o (heard_list o list LostNew m)
-  old : noted o list ≡ noted o (heard_list o list LostOld m)
+  new : words_noted o (heard_list o list Saved m) ≡ words_noted o (heard_list o list LostNew m)
+  old : words_noted o list ≡ words_noted o (heard_list o list LostOld m)
 
-lost_piece : (o : Opening) (list : List server.Entry) (q : PieceParts) (m : Meaning) → is_some (due_in o list (sense_of q m)) ≡ true → LostPiece o list m
+lost_piece : (o : Opening) (list : List server.Entry) (q : PieceParts) (m : Meaning) → is_some (due_of_sense o list (sense_of q m)) ≡ true → LostPiece o list m
 unfolding heard_list
 lost_piece o list q (Says p) h = record {
   off_new = and_false (is_on list);
@@ -116,15 +116,15 @@ is_lost_in o past (Piece q) h =
 
 -- ---- what is due isn't refused
 
-due_free : (on : Bool) (w : Now) (last : ℕ) (s : Option Staged) (x : Option Work) (r : Request) → is_some (is_due on last s x r) ≡ true → (if on then refusal_of w r else Some Down) ≡ None
+due_free : (on : Bool) (w : Now) (last : ℕ) (s : Option Staged) (x : Option Work) (r : Request) → is_some (due_by on last s x r) ≡ true → (if on then refusal_of w r else Some Down) ≡ None
 due_free true w last s x (ToStart run) h = refl
 due_free false w last s x (ToStart run) h = absurd (false_true h)
 due_free on w last s x _ h = absurd (false_true h)
 
 event_free : (o : Opening) (list : List server.Entry) (e : Event) → is_some (words.due o list e) ≡ true → answers.refusal o list e ≡ None
-event_free o list e h = due_free (is_on list) (now o list) (last_run o list) (staged o list) (work o list) (asked o.me e) h
+event_free o list e h = due_free (is_on list) (now o list) (last_run o list) (staged_run o list) (work o list) (request_of o.me e) h
 
-piece_free : (o : Opening) (list : List server.Entry) (q : PieceParts) (m : Meaning) → is_some (due_in o list (sense_of q m)) ≡ true → refusal_in o list (sense_of q m) ≡ None
+piece_free : (o : Opening) (list : List server.Entry) (q : PieceParts) (m : Meaning) → is_some (due_of_sense o list (sense_of q m)) ≡ true → refusal_of_sense o list (sense_of q m) ≡ None
 piece_free o list q (Says p) h = event_free o list (events.Deliver p) h
 piece_free o list q Waits h = refl
 piece_free o list q Spoils h = absurd (false_true h)
@@ -139,7 +139,7 @@ saved_by None h = absurd (false_true h)
 saved_by (Some s) h = refl
 
 -- What an answered frame that makes a save leaves.
-pub saves : (o : Opening) (past : List FrameEntry) (f : Frame) → would_save o past f ≡ true → answered o past (inputs.Deliver f) ≡ Met (inputs.Deliver f) Saved
+pub saves : (o : Opening) (past : List FrameEntry) (f : Frame) → would_save o past f ≡ true → answered_entry o past (inputs.Deliver f) ≡ Met (inputs.Deliver f) Saved
 saves o past f h = ap (λ left. Met (inputs.Deliver f) left) (saved_by (due o past (inputs.Deliver f)) h)
 
 -- ---- how the cut ends
@@ -149,7 +149,7 @@ cut_old o past f node up h s =
     let l = is_lost_in o past f h in
     (up, h, relabel o (Cut ∷ past) (Met (inputs.Deliver f) LostOld ∷ past) node s refl l.off_old l.old)
 
-pub cut_new : (o : Opening) (past : List FrameEntry) (f : Frame) (node : ServerNode) → is_up o past ≡ true → would_save o past f ≡ true → Stands o (Cut ∷ (answered o past (inputs.Deliver f) ∷ past)) node → CutsIn o past true f node (Ok tt)
+pub cut_new : (o : Opening) (past : List FrameEntry) (f : Frame) (node : ServerNode) → is_up o past ≡ true → would_save o past f ≡ true → Stands o (Cut ∷ (answered_entry o past (inputs.Deliver f) ∷ past)) node → CutsIn o past true f node (Ok tt)
 cut_new o past f node up h s =
     let l = is_lost_in o past f h in
     let t = subst (λ e. Stands o (Cut ∷ (e ∷ past)) node) (saves o past f h) s in
@@ -216,6 +216,6 @@ tried_by : (o : Opening) (past : List FrameEntry) (notes : Kept) → Stands o pa
 tried_by o past notes s true h = restart_old o past (Off notes) s.1 h s
 tried_by o past notes s false h = (s.1, h, s)
 
-pub tried : (o : Opening) (past : List FrameEntry) (notes now : Kept) (result : Result (Unit {0}) Fault) → Stands o past (Off notes) → now ≡ notes → result ≡ boots (noted o (packets_heard o past)) → CutsInRestart o past false (Off now) result
+pub tried : (o : Opening) (past : List FrameEntry) (notes now : Kept) (result : Result (Unit {0}) Fault) → Stands o past (Off notes) → now ≡ notes → result ≡ boots (words_noted o (packets_heard o past)) → CutsInRestart o past false (Off now) result
 tried o past notes now result s e r =
     subst (λ x. CutsInRestart o past false (Off now) x) (sym r) (tried_by o past now (subst (λ k. Stands o past (Off k)) (sym e) s) (has_boot o past) refl)

@@ -10,7 +10,7 @@ use Rattle.net_world.specs.Setup.{Setup}
 use Rattle.fc_base.specs.declared.fault.Fault.{Fault}
 use Rattle.fc_base.specs.declared.fault.Fault.TheVariants.{NoFrame, NoMemory}
 use Rattle.net_world.specs.Happenings.{Happening, Deliver}
-use Rattle.net_world.specs.Barred.{unsent}
+use Rattle.net_world.specs.Barred.{unless_sent}
 use Rattle.net_world.specs.Delivering.{FindsFrame}
 use Rattle.net_world.specs.Ends.{Ends}
 use Rattle.net_world.proofs.EndsLemmas.{refuses, stops}
@@ -54,6 +54,6 @@ frame_found law w events now number bytes f stands at read =
 -- There is no such frame, or memory has run out.
 pub lost_frame : (w : Setup) (past : List Change) (now : World) (number : ℕ) (fault : Fault) → StandsFor w past now → FindsFrame w past number (Err fault) → Ends w past (Deliver number) now (Err fault)
 lost_frame w past now number NoFrame stands h =
-    refuses w past (Deliver number) NoFrame now refl (stops w past (Deliver number) NoFrame (ap (unsent w (trace w past)) h)) stands
+    refuses w past (Deliver number) NoFrame now refl (stops w past (Deliver number) NoFrame (ap (unless_sent w (trace w past)) h)) stands
 lost_frame w past now number NoMemory stands h = (refl, stands)
 lost_frame w past now number _ stands h = absurd h

@@ -12,14 +12,14 @@ use Rattle.server_core.specs.declared.event.Event.{Event}
 use Rattle.server_core.specs.declared.event.Event.TheVariants as events
 use Rattle.server_core.specs.History.{Met}
 use Rattle.server_core.specs.Run.{Work}
-use Rattle.server_core.specs.Heard.{heard_with, heard}
+use Rattle.server_core.specs.Heard.{heard_with, heard_packets}
 use Rattle.server_core.specs.Laws as served
-use Rattle.client_core.specs.Ranges.{came}
-use Rattle.client_core.specs.Words.{noted, kept}
+use Rattle.client_core.specs.Ranges.{packets_come}
+use Rattle.client_core.specs.Words.{words_noted, kept_state}
 use Rattle.client_core.specs.Packets.{to_server}
 use Rattle.client_core.specs.Laws.{AcksAreFor, TriggersEndWell, TellsJobs, HasAnswer, from_server}
 use Rattle.net_world.specs.Setup.{Setup}
-use Rattle.net_world.specs.Trace.{Step, AtServer, AtClient, AtMirror, opening_of, client_opening, mirror_opening, of_server, of_client, of_mirror, packets_of, sent, IsTrace}
+use Rattle.net_world.specs.Trace.{Step, AtServer, AtClient, AtMirror, opening_of, client_opening, mirror_opening, of_server, of_client, of_mirror, packets_of, sent_packets, IsTrace}
 use Rattle.net_world.specs.Holders.{taken_of, key_at}
 use Rattle.net_world.specs.Passes.{SentStatesWereTaken, KeptStatesWereSent, WasKept}
 use Rattle.net_world.specs.Claims.{OfEachList, OfEachTrace}
@@ -40,18 +40,18 @@ pub record Ending : Type 0 where
   pub kept_sent : OfEachTrace KeptStatesWereSent
   pub once : OfEachList OneTaking
 
-said_none : Ending → (w : Setup) (t : List Step) (run s j jobs : ℕ) → Contains (sent w t) (from_server (bodies.NoState run j jobs) s) → SaysNone (opening_of s) (of_server s t) run j jobs
+said_none : Ending → (w : Setup) (t : List Step) (run s j jobs : ℕ) → Contains (sent_packets w t) (from_server (bodies.NoState run j jobs) s) → SaysNone (opening_of s) (of_server s t) run j jobs
 said_none laws w t run s j jobs h =
     let p = from_server (bodies.NoState run j jobs) s in
     none_says laws.sayings s (of_server s t) p run j jobs (sent_by laws.sayings w s t p refl h) refl
 
-said_jobs : Ending → (w : Setup) (t : List Step) (s jobs : ℕ) (a : State) → Contains (sent w t) (from_server (bodies.State jobs a) s) → SaysJobs (opening_of s) (of_server s t) a.key.run jobs
+said_jobs : Ending → (w : Setup) (t : List Step) (s jobs : ℕ) (a : State) → Contains (sent_packets w t) (from_server (bodies.State jobs a) s) → SaysJobs (opening_of s) (of_server s t) a.key.run jobs
 said_jobs laws w t s jobs a h =
     let p = from_server (bodies.State jobs a) s in
     state_says laws.sayings s (of_server s t) p jobs a (sent_by laws.sayings w s t p refl h) refl
 
 -- The number of jobs that was told is that of the set with which the run was begun.
-count_told : Ending → (w : Setup) (t : List Step) (run s jobs : ℕ) (set : List Job) → IsTrace w t → begun (opening_of s) run (of_server s t) ≡ Some set → TellsJobs (came (of_client w t)) run s jobs → jobs ≡ length set
+count_told : Ending → (w : Setup) (t : List Step) (run s jobs : ℕ) (set : List Job) → IsTrace w t → begun (opening_of s) run (of_server s t) ≡ Some set → TellsJobs (packets_come (of_client w t)) run s jobs → jobs ≡ length set
 count_told laws w t run s jobs set trace is (inl k) =
     let says = said_jobs laws w t s jobs k.0 (came_was_sent w t (from_server (bodies.State jobs k.0) s) trace k.2) in
     same_count (opening_of s) run jobs (of_server s t) set is (subst (λ r. SaysJobs (opening_of s) (of_server s t) r jobs) k.1 says)
@@ -63,18 +63,18 @@ count_told laws w t run s jobs set trace is (inr k) =
 KeptOrNone : Setup → List Step → Key → Type 0
 KeptOrNone w t key =
     ((state : State) × WasKept w t key state)
-    ⊎ ((jobs : ℕ) × Contains (sent w t) (from_server (bodies.NoState key.run key.job jobs) key.server))
+    ⊎ ((jobs : ℕ) × Contains (sent_packets w t) (from_server (bodies.NoState key.run key.job jobs) key.server))
 
 nothing_in : (xs : List State) (x : State) → xs ≡ [] → Contains xs x → ⊥
 nothing_in xs x e h = none_in x (subst (λ l. Contains l x) e h)
 
-none_taken : Ending → (w : Setup) (t : List Step) (key : Key) (state : State) (jobs : ℕ) → Contains (taken_of key t) state → Contains (sent w t) (from_server (bodies.NoState key.run key.job jobs) key.server) → ⊥
+none_taken : Ending → (w : Setup) (t : List Step) (key : Key) (state : State) (jobs : ℕ) → Contains (taken_of key t) state → Contains (sent_packets w t) (from_server (bodies.NoState key.run key.job jobs) key.server) → ⊥
 none_taken laws w t key state jobs taken h =
     let says = said_none laws w t key.run key.server key.job jobs h in
     nothing_in (taken_of key t) state says.none taken
 
 -- Two states of a key that were kept and taken are one.
-same_kept : Ending → (w : Setup) (t : List Step) (key : Key) (x state : State) → IsTrace w t → kept (client_opening w) (of_client w t) key ≡ Some x → Contains (taken_of key t) state → x ≡ state
+same_kept : Ending → (w : Setup) (t : List Step) (key : Key) (x state : State) → IsTrace w t → kept_state (client_opening w) (of_client w t) key ≡ Some x → Contains (taken_of key t) state → x ≡ state
 same_kept laws w t key x state trace h taken = same_two laws.once w t key x state (kept_was_taken laws.taken laws.has laws.kept_sent w t key x trace h) taken
 
 -- So a state that was taken was kept.
@@ -91,7 +91,7 @@ kept_of laws w t key state trace taken (inr k) = absurd (none_taken laws w t key
 
 -- And where the run has ended well, it is kept.
 answer_of : Ending → (w : Setup) (t : List Step) (key : Key) (state : State) → IsTrace w t → Contains (taken_of key t) state
-    → HasAnswer (noted (client_opening w) (of_client w t)) (came (of_client w t)) key.run key.server key.job → kept (client_opening w) (of_client w t) key ≡ Some state
+    → HasAnswer (words_noted (client_opening w) (of_client w t)) (packets_come (of_client w t)) key.run key.server key.job → kept_state (client_opening w) (of_client w t) key ≡ Some state
 answer_of laws w t key state trace taken (inl k) = k.1 ∙ ap Some (same_kept laws w t key k.0 state trace k.1 taken)
 answer_of laws w t key state trace taken (inr k) =
     absurd (none_taken laws w t key state k.0 taken (came_was_sent w t (from_server (bodies.NoState key.run key.job k.0) key.server) trace k.1))
@@ -134,7 +134,7 @@ acked_now laws law w (AtMirror e) past key trace h =
     absurd (not_mirror (sym (sent_by_mirror laws.sayings.over mirror_opening (of_mirror past) e (to_server (bodies.StateAck key.run key.job) key.server) h).0))
 
 -- Of what the client has acknowledged it kept the state, or there was none.
-acked_kept : Ending → AcksAreFor → (w : Setup) (t : List Step) (key : Key) → IsTrace w t → Contains (sent w t) (ack key) → KeptOrNone w t key
+acked_kept : Ending → AcksAreFor → (w : Setup) (t : List Step) (key : Key) → IsTrace w t → Contains (sent_packets w t) (ack key) → KeptOrNone w t key
 acked_kept laws law w [] key trace h = absurd (sent_none w (ack key) h)
 acked_kept laws law w (step ∷ past) key trace h = elim (sent_cases w step past (ack key) h) [
   | inl before ↦ kept_more w step past key (acked_kept laws law w past key trace.0 before)
@@ -142,10 +142,10 @@ acked_kept laws law w (step ∷ past) key trace h = elim (sent_cases w step past
 ]
 
 -- What came to a server, this event with it.
-heard_with_sent : (w : Setup) (s : ℕ) (e : Event) (left : _) (t : List Step) (p : PacketParts) → IsTrace w (AtServer s (Met e left) ∷ t) → Contains (heard_with e (heard (of_server s t))) p → Contains (sent w t) p
+heard_with_sent : (w : Setup) (s : ℕ) (e : Event) (left : _) (t : List Step) (p : PacketParts) → IsTrace w (AtServer s (Met e left) ∷ t) → Contains (heard_with e (heard_packets (of_server s t))) p → Contains (sent_packets w t) p
 heard_with_sent w s (events.Deliver q) left t p trace h =
-    elim (first_or_rest q (heard (of_server s t)) p h) [
-      | inl now ↦ subst (Contains (sent w t)) now (trace.1.0.0)
+    elim (first_or_rest q (heard_packets (of_server s t)) p h) [
+      | inl now ↦ subst (Contains (sent_packets w t)) now (trace.1.0.0)
       | inr before ↦ heard_was_sent w s t p trace.0 before
     ]
 heard_with_sent w s (events.Issue j) left t p trace h = heard_was_sent w s t p trace.0 h
@@ -169,5 +169,5 @@ kept_where_cut laws acks law w whole whole_is_trace later t s e left now j state
     let set = taken_of_set laws.sayings.grow o now.run j list state taken in
     let jobs : set.jobs ≡ now.jobs = some_jobs set.jobs now.jobs (sym set.is ∙ work_begun o list now is) in
     let less : j < length k.now.jobs = subst (λ (v : Work). j < length v.jobs) (sym same) (subst (λ (l : List Job). j < length l) jobs set.within) in
-    let came_in : Contains (heard_with e (heard list)) (to_server (bodies.StateAck now.run j) s) = subst (λ (v : Work). Contains (heard_with e (heard list)) (to_server (bodies.StateAck v.run j) s)) same (k.kept j less) in
+    let came_in : Contains (heard_with e (heard_packets list)) (to_server (bodies.StateAck now.run j) s) = subst (λ (v : Work). Contains (heard_with e (heard_packets list)) (to_server (bodies.StateAck v.run j) s)) same (k.kept j less) in
     kept_of laws w t (key_at now.run s j) state trace.0 taken (acked_kept laws acks w t (key_at now.run s j) trace.0 (heard_with_sent w s e left t (to_server (bodies.StateAck now.run j) s) trace came_in))

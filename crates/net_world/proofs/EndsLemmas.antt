@@ -19,8 +19,8 @@ use Rattle.server_core.specs.FrameAnswers.{sense}
 use Rattle.server_core.specs.FrameEnds.{is_drop}
 use Rattle.server_core.specs.Answers as answers
 use Rattle.net_world.specs.declared.served.Served.{Served}
-use Rattle.net_world.specs.declared.told.Answer.{Answer}
-use Rattle.net_world.specs.declared.told.Answer.TheVariants as answers_told
+use Rattle.net_world.specs.declared.told.WorldAnswer.{WorldAnswer}
+use Rattle.net_world.specs.declared.told.WorldAnswer.TheVariants as answers_told
 use Rattle.net_world.specs.declared.told.Told.{Told}
 use Rattle.net_world.specs.declared.world.World.{World}
 use Rattle.net_world.specs.Setup.{Setup}
@@ -31,16 +31,16 @@ use Rattle.std.specs.Prelude.{slice_get}
 use Rattle.messages.specs.declared.frame.Frame.{Frame}
 use Rattle.net_world.specs.Frames.{frames_sent, to_of}
 use Rattle.net_world.specs.Changes.{Change, Met, steps, trace}
-use Rattle.net_world.specs.Barred.{off, unsent, unopen, barred}
+use Rattle.net_world.specs.Barred.{unless_on, unless_sent, unless_open, barring_fault}
 use Rattle.net_world.specs.Writes.{open_at}
-use Rattle.net_world.specs.Events.{ending}
+use Rattle.net_world.specs.Events.{happening_of_end}
 use Rattle.net_world.specs.Finding.{IsOpen, FindsWrite}
-use Rattle.net_world.specs.Outcomes.{Does, Refuses, stepped, met_by_server, comes_to_server, said_to_server, comes_to, delivered, ended, brings, unless_barred, outcome}
-use Rattle.net_world.specs.World.{answer, and_outcome, told_by, told, issued, act, frames_with}
+use Rattle.net_world.specs.Outcomes.{Does, Refuses, outcome_of_step, met_by_server, comes_to_server, said_to_server, comes_to, delivery, end_of_write, brings, unless_barred, outcome}
+use Rattle.net_world.specs.World.{answer, and_outcome, told_by, told_of_happening, answer_of_issue, act, frame_count}
 use Rattle.net_world.specs.Telling.{told_of, issue_told}
 use Rattle.net_world.specs.Stands.{StandsFor}
 use Rattle.net_world.specs.Ends as ends
-use Rattle.net_world.specs.Ends.{Ends, after}
+use Rattle.net_world.specs.Ends.{Ends, changes_after}
 use Rattle.net_world.specs.Serving as serving
 use Rattle.net_world.specs.Serving.{entries, step_of, step_by, Serves, IsBarred, Refuses as ServerRefuses, ServerEnds}
 use Rattle.net_world.proofs.ServeLemmas.{heard_is, up_of}
@@ -48,10 +48,10 @@ use Rattle.net_world.proofs.OutcomeLemmas.{DroppedOr, met_ok, met_err, act_is, f
 
 -- ---- how an event ends, by what comes of it
 
-pub goes : (w : Setup) (past : List Change) (e : Happening) → barred w (trace w past) (frames_sent w (steps past)) e ≡ None → outcome w past e ≡ brings w past e
+pub goes : (w : Setup) (past : List Change) (e : Happening) → barring_fault w (trace w past) (frames_sent w (steps past)) e ≡ None → outcome w past e ≡ brings w past e
 goes w past e h = ap (λ x. unless_barred x (brings w past e)) h
 
-pub stops : (w : Setup) (past : List Change) (e : Happening) (fault : Fault) → barred w (trace w past) (frames_sent w (steps past)) e ≡ Some fault → outcome w past e ≡ Refuses fault
+pub stops : (w : Setup) (past : List Change) (e : Happening) (fault : Fault) → barring_fault w (trace w past) (frames_sent w (steps past)) e ≡ Some fault → outcome w past e ≡ Refuses fault
 stops w past e fault h = ap (λ x. unless_barred x (brings w past e)) h
 
 -- It does this, and is told so.
@@ -60,7 +60,7 @@ pub does : (w : Setup) (past : List Change) (e : Happening) (change : Change) (t
 does w past e change t new is tells stands = (ap (told_by w past e) is ∙ tells, subst (λ x. StandsFor w (and_outcome x past) new) (sym is) stands)
 
 -- It is refused, and nothing changes.
-pub refusing : (w : Setup) (past : List Change) (e : Happening) (fault : Fault) (new : World) → outcome w past e ≡ Refuses fault → StandsFor w past new → (told w past e ≡ Err fault) × StandsFor w (after w past e) new
+pub refusing : (w : Setup) (past : List Change) (e : Happening) (fault : Fault) (new : World) → outcome w past e ≡ Refuses fault → StandsFor w past new → (told_of_happening w past e ≡ Err fault) × StandsFor w (changes_after w past e) new
 refusing w past e fault new is stands = (ap (told_by w past e) is, subst (λ x. StandsFor w (and_outcome x past) new) (sym is) stands)
 
 -- A fault is a refusal, so that its sort is that.
@@ -71,28 +71,28 @@ refuses w past e fault new sort is stands = subst (λ x. ends.Faults w past e x 
 
 -- What happens comes to the server as this, and is barred as all that asks for the server to be on.
 pub record ComesTo (w : Setup) (past : List Change) (s : ℕ) (e : Happening) (i : Input) : Type 0 where
-  pub bar : barred w (trace w past) (frames_sent w (steps past)) e ≡ off w (trace w past) (nodes.Server s)
+  pub bar : barring_fault w (trace w past) (frames_sent w (steps past)) e ≡ unless_on w (trace w past) (nodes.Server s)
   pub ok : (served : Served) (new : World) → Serves w past s i new served → brings w past e ≡ Does (Met (step_by past s i))
   pub err : (fault : Fault) (new : World) → ServerRefuses w past s i fault new → brings w past e ≡ Refuses fault
   pub keeps : is_drop (sense (opening_of s) (entries past s) i) ≡ false
 
-same_told : (served : Served) (a b : Answer) (first sent : ℕ) (asked : Act) → a ≡ b → served.first ≡ first → served.sent ≡ sent → served.act ≡ asked → told_of served a ≡ record { answer = b; first = first; sent = sent; act = asked }
+same_told : (served : Served) (a b : WorldAnswer) (first sent : ℕ) (asked : Act) → a ≡ b → served.first ≡ first → served.sent ≡ sent → served.act ≡ asked → told_of served a ≡ record { answer = b; first = first; sent = sent; act = asked }
 same_told served a b first sent asked e f k x = rw (e, f, k, x) refl
 
-told_is : (w : Setup) (past : List Change) (s : ℕ) (e : Happening) (i : Input) (served : Served) (a : Answer) (new : World) → Serves w past s i new served → a ≡ answer w past e
+told_is : (w : Setup) (past : List Change) (s : ℕ) (e : Happening) (i : Input) (served : Served) (a : WorldAnswer) (new : World) → Serves w past s i new served → a ≡ answer w past e
     → told_by w past e (Does (Met (step_by past s i))) ≡ Ok (told_of served a)
 told_is w past s e i served a new h is =
     ap (λ t. Ok t)
-    (sym (same_told served a (answer w past e) (length (frames_sent w (steps past))) (frames_with w past (Met (step_by past s i))) (act w past (Met (step_by past s i))) is h.first_is h.sent_is (h.act_is ∙ sym (act_is w past s i))))
+    (sym (same_told served a (answer w past e) (length (frames_sent w (steps past))) (frame_count w past (Met (step_by past s i))) (act w past (Met (step_by past s i))) is h.first_is h.sent_is (h.act_is ∙ sym (act_is w past s i))))
 
 -- What is answered.
-pub served_ends : (w : Setup) (past : List Change) (s : ℕ) (e : Happening) (i : Input) (served : Served) (a : Answer) (t : Told) (new : World) → ComesTo w past s e i → Serves w past s i new served → a ≡ answer w past e
+pub served_ends : (w : Setup) (past : List Change) (s : ℕ) (e : Happening) (i : Input) (served : Served) (a : WorldAnswer) (t : Told) (new : World) → ComesTo w past s e i → Serves w past s i new served → a ≡ answer w past e
     → t ≡ told_of served a → Ends w past e new (Ok t)
 served_ends w past s e i served a t new c h is tells =
     does w past e (Met (step_by past s i)) t new (goes w past e (c.bar ∙ h.on) ∙ c.ok served new h) (told_is w past s e i served a new h is ∙ ap (λ x. Ok x) (sym tells)) h.stands
 
 refused_ends : (w : Setup) (past : List Change) (s : ℕ) (e : Happening) (i : Input) (fault : Fault) (new : World) → ComesTo w past s e i → IsBarred w past s fault new ⊎ ServerRefuses w past s i fault new
-    → (told w past e ≡ Err fault) × StandsFor w (after w past e) new
+    → (told_of_happening w past e ≡ Err fault) × StandsFor w (changes_after w past e) new
 refused_ends w past s e i fault new c (inl b) = refusing w past e fault new (stops w past e fault (c.bar ∙ b.why)) b.unchanged
 refused_ends w past s e i fault new c (inr r) = refusing w past e fault new (goes w past e (c.bar ∙ r.on) ∙ c.err fault new r) (r.unchanged c.keeps)
 
@@ -109,71 +109,71 @@ unserved_ends w past s e i fault new c h = by_sort w past s e i fault new c (sor
 
 -- The server meets this event.
 pub record Meets (w : Setup) (past : List Change) (s : ℕ) (e : Happening) (event : Event) : Type 0 where
-  pub bar : barred w (trace w past) (frames_sent w (steps past)) e ≡ off w (trace w past) (nodes.Server s)
-  pub meets : brings w past e ≡ stepped (met_by_server (trace w past) s event)
+  pub bar : barring_fault w (trace w past) (frames_sent w (steps past)) e ≡ unless_on w (trace w past) (nodes.Server s)
+  pub meets : brings w past e ≡ outcome_of_step (met_by_server (trace w past) s event)
 
 issue_comes : (w : Setup) (past : List Change) (s j : ℕ) (e : Happening) → Meets w past s e (events.Issue j) → ComesTo w past s e (inputs.Issue j)
 issue_comes w past s j e m = record {
   bar = m.bar;
-  ok = λ served new h. m.meets ∙ ap stepped (met_ok (trace w past) s (events.Issue j) (packets_heard (opening_of s) (entries past s)) (heard_is w past s) h.free);
-  err = λ fault new h. m.meets ∙ ap stepped (met_err (trace w past) s (events.Issue j) (packets_heard (opening_of s) (entries past s)) fault (heard_is w past s) h.why);
+  ok = λ served new h. m.meets ∙ ap outcome_of_step (met_ok (trace w past) s (events.Issue j) (packets_heard (opening_of s) (entries past s)) (heard_is w past s) h.free);
+  err = λ fault new h. m.meets ∙ ap outcome_of_step (met_err (trace w past) s (events.Issue j) (packets_heard (opening_of s) (entries past s)) fault (heard_is w past s) h.why);
   keeps = refl;
 }
 
 -- ---- a worker asks for a write
 
-issue_answer : (w : Setup) (past : List Change) (s j : ℕ) (served : Served) (new : World) → Serves w past s (inputs.Issue j) new served → issued served.issue ≡ answer w past (happenings.Issue s j)
-issue_answer w past s j served new h = ap issued (h.issue_is ∙ ap (λ list. answers.issue (opening_of s) list (events.Issue j)) (heard_is w past s))
+issue_answer : (w : Setup) (past : List Change) (s j : ℕ) (served : Served) (new : World) → Serves w past s (inputs.Issue j) new served → answer_of_issue served.issue ≡ answer w past (happenings.Issue s j)
+issue_answer w past s j served new h = ap answer_of_issue (h.issue_is ∙ ap (λ list. answers.issue (opening_of s) list (events.Issue j)) (heard_is w past s))
 
 asks : (w : Setup) (past : List Change) (s j : ℕ) → Meets w past s (happenings.Issue s j) (events.Issue j)
 asks w past s j = record { bar = refl; meets = refl }
 
 pub issue_ends : (w : Setup) (past : List Change) (s j : ℕ) (served : Served) (t : Told) (new : World) → ServerEnds w past s (inputs.Issue j) new (Ok served) → t ≡ issue_told served → Ends w past (happenings.Issue s j) new (Ok t)
 issue_ends w past s j served t new h tells =
-    served_ends w past s (happenings.Issue s j) (inputs.Issue j) served (issued served.issue) t new (issue_comes w past s j (happenings.Issue s j) (asks w past s j)) h (issue_answer w past s j served new h) tells
+    served_ends w past s (happenings.Issue s j) (inputs.Issue j) served (answer_of_issue served.issue) t new (issue_comes w past s j (happenings.Issue s j) (asks w past s j)) h (issue_answer w past s j served new h) tells
 
 pub issue_fails : (w : Setup) (past : List Change) (s j : ℕ) (fault : Fault) (new : World) → ServerEnds w past s (inputs.Issue j) new (Err fault) → Ends w past (happenings.Issue s j) new (Err fault)
 issue_fails w past s j fault new h = unserved_ends w past s (happenings.Issue s j) (inputs.Issue j) fault new (issue_comes w past s j (happenings.Issue s j) (asks w past s j)) h
 
 -- ---- a write has ended
 
-bar_is : (w : Setup) (past : List Change) (s j k : ℕ) (end : WriteEnd) → barred w (trace w past) (frames_sent w (steps past)) (ending end s j k) ≡ unopen w (trace w past) s j k
+bar_is : (w : Setup) (past : List Change) (s j k : ℕ) (end : WriteEnd) → barring_fault w (trace w past) (frames_sent w (steps past)) (happening_of_end end s j k) ≡ unless_open w (trace w past) s j k
 bar_is w past s j k write_ends.Done = refl
 bar_is w past s j k write_ends.Failed = refl
 
-brings_is : (w : Setup) (past : List Change) (s j k : ℕ) (end : WriteEnd) → brings w past (ending end s j k) ≡ stepped (ended (trace w past) s k end (open_at (trace w past) s j k))
+brings_is : (w : Setup) (past : List Change) (s j k : ℕ) (end : WriteEnd) → brings w past (happening_of_end end s j k) ≡ outcome_of_step (end_of_write (trace w past) s k end (open_at (trace w past) s j k))
 brings_is w past s j k write_ends.Done = refl
 brings_is w past s j k write_ends.Failed = refl
 
-answer_is : (w : Setup) (past : List Change) (s j k : ℕ) (end : WriteEnd) → answers_told.Plain ≡ answer w past (ending end s j k)
+answer_is : (w : Setup) (past : List Change) (s j k : ℕ) (end : WriteEnd) → answers_told.Plain ≡ answer w past (happening_of_end end s j k)
 answer_is w past s j k write_ends.Done = refl
 answer_is w past s j k write_ends.Failed = refl
 
-ended_comes : (w : Setup) (past : List Change) (s j k : ℕ) (end : WriteEnd) (ticket : Ticket) (rec : JobParts) → IsOpen w past s j k ticket rec → ComesTo w past s (ending end s j k) (inputs.WriteDone ticket end)
+ended_comes : (w : Setup) (past : List Change) (s j k : ℕ) (end : WriteEnd) (ticket : Ticket) (rec : JobParts) → IsOpen w past s j k ticket rec → ComesTo w past s (happening_of_end end s j k) (inputs.WriteDone ticket end)
 ended_comes w past s j k end ticket rec h =
-    let meets : brings w past (ending end s j k) ≡ stepped (met_by_server (trace w past) s (events.WriteDone ticket end)) =
-    brings_is w past s j k end ∙ ap (λ x. stepped (ended (trace w past) s k end x)) h.is_open ∙ ap (λ t. stepped (met_by_server (trace w past) s (events.WriteDone t end))) (sym h.ticket_is) in
+    let meets : brings w past (happening_of_end end s j k) ≡ outcome_of_step (met_by_server (trace w past) s (events.WriteDone ticket end)) =
+    brings_is w past s j k end ∙ ap (λ x. outcome_of_step (end_of_write (trace w past) s k end x)) h.is_open ∙ ap (λ t. outcome_of_step (met_by_server (trace w past) s (events.WriteDone t end))) (sym h.ticket_is) in
     record {
       bar = bar_is w past s j k end ∙ h.there ∙ sym h.on;
-      ok = λ served new g. meets ∙ ap stepped (met_ok (trace w past) s (events.WriteDone ticket end) (packets_heard (opening_of s) (entries past s)) (heard_is w past s) g.free);
-      err = λ fault new g. meets ∙ ap stepped (met_err (trace w past) s (events.WriteDone ticket end) (packets_heard (opening_of s) (entries past s)) fault (heard_is w past s) g.why);
+      ok = λ served new g. meets ∙ ap outcome_of_step (met_ok (trace w past) s (events.WriteDone ticket end) (packets_heard (opening_of s) (entries past s)) (heard_is w past s) g.free);
+      err = λ fault new g. meets ∙ ap outcome_of_step (met_err (trace w past) s (events.WriteDone ticket end) (packets_heard (opening_of s) (entries past s)) fault (heard_is w past s) g.why);
       keeps = refl;
     }
 
 pub end_ends : (w : Setup) (past : List Change) (s j k : ℕ) (end : WriteEnd) (ticket : Ticket) (rec : JobParts) (served : Served) (t : Told) (new : World) → IsOpen w past s j k ticket rec
-    → ServerEnds w past s (inputs.WriteDone ticket end) new (Ok served) → t ≡ told_of served answers_told.Plain → Ends w past (ending end s j k) new (Ok t)
+    → ServerEnds w past s (inputs.WriteDone ticket end) new (Ok served) → t ≡ told_of served answers_told.Plain → Ends w past (happening_of_end end s j k) new (Ok t)
 end_ends w past s j k end ticket rec served t new h g tells =
-    served_ends w past s (ending end s j k) (inputs.WriteDone ticket end) served answers_told.Plain t new (ended_comes w past s j k end ticket rec h) g (answer_is w past s j k end) tells
+    served_ends w past s (happening_of_end end s j k) (inputs.WriteDone ticket end) served answers_told.Plain t new (ended_comes w past s j k end ticket rec h) g (answer_is w past s j k end) tells
 
 pub end_fails : (w : Setup) (past : List Change) (s j k : ℕ) (end : WriteEnd) (ticket : Ticket) (rec : JobParts) (fault : Fault) (new : World) → IsOpen w past s j k ticket rec
-    → ServerEnds w past s (inputs.WriteDone ticket end) new (Err fault) → Ends w past (ending end s j k) new (Err fault)
+    → ServerEnds w past s (inputs.WriteDone ticket end) new (Err fault) → Ends w past (happening_of_end end s j k) new (Err fault)
 end_fails w past s j k end ticket rec fault new h g =
-    unserved_ends w past s (ending end s j k) (inputs.WriteDone ticket end) fault new (ended_comes w past s j k end ticket rec h) g
+    unserved_ends w past s (happening_of_end end s j k) (inputs.WriteDone ticket end) fault new (ended_comes w past s j k end ticket rec h) g
 
 -- Nothing is open there.
-pub end_unopen : (w : Setup) (past : List Change) (s j k : ℕ) (end : WriteEnd) (fault : Fault) (new : World) → FindsWrite w past s j k (Err fault) → StandsFor w past new → Ends w past (ending end s j k) new (Err fault)
+pub end_unopen : (w : Setup) (past : List Change) (s j k : ℕ) (end : WriteEnd) (fault : Fault) (new : World) → FindsWrite w past s j k (Err fault) → StandsFor w past new → Ends w past (happening_of_end end s j k) new (Err fault)
 end_unopen w past s j k end fault new h stands =
-    refuses w past (ending end s j k) fault new h.1 (stops w past (ending end s j k) fault (bar_is w past s j k end ∙ h.0)) stands
+    refuses w past (happening_of_end end s j k) fault new h.1 (stops w past (happening_of_end end s j k) fault (bar_is w past s j k end ∙ h.0)) stands
 
 -- ---- a frame comes to a server
 
@@ -182,11 +182,11 @@ pub record GoesTo (w : Setup) (past : List Change) (number : ℕ) (f : Frame) (s
   pub is_sent : slice_get (frames_sent w (steps past)) number ≡ Some f
   pub goes_to : to_of f ≡ nodes.Server s
 
-frame_bar : (w : Setup) (past : List Change) (number : ℕ) (f : Frame) (s : ℕ) → GoesTo w past number f s → barred w (trace w past) (frames_sent w (steps past)) (happenings.Deliver number) ≡ off w (trace w past) (nodes.Server s)
-frame_bar w past number f s g = ap (unsent w (trace w past)) g.is_sent ∙ ap (off w (trace w past)) g.goes_to
+frame_bar : (w : Setup) (past : List Change) (number : ℕ) (f : Frame) (s : ℕ) → GoesTo w past number f s → barring_fault w (trace w past) (frames_sent w (steps past)) (happenings.Deliver number) ≡ unless_on w (trace w past) (nodes.Server s)
+frame_bar w past number f s g = ap (unless_sent w (trace w past)) g.is_sent ∙ ap (unless_on w (trace w past)) g.goes_to
 
 frame_comes : (w : Setup) (past : List Change) (number : ℕ) (f : Frame) (s : ℕ) → GoesTo w past number f s → brings w past (happenings.Deliver number) ≡ comes_to_server (trace w past) s f (said_to_server (steps past) s f)
-frame_comes w past number f s g = ap (delivered w past) g.is_sent ∙ ap (λ node. comes_to w past node f) g.goes_to
+frame_comes w past number f s g = ap (delivery w past) g.is_sent ∙ ap (λ node. comes_to w past node f) g.goes_to
 
 pub delivery_ends : (w : Setup) (past : List Change) (number : ℕ) (f : Frame) (s : ℕ) (served : Served) (t : Told) (new : World) → GoesTo w past number f s → ServerEnds w past s (inputs.Deliver f) new (Ok served)
     → t ≡ told_of served answers_told.Plain → Ends w past (happenings.Deliver number) new (Ok t)
@@ -199,7 +199,7 @@ delivery_ends w past number f s served t new g h tells =
 dropped : (w : Setup) (past : List Change) (s : ℕ) (f : Frame) (fault : Fault) (e : Happening) (new : World) → outcome w past e ≡ comes_to_server (trace w past) s f (said_to_server (steps past) s f)
     → ServerRefuses w past s (inputs.Deliver f) fault new
     → DroppedOr s f fault (is_drop (sense (opening_of s) (entries past s) (inputs.Deliver f))) (comes_to_server (trace w past) s f (said_to_server (steps past) s f))
-    → (told w past e ≡ Err fault) × StandsFor w (after w past e) new
+    → (told_of_happening w past e ≡ Err fault) × StandsFor w (changes_after w past e) new
 unfolding DroppedOr
 dropped w past s f fault e new is r (inl d) = refusing w past e fault new (is ∙ d.1) (r.unchanged d.0)
 dropped w past s f fault e new is r (inr d) = (
@@ -208,7 +208,7 @@ dropped w past s f fault e new is r (inr d) = (
 )
 
 unanswered : (w : Setup) (past : List Change) (number : ℕ) (f : Frame) (s : ℕ) (fault : Fault) (new : World) → GoesTo w past number f s → IsBarred w past s fault new ⊎ ServerRefuses w past s (inputs.Deliver f) fault new
-    → (told w past (happenings.Deliver number) ≡ Err fault) × StandsFor w (after w past (happenings.Deliver number)) new
+    → (told_of_happening w past (happenings.Deliver number) ≡ Err fault) × StandsFor w (changes_after w past (happenings.Deliver number)) new
 unanswered w past number f s fault new g (inl b) =
     refusing w past (happenings.Deliver number) fault new (stops w past (happenings.Deliver number) fault (frame_bar w past number f s g ∙ b.why)) b.unchanged
 unanswered w past number f s fault new g (inr r) =

@@ -11,17 +11,17 @@ use Rattle.server_core.specs.History.{Opening, Entry}
 use Rattle.server_core.specs.Check.{Check, Progress, Wanting, Full, With, Refused, Done, check, progress, progress_in, progress_at, progress_after}
 use Rattle.net_world.specs.Happenings.{Happening}
 use Rattle.net_world.specs.Happenings as happenings
-use Rattle.net_world.specs.declared.told.Answer.TheVariants.{Checked}
+use Rattle.net_world.specs.declared.told.WorldAnswer.TheVariants.{Checked}
 use Rattle.net_world.specs.declared.told.Told.{Told}
 use Rattle.net_world.specs.Setup.{Setup}
 use Rattle.net_world.specs.Trace.{Step, opening_of, of_server, IsTrace}
 use Rattle.net_world.specs.Changes.{Change, steps, trace}
 use Rattle.net_world.specs.Contents.{content}
-use Rattle.net_world.specs.Checks.{key_of, report_of, report_by, report_for, check_end, checked_in, checked}
-use Rattle.net_world.specs.Outcomes.{Outcome, Does, Refuses, Drops, stepped, reported, unless_barred, brings, outcome}
-use Rattle.net_world.specs.Barred.{barred}
+use Rattle.net_world.specs.Checks.{key_of, report_of, report_by, report_for, check_end, end_of_check_in, end_of_check}
+use Rattle.net_world.specs.Outcomes.{Outcome, Does, Refuses, Drops, outcome_of_step, end_of_check_met, unless_barred, brings, outcome}
+use Rattle.net_world.specs.Barred.{barring_fault}
 use Rattle.net_world.specs.Frames.{FrameStep, frames_sent}
-use Rattle.net_world.specs.World.{world, answer, report_in, told_by, told}
+use Rattle.net_world.specs.World.{world, answer, report_in, told_by, told_of_happening}
 use Rattle.net_world.specs.WorldLaws.{EachWorldIsATrace}
 use Rattle.net_world.specs.Exact.{IsMadeWith, IsExact}
 use Rattle.net_world.specs.Claims.{OfEachTrace, OfEachWorld}
@@ -40,11 +40,11 @@ unless_does : (x : Option Fault) (r : Outcome) (y : Change) → unless_barred x 
 unless_does None r y h = h
 unless_does (Some fault) r y h = absurd cc
 
-stepped_ok : (r : Result FrameStep Fault) (y : Change) → stepped r ≡ Does y → (step : FrameStep) × (r ≡ Ok step)
+stepped_ok : (r : Result FrameStep Fault) (y : Change) → outcome_of_step r ≡ Does y → (step : FrameStep) × (r ≡ Ok step)
 stepped_ok (Ok step) y h = (step, refl)
 stepped_ok (Err fault) y h = absurd cc
 
-checks_ok : (t : List Step) (s : ℕ) (x : Option ServerEvent) (step : FrameStep) → reported t s x ≡ Ok step → (e : ServerEvent) × (x ≡ Some e)
+checks_ok : (t : List Step) (s : ℕ) (x : Option ServerEvent) (step : FrameStep) → end_of_check_met t s x ≡ Ok step → (e : ServerEvent) × (x ≡ Some e)
 checks_ok t s None step h = absurd cc
 checks_ok t s (Some e) step h = (e, refl)
 
@@ -78,7 +78,7 @@ ready_for : (c : Check) (j : ℕ) (held : ℕ → List ℕ) (x : Option Job) (e 
 ready_for c j held None e h = absurd cc
 ready_for c j held (Some job) e h = ready_by c j held job (progress_after c j job c.since) e refl h
 
-ready : (x : Option Check) (j : ℕ) (held : ℕ → List ℕ) (e : ServerEvent) → checked_in x j held ≡ Some e → (c : Check) × (x ≡ Some c) × Ready c j held (slice_get c.jobs j) e
+ready : (x : Option Check) (j : ℕ) (held : ℕ → List ℕ) (e : ServerEvent) → end_of_check_in x j held ≡ Some e → (c : Check) × (x ≡ Some c) × Ready c j held (slice_get c.jobs j) e
 ready None j held e h = absurd cc
 ready (Some c) j held e h = (c, refl, ready_for c j held (slice_get c.jobs j) e h)
 
@@ -97,12 +97,12 @@ record Made (w : Setup) (past : List Change) (s j : ℕ) (t : Told) : Type 0 whe
   pub ready : Ready now j (content w past s j) (slice_get now.jobs j) event
   pub answer : t.answer ≡ report_in (Some event)
 
-made : (w : Setup) (past : List Change) (s j : ℕ) (t : Told) → told w past (happenings.Check s j) ≡ Ok t → Made w past s j t
+made : (w : Setup) (past : List Change) (s j : ℕ) (t : Told) → told_of_happening w past (happenings.Check s j) ≡ Ok t → Made w past s j t
 made w past s j t h =
     let a = told_ok w past (happenings.Check s j) (outcome w past (happenings.Check s j)) t h in
-    let b = stepped_ok (reported (trace w past) s (checked w past s j)) a.0
-    (unless_does (barred w (trace w past) (frames_sent w (steps past)) (happenings.Check s j)) (brings w past (happenings.Check s j)) a.0 a.1) in
-    let d = checks_ok (trace w past) s (checked w past s j) b.0 b.1 in
+    let b = stepped_ok (end_of_check_met (trace w past) s (end_of_check w past s j)) a.0
+    (unless_does (barring_fault w (trace w past) (frames_sent w (steps past)) (happenings.Check s j)) (brings w past (happenings.Check s j)) a.0 a.1) in
+    let d = checks_ok (trace w past) s (end_of_check w past s j) b.0 b.1 in
     let k = ready (check (opening_of s) (of_server s (trace w past))) j (content w past s j) d.0 d.1 in
     record { now = k.0; is_open = k.1; event = d.0; ready = k.2; answer = a.2 ∙ ap report_in d.1 }
 

@@ -25,7 +25,7 @@ use Rattle.write_order.specs.Words.{word, state_after}
 use Rattle.server_core.specs.Texts.{jobs_for}
 use Rattle.server_core.specs.Run.{has_open, have_ended}
 use Rattle.server_core.specs.Taken.{job_state}
-use Rattle.net_world.specs.Examples.{one, started, IsHonestlyMade, RefusesByNumber, StartsOnceAfterACut, KeepsBehindACut, ChecksInAFullPass, ChecksByItsState, ComesTogether}
+use Rattle.net_world.specs.Examples.{one, after_start, IsHonestlyMade, RefusesByNumber, StartsOnceAfterACut, KeepsBehindACut, ChecksInAFullPass, ChecksByItsState, ComesTogether}
 
 pub refuses_by_number : RefusesByNumber
 unfolding frames_sent has_next is_of_generation is_free_to_number is_begun
@@ -65,7 +65,7 @@ the_origin = record {
 
 -- Before the first write is done it has landed.
 issued_both : List Happening
-issued_both = Issue 0 0 ∷ Issue 0 0 ∷ started
+issued_both = Issue 0 0 ∷ Issue 0 0 ∷ after_start
 
 landed : List Happening
 landed = Land 0 0 0 1 ∷ issued_both

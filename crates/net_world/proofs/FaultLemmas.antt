@@ -14,7 +14,7 @@ use Rattle.write_order.specs.Blocks.{block_of}
 use Rattle.write_order.specs.Stamps.{written_bytes}
 use Rattle.verify_state.specs.State.{State}
 use Rattle.disk_model.specs.File.{block_bytes}
-use Rattle.recheck.specs.Expected.{counts, greatest_below, last_completed, in_flight, placed, expected_by}
+use Rattle.recheck.specs.Expected.{counts, greatest_below, last_completed, in_flight, placed_write, expected_by}
 use Rattle.recheck.specs.Faults.{last_write, is_checked, writes_to, is_write, is_expected}
 use Rattle.server_core.specs.Check.{Check}
 use Rattle.net_world.specs.Setup.{Setup}
@@ -82,7 +82,7 @@ or_right true b h = refl
 or_right false b h = h
 
 -- A write of the list that goes to the block is among those.
-goes_there : (job : JobParts) (p : ℕ → Bool) (block i : ℕ) (xs : List ℕ) → has xs i ≡ true → (block_of job i == block) ≡ true → p i ≡ true → list_any p (writes_to block (map (placed job) xs)) ≡ true
+goes_there : (job : JobParts) (p : ℕ → Bool) (block i : ℕ) (xs : List ℕ) → has xs i ≡ true → (block_of job i == block) ≡ true → p i ≡ true → list_any p (writes_to block (map (placed_write job) xs)) ≡ true
 goes_there job p block i [] h e t = absurd cc
 goes_there job p block i (x ∷ xs) h e t = elim (or_cases (x == i) (has xs i) h) [
   | inl here ↦ (

@@ -22,7 +22,7 @@ use Rattle.server_core.specs.Laws.{LooksAtAll, RunsHaveSets, ChecksHaveSets}
 use Rattle.server_core.specs.OpenCheck.{OpenCheckIsLast}
 use Rattle.server_core.specs.declared.status.Status.{Status}
 use Rattle.server_core.specs.Check.{Check, Progress, Wanting, Full, With, Refused, Done, check, progress, progress_in, progress_at, progress_after}
-use Rattle.server_core.specs.Answers.{looked, run_job, job_of_run, check_job, job_of_check, is_ready, status, number_of_check}
+use Rattle.server_core.specs.Answers.{shown_entries, run_job, job_of_run, check_job, job_of_check, is_ready, status, number_of_check}
 use Rattle.server_core.specs.OpenWrites.{open_origin, open_ticket, open_write, origin_told, TicketsTellOrigins}
 use Rattle.server_core.specs.Hearing.{FrameEntry, packets_heard}
 use Rattle.server_core.specs.FrameEnds.{StandsFor as ServerStands}
@@ -33,9 +33,9 @@ use Rattle.net_world.specs.Trace.{of_server, opening_of}
 use Rattle.net_world.specs.Changes.{Change, trace}
 use Rattle.net_world.specs.Holders.{key_at}
 use Rattle.net_world.specs.Contents.{content}
-use Rattle.net_world.specs.Checks.{checked, checked_in, check_end, report_for, report_by}
+use Rattle.net_world.specs.Checks.{end_of_check, end_of_check_in, check_end, report_for, report_by}
 use Rattle.net_world.specs.Writes.{open_at}
-use Rattle.net_world.specs.Barred.{off, unopen, unless}
+use Rattle.net_world.specs.Barred.{unless_on, unless_open, unless}
 use Rattle.net_world.specs.ServerNodes.{is_up, Stands, Shows}
 use Rattle.net_world.specs.Stands.{StandsFor}
 use Rattle.net_world.specs.Serving.{entries}
@@ -51,16 +51,16 @@ pub record Found (w : World) (s : ℕ) (shown : Option (Server Kept)) : Type 0 w
   pub node_is : slice_get w.servers.items s ≡ Some node
   pub shows : (o : Opening) (past : List FrameEntry) → Stands o past node → Shows o past shown
 
-pub not_there : (w : Setup) (past : List Change) (s : ℕ) (now : World) → StandsFor w past now → length now.servers.items ≤ s → off w (trace w past) (nodes.Server s) ≡ Some NoServer
+pub not_there : (w : Setup) (past : List Change) (s : ℕ) (now : World) → StandsFor w past now → length now.servers.items ≤ s → unless_on w (trace w past) (nodes.Server s) ≡ Some NoServer
 not_there w past s now stands h = none_there w past s (omega (arith, stands.number, h))
 
-pub found_off : (w : Setup) (past : List Change) (s : ℕ) (now : World) → StandsFor w past now → Found now s None → off w (trace w past) (nodes.Server s) ≡ Some NodeOff
+pub found_off : (w : Setup) (past : List Change) (s : ℕ) (now : World) → StandsFor w past now → Found now s None → unless_on w (trace w past) (nodes.Server s) ≡ Some NodeOff
 found_off w past s now stands f =
     is_off w past s (omega (arith, stands.number, f.there)) (f.shows (opening_of s) (entries past s) (stands.servers_are s f.node f.node_is))
 
 -- A server that runs.
 pub record IsRunning (w : Setup) (past : List Change) (s : ℕ) (core : Server Kept) : Type 0 where
-  pub on : off w (trace w past) (nodes.Server s) ≡ None
+  pub on : unless_on w (trace w past) (nodes.Server s) ≡ None
   pub stands : ServerStands note_of core (opening_of s) (entries past s)
   pub up : is_up (opening_of s) (entries past s) ≡ true
 
@@ -70,7 +70,7 @@ found_on w past s now core stands f =
     record { on = is_there w past s (omega (arith, stands.number, f.there)) h.1; stands = h.0; up = h.1 }
 
 -- It shows all that the trace says of it.
-pub shown : LooksAtAll → (w : Setup) (past : List Change) (s : ℕ) → is_up (opening_of s) (entries past s) ≡ true → looked (packets_heard (opening_of s) (entries past s)) ≡ of_server s (trace w past)
+pub shown : LooksAtAll → (w : Setup) (past : List Change) (s : ℕ) → is_up (opening_of s) (entries past s) ≡ true → shown_entries (packets_heard (opening_of s) (entries past s)) ≡ of_server s (trace w past)
 shown law w past s up = law (packets_heard (opening_of s) (entries past s)) up ∙ heard_is w past s
 
 -- ---- an open write
@@ -84,8 +84,8 @@ some_write x o origin h k = rw (h, k) refl
 other_first : (x : Option Fault) (fault : Fault) (y : Option Fault) → x ≡ Some fault → option_or x y ≡ Some fault
 other_first x fault y h = rw h refl
 
-pub off_first : (w : Setup) (past : List Change) (s j k : ℕ) (fault : Fault) → off w (trace w past) (nodes.Server s) ≡ Some fault → unopen w (trace w past) s j k ≡ Some fault
-off_first w past s j k fault h = other_first (off w (trace w past) (nodes.Server s)) fault (unless (is_some (open_at (trace w past) s j k)) NoWrite) h
+pub off_first : (w : Setup) (past : List Change) (s j k : ℕ) (fault : Fault) → unless_on w (trace w past) (nodes.Server s) ≡ Some fault → unless_open w (trace w past) s j k ≡ Some fault
+off_first w past s j k fault h = other_first (unless_on w (trace w past) (nodes.Server s)) fault (unless (is_some (open_at (trace w past) s j k)) NoWrite) h
 
 none_told : (x : Option Ticket) (job : Option Job) → (x ≡ None) ⊎ (job ≡ None) → origin_told x job ≡ None
 none_told x job (inl h) = rw h refl
@@ -93,11 +93,11 @@ none_told (Some ticket) job (inr h) = rw h refl
 none_told None job (inr h) = refl
 
 -- No ticket is there, or no job.
-pub no_open : TicketsTellOrigins → (w : Setup) (past : List Change) (s j k : ℕ) → off w (trace w past) (nodes.Server s) ≡ None
-    → (open_write (opening_of s) (of_server s (trace w past)) j k ≡ None) ⊎ (run_job (opening_of s) (of_server s (trace w past)) j ≡ None) → unopen w (trace w past) s j k ≡ Some NoWrite
+pub no_open : TicketsTellOrigins → (w : Setup) (past : List Change) (s j k : ℕ) → unless_on w (trace w past) (nodes.Server s) ≡ None
+    → (open_write (opening_of s) (of_server s (trace w past)) j k ≡ None) ⊎ (run_job (opening_of s) (of_server s (trace w past)) j ≡ None) → unless_open w (trace w past) s j k ≡ Some NoWrite
 no_open law w past s j k on h =
     let now = work (opening_of s) (of_server s (trace w past)) in
-    no_write (off w (trace w past) (nodes.Server s)) (open_at (trace w past) s j k) on (law now j k ∙ none_told (open_ticket now j k) (job_of_run now j) h)
+    no_write (unless_on w (trace w past) (nodes.Server s)) (open_at (trace w past) s j k) on (law now j k ∙ none_told (open_ticket now j k) (job_of_run now j) h)
 
 few_jobs : (now : Option Work) (j : ℕ) (job : Job) → ((w : Work) → now ≡ Some w → length w.jobs ≤ MAX_JOBS) → job_of_run now j ≡ Some job → j < MAX_JOBS
 few_jobs None j job f h = absurd cc
@@ -114,7 +114,7 @@ ticket_told (Some o) origin ticket k h e = same o origin ticket h e
         some_is x y e = cc
 
 -- A ticket and its job are there.
-pub is_open : TicketsTellOrigins → RunsHaveSets → (w : Setup) (past : List Change) (s j k : ℕ) (ticket : Ticket) (job : Job) → off w (trace w past) (nodes.Server s) ≡ None
+pub is_open : TicketsTellOrigins → RunsHaveSets → (w : Setup) (past : List Change) (s j k : ℕ) (ticket : Ticket) (job : Job) → unless_on w (trace w past) (nodes.Server s) ≡ None
     → open_write (opening_of s) (of_server s (trace w past)) j k ≡ Some ticket → run_job (opening_of s) (of_server s (trace w past)) j ≡ Some job → IsOpen w past s j k ticket job.rec
 is_open law sets w past s j k ticket job on h r =
     let o = opening_of s in
@@ -123,7 +123,7 @@ is_open law sets w past s j k ticket job on h r =
     let origin : Origin = record { boot = ticket.boot; key = ticket.key; job = job.rec } in
     let told : open_origin now j k ≡ Some origin = law now j k ∙ ap (λ x. origin_told x (job_of_run now j)) h ∙ ap (origin_told (Some ticket)) r in
     record {
-      there = some_write (off w (trace w past) (nodes.Server s)) (open_at (trace w past) s j k) origin on told;
+      there = some_write (unless_on w (trace w past) (nodes.Server s)) (open_at (trace w past) s j k) origin on told;
       on = on;
       below = few_jobs now j job (λ found e. ((sets o list found e).within).few) r;
       origin = origin;
@@ -141,11 +141,11 @@ has_check None j job h = absurd (none_some h)
     none_some e = cc
 has_check (Some c) j job h = (c, refl, h)
 
-no_job : (x : Option Check) (j : ℕ) (held : ℕ → List ℕ) → job_of_check x j ≡ None → checked_in x j held ≡ None
+no_job : (x : Option Check) (j : ℕ) (held : ℕ → List ℕ) → job_of_check x j ≡ None → end_of_check_in x j held ≡ None
 no_job None j held h = refl
 no_job (Some c) j held h = ap (λ y. check_end c j (report_for c j y held)) h
 
-pub no_job_ready : (w : Setup) (past : List Change) (s j : ℕ) → check_job (opening_of s) (of_server s (trace w past)) j ≡ None → checked w past s j ≡ None
+pub no_job_ready : (w : Setup) (past : List Change) (s j : ℕ) → check_job (opening_of s) (of_server s (trace w past)) j ≡ None → end_of_check w past s j ≡ None
 no_job_ready w past s j h = no_job (check (opening_of s) (of_server s (trace w past))) j (content w past s j) h
 
 unready : (c : Check) (j : ℕ) (job : Job) (held : ℕ → List ℕ) (p : Progress) → is_ready (Some p) ≡ false → report_by c j job p held ≡ None
@@ -169,14 +169,14 @@ progress_here : (o : Opening) (list : List server.Entry) (j : ℕ) (job : Job) (
 progress_here o list j job c p is at h = some_is (progress_after c j job c.since) p (sym (h ∙ ap (λ x. progress_in x j) is ∙ ap (progress_at c j) at))
 
 pub not_ready : (w : Setup) (past : List Change) (s j : ℕ) (job : Job) (p : Progress) → check_job (opening_of s) (of_server s (trace w past)) j ≡ Some job → Some p ≡ progress (opening_of s) (of_server s (trace w past)) j
-    → is_ready (Some p) ≡ false → checked w past s j ≡ None
+    → is_ready (Some p) ≡ false → end_of_check w past s j ≡ None
 not_ready w past s j job p is at h =
     let o = opening_of s in
     let list = of_server s (trace w past) in
     let f = has_check (check o list) j job is in
     let c = f.0 in
     let far = progress_here o list j job c p f.1 f.2 at in
-    ap (λ x. checked_in x j (content w past s j)) f.1 ∙ ap (λ y. check_end c j (report_for c j y (content w past s j))) f.2
+    ap (λ x. end_of_check_in x j (content w past s j)) f.1 ∙ ap (λ y. check_end c j (report_for c j y (content w past s j))) f.2
     ∙ ap (check_end c j) (ap (λ q. report_by c j job q (content w past s j)) far ∙ unready c j job (content w past s j) p h)
 
 none_at : (c : Check) (j : ℕ) (job : Job) (x : Option Progress) → x ≡ Some (progress_after c j job c.since) → x ≡ None → ⊥
@@ -185,7 +185,7 @@ none_at c j job x h e = bad (sym h ∙ e)
     bad : Some (progress_after c j job c.since) ≡ None → ⊥
     bad e = cc
 
-pub no_progress : (w : Setup) (past : List Change) (s j : ℕ) (job : Job) → check_job (opening_of s) (of_server s (trace w past)) j ≡ Some job → None ≡ progress (opening_of s) (of_server s (trace w past)) j → checked w past s j ≡ None
+pub no_progress : (w : Setup) (past : List Change) (s j : ℕ) (job : Job) → check_job (opening_of s) (of_server s (trace w past)) j ≡ Some job → None ≡ progress (opening_of s) (of_server s (trace w past)) j → end_of_check w past s j ≡ None
 no_progress w past s j job is at =
     let o = opening_of s in
     let list = of_server s (trace w past) in
@@ -211,7 +211,7 @@ made_by c j job (Done report) h r = absurd (false_true r)
 key_same : (run r s t j : ℕ) → r ≡ run → t ≡ s → key_at run s j ≡ key_at r t j
 key_same run r s t j e f = rw (e, f) refl
 
-pub ready_is : OpenCheckIsLast → ChecksHaveSets → (w : Setup) (past : List Change) (s j : ℕ) (job : Job) (p : Progress) (now : Status) → off w (trace w past) (nodes.Server s) ≡ None
+pub ready_is : OpenCheckIsLast → ChecksHaveSets → (w : Setup) (past : List Change) (s j : ℕ) (job : Job) (p : Progress) (now : Status) → unless_on w (trace w past) (nodes.Server s) ≡ None
     → check_job (opening_of s) (of_server s (trace w past)) j ≡ Some job → Some p ≡ progress (opening_of s) (of_server s (trace w past)) j → is_ready (Some p) ≡ true → now ≡ status (opening_of s) (of_server s (trace w past))
     → (state : Option State) → state ≡ state_of p → IsReady w past s j (record { boot = now.boot; attempt = now.attempt; key = record { run = now.last_run; server = s; job = j }; rec = job.rec; fatal = job.fatal; state = state })
 ready_is last sets w past s j job p now on is at r shows state held =

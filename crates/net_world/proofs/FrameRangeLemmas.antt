@@ -27,7 +27,7 @@ use Rattle.messages.specs.Pieces.{is_cut, tag_of, places_from, places, bytes_at,
 use Rattle.messages.specs.PieceRanges.{is_tag_in_range, is_place, is_piece}
 use Rattle.messages.specs.PieceLaws.{ArePackets}
 use Rattle.net_world.specs.Setup.{Setup}
-use Rattle.net_world.specs.Trace.{sent}
+use Rattle.net_world.specs.Trace.{sent_packets}
 use Rattle.net_world.specs.Frames.{FrameStep, frames_sent, trace_heard}
 use Rattle.net_world.specs.FrameLaws.{FramesAreOfPackets}
 use Rattle.net_world.proofs.ListLemmas.{none_in, only_in, first_or_rest, first_in, later_in, of_map}
@@ -185,7 +185,7 @@ of_all (p ∷ ps) f h =
     ]
 
 -- Each frame that was sent fits.
-pub sent_fit : LengthsAreBounded → FramesAreOfPackets → (w : Setup) (t : List FrameStep) → ArePackets (sent w (trace_heard w t)) → (f : Frame) → Contains (frames_sent w t) f → Fits f
+pub sent_fit : LengthsAreBounded → FramesAreOfPackets → (w : Setup) (t : List FrameStep) → ArePackets (sent_packets w (trace_heard w t)) → (f : Frame) → Contains (frames_sent w t) f → Fits f
 sent_fit law frames w t are f i =
-    let s = of_all (sent w (trace_heard w t)) f (subst (λ fs. Contains fs f) (frames w t) i) in
+    let s = of_all (sent_packets w (trace_heard w t)) f (subst (λ fs. Contains fs f) (frames w t) i) in
     of_packet law s.0 (are s.0 s.1) (is_cut (s.0).body) refl f s.2

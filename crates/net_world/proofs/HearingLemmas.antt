@@ -16,7 +16,7 @@ use Rattle.client_core.specs.Packets as clients
 use Rattle.mirror_core.specs.Packets as mirrors
 use Rattle.net_world.specs.Setup.{Setup}
 use Rattle.net_world.specs.Trace as packets
-use Rattle.net_world.specs.Trace.{Step, AtServer, AtClient, opening_of, client_opening, mirror_opening, packets_of, sent}
+use Rattle.net_world.specs.Trace.{Step, AtServer, AtClient, opening_of, client_opening, mirror_opening, packets_of, sent_packets}
 use Rattle.net_world.specs.Frames.{FrameStep, OfServer, OfClient, OfMirror, of_server, of_client, of_mirror, at_server, at_client, frames_by, frames_of_step, frames_sent, step_heard, trace_heard}
 use Rattle.net_world.specs.FrameLaws.{NodesHearTheirOwn, FramesAreOfPackets}
 
@@ -89,9 +89,9 @@ pub packets_by : Setup → List Step → Option Step → List PacketParts
 packets_by w t None = []
 packets_by w t (Some step) = packets_of w t step
 
-pub sent_with : (w : Setup) (x : Option Step) (t : List Step) → sent w (with_entry x t) ≡ sent w t ++ packets_by w t x
-unfolding packets_by sent
-sent_with w None t = sym (append-nil (sent w t))
+pub sent_with : (w : Setup) (x : Option Step) (t : List Step) → sent_packets w (with_entry x t) ≡ sent_packets w t ++ packets_by w t x
+unfolding packets_by sent_packets
+sent_with w None t = sym (append-nil (sent_packets w t))
 sent_with w (Some step) t = refl
 
 by_server : (w : Setup) (s : ℕ) (t : List Step) (list : List server.Entry) (x : Option server.Entry) → packets.of_server s t ≡ list → frames_by (servers.packets (opening_of s)) list x ≡ flat_map frames_of (packets_by w t (option_map (AtServer s) x))
@@ -116,8 +116,8 @@ sent_more : (w : Setup) (past : List FrameStep) (step : FrameStep) → frames_se
 unfolding frames_sent
 sent_more w past step = refl
 
-none_sent : (w : Setup) → frames_sent w [] ≡ flat_map frames_of (sent w [])
-unfolding frames_sent sent
+none_sent : (w : Setup) → frames_sent w [] ≡ flat_map frames_of (sent_packets w [])
+unfolding frames_sent sent_packets
 none_sent w = refl
 
 pub frames_are_of_packets : FramesAreOfPackets
@@ -127,6 +127,6 @@ frames_are_of_packets w (step ∷ past) =
     let x = step_heard w past step in
     sent_more w past step
     ∙ ap (λ fs. fs ++ frames_of_step w past step) (frames_are_of_packets w past)
-    ∙ ap (λ fs. flat_map frames_of (sent w t) ++ fs) (step_frames w past step)
-    ∙ sym (flat_map-append frames_of (sent w t) (packets_by w t x))
+    ∙ ap (λ fs. flat_map frames_of (sent_packets w t) ++ fs) (step_frames w past step)
+    ∙ sym (flat_map-append frames_of (sent_packets w t) (packets_by w t x))
     ∙ ap (flat_map frames_of) (sym (sent_with w x t))

@@ -17,7 +17,7 @@ use Rattle.server_core.specs.declared.event.WriteEnd.TheVariants.{Done, Failed}
 use Rattle.disk_model.specs.declared.left.Left.{Left}
 use Rattle.server_core.specs.History.{Entry, Met, Cut, Restart}
 use Rattle.messages.specs.Nodes.{is_client, is_server}
-use Rattle.server_core.specs.Request.{ToEnd, ToNobody, asked_by}
+use Rattle.server_core.specs.Request.{ToEnd, ToNobody, request_in}
 use Rattle.server_core.specs.Run.{Work, origin_of, history}
 use Rattle.server_core.specs.Words.{work}
 use Rattle.net_world.specs.Setup.{Setup}
@@ -39,11 +39,11 @@ use Rattle.net_world.proofs.NotionLemmas.{Notion, Survives, Kept, TellsAt, kept_
 use Rattle.net_world.proofs.LandingLemmas.{Lands, Same, One, kept_landed}
 
 -- No packet tells that a write is done.
-no_end : (b : Body) (ticket : Ticket) (end : WriteEnd) → asked_by b ≡ ToEnd ticket end → ⊥
+no_end : (b : Body) (ticket : Ticket) (end : WriteEnd) → request_in b ≡ ToEnd ticket end → ⊥
 no_end (bodies.Jobs run text) ticket end h = cc
 no_end _ ticket end h = cc
 
-no_end_if : (t : Bool) (b : Body) (ticket : Ticket) (end : WriteEnd) → (if t then asked_by b else ToNobody) ≡ ToEnd ticket end → ⊥
+no_end_if : (t : Bool) (b : Body) (ticket : Ticket) (end : WriteEnd) → (if t then request_in b else ToNobody) ≡ ToEnd ticket end → ⊥
 no_end_if true b ticket end h = no_end b ticket end h
 no_end_if false b ticket end h = cc
 

@@ -20,8 +20,8 @@ use Rattle.server_core.specs.declared.event.WriteEnd.TheVariants.{Done, Failed}
 use Rattle.disk_model.specs.declared.left.Left.{Left}
 use Rattle.disk_model.specs.declared.left.Left.TheVariants.{NoSave, Saved, LostNew, LostOld}
 use Rattle.server_core.specs.History.{Opening, Entry, Met, Cut, Restart}
-use Rattle.server_core.specs.Request.{Request, ToStage, ToStart, ToTrigger, ToMark, ToStop, ToVerify, ToHold, ToPassFully, ToIssue, ToEnd, ToReport, ToNobody, asked}
-use Rattle.server_core.specs.Run.{Work, Halt, Triggered, halts, halted, origin_of, with_ticket, with_request, history, goes_on}
+use Rattle.server_core.specs.Request.{Request, ToStage, ToStart, ToTrigger, ToMark, ToStop, ToVerify, ToHold, ToPassFully, ToIssue, ToEnd, ToReport, ToNobody, request_of}
+use Rattle.server_core.specs.Run.{Work, Halt, Triggered, halt_by, halt_of, origin_of, with_ticket, with_request, history, goes_on}
 use Rattle.server_core.specs.Words.{Staged, boot, work_after, work, due}
 use Rattle.server_core.specs.Taken.{job_state, saved_state, triggers, takes_now, takes, and_those, takings}
 use Rattle.server_core.specs.Accepted.{IsTaking}
@@ -33,7 +33,7 @@ use Rattle.net_world.proofs.GroundLemmas.{Ground, job_legal}
 pub record LinkOf (w : Work) (j : ℕ) (state : State) : Type 0 where
   pub job : Job
   pub has_job : slice_get w.jobs j ≡ Some job
-  pub halted_yet : is_some (halted w.run w.since) ≡ true
+  pub halted_yet : is_some (halt_of w.run w.since) ≡ true
   pub key : state.key ≡ (origin_of w j job).key
   pub job_is : state.job ≡ job.rec
   pub issued_is : state.issued ≡ window.issued (history (origin_of w j job) w.since)
@@ -43,7 +43,7 @@ pub record LinkOf (w : Work) (j : ℕ) (state : State) : Type 0 where
 pub record Hit (run j : ℕ) (x : Request) (w : Work) (state : State) : Type 0 where
   pub triggers_it : triggers run x ≡ true
   pub same_run : w.run ≡ run
-  pub writing : halted w.run w.since ≡ None
+  pub writing : halt_of w.run w.since ≡ None
   pub job : Job
   pub has_job : slice_get w.jobs j ≡ Some job
   pub state_is : job_state (origin_of w j job) w.since ≡ state
@@ -52,11 +52,11 @@ saved_one : (w : Work) (j : ℕ) (job : Job) (b : Bool) (state : State) → (if 
 saved_one w j job true state h = cc
 saved_one w j job false state h = cc
 
-hit_job : (run j : ℕ) (x : Request) (w : Work) (state : State) (found : Option Job) → triggers run x ≡ true → w.run ≡ run → halted w.run w.since ≡ None → slice_get w.jobs j ≡ found → saved_state w j found w.since ≡ Some state → Hit run j x w state
+hit_job : (run j : ℕ) (x : Request) (w : Work) (state : State) (found : Option Job) → triggers run x ≡ true → w.run ≡ run → halt_of w.run w.since ≡ None → slice_get w.jobs j ≡ found → saved_state w j found w.since ≡ Some state → Hit run j x w state
 hit_job run j x w state None a b c is h = cc
 hit_job run j x w state (Some job) a b c is h = record { triggers_it = a; same_run = b; writing = c; job = job; has_job = is; state_is = saved_one w j job job.save state h }
 
-hit_now : (run j : ℕ) (x : Request) (w : Work) (state : State) (u t : Bool) (b : Option Halt) → triggers run x ≡ u → (w.run == run) ≡ t → halted w.run w.since ≡ b → takes_now (u && t) w j b ≡ Some state → Hit run j x w state
+hit_now : (run j : ℕ) (x : Request) (w : Work) (state : State) (u t : Bool) (b : Option Halt) → triggers run x ≡ u → (w.run == run) ≡ t → halt_of w.run w.since ≡ b → takes_now (u && t) w j b ≡ Some state → Hit run j x w state
 hit_now run j x w state true true None a b c h = hit_job run j x w state (slice_get w.jobs j) a (eqb-true w.run run b) c refl h
 hit_now run j x w state true true (Some halt) a b c h = cc
 hit_now run j x w state true false None a b c h = cc
@@ -65,11 +65,11 @@ hit_now run j x w state false t None a b c h = cc
 hit_now run j x w state false t (Some halt) a b c h = cc
 
 pub hit : (run j : ℕ) (x : Request) (w : Work) (state : State) → takes run j x (Some w) ≡ Some state → Hit run j x w state
-hit run j x w state h = hit_now run j x w state (triggers run x) (w.run == run) (halted w.run w.since) refl refl refl h
+hit run j x w state h = hit_now run j x w state (triggers run x) (w.run == run) (halt_of w.run w.since) refl refl refl h
 
 -- What a trigger makes of the history: nothing, but that the run is halted.
-halts_it : (run : ℕ) (x : Request) (since : List Request) → triggers run x ≡ true → is_some (option_or (halted run since) (halts run x since)) ≡ true
-halts_it run (ToTrigger r act) since h = halting (halted run since) (r == run) (Triggered act since) h
+halts_it : (run : ℕ) (x : Request) (since : List Request) → triggers run x ≡ true → is_some (option_or (halt_of run since) (halt_by run x since)) ≡ true
+halts_it run (ToTrigger r act) since h = halting (halt_of run since) (r == run) (Triggered act since) h
   where
     halting : (b : Option Halt) (t : Bool) (halt : Halt) → t ≡ true → is_some (option_or b (if t then Some halt else None)) ≡ true
     halting None true halt e = refl
@@ -133,7 +133,7 @@ link_now counts run j x w state legal same k =
     let origin = origin_of w j k.job in
     let s = state_is_of counts origin w.since state (legal k.job k.has_job) k.state_is in
     let here : triggers w.run x ≡ true = subst (λ r. triggers r x ≡ true) same k.triggers_it in
-    let same_history : history origin (x ∷ w.since) ≡ history origin w.since = no_write w.run x origin (is_some (halted w.run w.since)) (history origin w.since) here in
+    let same_history : history origin (x ∷ w.since) ≡ history origin w.since = no_write w.run x origin (is_some (halt_of w.run w.since)) (history origin w.since) here in
     record {
       job = k.job;
       has_job = k.has_job;
@@ -203,7 +203,7 @@ link_later x w j state k =
     record {
       job = k.job;
       has_job = k.has_job;
-      halted_yet = stays_halted (halted w.run w.since) (halts w.run x w.since) k.halted_yet;
+      halted_yet = stays_halted (halt_of w.run w.since) (halt_by w.run x w.since) k.halted_yet;
       key = k.key;
       job_is = k.job_is;
       issued_is = k.issued_is ∙ sym (issued_on origin x h) ∙ ap window.issued same;
@@ -247,16 +247,16 @@ abbrev pub Linked : Opening → List Entry → Option Work → Type 0
 Linked o list None = Unit {0}
 Linked o list (Some w) = (j : ℕ) (state : State) → Contains (takings o w.run j list) state → LinkOf w j state
 
-linked_on : Ground → (o : Opening) (e : Event) (left : Left) (past : List Entry) (x : Option Work) → work o past ≡ x → Linked o past x → Linked o (Met e left ∷ past) (goes_on (asked o.me e) x)
+linked_on : Ground → (o : Opening) (e : Event) (left : Left) (past : List Entry) (x : Option Work) → work o past ≡ x → Linked o past x → Linked o (Met e left ∷ past) (goes_on (request_of o.me e) x)
 linked_on laws o e left past None is l = tt
 linked_on laws o e left past (Some w) is l = λ j state c.
-    elim (now_or_before (takes w.run j (asked o.me e) (work o past)) (takings o w.run j past) state c) [
-      | inl now ↦ link_now laws.counts w.run j (asked o.me e) w state (λ job found. job_legal laws o past w is j job found) refl (hit w.run j (asked o.me e) w state (subst (λ v. takes w.run j (asked o.me e) v ≡ Some state) is now))
-      | inr before ↦ link_later (asked o.me e) w j state (l j state before)
+    elim (now_or_before (takes w.run j (request_of o.me e) (work o past)) (takings o w.run j past) state c) [
+      | inl now ↦ link_now laws.counts w.run j (request_of o.me e) w state (λ job found. job_legal laws o past w is j job found) refl (hit w.run j (request_of o.me e) w state (subst (λ v. takes w.run j (request_of o.me e) v ≡ Some state) is now))
+      | inr before ↦ link_later (request_of o.me e) w j state (l j state before)
     ]
 
 linked_after : Ground → (o : Opening) (e : Event) (left : Left) (past : List Entry) (d : Option Staged) (x : Option Work) → due o past e ≡ d → work o past ≡ x → Linked o past x
-    → Linked o (Met e left ∷ past) (work_after left d o.me (boot o past) (asked o.me e) x)
+    → Linked o (Met e left ∷ past) (work_after left d o.me (boot o past) (request_of o.me e) x)
 linked_after laws o e NoSave past d x a b l = linked_on laws o e NoSave past x b l
 linked_after laws o e Saved past None x a b l = linked_on laws o e Saved past x b l
 linked_after laws o e Saved past (Some s) x a b l = λ j state c. absurd (none_taken_yet laws o j e Saved past s state a c)

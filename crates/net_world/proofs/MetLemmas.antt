@@ -8,7 +8,7 @@ use Rattle.fc_base.specs.declared.limits.TheConstants.{MAX_JOBS}
 use Rattle.messages.specs.FrameBytes.{frame_spelling}
 use Rattle.server_core.specs.declared.input.Input.TheVariants as inputs
 use Rattle.server_core.specs.Hearing as hearing
-use Rattle.server_core.specs.Hearing.{FrameEntry, coming}
+use Rattle.server_core.specs.Hearing.{FrameEntry, coming_of}
 use Rattle.net_world.specs.declared.mirror_node.Mirrored.{Mirrored}
 use Rattle.net_world.specs.declared.server_node.ServerNode.{ServerNode}
 use Rattle.net_world.specs.declared.world.World.{World}
@@ -27,7 +27,7 @@ use Rattle.net_world.proofs.SlotLemmas.{set_there, is_set}
 
 -- ---- the lists of frames
 
-pub entry_again : (e : FrameEntry) → frame_entry (coming e) ≡ e
+pub entry_again : (e : FrameEntry) → frame_entry (coming_of e) ≡ e
 entry_again (hearing.Met (inputs.Deliver f) left) = refl
 entry_again (hearing.Met (inputs.Issue j) left) = refl
 entry_again (hearing.Met (inputs.WriteDone ticket end) left) = refl
@@ -35,11 +35,11 @@ entry_again (hearing.Met (inputs.CheckDone boot a j report) left) = refl
 entry_again hearing.Cut = refl
 entry_again (hearing.Restart left) = refl
 
-by_test : (s : ℕ) (e : FrameEntry) (t : List FrameStep) (b : Bool) → b ≡ true → map frame_entry (if b then coming e ∷ of_server s t else of_server s t) ≡ e ∷ server_entries s t
+by_test : (s : ℕ) (e : FrameEntry) (t : List FrameStep) (b : Bool) → b ≡ true → map frame_entry (if b then coming_of e ∷ of_server s t else of_server s t) ≡ e ∷ server_entries s t
 by_test s e t true h = ap (λ x. x ∷ server_entries s t) (entry_again e)
 by_test s e t false h = absurd cc
 
-past_test : (r : ℕ) (e : FrameEntry) (t : List FrameStep) (b : Bool) → b ≡ false → map frame_entry (if b then coming e ∷ of_server r t else of_server r t) ≡ server_entries r t
+past_test : (r : ℕ) (e : FrameEntry) (t : List FrameStep) (b : Bool) → b ≡ false → map frame_entry (if b then coming_of e ∷ of_server r t else of_server r t) ≡ server_entries r t
 past_test r e t true h = absurd cc
 past_test r e t false h = refl
 

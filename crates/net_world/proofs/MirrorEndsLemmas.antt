@@ -24,12 +24,12 @@ use Rattle.mirror_core.specs.History.{Entry, Met, Cut, Restart}
 use Rattle.mirror_core.specs.Words as words
 use Rattle.mirror_core.specs.Words.{refusal, due}
 use Rattle.mirror_core.specs.Saves.{Addition, is_answer}
-use Rattle.mirror_core.specs.Packets.{packets, packets_for, framed}
+use Rattle.mirror_core.specs.Packets.{packets, packets_for, frame_bytes}
 use Rattle.mirror_core.specs.Requests.{request_in}
-use Rattle.mirror_core.specs.Ends.{answered}
+use Rattle.mirror_core.specs.Ends.{answered_entry}
 use Rattle.net_world.specs.declared.server_node.ServerNode.{ServerNode}
 use Rattle.net_world.specs.declared.mirror_node.MirrorNode.{MirrorNode}
-use Rattle.net_world.specs.declared.told.Answer.TheVariants.{Plain}
+use Rattle.net_world.specs.declared.told.WorldAnswer.TheVariants.{Plain}
 use Rattle.net_world.specs.declared.sent.Sent.{Sent}
 use Rattle.net_world.specs.declared.told.Told.{Told}
 use Rattle.net_world.specs.declared.world.World.{World}
@@ -41,9 +41,9 @@ use Rattle.net_world.specs.Trace.{Step, opening_of, client_opening, mirror_openi
 use Rattle.net_world.specs.Frames.{OfMirror, of_mirror, frames_sent, frames_of_step, client_entries, to_of}
 use Rattle.net_world.specs.Changes as changes
 use Rattle.net_world.specs.Changes.{Change, steps, trace}
-use Rattle.net_world.specs.Barred.{unless, off, on, is_on, barred, unsent}
-use Rattle.net_world.specs.Outcomes.{stepped, unless_fault, left_for, where_saved, lost_by, comes_to, comes_to_mirror, frame_cut, delivered, delivery_cut_in, brings}
-use Rattle.net_world.specs.World.{frames, told}
+use Rattle.net_world.specs.Barred.{unless, unless_on, unless_off, is_on, barring_fault, unless_sent}
+use Rattle.net_world.specs.Outcomes.{outcome_of_step, unless_fault, left_for, where_saved, lost_by, comes_to, comes_to_mirror, frame_cut, delivery, delivery_cut_in, brings}
+use Rattle.net_world.specs.World.{frames, told_of_happening}
 use Rattle.net_world.specs.Telling.{plainly_told}
 use Rattle.net_world.specs.Sending.{sent_in}
 use Rattle.net_world.specs.ClientNodes as clients
@@ -51,7 +51,7 @@ use Rattle.net_world.specs.ClientNodes.{handed_in}
 use Rattle.net_world.specs.MirrorNodes as nodes
 use Rattle.net_world.specs.Stands.{IsMirror, IsGreatest, StandsFor}
 use Rattle.net_world.specs.Ends as ends
-use Rattle.net_world.specs.Ends.{Ends, after}
+use Rattle.net_world.specs.Ends.{Ends, changes_after}
 use Rattle.net_world.proofs.HearingLemmas.{mirror_hears}
 use Rattle.net_world.proofs.MetLemmas.{frames_more}
 use Rattle.net_world.proofs.ServeLemmas.{first_is}
@@ -82,16 +82,16 @@ tests a b x y c d e f = rw (e, f) refl
 on_same : (w : Setup) (past : List Change) (b : Bool) → words.is_on (of_mirror (steps past)) ≡ b → is_on w (trace w past) Mirror ≡ b
 on_same w past b h = ap words.is_on (heard_is w past) ∙ h
 
-pub is_there : (w : Setup) (past : List Change) → w.mirror ≡ true → words.is_on (of_mirror (steps past)) ≡ true → off w (trace w past) Mirror ≡ None
+pub is_there : (w : Setup) (past : List Change) → w.mirror ≡ true → words.is_on (of_mirror (steps past)) ≡ true → unless_on w (trace w past) Mirror ≡ None
 is_there w past has h = tests w.mirror (is_on w (trace w past) Mirror) NoMirror NodeOff true true has (on_same w past true h)
 
-pub is_off : (w : Setup) (past : List Change) → w.mirror ≡ true → words.is_on (of_mirror (steps past)) ≡ false → off w (trace w past) Mirror ≡ Some NodeOff
+pub is_off : (w : Setup) (past : List Change) → w.mirror ≡ true → words.is_on (of_mirror (steps past)) ≡ false → unless_on w (trace w past) Mirror ≡ Some NodeOff
 is_off w past has h = tests w.mirror (is_on w (trace w past) Mirror) NoMirror NodeOff true false has (on_same w past false h)
 
-pub runs_on : (w : Setup) (past : List Change) → w.mirror ≡ true → words.is_on (of_mirror (steps past)) ≡ true → on w (trace w past) Mirror ≡ Some NodeOn
+pub runs_on : (w : Setup) (past : List Change) → w.mirror ≡ true → words.is_on (of_mirror (steps past)) ≡ true → unless_off w (trace w past) Mirror ≡ Some NodeOn
 runs_on w past has h = tests w.mirror (not (is_on w (trace w past) Mirror)) NoMirror NodeOn true false has (ap not (on_same w past true h))
 
-pub may_restart : (w : Setup) (past : List Change) → w.mirror ≡ true → words.is_on (of_mirror (steps past)) ≡ false → on w (trace w past) Mirror ≡ None
+pub may_restart : (w : Setup) (past : List Change) → w.mirror ≡ true → words.is_on (of_mirror (steps past)) ≡ false → unless_off w (trace w past) Mirror ≡ None
 may_restart w past has h = tests w.mirror (not (is_on w (trace w past) Mirror)) NoMirror NodeOn true true has (ap not (on_same w past false h))
 
 -- ---- the world behind what comes to it
@@ -150,10 +150,10 @@ plain_ends w past e entry node first t old new stands moved node_is p f tells =
     does w past e (changes.Met (OfMirror entry)) t new p.comes (told_plainly w past e (OfMirror entry) first t p (f ∙ first_is w past old stands) tells)
     (mirror_stepped w past entry node [] old new stands moved (ap (map frame_spelling) (sym p.silent)) node_is)
 
-pub cut_plain : (w : Setup) (past : List Change) → off w (trace w past) Mirror ≡ None → IsPlain w past (happenings.Cut Mirror) (OfMirror Cut)
+pub cut_plain : (w : Setup) (past : List Change) → unless_on w (trace w past) Mirror ≡ None → IsPlain w past (happenings.Cut Mirror) (OfMirror Cut)
 cut_plain w past free = record { comes = goes w past (happenings.Cut Mirror) free; answered = refl; silent = refl; asks = refl }
 
-pub restart_plain : (w : Setup) (past : List Change) → on w (trace w past) Mirror ≡ None → IsPlain w past (happenings.Restart Mirror) (OfMirror Restart)
+pub restart_plain : (w : Setup) (past : List Change) → unless_off w (trace w past) Mirror ≡ None → IsPlain w past (happenings.Restart Mirror) (OfMirror Restart)
 restart_plain w past free = record { comes = goes w past (happenings.Restart Mirror) free; answered = refl; silent = refl; asks = refl }
 
 -- How a restart that isn't answered ends.
@@ -171,18 +171,18 @@ pub record GoesTo (w : Setup) (past : List Change) (number : ℕ) (f : Frame) : 
   pub is_sent : slice_get (frames_sent w (steps past)) number ≡ Some f
   pub goes_to : to_of f ≡ Mirror
 
-pub frame_bar : (w : Setup) (past : List Change) (number : ℕ) (f : Frame) → GoesTo w past number f → barred w (trace w past) (frames_sent w (steps past)) (Deliver number) ≡ off w (trace w past) Mirror
-frame_bar w past number f g = ap (unsent w (trace w past)) g.is_sent ∙ ap (off w (trace w past)) g.goes_to
+pub frame_bar : (w : Setup) (past : List Change) (number : ℕ) (f : Frame) → GoesTo w past number f → barring_fault w (trace w past) (frames_sent w (steps past)) (Deliver number) ≡ unless_on w (trace w past) Mirror
+frame_bar w past number f g = ap (unless_sent w (trace w past)) g.is_sent ∙ ap (unless_on w (trace w past)) g.goes_to
 
-frame_brings : (w : Setup) (past : List Change) (number : ℕ) (f : Frame) → GoesTo w past number f → brings w past (Deliver number) ≡ stepped (comes_to_mirror (trace w past) f)
-frame_brings w past number f g = ap (delivered w past) g.is_sent ∙ ap (λ node. comes_to w past node f) g.goes_to
+frame_brings : (w : Setup) (past : List Change) (number : ℕ) (f : Frame) → GoesTo w past number f → brings w past (Deliver number) ≡ outcome_of_step (comes_to_mirror (trace w past) f)
+frame_brings w past number f g = ap (delivery w past) g.is_sent ∙ ap (λ node. comes_to w past node f) g.goes_to
 
 left_same : (x : Option Addition) → left_for x ≡ saved_for x
 left_same None = refl
 left_same (Some a) = refl
 
 met : (list : List Entry) (f : Frame) → refusal mirror_opening list f ≡ None
-    → unless_fault (refusal mirror_opening list f) (Ok (OfMirror (Met f (left_for (due mirror_opening list f))))) ≡ Ok (OfMirror (answered mirror_opening list f))
+    → unless_fault (refusal mirror_opening list f) (Ok (OfMirror (Met f (left_for (due mirror_opening list f))))) ≡ Ok (OfMirror (answered_entry mirror_opening list f))
 met list f h = rw h refl ∙ ap (λ left. Ok (OfMirror (Met f left))) (left_same (due mirror_opening list f))
 
 met_err : (list : List Entry) (f : Frame) (fault : Fault) → refusal mirror_opening list f ≡ Some fault
@@ -193,7 +193,7 @@ comes_same : (w : Setup) (past : List Change) (f : Frame)
     → comes_to_mirror (trace w past) f ≡ unless_fault (refusal mirror_opening (of_mirror (steps past)) f) (Ok (OfMirror (Met f (left_for (due mirror_opening (of_mirror (steps past)) f)))))
 comes_same w past f = ap (λ list. unless_fault (refusal mirror_opening list f) (Ok (OfMirror (Met f (left_for (due mirror_opening list f)))))) (heard_is w past)
 
-spelled : (ps : List PacketParts) → framed ps ≡ map frame_spelling (flat_map frames_of ps)
+spelled : (ps : List PacketParts) → frame_bytes ps ≡ map frame_spelling (flat_map frames_of ps)
 spelled [] = refl
 spelled (p ∷ ps) = ap (λ fs. spelled_frames p ++ fs) (spelled ps) ∙ sym (map-append frame_spelling (frames_of p) (flat_map frames_of ps))
 
@@ -207,23 +207,23 @@ told_same first first' sent sent' e f = rw (e, f) refl
 pub heard_ends : (w : Setup) (past : List Change) (number : ℕ) (f : Frame) (node : MirrorNode) (sent : List (List ℕ)) (first : ℕ) (t : Told) (old new : World) → StandsFor w past old → HasHeard node sent old new → GoesTo w past number f
     → nodes.Answers mirror_opening (of_mirror (steps past)) f node sent → first ≡ length (sent_in old.sent) → t ≡ told_with first (length sent) → Ends w past (Deliver number) new (Ok t)
 heard_ends w past number f node sent first t old new stands h g a is tells =
-    let step = OfMirror (answered mirror_opening (of_mirror (steps past)) f) in
-    let frames : sent ≡ map frame_spelling (frames_of_step w (steps past) step) = a.frames_are ∙ spelled (packets mirror_opening (of_mirror (steps past)) (answered mirror_opening (of_mirror (steps past)) f)) in
+    let step = OfMirror (answered_entry mirror_opening (of_mirror (steps past)) f) in
+    let frames : sent ≡ map frame_spelling (frames_of_step w (steps past) step) = a.frames_are ∙ spelled (packets mirror_opening (of_mirror (steps past)) (answered_entry mirror_opening (of_mirror (steps past)) f)) in
     let number_is = ap (λ (fs : List (List ℕ)). length fs) frames ∙ length-map (frames_of_step w (steps past) step) frame_spelling in
     does w past (Deliver number) (changes.Met step) t new
     (goes w past (Deliver number) (frame_bar w past number f g ∙ is_there w past (h.has w past stands) a.on)
-    ∙ frame_brings w past number f g ∙ ap stepped (comes_same w past f ∙ met (of_mirror (steps past)) f a.free))
+    ∙ frame_brings w past number f g ∙ ap outcome_of_step (comes_same w past f ∙ met (of_mirror (steps past)) f a.free))
     (ap (λ x. Ok x) (sym (tells ∙ told_same first (length (frames_sent w (steps past))) (length sent) (length (frames_of_step w (steps past) step)) (is ∙ first_is w past old stands) number_is)))
-    (mirror_stepped w past (answered mirror_opening (of_mirror (steps past)) f) node sent old new stands h frames a.stands)
+    (mirror_stepped w past (answered_entry mirror_opening (of_mirror (steps past)) f) node sent old new stands h frames a.stands)
 
 refused : (w : Setup) (past : List Change) (number : ℕ) (f : Frame) (node : MirrorNode) (fault : Fault) (old new : World) → StandsFor w past old → HasHeard node [] old new → GoesTo w past number f
-    → nodes.IsOff mirror_opening (of_mirror (steps past)) fault node ⊎ nodes.Refuses mirror_opening (of_mirror (steps past)) f fault node → (told w past (Deliver number) ≡ Err fault) × StandsFor w (after w past (Deliver number)) new
+    → nodes.IsOff mirror_opening (of_mirror (steps past)) fault node ⊎ nodes.Refuses mirror_opening (of_mirror (steps past)) f fault node → (told_of_happening w past (Deliver number) ≡ Err fault) × StandsFor w (changes_after w past (Deliver number)) new
 refused w past number f node fault old new stands h g (inl o) =
     refusing w past (Deliver number) fault new (stops w past (Deliver number) fault (frame_bar w past number f g ∙ is_off w past (h.has w past stands) o.off ∙ ap Some (sym o.why))) (mirror_kept w past node old new stands h o.unchanged)
 refused w past number f node fault old new stands h g (inr r) =
     refusing w past (Deliver number) fault new
     (goes w past (Deliver number) (frame_bar w past number f g ∙ is_there w past (h.has w past stands) r.on)
-    ∙ frame_brings w past number f g ∙ ap stepped (comes_same w past f ∙ met_err (of_mirror (steps past)) f fault r.why))
+    ∙ frame_brings w past number f g ∙ ap outcome_of_step (comes_same w past f ∙ met_err (of_mirror (steps past)) f fault r.why))
     (mirror_kept w past node old new stands h r.unchanged)
 
 by_sort : (w : Setup) (past : List Change) (number : ℕ) (f : Frame) (node : MirrorNode) (fault : Fault) (old new : World) → StandsFor w past old → HasHeard node [] old new → GoesTo w past number f
@@ -248,14 +248,14 @@ no_answer false x landed = refl
 
 silent : (list : List Entry) (f : Frame) (landed : Bool) → flat_map frames_of (packets mirror_opening list (Met f (lost_by landed))) ≡ []
 silent list f landed =
-    ap (λ b. flat_map frames_of (if b then packets_for (words.noted mirror_opening list) (request_in f) else []))
+    ap (λ b. flat_map frames_of (if b then packets_for (words.words_noted mirror_opening list) (request_in f) else []))
     (no_answer (is_none (refusal mirror_opening list f)) (due mirror_opening list f) landed)
 
 cut_brings : (w : Setup) (past : List Change) (landed : Bool) (number : ℕ) (f : Frame) → GoesTo w past number f
-    → brings w past (CutIn landed (Deliver number)) ≡ stepped (where_saved (due mirror_opening (of_mirror (steps past)) f) (OfMirror (Met f (lost_by landed))))
+    → brings w past (CutIn landed (Deliver number)) ≡ outcome_of_step (where_saved (due mirror_opening (of_mirror (steps past)) f) (OfMirror (Met f (lost_by landed))))
 cut_brings w past landed number f g =
-    ap (λ x. stepped (delivery_cut_in w past landed x)) g.is_sent ∙ ap (λ node. stepped (frame_cut w past landed node f)) g.goes_to
-    ∙ ap (λ list. stepped (where_saved (due mirror_opening list f) (OfMirror (Met f (lost_by landed))))) (heard_is w past)
+    ap (λ x. outcome_of_step (delivery_cut_in w past landed x)) g.is_sent ∙ ap (λ node. outcome_of_step (frame_cut w past landed node f)) g.goes_to
+    ∙ ap (λ list. outcome_of_step (where_saved (due mirror_opening list f) (OfMirror (Met f (lost_by landed))))) (heard_is w past)
 
 -- It was cut.
 pub cut_ends : (w : Setup) (past : List Change) (landed : Bool) (number : ℕ) (f : Frame) (node : MirrorNode) (first : ℕ) (t : Told) (old new : World) → StandsFor w past old → HasHeard node [] old new → GoesTo w past number f
@@ -265,7 +265,7 @@ cut_ends w past landed number f node first t old new stands h g cut is tells =
     (record {
       comes =
           goes w past (CutIn landed (Deliver number)) (frame_bar w past number f g ∙ is_there w past (h.has w past stands) cut.0)
-          ∙ cut_brings w past landed number f g ∙ ap stepped (some_save (due mirror_opening (of_mirror (steps past)) f) (OfMirror (Met f (lost_by landed))) cut.1);
+          ∙ cut_brings w past landed number f g ∙ ap outcome_of_step (some_save (due mirror_opening (of_mirror (steps past)) f) (OfMirror (Met f (lost_by landed))) cut.1);
       answered = refl;
       silent = silent (of_mirror (steps past)) f landed;
       asks = refl;
@@ -279,7 +279,7 @@ uncut_ends w past landed number f node NodeOff old new stands h g cut =
 uncut_ends w past landed number f node NoSave old new stands h g cut =
     refuses w past (CutIn landed (Deliver number)) NoSave new refl
     (goes w past (CutIn landed (Deliver number)) (frame_bar w past number f g ∙ is_there w past (h.has w past stands) cut.0)
-    ∙ cut_brings w past landed number f g ∙ ap stepped (no_save (due mirror_opening (of_mirror (steps past)) f) (OfMirror (Met f (lost_by landed))) cut.1))
+    ∙ cut_brings w past landed number f g ∙ ap outcome_of_step (no_save (due mirror_opening (of_mirror (steps past)) f) (OfMirror (Met f (lost_by landed))) cut.1))
     (mirror_kept w past node old new stands h cut.2)
 uncut_ends w past landed number f node NoMemory old new stands h g cut = (refl, mirror_kept w past node old new stands h cut.1)
 uncut_ends w past landed number f node _ old new stands h g cut = absurd cut

@@ -17,9 +17,9 @@ use Rattle.mirror_core.specs.History.{Entry, Met, Cut}
 use Rattle.mirror_core.specs.Note.{Says, blank}
 use Rattle.mirror_core.specs.Saves.{Addition, addition_of, unless_refused, noted_after}
 use Rattle.mirror_core.specs.Requests.{request_in}
-use Rattle.mirror_core.specs.Words.{is_on, noted, refusal, due}
+use Rattle.mirror_core.specs.Words.{is_on, words_noted, refusal, due}
 use Rattle.mirror_core.specs.Ends as ends
-use Rattle.mirror_core.specs.Ends.{answered}
+use Rattle.mirror_core.specs.Ends.{answered_entry}
 use Rattle.net_world.specs.declared.mirror_node.MirrorNode.{MirrorNode}
 use Rattle.net_world.specs.declared.mirror_node.MirrorNode.TheVariants.{On, Off}
 use Rattle.net_world.specs.MirrorNodes.{Stands, Faults, Hears, CutsIn}
@@ -76,13 +76,13 @@ saved_old : (x : Option Addition) (n : Noted) → n ≡ noted_after false x n
 saved_old None n = refl
 saved_old (Some a) n = refl
 
-landed_new : (o : Noted) (past : List Entry) (f : Frame) (new : MirrorNode) → is_some (due o past f) ≡ true → Stands o (Cut ∷ answered o past f ∷ past) new → Stands o (Met f LostNew ∷ past) new
+landed_new : (o : Noted) (past : List Entry) (f : Frame) (new : MirrorNode) → is_some (due o past f) ≡ true → Stands o (Cut ∷ answered_entry o past f ∷ past) new → Stands o (Met f LostNew ∷ past) new
 landed_new o past f (On m) d s = let clash = s.1 in absurd cc
-landed_new o past f (Off notes) d s = (subst (Says (note_of notes).bytes) (saved_new (due o past f) (noted o past) d) s.0, and_false (is_on past))
+landed_new o past f (Off notes) d s = (subst (Says (note_of notes).bytes) (saved_new (due o past f) (words_noted o past) d) s.0, and_false (is_on past))
 
 landed_old : (o : Noted) (past : List Entry) (f : Frame) (new : MirrorNode) → Stands o (Cut ∷ past) new → Stands o (Met f LostOld ∷ past) new
 landed_old o past f (On m) s = let clash = s.1 in absurd cc
-landed_old o past f (Off notes) s = (subst (Says (note_of notes).bytes) (saved_old (due o past f) (noted o past)) s.0, and_false (is_on past))
+landed_old o past f (Off notes) s = (subst (Says (note_of notes).bytes) (saved_old (due o past f) (words_noted o past)) s.0, and_false (is_on past))
 
 -- It is cut as it is.
 pub cut_old : (o : Noted) (past : List Entry) (f : Frame) (new : MirrorNode) → is_on past ≡ true → is_some (due o past f) ≡ true → Stands o (Cut ∷ past) new → CutsIn o past false f new (Ok tt)
@@ -90,7 +90,7 @@ cut_old o past f new on d s = (on, d, landed_old o past f new s)
 
 -- It was delivered, and then cut.
 pub behind_ok : (o : Noted) (past : List Entry) (f : Frame) (frames : List (List ℕ)) (was new : MirrorNode) → is_some (due o past f) ≡ true → Hears o past f was (Ok frames)
-    → (Stands o (answered o past f ∷ past) was → Stands o (Cut ∷ answered o past f ∷ past) new) → CutsIn o past true f new (Ok tt)
+    → (Stands o (answered_entry o past f ∷ past) was → Stands o (Cut ∷ answered_entry o past f ∷ past) new) → CutsIn o past true f new (Ok tt)
 behind_ok o past f frames was new d a s = (a.on, d, landed_new o past f new d (s a.stands))
 
 free_of : (r : Option Fault) (x : Option Addition) (fault : Fault) → is_some (unless_refused r x) ≡ true → r ≡ Some fault → ⊥
@@ -106,7 +106,7 @@ module _ (o : Noted) (past : List Entry) (f : Frame) where
   lacks fault new up d sorts.Memory h = h
   lacks fault new up d sorts.Save h = absurd h
   lacks fault new up d sorts.Refusal (inl off) = absurd (both (is_on past) up off.off)
-  lacks fault new up d sorts.Refusal (inr r) = absurd (free_of (refusal o past f) (addition_of (noted o past) (request_in f)) fault d r.why)
+  lacks fault new up d sorts.Refusal (inr r) = absurd (free_of (refusal o past f) (addition_of (words_noted o past) (request_in f)) fault d r.why)
 
   wants : (fault : Fault) (new : MirrorNode) → is_on past ≡ true → (fault ≡ NoMemory) × Stands o past new → CutsIn o past true f new (Err fault)
   wants fault new up h = subst (λ x. CutsIn o past true f new (Err x)) (sym h.0) (up, h.1)

@@ -9,7 +9,7 @@ use Rattle.net_world.specs.Setup.{Setup}
 use Rattle.net_world.specs.Happenings.{Deliver, Restart, CutIn}
 use Rattle.net_world.specs.Trace.{client_opening}
 use Rattle.net_world.specs.Changes.{Change, trace}
-use Rattle.net_world.specs.Barred.{unless, is_on, off, unsent}
+use Rattle.net_world.specs.Barred.{unless, is_on, unless_on, unless_sent}
 use Rattle.net_world.specs.ClientNodes.{is_up}
 use Rattle.net_world.specs.Asking.{entries}
 use Rattle.net_world.specs.Delivering.{FindsFrame}
@@ -25,16 +25,16 @@ up_off b h = rw h refl
 down_off : (b : Bool) → b ≡ false → unless b NodeOff ≡ Some NodeOff
 down_off b h = rw h refl
 
-pub client_there : (w : Setup) (past : List Change) → is_up (client_opening w) (entries w past) ≡ true → off w (trace w past) Client ≡ None
+pub client_there : (w : Setup) (past : List Change) → is_up (client_opening w) (entries w past) ≡ true → unless_on w (trace w past) Client ≡ None
 client_there w past h = up_off (is_on w (trace w past) Client) (sym (up_is w past) ∙ h)
 
-pub client_gone : (w : Setup) (past : List Change) → is_up (client_opening w) (entries w past) ≡ false → off w (trace w past) Client ≡ Some NodeOff
+pub client_gone : (w : Setup) (past : List Change) → is_up (client_opening w) (entries w past) ≡ false → unless_on w (trace w past) Client ≡ Some NodeOff
 client_gone w past h = down_off (is_on w (trace w past) Client) (sym (up_is w past) ∙ h)
 
 -- There is no such frame, or memory has run out.
 pub lost_cut : (w : Setup) (past : List Change) (landed : Bool) (now : World) (number : ℕ) (fault : Fault) → StandsFor w past now → FindsFrame w past number (Err fault) → Ends w past (CutIn landed (Deliver number)) now (Err fault)
 lost_cut w past landed now number NoFrame stands h =
-    refuses w past (CutIn landed (Deliver number)) NoFrame now refl (stops w past (CutIn landed (Deliver number)) NoFrame (ap (unsent w (trace w past)) h)) stands
+    refuses w past (CutIn landed (Deliver number)) NoFrame now refl (stops w past (CutIn landed (Deliver number)) NoFrame (ap (unless_sent w (trace w past)) h)) stands
 lost_cut w past landed now number NoMemory stands h = (refl, stands)
 lost_cut w past landed now number _ stands h = absurd h
 

@@ -28,9 +28,9 @@ use Rattle.server_core.specs.declared.event.Event.{Event}
 use Rattle.server_core.specs.declared.event.WriteEnd.{WriteEnd}
 use Rattle.server_core.specs.declared.event.WriteEnd.TheVariants.{Done, Failed}
 use Rattle.server_core.specs.History.{Opening, Entry, Met, Cut, Restart}
-use Rattle.server_core.specs.Request.{Request, ToStage, ToStart, ToTrigger, ToMark, ToStop, ToVerify, ToHold, ToPassFully, ToIssue, ToEnd, ToReport, ToNobody, asked}
-use Rattle.server_core.specs.Run.{Work, halted, origin_of, with_issue, with_ticket, with_request, history, goes_on}
-use Rattle.server_core.specs.Words.{Staged, boot, recorded, work_after, last_run, work, due}
+use Rattle.server_core.specs.Request.{Request, ToStage, ToStart, ToTrigger, ToMark, ToStop, ToVerify, ToHold, ToPassFully, ToIssue, ToEnd, ToReport, ToNobody, request_of}
+use Rattle.server_core.specs.Run.{Work, halt_of, origin_of, with_issue, with_ticket, with_request, history, goes_on}
+use Rattle.server_core.specs.Words.{Staged, boot, last_run_after, work_after, last_run, work, due}
 use Rattle.server_core.specs.Taken.{takes, takings}
 use Rattle.net_world.specs.Contents.{with_block}
 use Rattle.net_world.specs.Honest.{HoldsWrite}
@@ -129,23 +129,23 @@ by_request s held origin stopped ToNobody h legal tells p = p
 
 -- Each job of the present run is told truly.
 abbrev pub TellsAt : Opening → (ℕ → ℕ → List ℕ) → List Entry → Event → Type 0
-TellsAt o held past e = (w : Work) → work o past ≡ Some w → (j : ℕ) (job : Job) → slice_get w.jobs j ≡ Some job → Tells (held j) (origin_of w j job) (history (origin_of w j job) w.since) (asked o.me e)
+TellsAt o held past e = (w : Work) → work o past ≡ Some w → (j : ℕ) (job : Job) → slice_get w.jobs j ≡ Some job → Tells (held j) (origin_of w j job) (history (origin_of w j job) w.since) (request_of o.me e)
 
 abbrev WorksOf : Notion → (ℕ → ℕ → List ℕ) → Option Work → Type 0
 WorksOf P held x = (w : Work) → x ≡ Some w → (j : ℕ) (job : Job) → slice_get w.jobs j ≡ Some job → Of P (held j) (origin_of w j job) (history (origin_of w j job) w.since)
 
-works_on : {P : Notion} {May : ℕ → JobParts → Type 0} → Ground → Survives May P → (o : Opening) (held : ℕ → ℕ → List ℕ) (past : List Entry) (e : Event) (x : Option Work) → work o past ≡ x → TellsAt o held past e → WorksOf P held x → WorksOf P held (goes_on (asked o.me e) x)
+works_on : {P : Notion} {May : ℕ → JobParts → Type 0} → Ground → Survives May P → (o : Opening) (held : ℕ → ℕ → List ℕ) (past : List Entry) (e : Event) (x : Option Work) → work o past ≡ x → TellsAt o held past e → WorksOf P held x → WorksOf P held (goes_on (request_of o.me e) x)
 works_on laws s o held past e None is tells k = λ w h. absurd cc
 works_on {P} laws s o held past e (Some v) is tells k = λ w h j job has_job.
     subst (λ u. (i : ℕ) (job : Job) → slice_get u.jobs i ≡ Some job → Of P (held i) (origin_of u i job) (history (origin_of u i job) u.since)) (some_is h)
-    (λ i job has_job. by_request s (held i) (origin_of v i job) (is_some (halted v.run v.since)) (asked o.me e) (history (origin_of v i job) v.since) (job_legal laws o past v is i job has_job) (tells v is i job has_job) (k v refl i job has_job)) j job has_job
+    (λ i job has_job. by_request s (held i) (origin_of v i job) (is_some (halt_of v.run v.since)) (request_of o.me e) (history (origin_of v i job) v.since) (job_legal laws o past v is i job has_job) (tells v is i job has_job) (k v refl i job has_job)) j job has_job
 
 works_new : {P : Notion} {May : ℕ → JobParts → Type 0} → Survives May P → (held : ℕ → ℕ → List ℕ) (me now_boot : ℕ) (d : Staged) → WorksOf P held (Some (record { server = me; boot = now_boot; run = d.run; jobs = d.jobs; since = [] }))
 works_new {P} s held me now_boot d = λ w h j job has_job.
     subst (λ u. (i : ℕ) (job : Job) → Of P (held i) (origin_of u i job) (history (origin_of u i job) u.since)) (some_is h)
     (λ i job. s.begins (held i) (record { run = d.run; server = me; job = i }) job.rec) j job
 
-works_after : {P : Notion} {May : ℕ → JobParts → Type 0} → Ground → Survives May P → (o : Opening) (held : ℕ → ℕ → List ℕ) (past : List Entry) (e : Event) (left : Left) (d : Option Staged) → TellsAt o held past e → WorksOf P held (work o past) → WorksOf P held (work_after left d o.me (boot o past) (asked o.me e) (work o past))
+works_after : {P : Notion} {May : ℕ → JobParts → Type 0} → Ground → Survives May P → (o : Opening) (held : ℕ → ℕ → List ℕ) (past : List Entry) (e : Event) (left : Left) (d : Option Staged) → TellsAt o held past e → WorksOf P held (work o past) → WorksOf P held (work_after left d o.me (boot o past) (request_of o.me e) (work o past))
 works_after laws s o held past e NoSave d tells k = works_on laws s o held past e (work o past) refl tells k
 works_after laws s o held past e Saved None tells k = works_on laws s o held past e (work o past) refl tells k
 works_after laws s o held past e Saved (Some d) tells k = works_new s held o.me (boot o past) d
@@ -161,15 +161,15 @@ of_state {P} s held origin h state k p =
     (subst (λ (job : JobParts). P held state.key job (window.issued h) (window.is_done h)) (sym k.job_is)
     (subst (λ (key : Key). P held key origin.job (window.issued h) (window.is_done h)) (sym k.key) p)))
 
-state_now : {P : Notion} {May : ℕ → JobParts → Type 0} → Ground → Survives May P → (o : Opening) (held : ℕ → ℕ → List ℕ) (past : List Entry) (run j : ℕ) (e : Event) (state : State) (x : Option Work) → work o past ≡ x → WorksOf P held x → takes run j (asked o.me e) x ≡ Some state → OfState P (held j) state
+state_now : {P : Notion} {May : ℕ → JobParts → Type 0} → Ground → Survives May P → (o : Opening) (held : ℕ → ℕ → List ℕ) (past : List Entry) (run j : ℕ) (e : Event) (state : State) (x : Option Work) → work o past ≡ x → WorksOf P held x → takes run j (request_of o.me e) x ≡ Some state → OfState P (held j) state
 state_now laws s o held past run j e state None is k h = absurd cc
 state_now laws s o held past run j e state (Some w) is k h =
-    let t = hit run j (asked o.me e) w state h in
+    let t = hit run j (request_of o.me e) w state h in
     let origin = origin_of w j t.job in
     of_state s (held j) origin (history origin w.since) state (state_is_of laws.counts origin w.since state (job_legal laws o past w is j t.job t.has_job) t.state_is) (k w refl j t.job t.has_job)
 
 states_on : {P : Notion} {May : ℕ → JobParts → Type 0} → Ground → Survives May P → (o : Opening) (held : ℕ → ℕ → List ℕ) (past : List Entry) (e : Event) (left : Left) → Kept P o held past → (j : ℕ) (state : State) → Contains (takings o (last_run o past) j (Met e left ∷ past)) state → OfState P (held j) state
-states_on laws s o held past e left k j state c = elim (now_or_before (takes (last_run o past) j (asked o.me e) (work o past)) (takings o (last_run o past) j past) state c) [
+states_on laws s o held past e left k j state c = elim (now_or_before (takes (last_run o past) j (request_of o.me e) (work o past)) (takings o (last_run o past) j past) state c) [
   | inl now ↦ state_now laws s o held past (last_run o past) j e state (work o past) refl k.works now
   | inr before ↦ k.states j state before
 ]
@@ -180,7 +180,7 @@ states_new laws s o held past e left d true is k j state c = absurd (none_taken_
 states_new laws s o held past e left d false is k j state c = states_on laws s o held past e left k j state c
 
 states_after : {P : Notion} {May : ℕ → JobParts → Type 0} → Ground → Survives May P → (o : Opening) (held : ℕ → ℕ → List ℕ) (past : List Entry) (e : Event) (left : Left) (d : Option Staged) → due o past e ≡ d → Kept P o held past → (j : ℕ) (state : State)
-    → Contains (takings o (recorded left d (last_run o past)) j (Met e left ∷ past)) state → OfState P (held j) state
+    → Contains (takings o (last_run_after left d (last_run o past)) j (Met e left ∷ past)) state → OfState P (held j) state
 states_after laws s o held past e left None is k j state c = states_on laws s o held past e left k j state c
 states_after laws s o held past e left (Some d) is k j state c = states_new laws s o held past e left d (has_new left) is k j state c
 

@@ -18,7 +18,7 @@ use Rattle.messages.specs.declared.frame.Frame.TheVariants.{Whole, Piece}
 use Rattle.messages.specs.Bodies.{length_of}
 use Rattle.messages.specs.Pieces.{is_cut, frames_of, pieces_of, piece_at, places}
 use Rattle.messages.specs.Assemblies as assemblies
-use Rattle.messages.specs.Assemblies.{Row, Look, look, taken}
+use Rattle.messages.specs.Assemblies.{Row, Look, look_at_piece, rows_after_piece}
 use Rattle.messages.specs.PieceLaws.{ArePackets, OneBodyOfEachTag, AreCut, WasSent, IsPieceOf, OnlySentComesTogether}
 use Rattle.messages.specs.Hearing.{Rules, Heard, Coming, Comes, Happens, Meaning, Says, Waits, Spoils, Strays, said_by, meaning, heard_by, entry_of, rows_by, rows_of, with_entry, heard}
 use Rattle.disk_model.specs.declared.left.Left.{Left}
@@ -26,7 +26,7 @@ use Rattle.server_core.specs.History as server
 use Rattle.client_core.specs.History as client
 use Rattle.mirror_core.specs.History as mirror
 use Rattle.net_world.specs.Setup.{Setup}
-use Rattle.net_world.specs.Trace.{Step, AtServer, AtClient, AtMirror, IsTrace, WasSentTo, taken_by, first_entry, sent}
+use Rattle.net_world.specs.Trace.{Step, AtServer, AtClient, AtMirror, IsTrace, WasSentTo, taken_by, first_entry, sent_packets}
 use Rattle.net_world.specs.Frames.{FrameStep, OfServer, OfClient, OfMirror, of_server, of_client, at_server, at_client, frames_sent, to_of, MayHappen, is_allowed, IsFrameTrace, step_heard, trace_heard}
 use Rattle.net_world.specs.InRange.{EntryFits, StepFits, FrameStepFits, Fits, FitsFrames, SentAreInRange}
 use Rattle.net_world.specs.FrameLaws.{FramesAreOfPackets, TagsNameOneBody, OnlySentIsHeard}
@@ -69,8 +69,8 @@ of_frames (p ∷ ps) f h all in_it =
       | inr i ↦ of_frames ps f i all (λ q j. in_it q (later_in p ps q j))
     ]
 
-pub frame_is : FramesAreOfPackets → (w : Setup) (past : List FrameStep) (f : Frame) → Contains (frames_sent w past) f → IsFrameOf (sent w (trace_heard w past)) f
-frame_is frames w past f h = of_frames (sent w (trace_heard w past)) f (subst (λ fs. Contains fs f) (frames w past) h) (sent w (trace_heard w past)) (λ p i. i)
+pub frame_is : FramesAreOfPackets → (w : Setup) (past : List FrameStep) (f : Frame) → Contains (frames_sent w past) f → IsFrameOf (sent_packets w (trace_heard w past)) f
+frame_is frames w past f h = of_frames (sent_packets w (trace_heard w past)) f (subst (λ fs. Contains fs f) (frames w past) h) (sent_packets w (trace_heard w past)) (λ p i. i)
 
 piece_goes : (p : PacketParts) (q : PieceParts) → Contains (pieces_of p) q → p.to ≡ q.to
 piece_goes p q h = let s = of_map (piece_at p) (places (length_of p.body)) q h in let e : piece_at p s.0 ≡ q = s.2 in ap (λ (x : PieceParts). x.to) e
@@ -95,8 +95,8 @@ either : (ps : List PacketParts) (b : Bool) (xs ys : List Row) → WasSent ps xs
 either ps true xs ys v w = v
 either ps false xs ys v w = w
 
-rows_kept : {E L : Type 0} (r : Rules E L) (ps : List PacketParts) (h : Heard E) (q : PieceParts) → WasSent ps h.rows → WasSent ps (taken h.rows q) → (m : Meaning) → WasSent ps (rows_by r h q m)
-rows_kept r ps h q w v (Says p) = either ps (r.refuses h.entries p) h.rows (taken h.rows q) w v
+rows_kept : {E L : Type 0} (r : Rules E L) (ps : List PacketParts) (h : Heard E) (q : PieceParts) → WasSent ps h.rows → WasSent ps (rows_after_piece h.rows q) → (m : Meaning) → WasSent ps (rows_by r h q m)
+rows_kept r ps h q w v (Says p) = either ps (r.refuses h.entries p) h.rows (rows_after_piece h.rows q) w v
 rows_kept r ps h q w v Waits = v
 rows_kept r ps h q w v Spoils = v
 rows_kept r ps h q w v Strays = w
@@ -115,17 +115,17 @@ keeps law r ps are one h w node (Piece q) i to left =
     let goes : p.to ≡ node = piece_goes p q (i.2).1 ∙ to in
     record {
       rows = rows_kept r ps h q w told.1 (meaning r h (Piece q));
-      says = if_taken ps node (r.takes h.entries q) (said_by (look h.rows q)) (look_sent ps node p i.1 goes (look h.rows q) told.0);
+      says = if_taken ps node (r.takes h.entries q) (said_by (look_at_piece h.rows q)) (look_sent ps node p i.1 goes (look_at_piece h.rows q) told.0);
     }
 
 -- ---- each step keeps the trace, and what has come together
 
 -- What has come together at a node is of sent packets, and with the step the trace is one.
 record Kept {E L : Type 0} (r : Rules E L) (w : Setup) (t : List Step) (h : Heard E) (c : Coming E L) (step : E → Step) : Type 0 where
-  pub rows : WasSent (sent w t) (rows_of r h c)
+  pub rows : WasSent (sent_packets w t) (rows_of r h c)
   pub trace : IsTrace w (with_entry (option_map step (entry_of r h c)) t)
 
-server_says : (w : Setup) (s : ℕ) (t : List Step) (left : Left) (m : Meaning) → IsTrace w t → SaysSent (sent w t) (Server s) m → IsTrace w (with_entry (option_map (AtServer s) (heard_by (at_server s) left m)) t)
+server_says : (w : Setup) (s : ℕ) (t : List Step) (left : Left) (m : Meaning) → IsTrace w t → SaysSent (sent_packets w t) (Server s) m → IsTrace w (with_entry (option_map (AtServer s) (heard_by (at_server s) left m)) t)
 server_says w s t left (Says p) h i = (h, (i, tt), refl)
 server_says w s t left Waits h i = h
 server_says w s t left Spoils h i = h
@@ -135,7 +135,7 @@ either_way : (b : Bool) → (if b then true else true) ≡ true
 either_way true = refl
 either_way false = refl
 
-client_says : (w : Setup) (t : List Step) (left : Left) (m : Meaning) → IsTrace w t → SaysSent (sent w t) Client m → IsTrace w (with_entry (option_map AtClient (heard_by (at_client w) left m)) t)
+client_says : (w : Setup) (t : List Step) (left : Left) (m : Meaning) → IsTrace w t → SaysSent (sent_packets w t) Client m → IsTrace w (with_entry (option_map AtClient (heard_by (at_client w) left m)) t)
 client_says w t left (Says p) h i = (h, (i, tt), either_way w.mirror)
 client_says w t left Waits h i = h
 client_says w t left Spoils h i = h
@@ -144,27 +144,27 @@ client_says w t left Strays h i = h
 takes_none : (ps : List PacketParts) (node : Node) (taken : List PacketParts) → taken ≡ [] → AllByRecursion (WasSentTo ps node) taken
 takes_none ps node taken e = subst (λ xs. AllByRecursion (WasSentTo ps node) xs) (sym e) tt
 
-server_step : OnlySentComesTogether → FramesAreOfPackets → (w : Setup) (s : ℕ) (past : List FrameStep) → IsTrace w (trace_heard w past) → ArePackets (sent w (trace_heard w past)) → OneBodyOfEachTag (sent w (trace_heard w past))
-    → (h : Heard server.Entry) → WasSent (sent w (trace_heard w past)) h.rows → (c : Coming server.Entry Left) → MayHappen (frames_sent w past) (OfServer s c) → Kept (at_server s) w (trace_heard w past) h c (AtServer s)
+server_step : OnlySentComesTogether → FramesAreOfPackets → (w : Setup) (s : ℕ) (past : List FrameStep) → IsTrace w (trace_heard w past) → ArePackets (sent_packets w (trace_heard w past)) → OneBodyOfEachTag (sent_packets w (trace_heard w past))
+    → (h : Heard server.Entry) → WasSent (sent_packets w (trace_heard w past)) h.rows → (c : Coming server.Entry Left) → MayHappen (frames_sent w past) (OfServer s c) → Kept (at_server s) w (trace_heard w past) h c (AtServer s)
 server_step law frames w s past t are one h was (Comes f left) i =
-    let k = keeps law (at_server s) (sent w (trace_heard w past)) are one h was (Server s) f (frame_is frames w past f i.0) i.1 left in
+    let k = keeps law (at_server s) (sent_packets w (trace_heard w past)) are one h was (Server s) f (frame_is frames w past f i.0) i.1 left in
     record { rows = k.rows; trace = server_says w s (trace_heard w past) left (meaning (at_server s) h f) t k.says }
 server_step law frames w s past t are one h was (Happens e) i = record {
-  rows = either (sent w (trace_heard w past)) ((at_server s).ends e) [] h.rows tt was;
-  trace = (t, takes_none (sent w (trace_heard w past)) (Server s) (taken_by (AtServer s e)) i, refl);
+  rows = either (sent_packets w (trace_heard w past)) ((at_server s).ends e) [] h.rows tt was;
+  trace = (t, takes_none (sent_packets w (trace_heard w past)) (Server s) (taken_by (AtServer s e)) i, refl);
 }
 
-client_step : OnlySentComesTogether → FramesAreOfPackets → (w : Setup) (past : List FrameStep) → IsTrace w (trace_heard w past) → ArePackets (sent w (trace_heard w past)) → OneBodyOfEachTag (sent w (trace_heard w past))
-    → (h : Heard client.Entry) → WasSent (sent w (trace_heard w past)) h.rows → (c : Coming client.Entry Left) → MayHappen (frames_sent w past) (OfClient c) → is_allowed w past (OfClient c) ≡ true → Kept (at_client w) w (trace_heard w past) h c AtClient
+client_step : OnlySentComesTogether → FramesAreOfPackets → (w : Setup) (past : List FrameStep) → IsTrace w (trace_heard w past) → ArePackets (sent_packets w (trace_heard w past)) → OneBodyOfEachTag (sent_packets w (trace_heard w past))
+    → (h : Heard client.Entry) → WasSent (sent_packets w (trace_heard w past)) h.rows → (c : Coming client.Entry Left) → MayHappen (frames_sent w past) (OfClient c) → is_allowed w past (OfClient c) ≡ true → Kept (at_client w) w (trace_heard w past) h c AtClient
 client_step law frames w past t are one h was (Comes f left) i allowed =
-    let k = keeps law (at_client w) (sent w (trace_heard w past)) are one h was Client f (frame_is frames w past f i.0) i.1 left in
+    let k = keeps law (at_client w) (sent_packets w (trace_heard w past)) are one h was Client f (frame_is frames w past f i.0) i.1 left in
     record { rows = k.rows; trace = client_says w (trace_heard w past) left (meaning (at_client w) h f) t k.says }
 client_step law frames w past t are one h was (Happens e) i allowed = record {
-  rows = either (sent w (trace_heard w past)) ((at_client w).ends e) [] h.rows tt was;
-  trace = (t, takes_none (sent w (trace_heard w past)) Client (taken_by (AtClient e)) i, allowed);
+  rows = either (sent_packets w (trace_heard w past)) ((at_client w).ends e) [] h.rows tt was;
+  trace = (t, takes_none (sent_packets w (trace_heard w past)) Client (taken_by (AtClient e)) i, allowed);
 }
 
-mirror_takes : FramesAreOfPackets → (w : Setup) (past : List FrameStep) (e : mirror.Entry) → MayHappen (frames_sent w past) (OfMirror e) → AllByRecursion (WasSentTo (sent w (trace_heard w past)) Mirror) (taken_by (AtMirror e))
+mirror_takes : FramesAreOfPackets → (w : Setup) (past : List FrameStep) (e : mirror.Entry) → MayHappen (frames_sent w past) (OfMirror e) → AllByRecursion (WasSentTo (sent_packets w (trace_heard w past)) Mirror) (taken_by (AtMirror e))
 mirror_takes frames w past (mirror.Met (Whole p) left) i = ((frame_is frames w past (Whole p) i.0, i.1), tt)
 mirror_takes frames w past (mirror.Met (Piece q) left) i = tt
 mirror_takes frames w past mirror.Cut i = tt
@@ -211,11 +211,11 @@ heard_fits w t f = record { few = f.few; steps = steps_fit w t f.steps }
 -- A trace of frames says a trace, and what has come together at each node is of sent packets.
 pub record Stands (w : Setup) (t : List FrameStep) : Type 0 where
   pub trace : IsTrace w (trace_heard w t)
-  pub servers : (s : ℕ) → WasSent (sent w (trace_heard w t)) (heard (at_server s) (of_server s t)).rows
-  pub client_rows : WasSent (sent w (trace_heard w t)) (heard (at_client w) (of_client w t)).rows
+  pub servers : (s : ℕ) → WasSent (sent_packets w (trace_heard w t)) (heard (at_server s) (of_server s t)).rows
+  pub client_rows : WasSent (sent_packets w (trace_heard w t)) (heard (at_client w) (of_client w t)).rows
 
-more_sent : (w : Setup) (x : Option Step) (t : List Step) → IsIn (sent w t) (sent w (with_entry x t))
-more_sent w x t p i = subst (λ ps. Contains ps p) (sym (sent_with w x t)) (Contains-append_left (sent w t) (packets_by w t x) p i)
+more_sent : (w : Setup) (x : Option Step) (t : List Step) → IsIn (sent_packets w t) (sent_packets w (with_entry x t))
+more_sent w x t p i = subst (λ ps. Contains ps p) (sym (sent_with w x t)) (Contains-append_left (sent_packets w t) (packets_by w t x) p i)
 
 server_rows : (ps : List PacketParts) (s r : ℕ) (b : Bool) → (b ≡ true → r ≡ s) → (c : Coming server.Entry Left) (past : List FrameStep)
     → WasSent ps (rows_of (at_server r) (heard (at_server r) (of_server r past)) c) → WasSent ps (heard (at_server s) (of_server s past)).rows
@@ -224,7 +224,7 @@ server_rows ps s r true is c past v w = subst (λ x. WasSent ps (rows_of (at_ser
 server_rows ps s r false is c past v w = w
 
 -- Nothing has come together where nothing came.
-first_rows : (w : Setup) (b : Bool) → WasSent (sent w []) (heard (at_client w) (Happens (first_entry b) ∷ [])).rows
+first_rows : (w : Setup) (b : Bool) → WasSent (sent_packets w []) (heard (at_client w) (Happens (first_entry b) ∷ [])).rows
 first_rows w true = tt
 first_rows w false = tt
 
@@ -239,9 +239,9 @@ stands law frames tags ranges w (OfServer r c ∷ past) h fits =
     let k = server_step law frames w r past s.trace are (tags w t s.trace are) (heard (at_server r) (of_server r past)) (s.servers r) c h.1 in
     record {
       trace = k.trace;
-      servers = λ i. rows_more (sent w t) (sent w (with_entry x t)) (more_sent w x t) (heard (at_server i) (of_server i (OfServer r c ∷ past))).rows
-          (server_rows (sent w t) i r (r == i) (eqb-true r i) c past k.rows (s.servers i));
-      client_rows = rows_more (sent w t) (sent w (with_entry x t)) (more_sent w x t) (heard (at_client w) (of_client w past)).rows s.client_rows;
+      servers = λ i. rows_more (sent_packets w t) (sent_packets w (with_entry x t)) (more_sent w x t) (heard (at_server i) (of_server i (OfServer r c ∷ past))).rows
+          (server_rows (sent_packets w t) i r (r == i) (eqb-true r i) c past k.rows (s.servers i));
+      client_rows = rows_more (sent_packets w t) (sent_packets w (with_entry x t)) (more_sent w x t) (heard (at_client w) (of_client w past)).rows s.client_rows;
     }
 stands law frames tags ranges w (OfClient c ∷ past) h fits =
     let t = trace_heard w past in
@@ -252,8 +252,8 @@ stands law frames tags ranges w (OfClient c ∷ past) h fits =
     let k = client_step law frames w past s.trace are (tags w t s.trace are) (heard (at_client w) (of_client w past)) s.client_rows c h.1 h.2 in
     record {
       trace = k.trace;
-      servers = λ i. rows_more (sent w t) (sent w (with_entry x t)) (more_sent w x t) (heard (at_server i) (of_server i past)).rows (s.servers i);
-      client_rows = rows_more (sent w t) (sent w (with_entry x t)) (more_sent w x t) (heard (at_client w) (of_client w (OfClient c ∷ past))).rows k.rows;
+      servers = λ i. rows_more (sent_packets w t) (sent_packets w (with_entry x t)) (more_sent w x t) (heard (at_server i) (of_server i past)).rows (s.servers i);
+      client_rows = rows_more (sent_packets w t) (sent_packets w (with_entry x t)) (more_sent w x t) (heard (at_client w) (of_client w (OfClient c ∷ past))).rows k.rows;
     }
 stands law frames tags ranges w (OfMirror e ∷ past) h fits =
     let t = trace_heard w past in
@@ -262,8 +262,8 @@ stands law frames tags ranges w (OfMirror e ∷ past) h fits =
     let s = stands law frames tags ranges w past h.0 f in
     record {
       trace = (s.trace, mirror_takes frames w past e h.1, h.2);
-      servers = λ i. rows_more (sent w t) (sent w (with_entry x t)) (more_sent w x t) (heard (at_server i) (of_server i past)).rows (s.servers i);
-      client_rows = rows_more (sent w t) (sent w (with_entry x t)) (more_sent w x t) (heard (at_client w) (of_client w past)).rows s.client_rows;
+      servers = λ i. rows_more (sent_packets w t) (sent_packets w (with_entry x t)) (more_sent w x t) (heard (at_server i) (of_server i past)).rows (s.servers i);
+      client_rows = rows_more (sent_packets w t) (sent_packets w (with_entry x t)) (more_sent w x t) (heard (at_client w) (of_client w past)).rows s.client_rows;
     }
 
 pub only_sent_is_heard : OnlySentComesTogether → FramesAreOfPackets → TagsNameOneBody → SentAreInRange → OnlySentIsHeard

@@ -24,13 +24,13 @@ use Rattle.server_core.specs.Words.{Staged}
 use Rattle.server_core.specs.Answers as answers
 use Rattle.server_core.specs.Hearing.{rules, heard_at, packets_heard}
 use Rattle.server_core.specs.FrameAnswers as framed
-use Rattle.server_core.specs.FrameAnswers.{sense_of, sense, refusal_in, due_in, act_in}
+use Rattle.server_core.specs.FrameAnswers.{sense_of, sense, refusal_of_sense, due_of_sense, act_of_sense}
 use Rattle.server_core.specs.FrameEnds.{is_drop}
 use Rattle.net_world.specs.Setup.{Setup}
 use Rattle.net_world.specs.Trace.{Step, AtServer, of_server, opening_of}
 use Rattle.net_world.specs.Frames.{OfServer, at_server}
 use Rattle.net_world.specs.Changes.{Change, Met as Changed, steps, trace}
-use Rattle.net_world.specs.Outcomes.{Outcome, Does, Refuses, Drops, stepped, unless_fault, left_for, met_by_server, comes_to_server, said_to_server}
+use Rattle.net_world.specs.Outcomes.{Outcome, Does, Refuses, Drops, outcome_of_step, unless_fault, left_for, met_by_server, comes_to_server, said_to_server}
 use Rattle.net_world.specs.World.{act, act_of}
 use Rattle.net_world.specs.Serving.{entries, step_by}
 use Rattle.net_world.proofs.StandLemmas.{servers_stand}
@@ -71,7 +71,7 @@ says_here : (t : List Step) (s : ℕ) (f : Frame) (p : PacketParts) → answers.
     → comes_to_server t s f (Says p) ≡ come s f (saved_for (words.due (opening_of s) (of_server s t) (events.Deliver p)))
 unfolding come
 says_here t s f p h =
-    ap stepped (passes (answers.refusal (opening_of s) (of_server s t) (events.Deliver p)) (Ok (OfServer s (Comes f (left_for (words.due (opening_of s) (of_server s t) (events.Deliver p)))))) h)
+    ap outcome_of_step (passes (answers.refusal (opening_of s) (of_server s t) (events.Deliver p)) (Ok (OfServer s (Comes f (left_for (words.due (opening_of s) (of_server s t) (events.Deliver p)))))) h)
     ∙ ap (λ left. Does (Changed (OfServer s (Comes f left)))) (left_same (words.due (opening_of s) (of_server s t) (events.Deliver p)))
 
 says_ok : (t : List Step) (s : ℕ) (f : Frame) (p : PacketParts) (list : List server.Entry) → list ≡ of_server s t → answers.refusal (opening_of s) list (events.Deliver p) ≡ None
@@ -82,7 +82,7 @@ says_ok t s f p list is =
 says_err : (t : List Step) (s : ℕ) (f : Frame) (p : PacketParts) (list : List server.Entry) (fault : Fault) → list ≡ of_server s t → answers.refusal (opening_of s) list (events.Deliver p) ≡ Some fault
     → comes_to_server t s f (Says p) ≡ Refuses fault
 says_err t s f p list fault is h =
-    ap stepped (fails (answers.refusal (opening_of s) (of_server s t) (events.Deliver p)) (Ok (OfServer s (Comes f (left_for (words.due (opening_of s) (of_server s t) (events.Deliver p)))))) fault (ap (λ l. answers.refusal (opening_of s) l (events.Deliver p)) (sym is) ∙ h))
+    ap outcome_of_step (fails (answers.refusal (opening_of s) (of_server s t) (events.Deliver p)) (Ok (OfServer s (Comes f (left_for (words.due (opening_of s) (of_server s t) (events.Deliver p)))))) fault (ap (λ l. answers.refusal (opening_of s) l (events.Deliver p)) (sym is) ∙ h))
 
 misses : (on : Bool) → (if on then Some Misdirected else Some Down) ≡ None → ⊥
 misses true h = cc
@@ -92,8 +92,8 @@ misdirected : (on : Bool) (fault : Fault) → on ≡ true → (if on then Some M
 misdirected true fault h k = cc
 misdirected false fault h k = cc
 
-piece_ok : (t : List Step) (s : ℕ) (q : PieceParts) (list : List server.Entry) → list ≡ of_server s t → (m : Meaning) → refusal_in (opening_of s) list (sense_of q m) ≡ None
-    → comes_to_server t s (Piece q) m ≡ come s (Piece q) (saved_for (due_in (opening_of s) list (sense_of q m)))
+piece_ok : (t : List Step) (s : ℕ) (q : PieceParts) (list : List server.Entry) → list ≡ of_server s t → (m : Meaning) → refusal_of_sense (opening_of s) list (sense_of q m) ≡ None
+    → comes_to_server t s (Piece q) m ≡ come s (Piece q) (saved_for (due_of_sense (opening_of s) list (sense_of q m)))
 unfolding come
 piece_ok t s q list is (Says p) h = says_ok t s (Piece q) p list is h
 piece_ok t s q list is Waits h = refl
@@ -107,7 +107,7 @@ DroppedOr s f fault drops out = ((drops ≡ false) × (out ≡ Refuses fault)) �
 bad_field : (fault : Fault) → Some FrameBadField ≡ Some fault → fault ≡ FrameBadField
 bad_field fault h = cc
 
-piece_err : (t : List Step) (s : ℕ) (q : PieceParts) (list : List server.Entry) (fault : Fault) → list ≡ of_server s t → words.is_on list ≡ true → (m : Meaning) → refusal_in (opening_of s) list (sense_of q m) ≡ Some fault
+piece_err : (t : List Step) (s : ℕ) (q : PieceParts) (list : List server.Entry) (fault : Fault) → list ≡ of_server s t → words.is_on list ≡ true → (m : Meaning) → refusal_of_sense (opening_of s) list (sense_of q m) ≡ Some fault
     → DroppedOr s (Piece q) fault (is_drop (sense_of q m)) (comes_to_server t s (Piece q) m)
 unfolding DroppedOr
 piece_err t s q list fault is on (Says p) h = inl (refl, says_err t s (Piece q) p list fault is h)
@@ -147,7 +147,7 @@ act_here t s e x list is =
     ap (λ lost. if lost then acts.None else answers.act (opening_of s) (of_server s t) e) (not_lost x) ∙ ap (λ l. answers.act (opening_of s) l e) (sym is)
 
 act_said : (t : List Step) (s : ℕ) (q : PieceParts) (list : List server.Entry) → list ≡ of_server s t → (m : Meaning)
-    → act_of t (option_map (AtServer s) (heard_by (rules (opening_of s)) (saved_for (due_in (opening_of s) list (sense_of q m))) m)) ≡ act_in (opening_of s) list (sense_of q m)
+    → act_of t (option_map (AtServer s) (heard_by (rules (opening_of s)) (saved_for (due_of_sense (opening_of s) list (sense_of q m))) m)) ≡ act_of_sense (opening_of s) list (sense_of q m)
 act_said t s q list is (Says p) = act_here t s (events.Deliver p) (words.due (opening_of s) list (events.Deliver p)) list is
 act_said t s q list is Waits = refl
 act_said t s q list is Spoils = refl
@@ -159,7 +159,7 @@ act_is w past s (inputs.Deliver (Piece q)) =
     let o = opening_of s in
     let list = packets_heard o (entries past s) in
     let m = meaning (rules o) (heard_at o (entries past s)) (Piece q) in
-    ap (λ x. act_of (trace w past) (option_map (AtServer s) (heard_by (rules o) (saved_for (due_in o list (sense_of q m))) x))) (sym (said_is w s past (Piece q)))
+    ap (λ x. act_of (trace w past) (option_map (AtServer s) (heard_by (rules o) (saved_for (due_of_sense o list (sense_of q m))) x))) (sym (said_is w s past (Piece q)))
     ∙ act_said (trace w past) s q list (heard_is w past s) m
 act_is w past s (inputs.Issue j) = act_here (trace w past) s (events.Issue j) (framed.due (opening_of s) (entries past s) (inputs.Issue j)) (packets_heard (opening_of s) (entries past s)) (heard_is w past s)
 act_is w past s (inputs.WriteDone ticket end) = act_here (trace w past) s (events.WriteDone ticket end) (framed.due (opening_of s) (entries past s) (inputs.WriteDone ticket end)) (packets_heard (opening_of s) (entries past s)) (heard_is w past s)

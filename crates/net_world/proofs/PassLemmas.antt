@@ -20,18 +20,18 @@ use Rattle.server_core.specs.Laws as served
 use Rattle.server_core.specs.Sent.{PacketsGoToClient}
 use Rattle.client_core.specs.History as client
 use Rattle.client_core.specs.Note.{blank}
-use Rattle.client_core.specs.Words.{kept, noted}
+use Rattle.client_core.specs.Words.{kept_state, words_noted}
 use Rattle.client_core.specs.Packets as clients
 use Rattle.client_core.specs.Laws as asked
 use Rattle.client_core.specs.Laws.{from_server, from_mirror, is_for_mirror, is_for_server}
-use Rattle.client_core.specs.Ranges.{came}
+use Rattle.client_core.specs.Ranges.{packets_come}
 use Rattle.mirror_core.specs.declared.noted.Noted.{Noted}
 use Rattle.mirror_core.specs.History as mirror
 use Rattle.mirror_core.specs.Packets as mirrors
 use Rattle.mirror_core.specs.Laws as mirror_laws
 use Rattle.net_world.specs.Setup.{Setup}
-use Rattle.net_world.specs.Trace.{Step, AtServer, AtClient, AtMirror, IsTrace, opening_of, client_opening, mirror_opening, of_server, of_client, of_mirror, packets_of, sent}
-use Rattle.net_world.specs.Holders.{taken_of, carried}
+use Rattle.net_world.specs.Trace.{Step, AtServer, AtClient, AtMirror, IsTrace, opening_of, client_opening, mirror_opening, of_server, of_client, of_mirror, packets_of, sent_packets}
+use Rattle.net_world.specs.Holders.{taken_of, carried_state}
 use Rattle.net_world.specs.Passes.{SentStatesWereTaken, WasSent, CarriedStatesWereSent, KeptStatesWereSent, CopiedStatesWereSent, SavedStatesWereKept, WasKept, CheckedStatesWereSent}
 use Rattle.net_world.specs.Claims.{OfEachList, OfEachTrace}
 use Rattle.net_world.proofs.ListLemmas.{none_in, first_in, found_in}
@@ -104,17 +104,17 @@ ends_now laws w (AtServer r e) past p jobs a h is =
 ends_now laws w (AtClient e) past p jobs a h is = absurd (no_state laws.to_peers (client_opening w) (of_client w past) e p jobs a h is)
 ends_now laws w (AtMirror e) past p jobs a h is = absurd (not_of_mirror laws.over mirror_opening (of_mirror past) e p (bodies.State jobs a) h is refl)
 
-pub ends_of : Going → (w : Setup) (t : List Step) (p : PacketParts) (jobs : ℕ) (a : State) → Contains (sent w t) p → p.body ≡ bodies.State jobs a → (p.from ≡ Server a.key.server) × (p.to ≡ Client)
+pub ends_of : Going → (w : Setup) (t : List Step) (p : PacketParts) (jobs : ℕ) (a : State) → Contains (sent_packets w t) p → p.body ≡ bodies.State jobs a → (p.from ≡ Server a.key.server) × (p.to ≡ Client)
 ends_of laws w [] p jobs a h is = absurd (sent_none w p h)
 ends_of laws w (step ∷ past) p jobs a h is = elim (sent_cases w step past p h) [
   | inl before ↦ ends_of laws w past p jobs a before is
   | inr now ↦ ends_now laws w step past p jobs a now is
 ]
 
-state_was_sent : Going → (w : Setup) (t : List Step) (p : PacketParts) (jobs : ℕ) (a : State) → Contains (sent w t) p → p.body ≡ bodies.State jobs a → WasSent w t a
+state_was_sent : Going → (w : Setup) (t : List Step) (p : PacketParts) (jobs : ℕ) (a : State) → Contains (sent_packets w t) p → p.body ≡ bodies.State jobs a → WasSent w t a
 state_was_sent laws w t p jobs a h is =
     let ends = ends_of laws w t p jobs a h is in
-    (jobs, subst (Contains (sent w t)) (same_packet p (from_server (bodies.State jobs a) a.key.server) ends.0 ends.1 is) h)
+    (jobs, subst (Contains (sent_packets w t)) (same_packet p (from_server (bodies.State jobs a) a.key.server) ends.0 ends.1 is) h)
 
 -- ---- what is noted or carried was sent in a State
 
@@ -131,7 +131,7 @@ pub record Carrying : Type 0 where
 kept_from : Carrying → (w : Setup) (t : List Step) → IsTrace w t → CarriedStatesWereSent w t → KeptStatesWereSent w t
 kept_from laws w t trace carry state h = by (laws.notes (client_opening w) (of_client w t) state h)
   where
-    by : Contains blank.kept state ⊎ (((jobs : ℕ) × Contains (came (of_client w t)) (from_server (bodies.State jobs state) state.key.server)) ⊎ Contains (came (of_client w t)) (from_mirror (bodies.Copy state))) → WasSent w t state
+    by : Contains blank.kept state ⊎ (((jobs : ℕ) × Contains (packets_come (of_client w t)) (from_server (bodies.State jobs state) state.key.server)) ⊎ Contains (packets_come (of_client w t)) (from_mirror (bodies.Copy state))) → WasSent w t state
     by (inl opening) = absurd (none_in state opening)
     by (inr (inl in_state)) = (in_state.0, came_was_sent w t _ trace in_state.1)
     by (inr (inr copy)) = carry (from_mirror (bodies.Copy state)) state (came_was_sent w t _ trace copy) refl
@@ -140,7 +140,7 @@ kept_from laws w t trace carry state h = by (laws.notes (client_opening w) (of_c
 copied_from : Carrying → (w : Setup) (t : List Step) → IsTrace w t → CarriedStatesWereSent w t → CopiedStatesWereSent w t
 copied_from laws w t trace carry state h = by (laws.mirror_notes mirror_opening (of_mirror t) state h)
   where
-    by : Contains mirror_opening.kept state ⊎ Contains (mirror_laws.came (of_mirror t)) (mirror_laws.from_client state) → WasSent w t state
+    by : Contains mirror_opening.kept state ⊎ Contains (mirror_laws.packets_come (of_mirror t)) (mirror_laws.from_client state) → WasSent w t state
     by (inl opening) = absurd (none_in state opening)
     by (inr copy) = carry (mirror_laws.from_client state) state (copied_was_sent w t _ trace copy) refl
 
@@ -158,7 +158,7 @@ not_of_server goes o past e p b h is none = clash (is_of_server (kind_of b)) (su
 saved_now : Carrying → (w : Setup) (step : Step) (past : List Step) (p : PacketParts) (attempt : ℕ) (state : State) → IsTrace w past → CarriedStatesWereSent w past → Contains (packets_of w past step) p → p.body ≡ bodies.Saved attempt state → WasSent w past state
 saved_now laws w (AtServer r e) past p attempt state trace carry h is = absurd (not_of_server laws.going.to_client (opening_of r) (of_server r past) e p (bodies.Saved attempt state) h is refl)
 saved_now laws w (AtClient e) past p attempt state trace carry h is =
-    kept_from laws w past trace carry state (found_in state.key (noted (client_opening w) (of_client w past)).kept state (laws.saved (client_opening w) (of_client w past) e p attempt state h is))
+    kept_from laws w past trace carry state (found_in state.key (words_noted (client_opening w) (of_client w past)).kept state (laws.saved (client_opening w) (of_client w past) e p attempt state h is))
 saved_now laws w (AtMirror e) past p attempt state trace carry h is = absurd (not_of_mirror laws.going.over mirror_opening (of_mirror past) e p (bodies.Saved attempt state) h is refl)
 
 copy_now : Carrying → (w : Setup) (step : Step) (past : List Step) (p : PacketParts) (state : State) → IsTrace w (step ∷ past) → CarriedStatesWereSent w past → Contains (packets_of w past step) p → p.body ≡ bodies.Copy state → WasSent w past state
@@ -175,7 +175,7 @@ same_state x state h = cc
 
 -- What a packet carries that is sent now was sent in a State.
 carried_now : Carrying → (w : Setup) (step : Step) (past : List Step) (p : PacketParts) (state : State) (b : Body) → p.body ≡ b → IsTrace w (step ∷ past) → CarriedStatesWereSent w past
-    → Contains (sent w (step ∷ past)) p → Contains (packets_of w past step) p → carried b ≡ Some state → WasSent w (step ∷ past) state
+    → Contains (sent_packets w (step ∷ past)) p → Contains (packets_of w past step) p → carried_state b ≡ Some state → WasSent w (step ∷ past) state
 carried_now laws w step past p state (bodies.State jobs x) is trace carry all h c = state_was_sent laws.going w (step ∷ past) p jobs state all (is ∙ ap (bodies.State jobs) (same_state x state c))
 carried_now laws w step past p state (bodies.Saved attempt x) is trace carry all h c =
     was_sent_stays w step past state (saved_now laws w step past p attempt state trace.0 carry h (is ∙ ap (bodies.Saved attempt) (same_state x state c)))
@@ -206,14 +206,14 @@ was_taken taken w t key state is h =
     subst (λ i. Contains (taken_of i t) state) is (taken w t (from_server (bodies.State h.0 state) state.key.server) h.0 state h.1 refl)
 
 -- What is kept was taken.
-pub kept_was_taken : OfEachList SentStatesWereTaken → FoundHasItsKey → OfEachTrace KeptStatesWereSent → (w : Setup) (t : List Step) (key : Key) (state : State) → IsTrace w t → kept (client_opening w) (of_client w t) key ≡ Some state → Contains (taken_of key t) state
+pub kept_was_taken : OfEachList SentStatesWereTaken → FoundHasItsKey → OfEachTrace KeptStatesWereSent → (w : Setup) (t : List Step) (key : Key) (state : State) → IsTrace w t → kept_state (client_opening w) (of_client w t) key ≡ Some state → Contains (taken_of key t) state
 kept_was_taken taken has kept_sent w t key state trace h =
-    let states = (noted (client_opening w) (of_client w t)).kept in
+    let states = (words_noted (client_opening w) (of_client w t)).kept in
     was_taken taken w t key state (has key states state h) (kept_sent w t trace state (found_in key states state h))
 
 -- ---- what is sent in a Saved was kept by then
 
-saved_kept_now : PacketsGoToClient → mirror_laws.PacketsGoToTheClient → asked.SavedIsKept → (w : Setup) (step : Step) (past : List Step) (p : PacketParts) (attempt : ℕ) (state : State) → Contains (packets_of w past step) p → p.body ≡ bodies.Saved attempt state → kept (client_opening w) (of_client w past) state.key ≡ Some state
+saved_kept_now : PacketsGoToClient → mirror_laws.PacketsGoToTheClient → asked.SavedIsKept → (w : Setup) (step : Step) (past : List Step) (p : PacketParts) (attempt : ℕ) (state : State) → Contains (packets_of w past step) p → p.body ≡ bodies.Saved attempt state → kept_state (client_opening w) (of_client w past) state.key ≡ Some state
 saved_kept_now goes over k w (AtServer r e) past p attempt state h is = absurd (not_of_server goes (opening_of r) (of_server r past) e p (bodies.Saved attempt state) h is refl)
 saved_kept_now goes over k w (AtClient e) past p attempt state h is = k (client_opening w) (of_client w past) e p attempt state h is
 saved_kept_now goes over k w (AtMirror e) past p attempt state h is = absurd (not_of_mirror over mirror_opening (of_mirror past) e p (bodies.Saved attempt state) h is refl)

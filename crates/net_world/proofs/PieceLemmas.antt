@@ -4,9 +4,9 @@ use Rattle.std.specs.Prelude.{Contains}
 use Rattle.messages.specs.declared.packet.PacketParts.{PacketParts}
 use Rattle.messages.specs.declared.piece.PieceParts.{PieceParts}
 use Rattle.messages.specs.declared.frame.Frame.TheVariants.{Piece}
-use Rattle.messages.specs.Assemblies.{Look, Waits, Gives, look}
+use Rattle.messages.specs.Assemblies.{Look, Waits, Gives, look_at_piece}
 use Rattle.messages.specs.PieceLaws.{ArePackets, OneBodyOfEachTag, WasSent, OnlySentComesTogether, all_taken}
-use Rattle.net_world.specs.Trace.{sent}
+use Rattle.net_world.specs.Trace.{sent_packets}
 use Rattle.net_world.specs.Holders.{ByPacket}
 use Rattle.net_world.specs.Frames.{trace_heard}
 use Rattle.net_world.specs.InRange.{SentAreInRange}
@@ -32,12 +32,12 @@ given_sent ps p q i x (inr e) g = let same : Gives p ≡ Gives q = sym e ∙ g i
 
 pub pieces_hold_the_taken : OnlySentComesTogether → FramesAreOfPackets → TagsNameOneBody → SentAreInRange → OnlySentIsHeard → OfEachTrace HeldIsTheTaken → OfEachFrameTrace PiecesHoldTheTaken
 pieces_hold_the_taken law frames tags ranges heard one w t h fits key state k =
-    let ps = sent w (trace_heard w t) in
+    let ps = sent_packets w (trace_heard w t) in
     let trace = heard w t h fits in
     let are = ranges w (trace_heard w t) trace (heard_fits w t fits) in
     let single = tags w (trace_heard w t) trace are in
     let others = all_sent law ps are single k.others (λ q i. frame_is frames w t (Piece q) (k.each q (later_in k.last k.others q i))) in
     let i = frame_is frames w t (Piece k.last) (k.each k.last (first_in k.last k.others)) in
     let told = law ps are single (all_taken [] k.others) others i.0 i.1 k.last i.2 in
-    let was : Contains ps k.packet = given_sent ps i.0 k.packet i.1 (look (all_taken [] k.others) k.last) told.0 k.together in
+    let was : Contains ps k.packet = given_sent ps i.0 k.packet i.1 (look_at_piece (all_taken [] k.others) k.last) told.0 k.together in
     one w (trace_heard w t) trace key state (ByPacket k.packet was k.state_is k.key_is)

@@ -14,8 +14,8 @@ use Rattle.server_core.specs.Words as words
 use Rattle.server_core.specs.Hearing as hearing
 use Rattle.server_core.specs.Hearing.{FrameEntry, packets_heard}
 use Rattle.net_world.specs.declared.server_node.ServerNode.{ServerNode}
-use Rattle.net_world.specs.declared.told.Answer.{Answer}
-use Rattle.net_world.specs.declared.told.Answer.TheVariants.{Plain}
+use Rattle.net_world.specs.declared.told.WorldAnswer.{WorldAnswer}
+use Rattle.net_world.specs.declared.told.WorldAnswer.TheVariants.{Plain}
 use Rattle.net_world.specs.declared.told.Told.{Told}
 use Rattle.net_world.specs.declared.world.World.{World}
 use Rattle.net_world.specs.Setup.{Setup}
@@ -23,9 +23,9 @@ use Rattle.net_world.specs.Happenings.{Happening, Cut, Restart}
 use Rattle.net_world.specs.Trace.{opening_of}
 use Rattle.net_world.specs.Frames.{FrameStep, frames_sent, frames_of_step}
 use Rattle.net_world.specs.Changes.{Change, Met, steps, trace}
-use Rattle.net_world.specs.Barred.{off, on, is_on, unless}
-use Rattle.net_world.specs.Outcomes.{Does, Refuses, stepped, outcome, has_boot}
-use Rattle.net_world.specs.World.{answer, act, told_by, frames_with}
+use Rattle.net_world.specs.Barred.{unless_on, unless_off, is_on, unless}
+use Rattle.net_world.specs.Outcomes.{Does, Refuses, outcome_of_step, outcome, has_boot}
+use Rattle.net_world.specs.World.{answer, act, told_by, frame_count}
 use Rattle.net_world.specs.Telling.{plainly_told}
 use Rattle.net_world.specs.Sending.{sent_in}
 use Rattle.net_world.specs.ServerNodes as servers
@@ -45,13 +45,13 @@ pub record IsPlain (w : Setup) (past : List Change) (e : Happening) (step : Fram
   pub silent : frames_of_step w (steps past) step ≡ []
   pub asks : act w past (Met step) ≡ acts.None
 
-plain_told : (a : Answer) (first sent : ℕ) (asked : Act) → a ≡ Plain → sent ≡ 0 → asked ≡ acts.None → record { answer = a; first = first; sent = sent; act = asked } ≡ plainly_told first
+plain_told : (a : WorldAnswer) (first sent : ℕ) (asked : Act) → a ≡ Plain → sent ≡ 0 → asked ≡ acts.None → record { answer = a; first = first; sent = sent; act = asked } ≡ plainly_told first
 plain_told a first sent asked e f g = rw (e, f, g) refl
 
 pub told_plainly : (w : Setup) (past : List Change) (e : Happening) (step : FrameStep) (first : ℕ) (t : Told) → IsPlain w past e step → first ≡ length (frames_sent w (steps past)) → t ≡ plainly_told first → told_by w past e (Does (Met step)) ≡ Ok t
 told_plainly w past e step first t p f tells =
     ap (λ x. Ok x)
-    (plain_told (answer w past e) (length (frames_sent w (steps past))) (frames_with w past (Met step)) (act w past (Met step)) p.answered (ap (λ fs. length fs) p.silent) p.asks
+    (plain_told (answer w past e) (length (frames_sent w (steps past))) (frame_count w past (Met step)) (act w past (Met step)) p.answered (ap (λ fs. length fs) p.silent) p.asks
     ∙ ap plainly_told (sym f) ∙ sym tells)
 
 pub plain_ends : (w : Setup) (past : List Change) (s : ℕ) (e : Happening) (entry : FrameEntry) (node : ServerNode) (first : ℕ) (t : Told) (old new : World) → StandsFor w past old → HasMoved s node [] old new
@@ -65,7 +65,7 @@ plain_ends w past s e entry node first t old new stands moved node_is p f tells 
 cut_silent : (w : Setup) (past : List Change) (s : ℕ) → frames_of_step w (steps past) (step_of s hearing.Cut) ≡ []
 cut_silent w past s = sym (frames_are w past s hearing.Cut)
 
-pub cut_plain : (w : Setup) (past : List Change) (s : ℕ) → off w (trace w past) (nodes.Server s) ≡ None → IsPlain w past (Cut (nodes.Server s)) (step_of s hearing.Cut)
+pub cut_plain : (w : Setup) (past : List Change) (s : ℕ) → unless_on w (trace w past) (nodes.Server s) ≡ None → IsPlain w past (Cut (nodes.Server s)) (step_of s hearing.Cut)
 cut_plain w past s h = record { comes = goes w past (Cut (nodes.Server s)) h; answered = refl; silent = cut_silent w past s; asks = refl }
 
 -- ---- a restart
@@ -91,27 +91,27 @@ lt_true a b h = grind (arith, nat_tests)
 lt_false : (a b : ℕ) → b ≤ a → nat_lt a b ≡ false
 lt_false a b h = grind (arith, nat_tests)
 
-pub none_on : (w : Setup) (past : List Change) (s : ℕ) → w.servers ≤ s → on w (trace w past) (nodes.Server s) ≡ Some NoServer
+pub none_on : (w : Setup) (past : List Change) (s : ℕ) → w.servers ≤ s → unless_off w (trace w past) (nodes.Server s) ≡ Some NoServer
 none_on w past s h = first_fails (nat_lt s w.servers) (not (is_on w (trace w past) (nodes.Server s))) NoServer NodeOn (lt_false s w.servers h)
 
-pub may_restart : (w : Setup) (past : List Change) (s : ℕ) → s < w.servers → is_up (opening_of s) (entries past s) ≡ false → on w (trace w past) (nodes.Server s) ≡ None
+pub may_restart : (w : Setup) (past : List Change) (s : ℕ) → s < w.servers → is_up (opening_of s) (entries past s) ≡ false → unless_off w (trace w past) (nodes.Server s) ≡ None
 may_restart w past s l h = on_test (nat_lt s w.servers) (is_on w (trace w past) (nodes.Server s)) NoServer NodeOn (lt_true s w.servers l) (sym (up_is w past s) ∙ h)
 
-pub runs_on : (w : Setup) (past : List Change) (s : ℕ) → s < w.servers → is_up (opening_of s) (entries past s) ≡ true → on w (trace w past) (nodes.Server s) ≡ Some NodeOn
+pub runs_on : (w : Setup) (past : List Change) (s : ℕ) → s < w.servers → is_up (opening_of s) (entries past s) ≡ true → unless_off w (trace w past) (nodes.Server s) ≡ Some NodeOn
 runs_on w past s l h = on_fails (nat_lt s w.servers) (is_on w (trace w past) (nodes.Server s)) NoServer NodeOn (lt_true s w.servers l) (sym (up_is w past s) ∙ h)
 
-pub restart_plain : (w : Setup) (past : List Change) (s : ℕ) → on w (trace w past) (nodes.Server s) ≡ None → servers.has_boot (opening_of s) (entries past s) ≡ true
+pub restart_plain : (w : Setup) (past : List Change) (s : ℕ) → unless_off w (trace w past) (nodes.Server s) ≡ None → servers.has_boot (opening_of s) (entries past s) ≡ true
     → IsPlain w past (Restart (nodes.Server s)) (step_of s (hearing.Restart lefts.Saved))
 restart_plain w past s h b = record {
-  comes = goes w past (Restart (nodes.Server s)) h ∙ ap (λ x. stepped (if x then Ok (step_of s (hearing.Restart lefts.Saved)) else Err NumbersSpent)) (sym (boot_is w past s) ∙ b);
+  comes = goes w past (Restart (nodes.Server s)) h ∙ ap (λ x. outcome_of_step (if x then Ok (step_of s (hearing.Restart lefts.Saved)) else Err NumbersSpent)) (sym (boot_is w past s) ∙ b);
   answered = refl;
   silent = restart_silent w past s;
   asks = refl;
 }
 
-pub restart_spent : (w : Setup) (past : List Change) (s : ℕ) → on w (trace w past) (nodes.Server s) ≡ None → servers.has_boot (opening_of s) (entries past s) ≡ false → outcome w past (Restart (nodes.Server s)) ≡ Refuses NumbersSpent
+pub restart_spent : (w : Setup) (past : List Change) (s : ℕ) → unless_off w (trace w past) (nodes.Server s) ≡ None → servers.has_boot (opening_of s) (entries past s) ≡ false → outcome w past (Restart (nodes.Server s)) ≡ Refuses NumbersSpent
 restart_spent w past s h b =
-    goes w past (Restart (nodes.Server s)) h ∙ ap (λ x. stepped (if x then Ok (step_of s (hearing.Restart lefts.Saved)) else Err NumbersSpent)) (sym (boot_is w past s) ∙ b)
+    goes w past (Restart (nodes.Server s)) h ∙ ap (λ x. outcome_of_step (if x then Ok (step_of s (hearing.Restart lefts.Saved)) else Err NumbersSpent)) (sym (boot_is w past s) ∙ b)
 
 -- How a restart of the node ends in a world.
 pub restart_ends : (w : Setup) (past : List Change) (s : ℕ) (node : ServerNode) (fault : Fault) (old new : World) → StandsFor w past old → HasMoved s node [] old new → s < w.servers

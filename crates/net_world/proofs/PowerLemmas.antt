@@ -15,7 +15,7 @@ use Rattle.server_core.specs.Serves.{NotOpened}
 use Rattle.server_core.specs.Hearing.{FrameEntry, packets_heard}
 use Rattle.server_core.specs.FrameEnds.{Restarts as Opened}
 use Rattle.net_world.specs.declared.server_node.ServerNode.TheVariants.{On, Off}
-use Rattle.net_world.specs.ServerNodes.{noted, Stands, Restarts}
+use Rattle.net_world.specs.ServerNodes.{words_noted, Stands, Restarts}
 
 says_same : (old new : Note) (n : Noted) → new ≡ old → Says old.bytes n → Says new.bytes n
 says_same old new n h s = subst (λ (x : Note). Says x.bytes n) (sym h) s
@@ -33,9 +33,9 @@ restart_ok o past notes server me is s h =
 
 pub restart_err : (o : Opening) (past : List FrameEntry) (notes back : Kept) (fault : Fault) → Stands o past (Off notes) → NotOpened (note_of notes) (note_of back) fault → Restarts o past (Off back) (Err fault)
 restart_err o past notes back LoadFault s h = absurd (omega (arith, h.0))
-restart_err o past notes back BadNote s h = absurd (h.1 (noted o (packets_heard o past)) s.0)
+restart_err o past notes back BadNote s h = absurd (h.1 (words_noted o (packets_heard o past)) s.0)
 restart_err o past notes back NumbersSpent s h =
-    (s.1, spent (boot o (packets_heard o past)) (h.1 (noted o (packets_heard o past)) s.0), (says_same (note_of notes) (note_of back) (noted o (packets_heard o past)) h.0 s.0, s.1))
-restart_err o past notes back NoMemory s h = (s.1, (says_same (note_of notes) (note_of back) (noted o (packets_heard o past)) h s.0, s.1))
+    (s.1, spent (boot o (packets_heard o past)) (h.1 (words_noted o (packets_heard o past)) s.0), (says_same (note_of notes) (note_of back) (words_noted o (packets_heard o past)) h.0 s.0, s.1))
+restart_err o past notes back NoMemory s h = (s.1, (says_same (note_of notes) (note_of back) (words_noted o (packets_heard o past)) h s.0, s.1))
 restart_err o past notes back SaveFault s h = absurd (omega (arith, h.0))
 restart_err o past notes back _ s h = absurd h

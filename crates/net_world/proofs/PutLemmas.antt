@@ -3,14 +3,14 @@ use Rattle.std.proofs.Common.{◌≡◌, sym, ◌∙◌, ap, ℕ, suc, ◌+◌, 
 use Rattle.std.specs.Prelude.{map, Result, Ok, Err, IfOk}
 use Rattle.std.proofs.Math.Seq.{drop-cons, take-suc}
 use Rattle.std.proofs.lemmas.List.{append_assoc, drop-map, map-append, take-map}
-use Rattle.net_world.specs.declared.event.Event.{Event}
+use Rattle.net_world.specs.declared.event.WorldEvent.{WorldEvent}
 use Rattle.messages.specs.declared.node.Node.{Node}
 use Rattle.net_world.specs.Happenings.{Happening, Restart}
 use Rattle.net_world.specs.Events.{happening}
 use Rattle.net_world.specs.PutIn.{stop_in, stopped_first}
 
 -- One more is copied.
-pub one_more : (all es : List Event) (before : List Happening) (i : ℕ) (e copy : Event) → i < length es → e ≡ get_or es i e → happening copy ≡ happening e
+pub one_more : (all es : List WorldEvent) (before : List Happening) (i : ℕ) (e copy : WorldEvent) → i < length es → e ≡ get_or es i e → happening copy ≡ happening e
     → map happening all ≡ before ++ map happening (take i es) → map happening (all ++ copy ∷ []) ≡ before ++ map happening (take (i + 1) es)
 one_more all es before i e copy lt is same h =
     let more : i + 1 ≡ suc i = omega arith in
@@ -23,7 +23,7 @@ one_more all es before i e copy lt is same h =
     ∙ ap (λ l. before ++ map happening l) (sym one)
 
 -- Two are put between the copies of what stands before a place and of what stands behind it.
-pub two_put_in : (es front : List Event) (at : ℕ) (one two : Event) → map happening front ≡ map happening (take at es)
+pub two_put_in : (es front : List WorldEvent) (at : ℕ) (one two : WorldEvent) → map happening front ≡ map happening (take at es)
     → map happening ((front ++ one ∷ []) ++ two ∷ []) ++ map happening (drop at es) ≡ take at (map happening es) ++ happening one ∷ happening two ∷ drop at (map happening es)
 two_put_in es front at one two h =
     ap (λ l. l ++ map happening (drop at es)) (map-append happening (front ++ one ∷ []) (two ∷ []) ∙ ap (λ l. l ++ happening two ∷ []) (map-append happening front (one ∷ [])))
@@ -33,7 +33,7 @@ two_put_in es front at one two h =
     ∙ ap (λ l. take at (map happening es) ++ happening one ∷ happening two ∷ l) (sym (drop-map happening at es))
 
 -- What is first from a place on is what stands there.
-pub stopped_there : (es : List Event) (landed : Bool) (node : Node) (at : ℕ) (e : Event) → at < length es → e ≡ get_or es at e
+pub stopped_there : (es : List WorldEvent) (landed : Bool) (node : Node) (at : ℕ) (e : WorldEvent) → at < length es → e ≡ get_or es at e
     → stopped_first landed node (drop at (map happening es)) ≡ stop_in landed (happening e) ∷ Restart node ∷ drop at (map happening es)
 stopped_there es landed node at e lt is =
     let first : drop at (map happening es) ≡ happening e ∷ map happening (drop (suc at) es) =

@@ -18,13 +18,13 @@ use Rattle.client_core.specs.declared.call.Call.{Call}
 use Rattle.client_core.specs.declared.call.Call.TheVariants as calls
 use Rattle.client_core.specs.History as entry
 use Rattle.client_core.specs.Note.{IsNoted, blank}
-use Rattle.client_core.specs.Ranges.{packet_in, came}
+use Rattle.client_core.specs.Ranges.{packet_in, packets_come}
 use Rattle.client_core.specs.Laws as clients
 use Rattle.mirror_core.specs.History as mirror
 use Rattle.mirror_core.specs.Note as mirror_note
 use Rattle.mirror_core.specs.Laws as mirrors
 use Rattle.net_world.specs.Setup.{Setup}
-use Rattle.net_world.specs.Trace.{Step, AtServer, AtClient, AtMirror, IsTrace, WasSentTo, taken_by, node_of, sent, packets_of, of_server, of_client, of_mirror, opening_of, client_opening, mirror_opening, first_entry}
+use Rattle.net_world.specs.Trace.{Step, AtServer, AtClient, AtMirror, IsTrace, WasSentTo, taken_by, node_of, sent_packets, packets_of, of_server, of_client, of_mirror, opening_of, client_opening, mirror_opening, first_entry}
 use Rattle.net_world.specs.InRange.{ReportFits, EntryFits, StepFits, SentAreInRange}
 use Rattle.net_world.proofs.ListLemmas.{none_in, each_of}
 
@@ -51,17 +51,17 @@ if_its true xs ys h k = h
 if_its false xs ys h k = k
 
 -- All that was sent before a step is sent after it.
-before : (w : Setup) (step : Step) (past : List Step) → ArePackets (sent w (step ∷ past)) → ArePackets (sent w past)
-unfolding sent
-before w step past are p i = are p (Contains-append_left (sent w past) (packets_of w past step) p i)
+before : (w : Setup) (step : Step) (past : List Step) → ArePackets (sent_packets w (step ∷ past)) → ArePackets (sent_packets w past)
+unfolding sent_packets
+before w step past are p i = are p (Contains-append_left (sent_packets w past) (packets_of w past step) p i)
 
-came_to : (w : Setup) (s : ℕ) (t : List Step) → IsTrace w t → AllByRecursion StepFits t → ArePackets (sent w t) → ranges.CameInRange (of_server s t)
+came_to : (w : Setup) (s : ℕ) (t : List Step) → IsTrace w t → AllByRecursion StepFits t → ArePackets (sent_packets w t) → ranges.CameInRange (of_server s t)
 unfolding AllSent
 came_to w s [] h f are = tt
 came_to w s (AtServer r e ∷ past) h f are =
     let a = before w (AtServer r e) past are in
     let k = came_to w s past h.0 f.1 a in
-    if_its (r == s) (e ∷ of_server s past) (of_server s past) (more_in (sent w past) r e (of_server s past) a h.1 f.0.1 k) k
+    if_its (r == s) (e ∷ of_server s past) (of_server s past) (more_in (sent_packets w past) r e (of_server s past) a h.1 f.0.1 k) k
 came_to w s (AtClient e ∷ past) h f are = came_to w s past h.0 f.1 (before w (AtClient e) past are)
 came_to w s (AtMirror e ∷ past) h f are = came_to w s past h.0 f.1 (before w (AtMirror e) past are)
 
@@ -74,24 +74,24 @@ call_in ps (calls.Stop run) left older are w h = h
 call_in ps (calls.Verify run text) left older are w h = h
 call_in ps calls.Tick left older are w h = h
 
-more_heard : (ps : List PacketParts) (e : entry.Entry) (past : List entry.Entry) → ArePackets ps → AllSent ps (AtClient e) → AllByRecursion IsPacket (came past) → AllByRecursion IsPacket (came (e ∷ past))
-more_heard ps (entry.Met c left) past are w h = call_in ps c left (came past) are w h
+more_heard : (ps : List PacketParts) (e : entry.Entry) (past : List entry.Entry) → ArePackets ps → AllSent ps (AtClient e) → AllByRecursion IsPacket (packets_come past) → AllByRecursion IsPacket (packets_come (e ∷ past))
+more_heard ps (entry.Met c left) past are w h = call_in ps c left (packets_come past) are w h
 more_heard ps entry.Cut past are w h = h
 more_heard ps (entry.Restart mirror) past are w h = h
 more_heard ps (entry.Renew g left) past are w h = h
 more_heard ps entry.Lose past are w h = h
 
-first_brings_none : (b : Bool) → AllByRecursion IsPacket (came (first_entry b ∷ []))
+first_brings_none : (b : Bool) → AllByRecursion IsPacket (packets_come (first_entry b ∷ []))
 first_brings_none true = tt
 first_brings_none false = tt
 
-came_back : (w : Setup) (t : List Step) → IsTrace w t → ArePackets (sent w t) → AllByRecursion IsPacket (came (of_client w t))
+came_back : (w : Setup) (t : List Step) → IsTrace w t → ArePackets (sent_packets w t) → AllByRecursion IsPacket (packets_come (of_client w t))
 unfolding AllSent
 came_back w [] h are = first_brings_none w.mirror
 came_back w (AtServer r e ∷ past) h are = came_back w past h.0 (before w (AtServer r e) past are)
 came_back w (AtClient e ∷ past) h are =
     let a = before w (AtClient e) past are in
-    more_heard (sent w past) e (of_client w past) a h.1 (came_back w past h.0 a)
+    more_heard (sent_packets w past) e (of_client w past) a h.1 (came_back w past h.0 a)
 came_back w (AtMirror e ∷ past) h are = came_back w past h.0 (before w (AtMirror e) past are)
 
 more_copied : (ps : List PacketParts) (e : mirror.Entry) (past : List mirror.Entry) → ArePackets ps → AllSent ps (AtMirror e) → mirrors.CameInRange past → mirrors.CameInRange (e ∷ past)
@@ -101,14 +101,14 @@ more_copied ps (mirror.Met (Piece q) left) past are w h = h
 more_copied ps mirror.Cut past are w h = h
 more_copied ps mirror.Restart past are w h = h
 
-came_over : (w : Setup) (t : List Step) → IsTrace w t → ArePackets (sent w t) → mirrors.CameInRange (of_mirror t)
+came_over : (w : Setup) (t : List Step) → IsTrace w t → ArePackets (sent_packets w t) → mirrors.CameInRange (of_mirror t)
 unfolding AllSent
 came_over w [] h are = tt
 came_over w (AtServer r e ∷ past) h are = came_over w past h.0 (before w (AtServer r e) past are)
 came_over w (AtClient e ∷ past) h are = came_over w past h.0 (before w (AtClient e) past are)
 came_over w (AtMirror e ∷ past) h are =
     let a = before w (AtMirror e) past are in
-    more_copied (sent w past) e (of_mirror past) a h.1 (came_over w past h.0 a)
+    more_copied (sent_packets w past) e (of_mirror past) a h.1 (came_over w past h.0 a)
 
 mirror_blank : mirror_note.IsNoted mirror_note.blank
 mirror_blank = record { generation = omega arith; count = omega arith; states = tt; keys = refl }
@@ -119,22 +119,22 @@ blank_noted = record { generation = omega arith; runs = omega arith; attempts = 
 each : (ps : List PacketParts) → AllByRecursion IsPacket ps → ArePackets ps
 each ps h p i = each_of IsPacket ps p h i
 
-step_in : servers.PacketsAreInRange → clients.PacketsAreInRange → mirrors.PacketsAreInRange → (w : Setup) (step : Step) (past : List Step) → w.servers ≤ MAX_SERVERS → IsTrace w (step ∷ past) → AllByRecursion StepFits (step ∷ past) → ArePackets (sent w past) → ArePackets (packets_of w past step)
+step_in : servers.PacketsAreInRange → clients.PacketsAreInRange → mirrors.PacketsAreInRange → (w : Setup) (step : Step) (past : List Step) → w.servers ≤ MAX_SERVERS → IsTrace w (step ∷ past) → AllByRecursion StepFits (step ∷ past) → ArePackets (sent_packets w past) → ArePackets (packets_of w past step)
 unfolding AllSent
 step_in by_server by_client by_mirror w (AtServer s e) past l h f are =
-    each _ (by_server (opening_of s) (of_server s past) e (record { me = f.0.0; last = omega arith }) (more_in (sent w past) s e (of_server s past) are h.1 f.0.1 (came_to w s past h.0 f.1 are)))
+    each _ (by_server (opening_of s) (of_server s past) e (record { me = f.0.0; last = omega arith }) (more_in (sent_packets w past) s e (of_server s past) are h.1 f.0.1 (came_to w s past h.0 f.1 are)))
 step_in by_server by_client by_mirror w (AtClient e) past l h f are =
-    each _ (by_client (client_opening w) (of_client w past) e (record { servers = l; note = blank_noted }) (more_heard (sent w past) e (of_client w past) are h.1 (came_back w past h.0 are)))
+    each _ (by_client (client_opening w) (of_client w past) e (record { servers = l; note = blank_noted }) (more_heard (sent_packets w past) e (of_client w past) are h.1 (came_back w past h.0 are)))
 step_in by_server by_client by_mirror w (AtMirror e) past l h f are =
-    each _ (by_mirror mirror_opening (of_mirror past) e mirror_blank (more_copied (sent w past) e (of_mirror past) are h.1 (came_over w past h.0 are)))
+    each _ (by_mirror mirror_opening (of_mirror past) e mirror_blank (more_copied (sent_packets w past) e (of_mirror past) are h.1 (came_over w past h.0 are)))
 
-none_sent : (w : Setup) → ArePackets (sent w [])
-unfolding sent
+none_sent : (w : Setup) → ArePackets (sent_packets w [])
+unfolding sent_packets
 none_sent w p i = absurd (none_in p i)
 
-one_step : (w : Setup) (step : Step) (past : List Step) → ArePackets (sent w past) → ArePackets (packets_of w past step) → ArePackets (sent w (step ∷ past))
-unfolding sent
-one_step w step past a b = both (sent w past) (packets_of w past step) a b
+one_step : (w : Setup) (step : Step) (past : List Step) → ArePackets (sent_packets w past) → ArePackets (packets_of w past step) → ArePackets (sent_packets w (step ∷ past))
+unfolding sent_packets
+one_step w step past a b = both (sent_packets w past) (packets_of w past step) a b
 
 pub sent_are_in_range : servers.PacketsAreInRange → clients.PacketsAreInRange → mirrors.PacketsAreInRange → SentAreInRange
 sent_are_in_range by_server by_client by_mirror w [] h f = none_sent w

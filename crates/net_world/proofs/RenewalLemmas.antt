@@ -15,7 +15,7 @@ use Rattle.client_core.specs.declared.noted.Noted.{Noted}
 use Rattle.client_core.specs.History.{Opening}
 use Rattle.client_core.specs.Hearing.{FrameEntry, Renew, Cut, packets_heard}
 use Rattle.client_core.specs.Note.{Says, SaysOneThing, blank, is_blank}
-use Rattle.client_core.specs.Words.{noted}
+use Rattle.client_core.specs.Words.{words_noted}
 use Rattle.client_core.specs.Stands.{IsBadNote, NotOpened, NotRenewed}
 use Rattle.net_world.specs.declared.client_node.ClientNode.{ClientNode}
 use Rattle.net_world.specs.declared.client_node.ClientNode.TheVariants.{On, Off}
@@ -49,9 +49,9 @@ said_is one bytes n none s = ap is_blank (one bytes n blank s (says_blank bytes 
 -- Other notes with the same bytes stand for the same.
 restand : (o : Opening) (past : List FrameEntry) (old new : Kept) → note_of new ≡ note_of old → Stands o past (Off old) → Stands o past (Off new)
 restand o past old new e h = (
-  subst (λ (m : Note). Says m.bytes (noted o (packets_heard o past))) (sym e) h.0,
+  subst (λ (m : Note). Says m.bytes (words_noted o (packets_heard o past))) (sym e) h.0,
   h.1,
-  subst (λ (m : Note). IsEmptyIfBlank m.bytes (noted o (packets_heard o past))) (sym e) h.2,
+  subst (λ (m : Note). IsEmptyIfBlank m.bytes (words_noted o (packets_heard o past))) (sym e) h.2,
 )
 
 -- ---- a restart
@@ -68,7 +68,7 @@ bad_note one mirror bytes n s (inr empty) = rw (empty.0, said_is one bytes n emp
 pub not_started : SaysOneThing → (o : Opening) (past : List FrameEntry) (mirror : Bool) (old new : Kept) (fault : Fault) → Stands o past (Off old) → NotOpened mirror (note_of old) (note_of new) fault → Restarts o past mirror (Off new) (Err fault)
 not_started one o past mirror old new LoadFault h k = absurd (omega (arith, k.0))
 not_started one o past mirror old new BadNote h k =
-    (h.1, bad_note one mirror (note_of old).bytes (noted o (packets_heard o past)) h.0 k.1, restand o past old new k.0 h)
+    (h.1, bad_note one mirror (note_of old).bytes (words_noted o (packets_heard o past)) h.0 k.1, restand o past old new k.0 h)
 not_started one o past mirror old new NoMemory h k = (h.1, restand o past old new k h)
 not_started one o past mirror old new _ h k = absurd k
 
@@ -90,7 +90,7 @@ not_renewed o past g old new BadGeneration fits h k = absurd (never (is_generati
 not_renewed o past g old new LoadFault fits h k = absurd (omega (arith, k.0))
 not_renewed o past g old new SaveFault fits h k = absurd (omega (arith, k.0))
 not_renewed o past g old new BadNote fits h k =
-    (h.1, written_note (note_of old).bytes (noted o (packets_heard o past)) k.2 h.2, restand o past old new k.0 h)
+    (h.1, written_note (note_of old).bytes (words_noted o (packets_heard o past)) k.2 h.2, restand o past old new k.0 h)
 not_renewed o past g old new NoMemory fits h k = (h.1, restand o past old new k h)
 not_renewed o past g old new _ fits h k = absurd k
 
@@ -102,8 +102,8 @@ cut_new o past g (On client) s = let clash = s.1 in absurd cc
 cut_new o past g (Off notes) s = (s.0, refl, s.2)
 
 -- Before it: there is no note, as before.
-pub cut_old : (o : Opening) (past : List FrameEntry) (g : ℕ) (notes : Kept) → (note_of notes).bytes ≡ [] → is_blank (noted o (packets_heard o past)) ≡ true → Stands o (Renew g LostOld ∷ past) (Off notes)
-cut_old o past g notes none h = (says_nothing (note_of notes).bytes (noted o (packets_heard o past)) none h, refl, inl none)
+pub cut_old : (o : Opening) (past : List FrameEntry) (g : ℕ) (notes : Kept) → (note_of notes).bytes ≡ [] → is_blank (words_noted o (packets_heard o past)) ≡ true → Stands o (Renew g LostOld ∷ past) (Off notes)
+cut_old o past g notes none h = (says_nothing (note_of notes).bytes (words_noted o (packets_heard o past)) none h, refl, inl none)
 
 -- A renewal that is refused saves nothing: there is a note, or it is refused as it is.
 module _ (o : Opening) (past : List FrameEntry) (g : ℕ) (landed : Bool) (new : ClientNode) where

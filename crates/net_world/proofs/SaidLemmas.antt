@@ -18,7 +18,7 @@ use Rattle.client_core.specs.Laws as asked
 use Rattle.client_core.specs.Words.{has_mirror}
 use Rattle.mirror_core.specs.Laws as mirrors
 use Rattle.net_world.specs.Setup.{Setup}
-use Rattle.net_world.specs.Trace.{Step, AtServer, AtClient, AtMirror, opening_of, client_opening, mirror_opening, of_server, of_client, of_mirror, packets_of, sent}
+use Rattle.net_world.specs.Trace.{Step, AtServer, AtClient, AtMirror, opening_of, client_opening, mirror_opening, of_server, of_client, of_mirror, packets_of, sent_packets}
 use Rattle.net_world.proofs.MirrorLemmas.{sent_by_mirror}
 use Rattle.net_world.proofs.TraceLemmas.{own_step, sent_cases, sent_none}
 use Rattle.net_world.proofs.BegunLemmas.{begun, work_begun, begun_stays}
@@ -78,7 +78,7 @@ sent_now laws w s (AtClient e) past p from h =
     from_client (inr k) = ap (λ (q : PacketParts). q.from) k.1
 sent_now laws w s (AtMirror e) past p from h = absurd (not_mirror s (sym (sent_by_mirror laws.over mirror_opening (of_mirror past) e p h).0 ∙ from))
 
-pub sent_by : Sayings → (w : Setup) (s : ℕ) (t : List Step) (p : PacketParts) → p.from ≡ Server s → Contains (sent w t) p → SentBy s (of_server s t) p
+pub sent_by : Sayings → (w : Setup) (s : ℕ) (t : List Step) (p : PacketParts) → p.from ≡ Server s → Contains (sent_packets w t) p → SentBy s (of_server s t) p
 sent_by laws w s [] p from h = absurd (sent_none w p h)
 sent_by laws w s (step ∷ past) p from h =
     elim (sent_cases w step past p h) [

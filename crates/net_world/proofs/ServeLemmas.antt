@@ -28,12 +28,12 @@ use Rattle.server_core.specs.declared.input.Input.{Input}
 use Rattle.server_core.specs.declared.input.Input.TheVariants as inputs
 use Rattle.server_core.specs.declared.outs.Outs.{Outs}
 use Rattle.server_core.specs.History as server
-use Rattle.server_core.specs.Request.{asked}
+use Rattle.server_core.specs.Request.{request_of}
 use Rattle.server_core.specs.Replies.{replies}
 use Rattle.server_core.specs.Answers as packet_answers
 use Rattle.server_core.specs.Answers.{to_client, sent_by}
 use Rattle.server_core.specs.Words as words
-use Rattle.server_core.specs.Hearing.{FrameEntry, Met, rules, heard_at, coming, packets_heard}
+use Rattle.server_core.specs.Hearing.{FrameEntry, Met, rules, heard_at, coming_of, packets_heard}
 use Rattle.server_core.specs.FrameAnswers as answers
 use Rattle.net_world.specs.declared.served.Served.{Served}
 use Rattle.net_world.specs.declared.mirror_node.Mirrored.{Mirrored}
@@ -43,7 +43,7 @@ use Rattle.net_world.specs.Setup.{Setup}
 use Rattle.net_world.specs.Trace.{of_server, opening_of, client_opening}
 use Rattle.net_world.specs.Frames.{frames_sent, frames_of_step, client_entries, of_mirror}
 use Rattle.net_world.specs.Changes.{Change, steps, trace}
-use Rattle.net_world.specs.Barred.{off, is_on, unless}
+use Rattle.net_world.specs.Barred.{unless_on, is_on, unless}
 use Rattle.net_world.specs.World.{frames}
 use Rattle.net_world.specs.Sending.{sent_in}
 use Rattle.net_world.specs.ServerNodes as nodes_of
@@ -68,7 +68,7 @@ up_is w past s = ap words.is_on (heard_is w past s)
 -- The frames of an entry are those of its step.
 pub frames_are : (w : Setup) (past : List Change) (s : ℕ) (e : FrameEntry) → answers.frames (opening_of s) (entries past s) e ≡ frames_of_step w (steps past) (step_of s e)
 frames_are w past s e =
-    ap (answers.frames (opening_of s) (entries past s)) (sym (entry_again e)) ∙ (servers_stand w s (steps past)).sends (coming e)
+    ap (answers.frames (opening_of s) (entries past s)) (sym (entry_again e)) ∙ (servers_stand w s (steps past)).sends (coming_of e)
 
 -- ---- whether there is such a server, and whether it is on
 
@@ -87,13 +87,13 @@ first_fails a b f g h = rw h refl
 second_fails : (a b : Bool) (f g : Fault) → a ≡ true → b ≡ false → option_or (unless a f) (unless b g) ≡ Some g
 second_fails a b f g h k = rw (h, k) refl
 
-pub none_there : (w : Setup) (past : List Change) (s : ℕ) → w.servers ≤ s → off w (trace w past) (nodes.Server s) ≡ Some NoServer
+pub none_there : (w : Setup) (past : List Change) (s : ℕ) → w.servers ≤ s → unless_on w (trace w past) (nodes.Server s) ≡ Some NoServer
 none_there w past s h = first_fails (nat_lt s w.servers) (is_on w (trace w past) (nodes.Server s)) NoServer NodeOff (lt_false s w.servers h)
 
-pub is_off : (w : Setup) (past : List Change) (s : ℕ) → s < w.servers → is_up (opening_of s) (entries past s) ≡ false → off w (trace w past) (nodes.Server s) ≡ Some NodeOff
+pub is_off : (w : Setup) (past : List Change) (s : ℕ) → s < w.servers → is_up (opening_of s) (entries past s) ≡ false → unless_on w (trace w past) (nodes.Server s) ≡ Some NodeOff
 is_off w past s l h = second_fails (nat_lt s w.servers) (is_on w (trace w past) (nodes.Server s)) NoServer NodeOff (lt_true s w.servers l) (sym (up_is w past s) ∙ h)
 
-pub is_there : (w : Setup) (past : List Change) (s : ℕ) → s < w.servers → is_up (opening_of s) (entries past s) ≡ true → off w (trace w past) (nodes.Server s) ≡ None
+pub is_there : (w : Setup) (past : List Change) (s : ℕ) → s < w.servers → is_up (opening_of s) (entries past s) ≡ true → unless_on w (trace w past) (nodes.Server s) ≡ None
 is_there w past s l h = tests_pass (nat_lt s w.servers) (is_on w (trace w past) (nodes.Server s)) NoServer NodeOff (lt_true s w.servers l) (sym (up_is w past s) ∙ h)
 
 -- ---- frames are counted
@@ -110,9 +110,9 @@ none_sent : (me : ℕ) (lost : Bool) (x : Option Fault) (fault : Fault) (bodies 
 none_sent me lost x fault bodies h = rw h refl
 
 event_sends : (o : server.Opening) (list : List server.Entry) (e : Event) (fault : Fault) → packet_answers.refusal o list e ≡ Some fault → answers.frames_by o list (Some (server.Met e NoSave)) ≡ []
-event_sends o list e fault h = none_sent o.me false (packet_answers.refusal o list e) fault (replies (packet_answers.now o list) (asked o.me e)) h
+event_sends o list e fault h = none_sent o.me false (packet_answers.refusal o list e) fault (replies (packet_answers.now o list) (request_of o.me e)) h
 
-piece_sends : (o : server.Opening) (list : List server.Entry) (q : PieceParts) (m : Meaning) (fault : Fault) → answers.refusal_in o list (answers.sense_of q m) ≡ Some fault
+piece_sends : (o : server.Opening) (list : List server.Entry) (q : PieceParts) (m : Meaning) (fault : Fault) → answers.refusal_of_sense o list (answers.sense_of q m) ≡ Some fault
     → answers.frames_by o list (heard_by (rules o) NoSave m) ≡ []
 piece_sends o list q (Says p) fault h = event_sends o list (events.Deliver p) fault h
 piece_sends o list q Waits fault h = refl
@@ -150,7 +150,7 @@ serve_ends w past s e outs served old new stands h is =
     let es = entries past s in
     let a = h.stepped o es (stands.servers_are s h.was h.was_is) in
     let l : s < w.servers = omega (arith, h.moved.there, stands.number) in
-    let same = frames_are w past s (answers.answered o es e) in
+    let same = frames_are w past s (answers.answered_entry o es e) in
     let sent : outs.frames ≡ map frame_spelling (frames_of_step w (steps past) (step_by past s e)) = a.frames_are ∙ ap (map frame_spelling) same in
     record {
       on = is_there w past s l a.on;
@@ -159,7 +159,7 @@ serve_ends w past s e outs served old new stands h is =
       sent_is = is.sent_is ∙ ap (λ (fs : List (List ℕ)). length fs) sent ∙ length-map (frames_of_step w (steps past) (step_by past s e)) frame_spelling;
       issue_is = is.issue ∙ a.issue_is;
       act_is = is.act ∙ a.act_is;
-      stands = server_stepped w past s (answers.answered o es e) h.node outs.frames old new stands h.moved sent a.stands;
+      stands = server_stepped w past s (answers.answered_entry o es e) h.node outs.frames old new stands h.moved sent a.stands;
     }
 
 refused : (w : Setup) (past : List Change) (s : ℕ) (e : Input) (fault : Fault) (old new : World) → StandsFor w past old → (h : HasServed s e (Err fault) [] old new) → s < w.servers
@@ -228,7 +228,7 @@ pub node_at : {X : Type 0} (xs : List X) (s place : ℕ) (x : X) → place ≡ s
 node_at xs s place x is l h = slice_get_read xs (length xs) s x refl l (h ∙ ap (λ i. get_or xs i x) is)
 
 -- A server that is on is there.
-pub on_below : (w : Setup) (past : List Change) (s : ℕ) → off w (trace w past) (nodes.Server s) ≡ None → s < w.servers
+pub on_below : (w : Setup) (past : List Change) (s : ℕ) → unless_on w (trace w past) (nodes.Server s) ≡ None → s < w.servers
 on_below w past s h = by_test (nat_lt s w.servers) refl
   where
     by_test : (b : Bool) → nat_lt s w.servers ≡ b → s < w.servers
@@ -239,7 +239,7 @@ on_below w past s h = by_test (nat_lt s w.servers) refl
         some_none e = cc
 
 -- A server that is on is up by its list.
-pub up_of : (w : Setup) (past : List Change) (s : ℕ) → off w (trace w past) (nodes.Server s) ≡ None → is_up (opening_of s) (entries past s) ≡ true
+pub up_of : (w : Setup) (past : List Change) (s : ℕ) → unless_on w (trace w past) (nodes.Server s) ≡ None → is_up (opening_of s) (entries past s) ≡ true
 up_of w past s h = up_is w past s ∙ by_test (is_on w (trace w past) (nodes.Server s)) refl
   where
     by_test : (b : Bool) → is_on w (trace w past) (nodes.Server s) ≡ b → is_on w (trace w past) (nodes.Server s) ≡ true

@@ -5,7 +5,7 @@ use Rattle.messages.specs.Hearing.{Heard, Coming, Comes, Happens, entry_of, rows
 use Rattle.disk_model.specs.declared.left.Left.{Left}
 use Rattle.server_core.specs.declared.event.Event.TheVariants as events
 use Rattle.server_core.specs.History as server
-use Rattle.server_core.specs.Hearing.{coming}
+use Rattle.server_core.specs.Hearing.{coming_of}
 use Rattle.server_core.specs.Answers as answers
 use Rattle.server_core.specs.FrameAnswers as sends
 use Rattle.net_world.specs.Trace.{opening_of}
@@ -16,7 +16,7 @@ use Rattle.net_world.specs.FrameLaws.{ServersStand}
 next : ℕ → Heard server.Entry → Coming server.Entry Left → Heard server.Entry
 next s h c = record { entries = with_entry (entry_of (at_server s) h c) h.entries; rows = rows_of (at_server s) h c }
 
-entry_same : (s : ℕ) (h : Heard server.Entry) (c : Coming server.Entry Left) → entry_of (at_server s) h (coming (frame_entry c)) ≡ entry_of (at_server s) h c
+entry_same : (s : ℕ) (h : Heard server.Entry) (c : Coming server.Entry Left) → entry_of (at_server s) h (coming_of (frame_entry c)) ≡ entry_of (at_server s) h c
 entry_same s h (Comes f left) = refl
 entry_same s h (Happens (server.Met (events.Deliver p) left)) = refl
 entry_same s h (Happens (server.Met (events.Issue j) left)) = refl
@@ -25,7 +25,7 @@ entry_same s h (Happens (server.Met (events.CheckDone boot a j report) left)) = 
 entry_same s h (Happens server.Cut) = refl
 entry_same s h (Happens (server.Restart left)) = refl
 
-next_same : (s : ℕ) (h : Heard server.Entry) (c : Coming server.Entry Left) → next s h (coming (frame_entry c)) ≡ next s h c
+next_same : (s : ℕ) (h : Heard server.Entry) (c : Coming server.Entry Left) → next s h (coming_of (frame_entry c)) ≡ next s h c
 unfolding next
 next_same s h (Comes f left) = refl
 next_same s h (Happens (server.Met (events.Deliver p) left)) = refl
@@ -35,10 +35,10 @@ next_same s h (Happens (server.Met (events.CheckDone boot a j report) left)) = r
 next_same s h (Happens server.Cut) = refl
 next_same s h (Happens (server.Restart left)) = refl
 
-hears_same : (s : ℕ) (list : List (Coming server.Entry Left)) → heard (at_server s) (map coming (map frame_entry list)) ≡ heard (at_server s) list
+hears_same : (s : ℕ) (list : List (Coming server.Entry Left)) → heard (at_server s) (map coming_of (map frame_entry list)) ≡ heard (at_server s) list
 unfolding next
 hears_same s [] = refl
-hears_same s (c ∷ past) = ap (λ h. next s h (coming (frame_entry c))) (hears_same s past) ∙ next_same s (heard (at_server s) past) c
+hears_same s (c ∷ past) = ap (λ h. next s h (coming_of (frame_entry c))) (hears_same s past) ∙ next_same s (heard (at_server s) past) c
 
 frames_same : (s : ℕ) (list : List server.Entry) (x : Option server.Entry) → sends.frames_by (opening_of s) list x ≡ frames_by (answers.packets (opening_of s)) list x
 frames_same s list None = refl
@@ -51,7 +51,7 @@ servers_stand w s t =
     record {
       hears = same;
       sends = λ c.
-          ap (λ (k : Heard server.Entry). sends.frames_by (opening_of s) k.entries (entry_of (at_server s) k (coming (frame_entry c)))) same
+          ap (λ (k : Heard server.Entry). sends.frames_by (opening_of s) k.entries (entry_of (at_server s) k (coming_of (frame_entry c)))) same
           ∙ ap (λ x. sends.frames_by (opening_of s) h.entries x) (entry_same s h c)
           ∙ frames_same s h.entries (entry_of (at_server s) h c);
     }

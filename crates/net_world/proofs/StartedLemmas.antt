@@ -20,14 +20,14 @@ use Rattle.client_core.specs.declared.peers.Peers.{Peers}
 use Rattle.client_core.specs.History as client
 use Rattle.client_core.specs.History.{Opening, Entry}
 use Rattle.client_core.specs.Laws.{generations}
-use Rattle.client_core.specs.Note.{is_blank, renewed}
+use Rattle.client_core.specs.Note.{is_blank, new_note}
 use Rattle.client_core.specs.Saves.{Addition, NextRun, NextAttempt, Keep, due_by, noted_after}
-use Rattle.client_core.specs.Words.{is_on, noted, peers, may_renew}
+use Rattle.client_core.specs.Words.{is_on, words_noted, peers, may_renew}
 use Rattle.net_world.specs.Setup.{Setup}
 use Rattle.net_world.specs.Trace.{Step, AtClient, client_opening, first_entry, of_client, is_alone, is_with_mirror, is_of_setup}
 use Rattle.net_world.specs.Frames as frames
 use Rattle.net_world.specs.Frames.{FrameStep, OfServer, OfClient, OfMirror, of_server, at_server, at_client, is_allowed, IsFrameTrace, trace_heard}
-use Rattle.net_world.specs.Barred.{unless, unlosable, used_generation, unfit}
+use Rattle.net_world.specs.Barred.{unless, unless_losable, used_generation, unless_unused}
 use Rattle.net_world.specs.Outcomes.{noted_in}
 use Rattle.net_world.proofs.HearingLemmas.{client_with, client_by_server}
 use Rattle.net_world.proofs.TraceLemmas.{when_with}
@@ -49,8 +49,8 @@ passes false fault h = absurd cc
 -- ---- a client that is on, or whose note says something, is of a generation
 
 pub record IsOfGeneration (o : Opening) (list : List Entry) : Type 0 where
-  pub on : is_on list ≡ true → nat_lt 0 (noted o list).generation ≡ true
-  pub written : is_blank (noted o list) ≡ false → nat_lt 0 (noted o list).generation ≡ true
+  pub on : is_on list ≡ true → nat_lt 0 (words_noted o list).generation ≡ true
+  pub written : is_blank (words_noted o list) ≡ false → nat_lt 0 (words_noted o list).generation ≡ true
 
 same_generation : (new : Bool) (d : Option Addition) (n : Noted) → (noted_after new d n).generation ≡ n.generation
 same_generation new None n = refl
@@ -67,7 +67,7 @@ met_written false p n c left f g h = g h
 positive : (g : ℕ) → is_generation g ≡ true → nat_lt 0 g ≡ true
 positive g h = let low = (and_parts (nat_le 1 g) _ h).0 in grind (arith, nat_tests)
 
-renewed_positive : (b : Bool) (g : ℕ) (n : Noted) → is_generation g ≡ true → (b ≡ false → nat_lt 0 n.generation ≡ true) → nat_lt 0 (if b then renewed g else n).generation ≡ true
+renewed_positive : (b : Bool) (g : ℕ) (n : Noted) → is_generation g ≡ true → (b ≡ false → nat_lt 0 n.generation ≡ true) → nat_lt 0 (if b then new_note g else n).generation ≡ true
 renewed_positive true g n h f = positive g h
 renewed_positive false g n h f = f refl
 
@@ -82,19 +82,19 @@ not_blank g left b h s e = by left (is_generation g) h s e
     by lefts.LostNew x f k y = absurd cc
     by lefts.LostOld x f k y = absurd cc
 
-renewed_written : (b : Bool) (g : ℕ) (n : Noted) → is_generation g ≡ true → (is_blank n ≡ false → nat_lt 0 n.generation ≡ true) → is_blank (if b then renewed g else n) ≡ false → nat_lt 0 (if b then renewed g else n).generation ≡ true
+renewed_written : (b : Bool) (g : ℕ) (n : Noted) → is_generation g ≡ true → (is_blank n ≡ false → nat_lt 0 n.generation ≡ true) → is_blank (if b then new_note g else n) ≡ false → nat_lt 0 (if b then new_note g else n).generation ≡ true
 renewed_written true g n h f e = positive g h
 renewed_written false g n h f e = f e
 
 goes_on : (o : Opening) (e : Entry) (past : List Entry) → is_with_mirror o past e ≡ true → IsOfGeneration o past → IsOfGeneration o (e ∷ past)
 goes_on o (client.Met c left) past h s = record {
-  on = λ k. ap (λ (x : ℕ). nat_lt 0 x) (same_generation (has_new left) (due_by (is_on past) (peers o past) (noted o past) c) (noted o past)) ∙ s.on (and_parts (is_on past) (not (is_lost left)) k).0;
-  written = met_written (is_on past) (peers o past) (noted o past) c left s.on s.written;
+  on = λ k. ap (λ (x : ℕ). nat_lt 0 x) (same_generation (has_new left) (due_by (is_on past) (peers o past) (words_noted o past) c) (words_noted o past)) ∙ s.on (and_parts (is_on past) (not (is_lost left)) k).0;
+  written = met_written (is_on past) (peers o past) (words_noted o past) c left s.on s.written;
 }
 goes_on o client.Cut past h s = record { on = λ k. absurd cc; written = s.written }
-goes_on o (client.Restart mirror) past h s = record { on = λ k. (and_parts mirror (nat_lt 0 (noted o past).generation) h).1; written = s.written }
+goes_on o (client.Restart mirror) past h s = record { on = λ k. (and_parts mirror (nat_lt 0 (words_noted o past).generation) h).1; written = s.written }
 goes_on o (client.Renew g left) past h s =
-    let n = noted o past in
+    let n = words_noted o past in
     let fits = (and_parts (is_generation g) (not (has (generations past) g)) h).0 in
     record {
       on = λ k. renewed_positive (has_new left && may_renew g n) g n fits (λ e. s.written (not_blank g left (is_blank n) fits k e));
@@ -165,11 +165,11 @@ renews : (b : Bool) (g : ℕ) (gs : List ℕ) (y : Bool) → b ≡ true → is_g
 renews true g gs y h k l = rw (k, l) refl
 renews false g gs y h k l = absurd cc
 
-pub renewal_fits : (w : Setup) (ps : List FrameStep) (g : ℕ) (left : Left) → option_or (unlosable w (trace_heard w ps)) (unfit w (trace_heard w ps) g) ≡ None
+pub renewal_fits : (w : Setup) (ps : List FrameStep) (g : ℕ) (left : Left) → option_or (unless_losable w (trace_heard w ps)) (unless_unused w (trace_heard w ps) g) ≡ None
     → is_of_setup w (trace_heard w ps) (AtClient (client.Renew g left)) ≡ true
 renewal_fits w ps g left h =
     let t = trace_heard w ps in
-    let first = both_none (unlosable w t) (unfit w t g) h in
+    let first = both_none (unless_losable w t) (unless_unused w t g) h in
     let second = both_none (unless (is_generation g) BadGeneration) (used_generation w t g) first.1 in
     renews w.mirror g (generations (of_client w t)) false (has_mirror_of w.mirror _ first.0) (passes (is_generation g) BadGeneration second.0)
     (none_of (generations (of_client w t)) g (passes (list_all (λ earlier. nat_lt earlier g) (generations (of_client w t))) UsedGeneration second.1))
@@ -178,5 +178,5 @@ loses : (b : Bool) → b ≡ true → (if b then true else false) ≡ true
 loses true h = refl
 loses false h = absurd cc
 
-pub loss_fits : (w : Setup) (t : List Step) → unlosable w t ≡ None → is_of_setup w t (AtClient client.Lose) ≡ true
+pub loss_fits : (w : Setup) (t : List Step) → unless_losable w t ≡ None → is_of_setup w t (AtClient client.Lose) ≡ true
 loss_fits w t h = loses w.mirror (has_mirror_of w.mirror _ h)

@@ -14,7 +14,7 @@ use Rattle.messages.specs.Bodies.{kind_of, length_limit, length_of}
 use Rattle.messages.specs.Laws.{IsPacket, LengthsAreBounded}
 use Rattle.messages.specs.Pieces.{is_cut, tag_of}
 use Rattle.net_world.specs.Setup.{Setup}
-use Rattle.net_world.specs.Trace.{Step, IsTrace, sent}
+use Rattle.net_world.specs.Trace.{Step, IsTrace, sent_packets}
 use Rattle.net_world.specs.Claims.{OfEachTrace}
 use Rattle.net_world.specs.Headline.{OneTextOfEachRun, OneTextOfEachAttempt}
 use Rattle.net_world.specs.FrameLaws.{TagsNameOneBody}
@@ -38,7 +38,7 @@ long law b h k c = short b (length_limit (kind_of b)) (law b h k) (omega arith) 
 tags_are : (b c x y : Body) → b ≡ x → c ≡ y → tag_of b ≡ tag_of c → tag_of x ≡ tag_of y
 tags_are b c x y h k e = sym (ap tag_of h) ∙ e ∙ ap tag_of k
 
-same_body : OfEachTrace OneTextOfEachRun → OfEachTrace OneTextOfEachAttempt → (w : Setup) (t : List Step) → IsTrace w t → (p q : PacketParts) → Contains (sent w t) p → Contains (sent w t) q → tag_of p.body ≡ tag_of q.body → Long p.body → Long q.body → p.body ≡ q.body
+same_body : OfEachTrace OneTextOfEachRun → OfEachTrace OneTextOfEachAttempt → (w : Setup) (t : List Step) → IsTrace w t → (p q : PacketParts) → Contains (sent_packets w t) p → Contains (sent_packets w t) q → tag_of p.body ≡ tag_of q.body → Long p.body → Long q.body → p.body ≡ q.body
 same_body texts checks w t trace p q i j e (OfJobs run text h) (OfJobs other more k) =
     let run_is : run ≡ other = ap (λ (x : Tag). x.run) (tags_are p.body q.body (bodies.Jobs run text) (bodies.Jobs other more) h k e) in
     let k_is : q.body ≡ bodies.Jobs run more = subst (λ x. q.body ≡ bodies.Jobs x more) (sym run_is) k in

@@ -16,17 +16,17 @@ use Rattle.server_core.specs.declared.event.Event.{Event}
 use Rattle.server_core.specs.declared.event.Event.TheVariants as events
 use Rattle.server_core.specs.History as server
 use Rattle.server_core.specs.History.{Opening}
-use Rattle.server_core.specs.Request.{asked}
+use Rattle.server_core.specs.Request.{request_of}
 use Rattle.server_core.specs.Words.{work}
 use Rattle.server_core.specs.Taken.{takes, and_those, takings}
-use Rattle.server_core.specs.Heard.{heard_with, heard}
+use Rattle.server_core.specs.Heard.{heard_with, heard_packets}
 use Rattle.client_core.specs.History as client
 use Rattle.client_core.specs.Laws.{loses_nothing, generations, is_mirrored, KeepsNumbersApart}
-use Rattle.client_core.specs.Ranges.{packet_in, came}
-use Rattle.client_core.specs.Words.{noted}
+use Rattle.client_core.specs.Ranges.{packet_in, packets_come}
+use Rattle.client_core.specs.Words.{words_noted}
 use Rattle.mirror_core.specs.Laws as mirror_laws
 use Rattle.net_world.specs.Setup.{Setup}
-use Rattle.net_world.specs.Trace.{Step, AtServer, AtClient, AtMirror, opening_of, client_opening, first_entry, of_server, of_client, of_mirror, packets_of, sent, taken_by, node_of, WasSentTo, is_alone, is_with_mirror, IsTrace}
+use Rattle.net_world.specs.Trace.{Step, AtServer, AtClient, AtMirror, opening_of, client_opening, first_entry, of_server, of_client, of_mirror, packets_of, sent_packets, taken_by, node_of, WasSentTo, is_alone, is_with_mirror, IsTrace}
 use Rattle.net_world.specs.Holders.{taken_of}
 use Rattle.net_world.proofs.ListLemmas.{none_in, later_in, each_of}
 
@@ -69,7 +69,7 @@ loses_none w (AtMirror e ∷ past) alone trace = loses_none w past alone trace.0
 mirrored_more : (o : client.Opening) (e : client.Entry) (past : List client.Entry) → is_with_mirror o past e ≡ true → is_mirrored o past ≡ true → is_mirrored o (e ∷ past) ≡ true
 mirrored_more o (client.Met c left) past h k = k
 mirrored_more o client.Cut past h k = k
-mirrored_more o (client.Restart mirror) past h k = both (mirror && nat_lt 0 (noted o past).generation) (is_mirrored o past) h k
+mirrored_more o (client.Restart mirror) past h k = both (mirror && nat_lt 0 (words_noted o past).generation) (is_mirrored o past) h k
 mirrored_more o (client.Renew g left) past h k = both (is_generation g && not (has (generations past) g)) (is_mirrored o past) h k
 mirrored_more o client.Lose past h k = k
 
@@ -105,7 +105,7 @@ among None states state h = h
 among (Some y) states state h = later_in y states state h
 
 taking_stays : (o : Opening) (run j : ℕ) (e : server.Entry) (past : List server.Entry) (state : State) → Contains (takings o run j past) state → Contains (takings o run j (e ∷ past)) state
-taking_stays o run j (server.Met e left) past state h = among (takes run j (asked o.me e) (work o past)) (takings o run j past) state h
+taking_stays o run j (server.Met e left) past state h = among (takes run j (request_of o.me e) (work o past)) (takings o run j past) state h
 taking_stays o run j server.Cut past state h = h
 taking_stays o run j (server.Restart left) past state h = h
 
@@ -131,46 +131,46 @@ front_is_trace w (step ∷ later) t h = front_is_trace w later t h.0
 
 -- ---- what was sent stays sent
 
-pub sent_cases : (w : Setup) (step : Step) (past : List Step) (p : PacketParts) → Contains (sent w (step ∷ past)) p → Contains (sent w past) p ⊎ Contains (packets_of w past step) p
-unfolding sent
-sent_cases w step past p h = Contains-append_cases (sent w past) (packets_of w past step) p h
+pub sent_cases : (w : Setup) (step : Step) (past : List Step) (p : PacketParts) → Contains (sent_packets w (step ∷ past)) p → Contains (sent_packets w past) p ⊎ Contains (packets_of w past step) p
+unfolding sent_packets
+sent_cases w step past p h = Contains-append_cases (sent_packets w past) (packets_of w past step) p h
 
-pub sent_stays : (w : Setup) (step : Step) (past : List Step) (p : PacketParts) → Contains (sent w past) p → Contains (sent w (step ∷ past)) p
-unfolding sent
-sent_stays w step past p h = Contains-append_left (sent w past) (packets_of w past step) p h
+pub sent_stays : (w : Setup) (step : Step) (past : List Step) (p : PacketParts) → Contains (sent_packets w past) p → Contains (sent_packets w (step ∷ past)) p
+unfolding sent_packets
+sent_stays w step past p h = Contains-append_left (sent_packets w past) (packets_of w past step) p h
 
-pub sent_none : (w : Setup) (p : PacketParts) → Contains (sent w []) p → ⊥
-unfolding sent
+pub sent_none : (w : Setup) (p : PacketParts) → Contains (sent_packets w []) p → ⊥
+unfolding sent_packets
 sent_none w p h = none_in p h
 
 -- ---- what came was sent
 
 -- What a step of a trace takes was sent before.
-pub taken_was_sent : (w : Setup) (step : Step) (past : List Step) (p : PacketParts) → AllByRecursion (WasSentTo (sent w past) (node_of step)) (taken_by step) → Contains (taken_by step) p → Contains (sent w past) p
-taken_was_sent w step past p h c = (each_of (WasSentTo (sent w past) (node_of step)) (taken_by step) p h c).0
+pub taken_was_sent : (w : Setup) (step : Step) (past : List Step) (p : PacketParts) → AllByRecursion (WasSentTo (sent_packets w past) (node_of step)) (taken_by step) → Contains (taken_by step) p → Contains (sent_packets w past) p
+taken_was_sent w step past p h c = (each_of (WasSentTo (sent_packets w past) (node_of step)) (taken_by step) p h c).0
 
-none_came : (b : Bool) (p : PacketParts) → Contains (came (first_entry b ∷ [])) p → ⊥
+none_came : (b : Bool) (p : PacketParts) → Contains (packets_come (first_entry b ∷ [])) p → ⊥
 none_came true p h = none_in p h
 none_came false p h = none_in p h
 
 -- All that came to the client.
-pub came_was_sent : (w : Setup) (t : List Step) (p : PacketParts) → IsTrace w t → Contains (came (of_client w t)) p → Contains (sent w t) p
+pub came_was_sent : (w : Setup) (t : List Step) (p : PacketParts) → IsTrace w t → Contains (packets_come (of_client w t)) p → Contains (sent_packets w t) p
 came_was_sent w [] p h c = absurd (none_came w.mirror p c)
 came_was_sent w (AtServer r e ∷ past) p h c = sent_stays w (AtServer r e) past p (came_was_sent w past p h.0 c)
 came_was_sent w (AtClient e ∷ past) p h c =
-    sent_stays w (AtClient e) past p (elim (Contains-append_cases (packet_in e) (came (of_client w past)) p c) [
+    sent_stays w (AtClient e) past p (elim (Contains-append_cases (packet_in e) (packets_come (of_client w past)) p c) [
       | inl now ↦ taken_was_sent w (AtClient e) past p h.1 now
       | inr before ↦ came_was_sent w past p h.0 before
     ])
 came_was_sent w (AtMirror e ∷ past) p h c = sent_stays w (AtMirror e) past p (came_was_sent w past p h.0 c)
 
 -- All that came to the mirror.
-pub copied_was_sent : (w : Setup) (t : List Step) (p : PacketParts) → IsTrace w t → Contains (mirror_laws.came (of_mirror t)) p → Contains (sent w t) p
+pub copied_was_sent : (w : Setup) (t : List Step) (p : PacketParts) → IsTrace w t → Contains (mirror_laws.packets_come (of_mirror t)) p → Contains (sent_packets w t) p
 copied_was_sent w [] p h c = absurd (none_in p c)
 copied_was_sent w (AtServer r e ∷ past) p h c = sent_stays w (AtServer r e) past p (copied_was_sent w past p h.0 c)
 copied_was_sent w (AtClient e ∷ past) p h c = sent_stays w (AtClient e) past p (copied_was_sent w past p h.0 c)
 copied_was_sent w (AtMirror e ∷ past) p h c =
-    sent_stays w (AtMirror e) past p (elim (Contains-append_cases (mirror_laws.packet_in e) (mirror_laws.came (of_mirror past)) p c) [
+    sent_stays w (AtMirror e) past p (elim (Contains-append_cases (mirror_laws.packet_in e) (mirror_laws.packets_come (of_mirror past)) p c) [
       | inl now ↦ taken_was_sent w (AtMirror e) past p h.1 now
       | inr before ↦ copied_was_sent w past p h.0 before
     ])
@@ -182,19 +182,19 @@ heard_by (events.Issue j) older p h = inr h
 heard_by (events.WriteDone ticket end) older p h = inr h
 heard_by (events.CheckDone boot a j report) older p h = inr h
 
-heard_now : (e : server.Entry) (past : List server.Entry) (p : PacketParts) → Contains (heard (e ∷ past)) p → Contains (heard (e ∷ [])) p ⊎ Contains (heard past) p
-heard_now (server.Met e left) past p h = heard_by e (heard past) p h
+heard_now : (e : server.Entry) (past : List server.Entry) (p : PacketParts) → Contains (heard_packets (e ∷ past)) p → Contains (heard_packets (e ∷ [])) p ⊎ Contains (heard_packets past) p
+heard_now (server.Met e left) past p h = heard_by e (heard_packets past) p h
 heard_now server.Cut past p h = absurd (none_in p h)
 heard_now (server.Restart left) past p h = absurd (none_in p h)
 
-heard_if : (w : Setup) (r s : ℕ) (t : Bool) (e : server.Entry) (past : List Step) (p : PacketParts) → AllByRecursion (WasSentTo (sent w past) (Server r)) (heard (e ∷ []))
-    → (Contains (heard (of_server s past)) p → Contains (sent w past) p) → Contains (heard (if t then e ∷ of_server s past else of_server s past)) p → Contains (sent w past) p
+heard_if : (w : Setup) (r s : ℕ) (t : Bool) (e : server.Entry) (past : List Step) (p : PacketParts) → AllByRecursion (WasSentTo (sent_packets w past) (Server r)) (heard_packets (e ∷ []))
+    → (Contains (heard_packets (of_server s past)) p → Contains (sent_packets w past) p) → Contains (heard_packets (if t then e ∷ of_server s past else of_server s past)) p → Contains (sent_packets w past) p
 heard_if w r s false e past p was before h = before h
 heard_if w r s true e past p was before h =
     elim (heard_now e (of_server s past) p h) [ inl now ↦ taken_was_sent w (AtServer r e) past p was now | inr i ↦ before i ]
 
 -- All that came to a server in this life.
-pub heard_was_sent : (w : Setup) (s : ℕ) (t : List Step) (p : PacketParts) → IsTrace w t → Contains (heard (of_server s t)) p → Contains (sent w t) p
+pub heard_was_sent : (w : Setup) (s : ℕ) (t : List Step) (p : PacketParts) → IsTrace w t → Contains (heard_packets (of_server s t)) p → Contains (sent_packets w t) p
 heard_was_sent w s [] p trace h = absurd (none_in p h)
 heard_was_sent w s (AtServer r e ∷ past) p trace h =
     sent_stays w (AtServer r e) past p (heard_if w r s (r == s) e past p trace.1 (heard_was_sent w s past p trace.0) h)

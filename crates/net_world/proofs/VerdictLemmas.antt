@@ -9,7 +9,7 @@ use Rattle.messages.specs.declared.body.Body.TheVariants as bodies
 use Rattle.disk_model.specs.declared.left.Left.TheVariants.{Saved}
 use Rattle.disk_model.specs.Left.{is_lost}
 use Rattle.server_core.specs.History.{Opening, Entry, Met, Cut, Restart}
-use Rattle.server_core.specs.Request.{asked}
+use Rattle.server_core.specs.Request.{request_of}
 use Rattle.server_core.specs.Words.{work, last_run}
 use Rattle.server_core.specs.Taken.{takes, and_those, takings}
 use Rattle.server_core.specs.Check.{With, progress}
@@ -18,8 +18,8 @@ use Rattle.server_core.specs.Laws.{TakenAtMostOnce, CountsTheDone, WithWasHeard,
 use Rattle.mirror_core.specs.Words as mirrors
 use Rattle.client_core.specs.Packets.{to_server}
 use Rattle.net_world.specs.Setup.{Setup}
-use Rattle.net_world.specs.Trace.{Step, IsTrace, opening_of, mirror_opening, of_server, of_mirror, sent}
-use Rattle.net_world.specs.Holders.{taken_of, taken_in_life, carried, Holds, ByTaking, ByCheck, ByClient, ByMirror, ByPacket}
+use Rattle.net_world.specs.Trace.{Step, IsTrace, opening_of, mirror_opening, of_server, of_mirror, sent_packets}
+use Rattle.net_world.specs.Holders.{taken_of, taken_in_life, carried_state, Holds, ByTaking, ByCheck, ByClient, ByMirror, ByPacket}
 use Rattle.net_world.specs.Passes.{SentStatesWereTaken, CarriedStatesWereSent, KeptStatesWereSent, CopiedStatesWereSent, CheckedStatesWereSent}
 use Rattle.net_world.specs.Exact.{IsQuiet}
 use Rattle.net_world.specs.Claims.{OfEachList, OfEachTrace}
@@ -45,12 +45,12 @@ taken_or false (Some y) states all state f h = elim (first_or_rest y states stat
 taken_in_life_was_taken : (o : Opening) (run j : ℕ) (past : List Entry) (state : State) → Contains (taken_in_life o run j past) state → Contains (takings o run j past) state
 taken_in_life_was_taken o run j [] state h = absurd (none_in state h)
 taken_in_life_was_taken o run j (Met e left ∷ past) state h =
-    taken_or (is_lost left) (takes run j (asked o.me e) (work o past)) (taken_in_life o run j past) (takings o run j past) state (taken_in_life_was_taken o run j past state) h
+    taken_or (is_lost left) (takes run j (request_of o.me e) (work o past)) (taken_in_life o run j past) (takings o run j past) state (taken_in_life_was_taken o run j past state) h
 taken_in_life_was_taken o run j (Cut ∷ past) state h = absurd (none_in state h)
 taken_in_life_was_taken o run j (Restart left ∷ past) state h = absurd (none_in state h)
 
 -- What a packet carries was taken.
-carried_was_taken : Passes → (w : Setup) (t : List Step) (p : PacketParts) (key : Key) (state : State) → state.key ≡ key → IsTrace w t → Contains (sent w t) p → carried p.body ≡ Some state → Contains (taken_of key t) state
+carried_was_taken : Passes → (w : Setup) (t : List Step) (p : PacketParts) (key : Key) (state : State) → state.key ≡ key → IsTrace w t → Contains (sent_packets w t) p → carried_state p.body ≡ Some state → Contains (taken_of key t) state
 carried_was_taken passes w t p key state is trace h c = was_taken passes.sent_taken w t key state is (passes.in_packets w t trace p state h c)
 
 -- Whoever holds a state holds one that was taken.
@@ -61,7 +61,7 @@ held_was_taken passes w t key state trace (ByCheck m j h is) =
     carried_was_taken passes w t (to_server (bodies.Saved k.0 state) m) key state is trace k.1 refl
 held_was_taken passes w t key state trace (ByClient h) = kept_was_taken passes.sent_taken passes.has passes.at_client w t key state trace h
 held_was_taken passes w t key state trace (ByMirror h) =
-    let states = (mirrors.noted mirror_opening (of_mirror t)).kept in
+    let states = (mirrors.words_noted mirror_opening (of_mirror t)).kept in
     was_taken passes.sent_taken w t key state (passes.has key states state h) (passes.at_mirror w t trace state (found_in key states state h))
 held_was_taken passes w t key state trace (ByPacket p h carries is) = carried_was_taken passes w t p key state is trace h carries
 

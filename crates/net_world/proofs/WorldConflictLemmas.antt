@@ -29,7 +29,7 @@ use Rattle.mirror_core.specs.Words as mirrors
 use Rattle.net_world.specs.Setup.{Setup}
 use Rattle.net_world.specs.Happenings.{Happening, Begin, Trigger, StopRun, Verify, Tick, Deliver, Issue, Land, Done, Fail, Rot, Cut, Restart, LoseNote, Renew, CutIn}
 use Rattle.net_world.specs.Happenings as happenings
-use Rattle.net_world.specs.Trace.{Step, IsTrace, of_server, of_client, of_mirror, opening_of, client_opening, mirror_opening, sent}
+use Rattle.net_world.specs.Trace.{Step, IsTrace, of_server, of_client, of_mirror, opening_of, client_opening, mirror_opening, sent_packets}
 use Rattle.net_world.specs.Frames as frames
 use Rattle.net_world.specs.Frames.{FrameStep, OfServer, OfClient, at_client, frames_sent, to_of, IsFrameTrace, trace_heard}
 use Rattle.net_world.specs.InRange.{FitsFrames, SentAreInRange}
@@ -37,9 +37,9 @@ use Rattle.net_world.specs.FrameLaws.{FramesAreOfPackets, TagsNameOneBody}
 use Rattle.net_world.specs.Passes.{NoPacketConflicts, NoCopyConflicts}
 use Rattle.net_world.specs.Changes.{Change, steps, trace}
 use Rattle.net_world.specs.Writes.{open_at}
-use Rattle.net_world.specs.Checks.{checked}
-use Rattle.net_world.specs.Barred.{barred}
-use Rattle.net_world.specs.Outcomes.{Outcome, Does, Refuses, Drops, met_by_server, met_by_client, comes_to_server, comes_to_client, said_to_server, said_to_client, comes_to, delivered, ended, reported, has_boot, cut, noted_in, restarted, cut_in, server_frame_cut, client_frame_cut, frame_cut, delivery_cut_in, restart_cut_in, brings, outcome}
+use Rattle.net_world.specs.Checks.{end_of_check}
+use Rattle.net_world.specs.Barred.{barring_fault}
+use Rattle.net_world.specs.Outcomes.{Outcome, Does, Refuses, Drops, met_by_server, met_by_client, comes_to_server, comes_to_client, said_to_server, said_to_client, comes_to, delivery, end_of_write, end_of_check_met, has_boot, cut, noted_in, restart_of, cut_in, server_frame_cut, client_frame_cut, frame_cut, delivery_cut_in, restart_cut_in, brings, outcome}
 use Rattle.net_world.specs.World.{told_by, world}
 use Rattle.net_world.specs.WorldLaws.{EachWorldIsAFrameTrace}
 use Rattle.net_world.specs.Claims.{OfEachTrace, OfEachWorld}
@@ -62,10 +62,10 @@ pub record Peace : Type 0 where
 -- ---- a frame that comes
 
 -- A packet that a frame says to the client was sent.
-said_was_sent : Peace → (w : Setup) (t : List FrameStep) → IsFrameTrace w t → FitsFrames w t → (f : Frame) → Contains (frames_sent w t) f → to_of f ≡ Client → (p : PacketParts) → said_to_client w t f ≡ Says p → Contains (sent w (trace_heard w t)) p
+said_was_sent : Peace → (w : Setup) (t : List FrameStep) → IsFrameTrace w t → FitsFrames w t → (f : Frame) → Contains (frames_sent w t) f → to_of f ≡ Client → (p : PacketParts) → said_to_client w t f ≡ Says p → Contains (sent_packets w (trace_heard w t)) p
 said_was_sent laws w t steps_are fits f i to p is =
     let s = stands laws.law laws.frames laws.tags laws.ranges w t steps_are fits in
-    let ps = sent w (trace_heard w t) in
+    let ps = sent_packets w (trace_heard w t) in
     let are = laws.ranges w (trace_heard w t) s.trace (heard_fits w t fits) in
     let k = keeps laws.law (at_client w) ps are (laws.tags w (trace_heard w t) s.trace are) (heard (at_client w) (frames.of_client w t)) s.client_rows Client f (frame_is laws.frames w t f i) to lefts.NoSave in
     let says : SaysSent ps Client (Says p) = subst (SaysSent ps Client) is k.says in
@@ -106,7 +106,7 @@ fine_to laws w past steps_are fits t Mirror f i to = fine_step _ (fine_unless (m
 sent_at : (fs : List Frame) (i : ℕ) (f : Frame) → slice_get fs i ≡ Some f → Contains fs f
 sent_at fs i f h = (i, slice_get_within fs i f h, get_or_from_slice_get fs i f f h)
 
-fine_delivered : Peace → (w : Setup) (past : List Change) → IsFrameTrace w (steps past) → FitsFrames w (steps past) → IsTrace w (trace w past) → (x : Option Frame) → ((f : Frame) → x ≡ Some f → Contains (frames_sent w (steps past)) f) → FineCome (delivered w past x)
+fine_delivered : Peace → (w : Setup) (past : List Change) → IsFrameTrace w (steps past) → FitsFrames w (steps past) → IsTrace w (trace w past) → (x : Option Frame) → ((f : Frame) → x ≡ Some f → Contains (frames_sent w (steps past)) f) → FineCome (delivery w past x)
 unfolding FineCome
 fine_delivered laws w past steps_are fits t None g h = cc
 fine_delivered laws w past steps_are fits t (Some f) g h = fine_to laws w past steps_are fits t (to_of f) f (g f refl) refl h
@@ -119,12 +119,12 @@ fine_met_server t s e = fine_unless (answers.refusal (opening_of s) (of_server s
 fine_met_client : (w : Setup) (t : List Step) (c : Call) → NoPacket c → FineStep (met_by_client w t c)
 fine_met_client w t c k = fine_unless (clients.refusal (client_opening w) (of_client w t) c) _ (fine_call w (of_client w t) c k)
 
-fine_ended : (t : List Step) (s k : ℕ) (end : WriteEnd) (x : Option Origin) → FineStep (ended t s k end x)
+fine_ended : (t : List Step) (s k : ℕ) (end : WriteEnd) (x : Option Origin) → FineStep (end_of_write t s k end x)
 unfolding FineStep
 fine_ended t s k end None h = cc
 fine_ended t s k end (Some origin) h = fine_met_server t s (events.WriteDone (ticket_of origin k) end) h
 
-fine_reported : (t : List Step) (s : ℕ) (x : Option Event) → FineStep (reported t s x)
+fine_reported : (t : List Step) (s : ℕ) (x : Option Event) → FineStep (end_of_check_met t s x)
 unfolding FineStep
 fine_reported t s None h = cc
 fine_reported t s (Some e) h = fine_met_server t s e h
@@ -139,7 +139,7 @@ unfolding Fine FineStep
 fine_unless_step true step fault f h = f (let e : fault ≡ Conflict = cc in ap Some e)
 fine_unless_step false step fault f h = cc
 
-fine_restarted : (w : Setup) (t : List Step) (node : Node) → FineStep (restarted w t node)
+fine_restarted : (w : Setup) (t : List Step) (node : Node) → FineStep (restart_of w t node)
 unfolding Fine FineStep
 fine_restarted w t (Server s) h = fine_if_step (has_boot t s) _ NumbersSpent (λ h. cc) h
 fine_restarted w t Client h = fine_unless_step (w.mirror && is_blank (noted_in w t)) _ BadNote (λ h. cc) h
@@ -216,7 +216,7 @@ fine_bring laws w past steps_are fits t (Land s j k mask) h = cc
 fine_bring laws w past steps_are fits t (Done s j k) h = fine_step _ (fine_ended (trace w past) s k ends.Done (open_at (trace w past) s j k)) h
 fine_bring laws w past steps_are fits t (Fail s j k) h = fine_step _ (fine_ended (trace w past) s k ends.Failed (open_at (trace w past) s j k)) h
 fine_bring laws w past steps_are fits t (Rot s j sector bytes) h = cc
-fine_bring laws w past steps_are fits t (happenings.Check s j) h = fine_step _ (fine_reported (trace w past) s (checked w past s j)) h
+fine_bring laws w past steps_are fits t (happenings.Check s j) h = fine_step _ (fine_reported (trace w past) s (end_of_check w past s j)) h
 fine_bring laws w past steps_are fits t (Cut node) h = fine_step _ (fine_cut node) h
 fine_bring laws w past steps_are fits t (Restart node) h = fine_step _ (fine_restarted w (trace w past) node) h
 fine_bring laws w past steps_are fits t LoseNote h = cc
@@ -235,5 +235,5 @@ none_is_a_conflict laws w events few e h =
     let steps_are = laws.traces w events in
     let fits = world_fits laws.reports w events few in
     let t = (stands laws.law laws.frames laws.tags laws.ranges w (steps past) steps_are fits).trace in
-    fine_barred (barred w (trace w past) (frames_sent w (steps past)) e) (brings w past e) (fine_bar w (trace w past) (frames_sent w (steps past)) e) (fine_bring laws w past steps_are fits t e)
+    fine_barred (barring_fault w (trace w past) (frames_sent w (steps past)) e) (brings w past e) (fine_bar w (trace w past) (frames_sent w (steps past)) e) (fine_bring laws w past steps_are fits t e)
     (told_is w past e (outcome w past e) h)

@@ -48,9 +48,9 @@ use Rattle.net_world.specs.InRange.{ReportFits, FrameStepFits, FitsFrames}
 use Rattle.net_world.specs.Changes.{Change, Met, Landed, Rotted, steps, trace}
 use Rattle.net_world.specs.Writes.{open_at}
 use Rattle.net_world.specs.Contents.{content}
-use Rattle.net_world.specs.Checks.{key_of, report_by, report_for, check_end, checked_in}
-use Rattle.net_world.specs.Barred.{unless, is_on, off, on, unsent, unopen, barred}
-use Rattle.net_world.specs.Outcomes.{Outcome, Does, Refuses, Drops, stepped, unless_fault, where_saved, lost_by, met_by_server, met_by_client, comes_to_server, comes_to_client, comes_to_mirror, said_to_server, said_to_client, comes_to, delivered, ended, reported, has_boot, cut, noted_in, restarted, client_cut_in, server_frame_cut, client_frame_cut, frame_cut, delivery_cut_in, restart_cut_in, cut_in, brings, unless_barred, outcome}
+use Rattle.net_world.specs.Checks.{key_of, report_by, report_for, check_end, end_of_check_in}
+use Rattle.net_world.specs.Barred.{unless, is_on, unless_on, unless_off, unless_sent, unless_open, barring_fault}
+use Rattle.net_world.specs.Outcomes.{Outcome, Does, Refuses, Drops, outcome_of_step, unless_fault, where_saved, lost_by, met_by_server, met_by_client, comes_to_server, comes_to_client, comes_to_mirror, said_to_server, said_to_client, comes_to, delivery, end_of_write, end_of_check_met, has_boot, cut, noted_in, restart_of, client_cut_in, server_frame_cut, client_frame_cut, frame_cut, delivery_cut_in, restart_cut_in, cut_in, brings, unless_barred, outcome}
 use Rattle.net_world.specs.World.{and_outcome, world}
 use Rattle.net_world.proofs.ListLemmas.{each_of}
 
@@ -65,7 +65,7 @@ FitCome (Does (Rotted s j sector bytes)) = Unit {0}
 FitCome (Refuses fault) = Unit {0}
 FitCome (Drops step) = FrameStepFits step
 
-fit_step : (r : Result FrameStep Fault) → FitBe r → FitCome (stepped r)
+fit_step : (r : Result FrameStep Fault) → FitBe r → FitCome (outcome_of_step r)
 unfolding FitBe FitCome
 fit_step (Ok step) h = h
 fit_step (Err fault) h = tt
@@ -91,18 +91,18 @@ below : (w : Setup) (s : ℕ) (b : Bool) → nat_lt s w.servers ≡ b → (x : O
 below w s true e x h l = grind (arith, nat_tests)
 below w s false e x h l = absurd cc
 
-server_there : (w : Setup) (t : List Step) (s : ℕ) → w.servers ≤ MAX_SERVERS → off w t (Server s) ≡ None → s < MAX_SERVERS
+server_there : (w : Setup) (t : List Step) (s : ℕ) → w.servers ≤ MAX_SERVERS → unless_on w t (Server s) ≡ None → s < MAX_SERVERS
 server_there w t s l h = below w s (nat_lt s w.servers) refl (unless (is_on w t (Server s)) NodeOff) h l
 
-server_off : (w : Setup) (t : List Step) (s : ℕ) → w.servers ≤ MAX_SERVERS → on w t (Server s) ≡ None → s < MAX_SERVERS
+server_off : (w : Setup) (t : List Step) (s : ℕ) → w.servers ≤ MAX_SERVERS → unless_off w t (Server s) ≡ None → s < MAX_SERVERS
 server_off w t s l h = below w s (nat_lt s w.servers) refl (unless (not (is_on w t (Server s))) NodeOn) h l
 
 first_none : (x y : Option Fault) → option_or x y ≡ None → x ≡ None
 first_none None y h = refl
 first_none (Some fault) y h = absurd cc
 
-write_there : (w : Setup) (t : List Step) (s j k : ℕ) → w.servers ≤ MAX_SERVERS → unopen w t s j k ≡ None → s < MAX_SERVERS
-write_there w t s j k l h = server_there w t s l (first_none (off w t (Server s)) (unless (is_some (open_at t s j k)) NoWrite) h)
+write_there : (w : Setup) (t : List Step) (s j k : ℕ) → w.servers ≤ MAX_SERVERS → unless_open w t s j k ≡ None → s < MAX_SERVERS
+write_there w t s j k l h = server_there w t s l (first_none (unless_on w t (Server s)) (unless (is_some (open_at t s j k)) NoWrite) h)
 
 -- ---- reports
 
@@ -134,7 +134,7 @@ unfolding SomeEnd
 fit_for law c j held None f = tt
 fit_for law c j held (Some job) f = fit_report law c j job held (progress_after c j job c.since) (f job refl)
 
-fit_end : ReportsFit → ChecksHaveSets → (s : ℕ) (list : List server.Entry) (j : ℕ) (held : ℕ → List ℕ) (x : Option Check) → check (opening_of s) list ≡ x → SomeEnd (checked_in x j held)
+fit_end : ReportsFit → ChecksHaveSets → (s : ℕ) (list : List server.Entry) (j : ℕ) (held : ℕ → List ℕ) (x : Option Check) → check (opening_of s) list ≡ x → SomeEnd (end_of_check_in x j held)
 unfolding SomeEnd
 fit_end law sets s list j held None is = tt
 fit_end law sets s list j held (Some c) is =
@@ -151,17 +151,17 @@ fit_client : (w : Setup) (t : List Step) (c : Call) → FitBe (met_by_client w t
 unfolding FitBe
 fit_client w t c = fit_unless (clients.refusal (client_opening w) (of_client w t) c) _ tt
 
-fit_ended : (t : List Step) (s k : ℕ) (end : WriteEnd) (x : Option Origin) → s < MAX_SERVERS → FitBe (ended t s k end x)
+fit_ended : (t : List Step) (s k : ℕ) (end : WriteEnd) (x : Option Origin) → s < MAX_SERVERS → FitBe (end_of_write t s k end x)
 unfolding FitBe
 fit_ended t s k end None l = tt
 fit_ended t s k end (Some origin) l = fit_server t s (events.WriteDone (ticket_of origin k) end) l tt
 
-fit_reported : (t : List Step) (s : ℕ) (x : Option Event) → s < MAX_SERVERS → SomeEnd x → FitBe (reported t s x)
+fit_reported : (t : List Step) (s : ℕ) (x : Option Event) → s < MAX_SERVERS → SomeEnd x → FitBe (end_of_check_met t s x)
 unfolding FitBe SomeEnd
 fit_reported t s None l r = tt
 fit_reported t s (Some e) l r = fit_server t s e l r
 
-fit_cut : (w : Setup) (t : List Step) (node : Node) → w.servers ≤ MAX_SERVERS → off w t node ≡ None → FitBe (cut node)
+fit_cut : (w : Setup) (t : List Step) (node : Node) → w.servers ≤ MAX_SERVERS → unless_on w t node ≡ None → FitBe (cut node)
 unfolding FitBe
 fit_cut w t (Server s) l h = (server_there w t s l h, tt)
 fit_cut w t Client l h = tt
@@ -172,7 +172,7 @@ unfolding FitBe
 fit_unless_so true step fault h = tt
 fit_unless_so false step fault h = h
 
-fit_restarted : (w : Setup) (t : List Step) (node : Node) → w.servers ≤ MAX_SERVERS → on w t node ≡ None → FitBe (restarted w t node)
+fit_restarted : (w : Setup) (t : List Step) (node : Node) → w.servers ≤ MAX_SERVERS → unless_off w t node ≡ None → FitBe (restart_of w t node)
 unfolding FitBe
 fit_restarted w t (Server s) l h = fit_if (has_boot t s) (OfServer s (Happens (server.Restart lefts.Saved))) NumbersSpent (server_off w t s l h, tt)
 fit_restarted w t Client l h = fit_unless_so (w.mirror && is_blank (noted_in w t)) (OfClient (Happens (client.Restart w.mirror))) BadNote tt
@@ -181,7 +181,7 @@ fit_restarted w t Mirror l h = tt
 fit_renewal : (w : Setup) (t : List Step) (g : ℕ) (left : Left) (fault : Fault) → FitBe (if is_blank (noted_in w t) then Ok (OfClient (Happens (client.Renew g left))) else Err fault)
 fit_renewal w t g left fault = fit_if (is_blank (noted_in w t)) (OfClient (Happens (client.Renew g left))) fault tt
 
-fit_restart_cut : (w : Setup) (t : List Step) (landed : Bool) (node : Node) → w.servers ≤ MAX_SERVERS → on w t node ≡ None → FitBe (restart_cut_in t landed node)
+fit_restart_cut : (w : Setup) (t : List Step) (landed : Bool) (node : Node) → w.servers ≤ MAX_SERVERS → unless_off w t node ≡ None → FitBe (restart_cut_in t landed node)
 unfolding FitBe
 fit_restart_cut w t landed (Server s) l h = fit_if (has_boot t s) (OfServer s (Happens (server.Restart (lost_by landed)))) NoSave (server_off w t s l h, tt)
 fit_restart_cut w t landed Client l h = tt
@@ -205,13 +205,13 @@ fit_comes_to_mirror : (t : List Step) (f : Frame) → FitBe (comes_to_mirror t f
 unfolding FitBe
 fit_comes_to_mirror t f = fit_unless (mirrors.refusal mirror_opening (of_mirror t) f) _ tt
 
-fit_comes_to : (w : Setup) (past : List Change) (node : Node) (f : Frame) → w.servers ≤ MAX_SERVERS → off w (trace w past) node ≡ None → FitCome (comes_to w past node f)
+fit_comes_to : (w : Setup) (past : List Change) (node : Node) (f : Frame) → w.servers ≤ MAX_SERVERS → unless_on w (trace w past) node ≡ None → FitCome (comes_to w past node f)
 unfolding FitCome
 fit_comes_to w past (Server s) f l h = fit_comes_to_server (trace w past) s f (said_to_server (steps past) s f) (server_there w (trace w past) s l h)
 fit_comes_to w past Client f l h = fit_comes_to_client w (trace w past) f (said_to_client w (steps past) f)
 fit_comes_to w past Mirror f l h = fit_step _ (fit_comes_to_mirror (trace w past) f)
 
-fit_delivered : (w : Setup) (past : List Change) (x : Option Frame) → w.servers ≤ MAX_SERVERS → unsent w (trace w past) x ≡ None → FitCome (delivered w past x)
+fit_delivered : (w : Setup) (past : List Change) (x : Option Frame) → w.servers ≤ MAX_SERVERS → unless_sent w (trace w past) x ≡ None → FitCome (delivery w past x)
 unfolding FitCome
 fit_delivered w past None l h = tt
 fit_delivered w past (Some f) l h = fit_comes_to w past (to_of f) f l h
@@ -230,13 +230,13 @@ fit_client_frame_cut w t landed f Waits = tt
 fit_client_frame_cut w t landed f Spoils = tt
 fit_client_frame_cut w t landed f Strays = tt
 
-fit_frame_cut : (w : Setup) (past : List Change) (landed : Bool) (node : Node) (f : Frame) → w.servers ≤ MAX_SERVERS → off w (trace w past) node ≡ None → FitBe (frame_cut w past landed node f)
+fit_frame_cut : (w : Setup) (past : List Change) (landed : Bool) (node : Node) (f : Frame) → w.servers ≤ MAX_SERVERS → unless_on w (trace w past) node ≡ None → FitBe (frame_cut w past landed node f)
 unfolding FitBe
 fit_frame_cut w past landed (Server s) f l h = fit_server_frame_cut (trace w past) s landed f (said_to_server (steps past) s f) (server_there w (trace w past) s l h)
 fit_frame_cut w past landed Client f l h = fit_client_frame_cut w (trace w past) landed f (said_to_client w (steps past) f)
 fit_frame_cut w past landed Mirror f l h = fit_save (mirrors.due mirror_opening (of_mirror (trace w past)) f) (OfMirror (mirror.Met f (lost_by landed))) tt
 
-fit_delivery_cut : (w : Setup) (past : List Change) (landed : Bool) (x : Option Frame) → w.servers ≤ MAX_SERVERS → unsent w (trace w past) x ≡ None → FitBe (delivery_cut_in w past landed x)
+fit_delivery_cut : (w : Setup) (past : List Change) (landed : Bool) (x : Option Frame) → w.servers ≤ MAX_SERVERS → unless_sent w (trace w past) x ≡ None → FitBe (delivery_cut_in w past landed x)
 unfolding FitBe
 fit_delivery_cut w past landed None l h = tt
 fit_delivery_cut w past landed (Some f) l h = fit_frame_cut w past landed (to_of f) f l h
@@ -249,7 +249,7 @@ pub record Reports : Type 0 where
   pub fit : ReportsFit
   pub sets : ChecksHaveSets
 
-fit_cut_in : (w : Setup) (past : List Change) (landed : Bool) (e : Happening) → w.servers ≤ MAX_SERVERS → barred w (trace w past) (frames_sent w (steps past)) (CutIn landed e) ≡ None → FitBe (cut_in w past landed e)
+fit_cut_in : (w : Setup) (past : List Change) (landed : Bool) (e : Happening) → w.servers ≤ MAX_SERVERS → barring_fault w (trace w past) (frames_sent w (steps past)) (CutIn landed e) ≡ None → FitBe (cut_in w past landed e)
 unfolding FitBe
 fit_cut_in w past landed (Begin text) l h = fit_client_cut w (trace w past) landed (calls.Begin text)
 fit_cut_in w past landed (Verify run text) l h = fit_client_cut w (trace w past) landed (calls.Verify run text)
@@ -269,7 +269,7 @@ fit_cut_in w past landed (happenings.Check s j) l h = tt
 fit_cut_in w past landed (Cut node) l h = tt
 fit_cut_in w past landed (CutIn again e) l h = tt
 
-fit_bring : Reports → (w : Setup) (past : List Change) (e : Happening) → w.servers ≤ MAX_SERVERS → barred w (trace w past) (frames_sent w (steps past)) e ≡ None → FitCome (brings w past e)
+fit_bring : Reports → (w : Setup) (past : List Change) (e : Happening) → w.servers ≤ MAX_SERVERS → barring_fault w (trace w past) (frames_sent w (steps past)) e ≡ None → FitCome (brings w past e)
 unfolding FitBe FitCome
 fit_bring laws w past (Begin text) l h = fit_step _ (fit_client w (trace w past) (calls.Begin text))
 fit_bring laws w past (Trigger run act) l h = fit_step _ (fit_client w (trace w past) (calls.Trigger run act))
@@ -284,7 +284,7 @@ fit_bring laws w past (Fail s j k) l h = fit_step _ (fit_ended (trace w past) s 
 fit_bring laws w past (Rot s j sector bytes) l h = tt
 fit_bring laws w past (happenings.Check s j) l h =
     let list = of_server s (trace w past) in
-    fit_step _ (fit_reported (trace w past) s (checked_in (check (opening_of s) list) j (content w past s j)) (server_there w (trace w past) s l h)
+    fit_step _ (fit_reported (trace w past) s (end_of_check_in (check (opening_of s) list) j (content w past s j)) (server_there w (trace w past) s l h)
     (fit_end laws.fit laws.sets s list j (content w past s j) (check (opening_of s) list) refl))
 fit_bring laws w past (Cut node) l h = fit_step _ (fit_cut w (trace w past) node l h)
 fit_bring laws w past (Restart node) l h = fit_step _ (fit_restarted w (trace w past) node l h)
@@ -310,7 +310,7 @@ steps_fit laws w [] l = tt
 steps_fit laws w (e ∷ events) l =
     let past = world w events in
     fit_one past (outcome w past e) (steps_fit laws w events l)
-    (fit_pass (barred w (trace w past) (frames_sent w (steps past)) e) (brings w past e) (λ h. fit_bring laws w past e l h))
+    (fit_pass (barring_fault w (trace w past) (frames_sent w (steps past)) e) (brings w past e) (λ h. fit_bring laws w past e l h))
 
 pub world_fits : Reports → (w : Setup) (events : List Happening) → w.servers ≤ MAX_SERVERS → FitsFrames w (steps (world w events))
 world_fits laws w events l = record { few = l; steps = steps_fit laws w events l }

@@ -40,9 +40,9 @@ use Rattle.net_world.specs.Frames.{FrameStep, OfServer, OfClient, OfMirror, fram
 use Rattle.net_world.specs.Changes.{Change, Met, Landed, Rotted, steps, trace}
 use Rattle.net_world.specs.Writes.{open_at}
 use Rattle.net_world.specs.Contents.{content}
-use Rattle.net_world.specs.Checks.{report_for, check_end, checked_in}
-use Rattle.net_world.specs.Barred.{off, on, unsent, unlosable, unfit, barred}
-use Rattle.net_world.specs.Outcomes.{Outcome, Does, Refuses, Drops, stepped, unless_fault, where_saved, left_for, lost_by, met_by_server, met_by_client, comes_to_server, comes_to_client, comes_to_mirror, said_to_server, said_to_client, comes_to, delivered, ended, reported, has_boot, cut, noted_in, restarted, client_cut_in, server_frame_cut, client_frame_cut, frame_cut, delivery_cut_in, restart_cut_in, cut_in, brings, unless_barred, outcome}
+use Rattle.net_world.specs.Checks.{report_for, check_end, end_of_check_in}
+use Rattle.net_world.specs.Barred.{unless_on, unless_off, unless_sent, unless_losable, unless_unused, barring_fault}
+use Rattle.net_world.specs.Outcomes.{Outcome, Does, Refuses, Drops, outcome_of_step, unless_fault, where_saved, left_for, lost_by, met_by_server, met_by_client, comes_to_server, comes_to_client, comes_to_mirror, said_to_server, said_to_client, comes_to, delivery, end_of_write, end_of_check_met, has_boot, cut, noted_in, restart_of, client_cut_in, server_frame_cut, client_frame_cut, frame_cut, delivery_cut_in, restart_cut_in, cut_in, brings, unless_barred, outcome}
 use Rattle.net_world.specs.World.{and_outcome, world}
 use Rattle.net_world.specs.WorldLaws.{EachWorldIsAFrameTrace}
 use Rattle.net_world.proofs.StartedLemmas.{has_mirror_of, restart_fits, renewal_fits, loss_fits}
@@ -83,7 +83,7 @@ unfolding MayBe
 may_unless_so w ps true step fault m = tt
 may_unless_so w ps false step fault m = m refl
 
-may_step : (w : Setup) (ps : List FrameStep) (r : Result FrameStep Fault) → MayBe w ps r → MayCome w ps (stepped r)
+may_step : (w : Setup) (ps : List FrameStep) (r : Result FrameStep Fault) → MayBe w ps r → MayCome w ps (outcome_of_step r)
 unfolding MayBe MayCome
 may_step w ps (Ok step) m = m
 may_step w ps (Err fault) m = tt
@@ -102,35 +102,35 @@ may_client : (w : Setup) (ps : List FrameStep) (t : List Step) (c : Call) → ((
 unfolding MayBe Goes
 may_client w ps t c m = may_unless w ps (clients.refusal (client_opening w) (of_client w t) c) _ (m (left_for (clients.due (client_opening w) (of_client w t) c)), either_way w.mirror)
 
-may_end : (w : Setup) (ps : List FrameStep) (t : List Step) (s k : ℕ) (end : WriteEnd) (x : Option Origin) → MayBe w ps (ended t s k end x)
+may_end : (w : Setup) (ps : List FrameStep) (t : List Step) (s k : ℕ) (end : WriteEnd) (x : Option Origin) → MayBe w ps (end_of_write t s k end x)
 unfolding MayBe
 may_end w ps t s k end None = tt
 may_end w ps t s k end (Some origin) = may_server w ps t s (events.WriteDone (ticket_of origin k) end) refl
 
-may_report : (w : Setup) (ps : List FrameStep) (t : List Step) (s : ℕ) (c : Check) (j : ℕ) (x : Option ReportParts) → MayBe w ps (reported t s (check_end c j x))
+may_report : (w : Setup) (ps : List FrameStep) (t : List Step) (s : ℕ) (c : Check) (j : ℕ) (x : Option ReportParts) → MayBe w ps (end_of_check_met t s (check_end c j x))
 unfolding MayBe
 may_report w ps t s c j None = tt
 may_report w ps t s c j (Some r) = may_server w ps t s (events.CheckDone c.boot c.attempt j r) refl
 
-may_check : (w : Setup) (ps : List FrameStep) (t : List Step) (s : ℕ) (x : Option Check) (j : ℕ) (held : ℕ → List ℕ) → MayBe w ps (reported t s (checked_in x j held))
+may_check : (w : Setup) (ps : List FrameStep) (t : List Step) (s : ℕ) (x : Option Check) (j : ℕ) (held : ℕ → List ℕ) → MayBe w ps (end_of_check_met t s (end_of_check_in x j held))
 unfolding MayBe
 may_check w ps t s None j held = tt
 may_check w ps t s (Some c) j held = may_report w ps t s c j (report_for c j (slice_get c.jobs j) held)
 
-may_cut : (w : Setup) (ps : List FrameStep) (t : List Step) (node : Node) → off w t node ≡ None → MayBe w ps (cut node)
+may_cut : (w : Setup) (ps : List FrameStep) (t : List Step) (node : Node) → unless_on w t node ≡ None → MayBe w ps (cut node)
 unfolding MayBe Goes
 may_cut w ps t (Server s) h = (refl, refl)
 may_cut w ps t Client h = (refl, either_way w.mirror)
 may_cut w ps t Mirror h = (tt, has_mirror_of w.mirror _ h)
 
-may_restart : (w : Setup) (ps : List FrameStep) (node : Node) → IsFrameTrace w ps → on w (trace_heard w ps) node ≡ None → MayBe w ps (restarted w (trace_heard w ps) node)
+may_restart : (w : Setup) (ps : List FrameStep) (node : Node) → IsFrameTrace w ps → unless_off w (trace_heard w ps) node ≡ None → MayBe w ps (restart_of w (trace_heard w ps) node)
 unfolding MayBe Goes
 may_restart w ps (Server s) so h = may_if w ps (has_boot (trace_heard w ps) s) (OfServer s (Happens (server.Restart lefts.Saved))) NumbersSpent (λ e. (refl, refl))
 may_restart w ps Client so h =
     may_unless_so w ps (w.mirror && is_blank (noted_in w (trace_heard w ps))) (OfClient (Happens (client.Restart w.mirror))) BadNote (λ e. (refl, restart_fits w ps so e))
 may_restart w ps Mirror so h = (tt, has_mirror_of w.mirror _ h)
 
-may_renew : (w : Setup) (ps : List FrameStep) (g : ℕ) (left : Left) (fault : Fault) → option_or (unlosable w (trace_heard w ps)) (unfit w (trace_heard w ps) g) ≡ None
+may_renew : (w : Setup) (ps : List FrameStep) (g : ℕ) (left : Left) (fault : Fault) → option_or (unless_losable w (trace_heard w ps)) (unless_unused w (trace_heard w ps) g) ≡ None
     → MayBe w ps (if is_blank (noted_in w (trace_heard w ps)) then Ok (OfClient (Happens (client.Renew g left))) else Err fault)
 unfolding Goes
 may_renew w ps g left fault h = may_if w ps (is_blank (noted_in w (trace_heard w ps))) (OfClient (Happens (client.Renew g left))) fault (λ e. (refl, renewal_fits w ps g left h))
@@ -165,7 +165,7 @@ may_come_to_mirror : (w : Setup) (ps : List FrameStep) (t : List Step) (f : Fram
 unfolding MayBe Goes
 may_come_to_mirror w ps t f has i to = may_unless w ps (mirrors.refusal mirror_opening (of_mirror t) f) _ ((i, to), has)
 
-may_come_to : (w : Setup) (past : List Change) (node : Node) (f : Frame) → off w (trace w past) node ≡ None → Contains (frames_sent w (steps past)) f → to_of f ≡ node → MayCome w (steps past) (comes_to w past node f)
+may_come_to : (w : Setup) (past : List Change) (node : Node) (f : Frame) → unless_on w (trace w past) node ≡ None → Contains (frames_sent w (steps past)) f → to_of f ≡ node → MayCome w (steps past) (comes_to w past node f)
 unfolding MayCome
 may_come_to w past (Server s) f h i to = may_come_to_server w (steps past) (trace w past) s f (said_to_server (steps past) s f) i to
 may_come_to w past Client f h i to = may_come_to_client w (steps past) (trace w past) f (said_to_client w (steps past) f) i to
@@ -174,7 +174,7 @@ may_come_to w past Mirror f h i to = may_step w (steps past) _ (may_come_to_mirr
 sent_at : (frames : List Frame) (i : ℕ) (f : Frame) → slice_get frames i ≡ Some f → Contains frames f
 sent_at frames i f h = (i, slice_get_within frames i f h, get_or_from_slice_get frames i f f h)
 
-may_deliver : (w : Setup) (past : List Change) (x : Option Frame) → unsent w (trace w past) x ≡ None → ((f : Frame) → x ≡ Some f → Contains (frames_sent w (steps past)) f) → MayCome w (steps past) (delivered w past x)
+may_deliver : (w : Setup) (past : List Change) (x : Option Frame) → unless_sent w (trace w past) x ≡ None → ((f : Frame) → x ≡ Some f → Contains (frames_sent w (steps past)) f) → MayCome w (steps past) (delivery w past x)
 unfolding MayCome
 may_deliver w past None b h = tt
 may_deliver w past (Some f) b h = may_come_to w past (to_of f) f b (h f refl) refl
@@ -193,19 +193,19 @@ may_client_frame_cut w ps t landed f Waits i to = tt
 may_client_frame_cut w ps t landed f Spoils i to = tt
 may_client_frame_cut w ps t landed f Strays i to = tt
 
-may_frame_cut : (w : Setup) (past : List Change) (landed : Bool) (node : Node) (f : Frame) → off w (trace w past) node ≡ None → Contains (frames_sent w (steps past)) f → to_of f ≡ node → MayBe w (steps past) (frame_cut w past landed node f)
+may_frame_cut : (w : Setup) (past : List Change) (landed : Bool) (node : Node) (f : Frame) → unless_on w (trace w past) node ≡ None → Contains (frames_sent w (steps past)) f → to_of f ≡ node → MayBe w (steps past) (frame_cut w past landed node f)
 unfolding MayBe Goes
 may_frame_cut w past landed (Server s) f h i to = may_server_frame_cut w (steps past) (trace w past) s landed f (said_to_server (steps past) s f) i to
 may_frame_cut w past landed Client f h i to = may_client_frame_cut w (steps past) (trace w past) landed f (said_to_client w (steps past) f) i to
 may_frame_cut w past landed Mirror f h i to =
     may_save w (steps past) (mirrors.due mirror_opening (of_mirror (trace w past)) f) (OfMirror (mirror.Met f (lost_by landed))) ((i, to), has_mirror_of w.mirror _ h)
 
-may_delivery_cut : (w : Setup) (past : List Change) (landed : Bool) (x : Option Frame) → unsent w (trace w past) x ≡ None → ((f : Frame) → x ≡ Some f → Contains (frames_sent w (steps past)) f) → MayBe w (steps past) (delivery_cut_in w past landed x)
+may_delivery_cut : (w : Setup) (past : List Change) (landed : Bool) (x : Option Frame) → unless_sent w (trace w past) x ≡ None → ((f : Frame) → x ≡ Some f → Contains (frames_sent w (steps past)) f) → MayBe w (steps past) (delivery_cut_in w past landed x)
 unfolding MayBe
 may_delivery_cut w past landed None b h = tt
 may_delivery_cut w past landed (Some f) b h = may_frame_cut w past landed (to_of f) f b (h f refl) refl
 
-may_cut_in : (w : Setup) (past : List Change) (landed : Bool) (e : Happening) → barred w (trace w past) (frames_sent w (steps past)) (CutIn landed e) ≡ None → MayBe w (steps past) (cut_in w past landed e)
+may_cut_in : (w : Setup) (past : List Change) (landed : Bool) (e : Happening) → barring_fault w (trace w past) (frames_sent w (steps past)) (CutIn landed e) ≡ None → MayBe w (steps past) (cut_in w past landed e)
 unfolding MayBe
 may_cut_in w past landed (Begin text) h = may_client_cut w (steps past) (trace w past) landed (calls.Begin text) (λ left. refl)
 may_cut_in w past landed (Verify run text) h = may_client_cut w (steps past) (trace w past) landed (calls.Verify run text) (λ left. refl)
@@ -227,7 +227,7 @@ may_cut_in w past landed (CutIn again e) h = tt
 
 -- ---- what happens
 
-may_bring : (w : Setup) (past : List Change) (e : Happening) → IsFrameTrace w (steps past) → barred w (trace w past) (frames_sent w (steps past)) e ≡ None → MayCome w (steps past) (brings w past e)
+may_bring : (w : Setup) (past : List Change) (e : Happening) → IsFrameTrace w (steps past) → barring_fault w (trace w past) (frames_sent w (steps past)) e ≡ None → MayCome w (steps past) (brings w past e)
 unfolding MayBe MayCome Goes
 may_bring w past (Begin text) so h = may_step w (steps past) _ (may_client w (steps past) (trace w past) (calls.Begin text) (λ left. refl))
 may_bring w past (Trigger run act) so h = may_step w (steps past) _ (may_client w (steps past) (trace w past) (calls.Trigger run act) (λ left. refl))
@@ -266,4 +266,4 @@ each_world_is_a_frame_trace w (e ∷ events) =
     let past = world w events in
     let so = each_world_is_a_frame_trace w events in
     and_one w past (outcome w past e) so
-    (may_pass w (steps past) (barred w (trace_heard w (steps past)) (frames_sent w (steps past)) e) (brings w past e) (λ h. may_bring w past e so h))
+    (may_pass w (steps past) (barring_fault w (trace_heard w (steps past)) (frames_sent w (steps past)) e) (brings w past e) (λ h. may_bring w past e so h))

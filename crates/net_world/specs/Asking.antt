@@ -9,8 +9,8 @@ use Rattle.disk_model.specs.declared.left.Left.TheVariants.{NoSave}
 use Rattle.messages.specs.declared.node.Node.TheVariants.{Client}
 use Rattle.messages.specs.declared.refusal.Act.TheVariants as acts
 use Rattle.client_core.specs.declared.input.Input.{Input}
-use Rattle.client_core.specs.Hearing.{FrameEntry, Met, coming}
-use Rattle.client_core.specs.FrameAnswers.{is_drop, sense, refusal, answered}
+use Rattle.client_core.specs.Hearing.{FrameEntry, Met, coming_of}
+use Rattle.client_core.specs.FrameAnswers.{is_drop, sense, refusal, answered_entry}
 use Rattle.net_world.specs.declared.asked.Asked.{Asked}
 use Rattle.net_world.specs.declared.told.Told.{Told}
 use Rattle.net_world.specs.declared.world.World.{World}
@@ -19,7 +19,7 @@ use Rattle.net_world.specs.Trace.{client_opening}
 use Rattle.net_world.specs.Frames.{FrameStep, OfClient, frames_sent, frames_of_step, client_entries}
 use Rattle.net_world.specs.Changes as changes
 use Rattle.net_world.specs.Changes.{Change, steps, trace}
-use Rattle.net_world.specs.Barred.{off}
+use Rattle.net_world.specs.Barred.{unless_on}
 use Rattle.net_world.specs.ClientNodes.{answer_to}
 use Rattle.net_world.specs.Stands.{StandsFor}
 
@@ -29,11 +29,11 @@ entries w past = client_entries w (steps past)
 
 -- An entry of its list, as a step of the world.
 abbrev pub step_of : FrameEntry → FrameStep
-step_of e = OfClient (coming e)
+step_of e = OfClient (coming_of e)
 
 -- The step of a call that is answered.
 abbrev pub step_by : Setup → List Change → Input → FrameStep
-step_by w past e = step_of (answered (client_opening w) (entries w past) e)
+step_by w past e = step_of (answered_entry (client_opening w) (entries w past) e)
 
 -- What is told of what the client has answered, behind so many frames.
 abbrev pub told_of : ℕ → Asked → Told
@@ -42,7 +42,7 @@ told_of first asked =
 
 -- The client is on, doesn't refuse what comes, and its step is added.
 pub record IsAnswered (w : Setup) (past : List Change) (e : Input) (new : World) (told : Told) : Type 0 where
-  pub on : off w (trace w past) Client ≡ None
+  pub on : unless_on w (trace w past) Client ≡ None
   pub free : refusal (client_opening w) (entries w past) e ≡ None
   pub told_is :
       told ≡ record {
@@ -55,12 +55,12 @@ pub record IsAnswered (w : Setup) (past : List Change) (e : Input) (new : World)
 
 -- The client is off.
 pub record IsBarred (w : Setup) (past : List Change) (fault : Fault) (new : World) : Type 0 where
-  pub why : off w (trace w past) Client ≡ Some fault
+  pub why : unless_on w (trace w past) Client ≡ Some fault
   pub unchanged : StandsFor w past new
 
 -- The client refuses what comes. That may stand in the list, or be left out, but where it drops a tag.
 pub record Refuses (w : Setup) (past : List Change) (e : Input) (fault : Fault) (new : World) : Type 0 where
-  pub on : off w (trace w past) Client ≡ None
+  pub on : unless_on w (trace w past) Client ≡ None
   pub why : refusal (client_opening w) (entries w past) e ≡ Some fault
   pub stands : StandsFor w (changes.Met (step_of (Met e NoSave)) ∷ past) new
   pub unchanged : is_drop (sense (client_opening w) (entries w past) e) ≡ false → StandsFor w past new

@@ -45,21 +45,21 @@ is_on w t Client = clients.is_on (of_client w t)
 is_on w t Mirror = mirrors.is_on (of_mirror t)
 
 -- The node has to be on.
-abbrev pub off : Setup → List Step → Node → Option Fault
-off w t node = option_or (no_node w node) (unless (is_on w t node) NodeOff)
+abbrev pub unless_on : Setup → List Step → Node → Option Fault
+unless_on w t node = option_or (no_node w node) (unless (is_on w t node) NodeOff)
 
 -- The node has to be off.
-abbrev pub on : Setup → List Step → Node → Option Fault
-on w t node = option_or (no_node w node) (unless (not (is_on w t node)) NodeOn)
+abbrev pub unless_off : Setup → List Step → Node → Option Fault
+unless_off w t node = option_or (no_node w node) (unless (not (is_on w t node)) NodeOn)
 
 -- The frame has to be there, and the node to which it goes to be on.
-abbrev pub unsent : Setup → List Step → Option Frame → Option Fault
-unsent w t None = Some NoFrame
-unsent w t (Some f) = off w t (to_of f)
+abbrev pub unless_sent : Setup → List Step → Option Frame → Option Fault
+unless_sent w t None = Some NoFrame
+unless_sent w t (Some f) = unless_on w t (to_of f)
 
 -- The server has to be on, and the write to be open.
-abbrev pub unopen : Setup → List Step → ℕ → ℕ → ℕ → Option Fault
-unopen w t s j k = option_or (off w t (Server s)) (unless (is_some (open_at t s j k)) NoWrite)
+abbrev pub unless_open : Setup → List Step → ℕ → ℕ → ℕ → Option Fault
+unless_open w t s j k = option_or (unless_on w t (Server s)) (unless (is_some (open_at t s j k)) NoWrite)
 
 -- A server has 16 files.
 abbrev pub no_file : Setup → ℕ → ℕ → Option Fault
@@ -70,31 +70,31 @@ abbrev pub used_generation : Setup → List Step → ℕ → Option Fault
 used_generation w t g = unless (list_all (λ earlier. nat_lt earlier g) (generations (of_client w t))) UsedGeneration
 
 -- The number has to be one of a generation that was not used.
-abbrev pub unfit : Setup → List Step → ℕ → Option Fault
-unfit w t g = option_or (unless (is_generation g) BadGeneration) (used_generation w t g)
+abbrev pub unless_unused : Setup → List Step → ℕ → Option Fault
+unless_unused w t g = option_or (unless (is_generation g) BadGeneration) (used_generation w t g)
 
 -- There has to be a mirror, and the client to be off.
-abbrev pub unlosable : Setup → List Step → Option Fault
-unlosable w t = option_or (no_mirror w) (on w t Client)
+abbrev pub unless_losable : Setup → List Step → Option Fault
+unless_losable w t = option_or (no_mirror w) (unless_off w t Client)
 
 -- Why the world refuses what may happen, by the trace and the frames that were sent. A cut within a
 -- save is refused as what makes the save.
-abbrev pub barred : Setup → List Step → List Frame → Happening → Option Fault
-barred w t frames (Begin text) = off w t Client
-barred w t frames (Trigger run act) = off w t Client
-barred w t frames (StopRun run) = off w t Client
-barred w t frames (Verify run text) = off w t Client
-barred w t frames Tick = off w t Client
-barred w t frames (Deliver i) = unsent w t (slice_get frames i)
-barred w t frames (Issue s j) = off w t (Server s)
-barred w t frames (Land s j k mask) = unopen w t s j k
-barred w t frames (Done s j k) = unopen w t s j k
-barred w t frames (Fail s j k) = unopen w t s j k
-barred w t frames (Rot s j sector bytes) = no_file w s j
-barred w t frames (Check s j) = off w t (Server s)
-barred w t frames (Cut node) = off w t node
-barred w t frames (Restart node) = on w t node
-barred w t frames LoseNote = unlosable w t
-barred w t frames (Renew g) = option_or (unlosable w t) (unfit w t g)
-barred w t frames (CutIn landed (CutIn again e)) = None
-barred w t frames (CutIn landed e) = barred w t frames e
+abbrev pub barring_fault : Setup → List Step → List Frame → Happening → Option Fault
+barring_fault w t frames (Begin text) = unless_on w t Client
+barring_fault w t frames (Trigger run act) = unless_on w t Client
+barring_fault w t frames (StopRun run) = unless_on w t Client
+barring_fault w t frames (Verify run text) = unless_on w t Client
+barring_fault w t frames Tick = unless_on w t Client
+barring_fault w t frames (Deliver i) = unless_sent w t (slice_get frames i)
+barring_fault w t frames (Issue s j) = unless_on w t (Server s)
+barring_fault w t frames (Land s j k mask) = unless_open w t s j k
+barring_fault w t frames (Done s j k) = unless_open w t s j k
+barring_fault w t frames (Fail s j k) = unless_open w t s j k
+barring_fault w t frames (Rot s j sector bytes) = no_file w s j
+barring_fault w t frames (Check s j) = unless_on w t (Server s)
+barring_fault w t frames (Cut node) = unless_on w t node
+barring_fault w t frames (Restart node) = unless_off w t node
+barring_fault w t frames LoseNote = unless_losable w t
+barring_fault w t frames (Renew g) = option_or (unless_losable w t) (unless_unused w t g)
+barring_fault w t frames (CutIn landed (CutIn again e)) = None
+barring_fault w t frames (CutIn landed e) = barring_fault w t frames e

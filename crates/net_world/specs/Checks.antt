@@ -46,11 +46,11 @@ check_end c j None = None
 check_end c j (Some r) = Some (CheckDone c.boot c.attempt j r)
 
 -- The end of the check of job j over this content, where the job is ready.
-abbrev pub checked_in : Option Check → ℕ → (ℕ → List ℕ) → Option Event
-checked_in None j held = None
-checked_in (Some c) j held = check_end c j (report_for c j (slice_get c.jobs j) held)
+abbrev pub end_of_check_in : Option Check → ℕ → (ℕ → List ℕ) → Option Event
+end_of_check_in None j held = None
+end_of_check_in (Some c) j held = check_end c j (report_for c j (slice_get c.jobs j) held)
 
 -- The end of the check of job j's file at server s, as the file is now, where the job is ready.
-abbrev pub checked : Setup → List Change → ℕ → ℕ → Option Event
-checked w past s j =
-    checked_in (check (opening_of s) (of_server s (trace w past))) j (content w past s j)
+abbrev pub end_of_check : Setup → List Change → ℕ → ℕ → Option Event
+end_of_check w past s j =
+    end_of_check_in (check (opening_of s) (of_server s (trace w past))) j (content w past s j)

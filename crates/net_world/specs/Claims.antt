@@ -2,7 +2,7 @@
 use Rattle.std.specs.Prelude.{◌≡◌, ◌≤◌, List, ◌++◌, map, reverse}
 use Rattle.fc_base.specs.declared.limits.TheConstants.{MAX_SERVERS}
 use Rattle.net_world.specs.declared.config.Config.{Config}
-use Rattle.net_world.specs.declared.event.Event.{Event}
+use Rattle.net_world.specs.declared.event.WorldEvent.{WorldEvent}
 use Rattle.net_world.specs.Setup.{Setup, setup_of}
 use Rattle.net_world.specs.Trace.{Step, IsTrace}
 use Rattle.net_world.specs.Frames.{FrameStep, IsFrameTrace, trace_heard}
@@ -41,15 +41,15 @@ abbrev pub OfItsTrace : (Setup → List Step → Type 0) → Setup → List Chan
 OfItsTrace Claim w past = Claim w (trace w past)
 
 -- What has happened once these events came, the first of them first: it is told newest first.
-abbrev pub happened : List Event → List Happening
-happened events = map happening (reverse events)
+abbrev pub happenings_of : List WorldEvent → List Happening
+happenings_of events = map happening (reverse events)
 
 -- The world in which they came.
-abbrev pub played : Config → List Event → List Change
-played config events = world (setup_of config) (happened events)
+abbrev pub world_of : Config → List WorldEvent → List Change
+world_of config events = world (setup_of config) (happenings_of events)
 
 -- The claim holds of the world at each moment of the list: behind each event, and before the first.
-abbrev pub AtEachMoment : (Setup → List Change → Type 0) → Config → List Event → Type 0
+abbrev pub AtEachMoment : (Setup → List Change → Type 0) → Config → List WorldEvent → Type 0
 AtEachMoment Claim config events =
-    (newer older : List Happening) → happened events ≡ newer ++ older →
+    (newer older : List Happening) → happenings_of events ≡ newer ++ older →
     Claim (setup_of config) (world (setup_of config) older)

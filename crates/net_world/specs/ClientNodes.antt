@@ -14,15 +14,15 @@ use Rattle.client_core.specs.declared.input.Input.TheVariants as inputs
 use Rattle.client_core.specs.History.{Opening}
 use Rattle.client_core.specs.declared.noted.Noted.{Noted}
 use Rattle.client_core.specs.Note.{Says, is_blank}
-use Rattle.client_core.specs.Words.{is_on, noted}
+use Rattle.client_core.specs.Words.{is_on, words_noted}
 use Rattle.client_core.specs.Hearing.{FrameEntry, Met, Restart, Renew, Lose, packets_heard}
-use Rattle.client_core.specs.FrameAnswers.{is_drop, sense, frames, refusal, due, answered}
+use Rattle.client_core.specs.FrameAnswers.{is_drop, sense, frames, refusal, due, answered_entry}
 use Rattle.client_core.specs.FrameEnds.{StandsFor}
 use Rattle.net_world.specs.declared.asked.Asked.{Asked}
 use Rattle.net_world.specs.declared.client_node.ClientNode.{ClientNode}
 use Rattle.net_world.specs.declared.client_node.ClientNode.TheVariants.{On, Off}
-use Rattle.net_world.specs.declared.told.Answer.{Answer}
-use Rattle.net_world.specs.declared.told.Answer.TheVariants as answers
+use Rattle.net_world.specs.declared.told.WorldAnswer.{WorldAnswer}
+use Rattle.net_world.specs.declared.told.WorldAnswer.TheVariants as answers
 use Rattle.net_world.specs.Outcomes.{lost_by}
 
 -- It is on, by the list.
@@ -38,8 +38,8 @@ IsEmptyIfBlank bytes n = (bytes ≡ []) ⊎ (is_blank n ≡ false)
 abbrev pub Stands : Opening → List FrameEntry → ClientNode → Type 0
 Stands o past (On client) = StandsFor note_of client o past × (is_up o past ≡ true)
 Stands o past (Off notes) =
-    Says (note_of notes).bytes (noted o (packets_heard o past)) × (is_up o past ≡ false)
-    × IsEmptyIfBlank (note_of notes).bytes (noted o (packets_heard o past))
+    Says (note_of notes).bytes (words_noted o (packets_heard o past)) × (is_up o past ≡ false)
+    × IsEmptyIfBlank (note_of notes).bytes (words_noted o (packets_heard o past))
 
 -- A client that stands for the list is there where it is on.
 abbrev pub Shows : Opening → List FrameEntry → Option (Client Kept) → Type 0
@@ -47,9 +47,9 @@ Shows o past (Some client) = StandsFor note_of client o past × (is_up o past �
 Shows o past None = is_up o past ≡ false
 
 -- What is answered: the number of the run or of the attempt, if one has begun.
-abbrev pub answer_to : Opening → List FrameEntry → Input → Answer
-answer_to o past (inputs.Begin text) = answers.Run ((noted o (packets_heard o past)).runs + 1)
-answer_to o past (inputs.Verify run text) = answers.Attempt ((noted o (packets_heard o past)).attempts + 1)
+abbrev pub answer_to : Opening → List FrameEntry → Input → WorldAnswer
+answer_to o past (inputs.Begin text) = answers.Run ((words_noted o (packets_heard o past)).runs + 1)
+answer_to o past (inputs.Verify run text) = answers.Attempt ((words_noted o (packets_heard o past)).attempts + 1)
 answer_to o past _ = answers.Plain
 
 -- What comes is answered as the list says, and added.
@@ -57,8 +57,8 @@ pub record Answers (o : Opening) (past : List FrameEntry) (e : Input) (new : Cli
   pub on : is_up o past ≡ true
   pub free : refusal o past e ≡ None
   pub answer_is : asked.answer ≡ answer_to o past e
-  pub frames_are : asked.frames ≡ map frame_spelling (frames o past (answered o past e))
-  pub stands : Stands o (answered o past e ∷ past) new
+  pub frames_are : asked.frames ≡ map frame_spelling (frames o past (answered_entry o past e))
+  pub stands : Stands o (answered_entry o past e ∷ past) new
 
 -- What comes is refused by the client, and may stand in the list; it may be left out, but where it drops
 -- a tag.
@@ -87,7 +87,7 @@ Asks o past e new (Err fault) = Faults o past e (sort_of fault) fault new
 
 -- There is a mirror, and the note says nothing.
 abbrev pub lacks_note : Opening → List FrameEntry → Bool → Bool
-lacks_note o past mirror = mirror && is_blank (noted o (packets_heard o past))
+lacks_note o past mirror = mirror && is_blank (words_noted o (packets_heard o past))
 
 -- How a restart ends: the client runs; or it ran; or it has a mirror and no note; or memory ran out, and
 -- nothing changes.

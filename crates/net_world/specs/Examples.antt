@@ -16,14 +16,14 @@ use Rattle.messages.specs.declared.refusal.Act.{Act}
 use Rattle.messages.specs.declared.refusal.Act.TheVariants as acts
 use Rattle.messages.specs.Bodies.{kind_of}
 use Rattle.messages.specs.FrameBytes.{frame_spelling}
-use Rattle.net_world.specs.declared.told.Answer.{Answer}
-use Rattle.net_world.specs.declared.told.Answer.TheVariants as answers
+use Rattle.net_world.specs.declared.told.WorldAnswer.{WorldAnswer}
+use Rattle.net_world.specs.declared.told.WorldAnswer.TheVariants as answers
 use Rattle.net_world.specs.declared.told.Told.{Told}
 use Rattle.net_world.specs.Setup.{Setup, without_mirror}
 use Rattle.net_world.specs.Happenings.{Happening, Begin, Trigger, Verify, Tick, Deliver, Issue, Land, Done, Rot, Check, Cut, Restart, CutIn}
 use Rattle.net_world.specs.Frames.{frames_sent}
 use Rattle.net_world.specs.Changes.{steps}
-use Rattle.net_world.specs.World.{world, saved, told}
+use Rattle.net_world.specs.World.{world, saved_state, told_of_happening}
 use Rattle.net_world.specs.Honest.{AreHonest, AreWhole}
 
 -- A frame as it is shown: from whom to whom, the kind of its packet, where it isn't a piece, and how
@@ -34,14 +34,14 @@ pub record Shown : Type 0 where
   pub kind : Option PacketKind
   pub bytes : ℕ
 
-abbrev pub shown : Frame → Shown
-shown (Whole p) = record {
+abbrev pub shown_frame : Frame → Shown
+shown_frame (Whole p) = record {
   from = p.from;
   to = p.to;
   kind = Some (kind_of p.body);
   bytes = length (frame_spelling (Whole p));
 }
-shown (Piece q) = record {
+shown_frame (Piece q) = record {
   from = q.from;
   to = q.to;
   kind = None;
@@ -54,14 +54,14 @@ one = without_mirror 1
 
 -- The frames that were sent in a world with one server, once these things have happened.
 abbrev pub frames_of : List Happening → List Shown
-frames_of events = map shown (frames_sent one (steps (world one events)))
+frames_of events = map shown_frame (frames_sent one (steps (world one events)))
 
 -- What is told of one more.
-abbrev pub next : List Happening → Happening → Result Told Fault
-next events e = told one (world one events) e
+abbrev pub told_next : List Happening → Happening → Result Told Fault
+told_next events e = told_of_happening one (world one events) e
 
 -- It is told this, with so many frames from the first on.
-abbrev pub says : Answer → ℕ → ℕ → Act → Result Told Fault
+abbrev pub says : WorldAnswer → ℕ → ℕ → Act → Result Told Fault
 says answer first sent act = Ok (record { answer = answer; first = first; sent = sent; act = act })
 
 -- A frame of the client to server 0, and one of server 0 to the client.
@@ -72,40 +72,40 @@ abbrev pub replies : PacketKind → ℕ → Shown
 replies kind bytes = record { from = Server 0; to = Client; kind = Some kind; bytes = bytes }
 
 -- A job of two blocks of 512 bytes, with two writes in flight at most.
-abbrev pub writing : List ℕ
-writing = codes "[a]\nrw=write\nbs=512\nsize=1k\niodepth=2\n"
+abbrev pub writing_text : List ℕ
+writing_text = codes "[a]\nrw=write\nbs=512\nsize=1k\niodepth=2\n"
 
 -- The jobs that check it: by its state, and in a full pass.
-abbrev pub reading : List ℕ
-reading = codes "[a]\nrw=read\nbs=512\nsize=1k\nverify_state_load=1\n"
+abbrev pub reading_text : List ℕ
+reading_text = codes "[a]\nrw=read\nbs=512\nsize=1k\nverify_state_load=1\n"
 
-abbrev pub reading_all : List ℕ
-reading_all = codes "[a]\nrw=read\nbs=512\nsize=1k\n"
+abbrev pub full_reading_text : List ℕ
+full_reading_text = codes "[a]\nrw=read\nbs=512\nsize=1k\n"
 
 -- The job is staged, and its Start is on the way; it is started; write 0 is done, and write 1 is open.
 -- All lists have the newest first.
-abbrev pub staged : List Happening
-staged = Deliver 1 ∷ Deliver 0 ∷ Begin writing ∷ []
+abbrev pub after_stage : List Happening
+after_stage = Deliver 1 ∷ Deliver 0 ∷ Begin writing_text ∷ []
 
-abbrev pub started : List Happening
-started = Deliver 3 ∷ Deliver 2 ∷ staged
+abbrev pub after_start : List Happening
+after_start = Deliver 3 ∷ Deliver 2 ∷ after_stage
 
-abbrev pub written : List Happening
-written = Done 0 0 0 ∷ Land 0 0 0 1 ∷ Issue 0 0 ∷ Issue 0 0 ∷ started
+abbrev pub after_writes : List Happening
+after_writes = Done 0 0 0 ∷ Land 0 0 0 1 ∷ Issue 0 0 ∷ Issue 0 0 ∷ after_start
 
 -- The states are taken, for the cut, and sent; the client keeps them; the server is cut and restarted.
-abbrev pub taken : List Happening
-taken = Deliver 4 ∷ Trigger 1 acts.Cut ∷ written
+abbrev pub after_trigger : List Happening
+after_trigger = Deliver 4 ∷ Trigger 1 acts.Cut ∷ after_writes
 
-abbrev pub kept : List Happening
-kept = Deliver 5 ∷ taken
+abbrev pub after_keep : List Happening
+after_keep = Deliver 5 ∷ after_trigger
 
-abbrev pub restarted : List Happening
-restarted = Restart (Server 0) ∷ Cut (Server 0) ∷ Deliver 6 ∷ kept
+abbrev pub after_restart : List Happening
+after_restart = Restart (Server 0) ∷ Cut (Server 0) ∷ Deliver 6 ∷ after_keep
 
 -- The job is checked by its state.
-abbrev pub checking : List Happening
-checking = Deliver 9 ∷ Deliver 8 ∷ Deliver 7 ∷ Verify 1 reading ∷ restarted
+abbrev pub after_verify : List Happening
+after_verify = Deliver 9 ∷ Deliver 8 ∷ Deliver 7 ∷ Verify 1 reading_text ∷ after_restart
 
 -- The frames up to the Started.
 abbrev pub first_frames : List Shown
@@ -117,7 +117,7 @@ abbrev pub trigger_frames : List Shown
 trigger_frames = asks kinds.Trigger 25 ∷ replies kinds.State 156 ∷ asks kinds.StateAck 28 ∷ []
 
 -- A report of so many checked blocks, of which these are faulty.
-abbrev pub report : ℕ → List ℕ → Answer
+abbrev pub report : ℕ → List ℕ → WorldAnswer
 report checked faulty =
     answers.Checked (record { checked = checked; faults = length faulty; first = faulty; end = Whole })
 
@@ -125,85 +125,85 @@ report checked faulty =
 abbrev pub key : Key
 key = record { run = 1; server = 0; job = 0 }
 
-abbrev pub first_write : Answer
+abbrev pub first_write : WorldAnswer
 first_write = answers.Issued (Write (record { boot = 1; key = key; seq = 0; block = 0 }))
 
 -- A job is staged, started and written; its state is taken, kept and acknowledged, for which the server
 -- asks for the cut; behind the restart it is checked by that state. The write that was done is there;
 -- the one that was open isn't looked at. Where its sector rots, the check finds it.
 pub record ChecksByItsState : Type 0 where
-  pub begins : next [] (Begin writing) ≡ says (answers.Run 1) 0 1 acts.None
-  pub writes : next started (Issue 0 0) ≡ says first_write 4 0 acts.None
-  pub cuts : next kept (Deliver 6) ≡ says answers.Plain 7 0 acts.Cut
-  pub counts : option_map (λ state. state.counted) (saved one (world one kept) key) ≡ Some (0 ∷ [])
-  pub verifies : next restarted (Verify 1 reading) ≡ says (answers.Attempt 1) 7 1 acts.None
-  pub sound : next checking (Check 0 0) ≡ says (report 1 []) 10 1 acts.None
+  pub begins : told_next [] (Begin writing_text) ≡ says (answers.Run 1) 0 1 acts.None
+  pub writes : told_next after_start (Issue 0 0) ≡ says first_write 4 0 acts.None
+  pub cuts : told_next after_keep (Deliver 6) ≡ says answers.Plain 7 0 acts.Cut
+  pub counts : option_map (λ state. state.counted) (saved_state one (world one after_keep) key) ≡ Some (0 ∷ [])
+  pub verifies : told_next after_restart (Verify 1 reading_text) ≡ says (answers.Attempt 1) 7 1 acts.None
+  pub sound : told_next after_verify (Check 0 0) ≡ says (report 1 []) 10 1 acts.None
   pub rotten :
-      next (Rot 0 0 0 (replicate 512 7) ∷ checking) (Check 0 0) ≡ says (report 1 (0 ∷ [])) 10 1 acts.None
+      told_next (Rot 0 0 0 (replicate 512 7) ∷ after_verify) (Check 0 0) ≡ says (report 1 (0 ∷ [])) 10 1 acts.None
   pub frames :
-      frames_of (Check 0 0 ∷ checking)
+      frames_of (Check 0 0 ∷ after_verify)
       ≡ first_frames ++ (trigger_frames ++ asks kinds.Verify 79 ∷ replies kinds.WantState 36
       ∷ asks kinds.Saved 160 ∷ replies kinds.Report 57 ∷ [])
 
 -- The disks of that world were honest, and its writes whole.
 pub record IsHonestlyMade : Type 0 where
-  pub honest : AreHonest one (world one checking)
-  pub whole : AreWhole one (world one checking)
+  pub honest : AreHonest one (world one after_verify)
+  pub whole : AreWhole one (world one after_verify)
 
 -- Behind a cut and a restart the Start of the run is old, and nothing is written any more.
 pub record StartsOnceAfterACut : Type 0 where
   pub frames :
-      frames_of (Deliver 2 ∷ Restart (Server 0) ∷ Cut (Server 0) ∷ Deliver 2 ∷ staged)
+      frames_of (Deliver 2 ∷ Restart (Server 0) ∷ Cut (Server 0) ∷ Deliver 2 ∷ after_stage)
       ≡ first_frames ++ replies kinds.Refused 50 ∷ []
   pub stopped :
-      next (Deliver 2 ∷ Restart (Server 0) ∷ Cut (Server 0) ∷ Deliver 2 ∷ staged) (Issue 0 0)
+      told_next (Deliver 2 ∷ Restart (Server 0) ∷ Cut (Server 0) ∷ Deliver 2 ∷ after_stage) (Issue 0 0)
       ≡ says (answers.Issued Stopped) 5 0 acts.None
 
 -- A client that is cut within the save of a state, before or behind it, sends nothing; restarted, it
 -- acknowledges the same frame, and keeps the state either way.
 pub record KeepsBehindACut : Type 0 where
-  pub down : next (CutIn false (Deliver 5) ∷ taken) (Deliver 5) ≡ Err faults.NodeOff
+  pub down : told_next (CutIn false (Deliver 5) ∷ after_trigger) (Deliver 5) ≡ Err faults.NodeOff
   pub before :
-      frames_of (Deliver 5 ∷ Restart Client ∷ CutIn false (Deliver 5) ∷ taken)
+      frames_of (Deliver 5 ∷ Restart Client ∷ CutIn false (Deliver 5) ∷ after_trigger)
       ≡ first_frames ++ trigger_frames
   pub behind :
-      frames_of (Deliver 5 ∷ Restart Client ∷ CutIn true (Deliver 5) ∷ taken)
+      frames_of (Deliver 5 ∷ Restart Client ∷ CutIn true (Deliver 5) ∷ after_trigger)
       ≡ first_frames ++ trigger_frames
   pub kept_before :
       option_map (λ state. state.counted)
-      (saved one (world one (Deliver 5 ∷ Restart Client ∷ CutIn false (Deliver 5) ∷ taken)) key)
+      (saved_state one (world one (Deliver 5 ∷ Restart Client ∷ CutIn false (Deliver 5) ∷ after_trigger)) key)
       ≡ Some (0 ∷ [])
   pub kept_behind :
-      option_map (λ state. state.counted) (saved one (world one (Restart Client ∷ CutIn true (Deliver 5) ∷ taken)) key)
+      option_map (λ state. state.counted) (saved_state one (world one (Restart Client ∷ CutIn true (Deliver 5) ∷ after_trigger)) key)
       ≡ Some (0 ∷ [])
 
 -- A full pass checks both blocks, and finds the write that never landed.
 abbrev pub full : List Happening
-full = Deliver 4 ∷ Verify 1 reading_all ∷ Restart (Server 0) ∷ Cut (Server 0) ∷ written
+full = Deliver 4 ∷ Verify 1 full_reading_text ∷ Restart (Server 0) ∷ Cut (Server 0) ∷ after_writes
 
 pub record ChecksInAFullPass : Type 0 where
-  pub faulty : next full (Check 0 0) ≡ says (report 2 (1 ∷ [])) 5 1 acts.None
+  pub faulty : told_next full (Check 0 0) ≡ says (report 2 (1 ∷ [])) 5 1 acts.None
   pub frames :
       frames_of (Check 0 0 ∷ full) ≡ first_frames ++ (asks kinds.Verify 59 ∷ replies kinds.Report 61 ∷ [])
 
 -- What a world refuses.
 pub record RefusesByNumber : Type 0 where
-  pub no_frame : next [] (Deliver 0) ≡ Err faults.NoFrame
-  pub no_write : next (Begin writing ∷ []) (Land 0 0 5 1) ≡ Err faults.NoWrite
-  pub no_save : next (Begin writing ∷ []) (CutIn false (Deliver 0)) ≡ Err faults.NoSave
-  pub no_cut_again : next [] (CutIn false (CutIn false (Deliver 0))) ≡ Err faults.NoSave
-  pub stopped : next [] (Issue 0 0) ≡ says (answers.Issued Stopped) 0 0 acts.None
-  pub off : next (Cut (Server 0) ∷ []) (Issue 0 0) ≡ Err faults.NodeOff
-  pub on : next [] (Restart Client) ≡ Err faults.NodeOn
-  pub no_server : next [] (Check 1 0) ≡ Err faults.NoServer
-  pub no_file : next (Cut (Server 0) ∷ []) (Rot 0 16 0 []) ≡ Err faults.NoWrite
-  pub not_ready : next [] (Check 0 0) ≡ Err faults.NotInFlight
-  pub no_run : next [] (Trigger 1 acts.None) ≡ Err faults.NoSuchRun
-  pub restarts : next (Cut (Server 0) ∷ []) (CutIn true (Restart (Server 0))) ≡ says answers.Plain 0 0 acts.None
+  pub no_frame : told_next [] (Deliver 0) ≡ Err faults.NoFrame
+  pub no_write : told_next (Begin writing_text ∷ []) (Land 0 0 5 1) ≡ Err faults.NoWrite
+  pub no_save : told_next (Begin writing_text ∷ []) (CutIn false (Deliver 0)) ≡ Err faults.NoSave
+  pub no_cut_again : told_next [] (CutIn false (CutIn false (Deliver 0))) ≡ Err faults.NoSave
+  pub stopped : told_next [] (Issue 0 0) ≡ says (answers.Issued Stopped) 0 0 acts.None
+  pub off : told_next (Cut (Server 0) ∷ []) (Issue 0 0) ≡ Err faults.NodeOff
+  pub on : told_next [] (Restart Client) ≡ Err faults.NodeOn
+  pub no_server : told_next [] (Check 1 0) ≡ Err faults.NoServer
+  pub no_file : told_next (Cut (Server 0) ∷ []) (Rot 0 16 0 []) ≡ Err faults.NoWrite
+  pub not_ready : told_next [] (Check 0 0) ≡ Err faults.NotInFlight
+  pub no_run : told_next [] (Trigger 1 acts.None) ≡ Err faults.NoSuchRun
+  pub restarts : told_next (Cut (Server 0) ∷ []) (CutIn true (Restart (Server 0))) ≡ says answers.Plain 0 0 acts.None
 
 -- A job file of 2,000 bytes, most of them a comment: its packet goes in two pieces.
 abbrev pub long : List ℕ
-long = writing ++ (codes "#" ++ (replicate 1960 120 ++ codes "\n"))
+long = writing_text ++ (codes "#" ++ (replicate 1960 120 ++ codes "\n"))
 
 -- A piece of the client for server 0.
 abbrev pub piece : ℕ → Shown
@@ -212,8 +212,8 @@ piece bytes = record { from = Client; to = Server 0; kind = None; bytes = bytes 
 -- The pieces come in another order, and one of them twice; or one of each of two sendings. Either way
 -- the last that lacked gives the packet, and it is answered.
 pub record ComesTogether : Type 0 where
-  pub begins : next [] (Begin long) ≡ says (answers.Run 1) 0 2 acts.None
-  pub waits : next (Deliver 1 ∷ Begin long ∷ []) (Deliver 1) ≡ says answers.Plain 2 0 acts.None
+  pub begins : told_next [] (Begin long) ≡ says (answers.Run 1) 0 2 acts.None
+  pub waits : told_next (Deliver 1 ∷ Begin long ∷ []) (Deliver 1) ≡ says answers.Plain 2 0 acts.None
   pub frames :
       frames_of (Deliver 0 ∷ Deliver 1 ∷ Deliver 1 ∷ Begin long ∷ [])
       ≡ piece 1073 ∷ piece 1033 ∷ replies kinds.JobsOk 28 ∷ []

@@ -18,13 +18,13 @@ use Rattle.net_world.specs.Setup.{Setup}
 use Rattle.net_world.specs.Trace.{of_server, opening_of}
 use Rattle.net_world.specs.Changes.{Change, trace}
 use Rattle.net_world.specs.Writes.{open_at}
-use Rattle.net_world.specs.Checks.{key_of, checked}
-use Rattle.net_world.specs.Barred.{off, unopen}
+use Rattle.net_world.specs.Checks.{key_of, end_of_check}
+use Rattle.net_world.specs.Barred.{unless_on, unless_open}
 
 -- Write k of job j at server s is open: its ticket, and what its job does.
 pub record IsOpen (w : Setup) (past : List Change) (s j k : ℕ) (ticket : Ticket) (rec : JobParts) : Type 0 where
-  pub there : unopen w (trace w past) s j k ≡ None
-  pub on : off w (trace w past) (Server s) ≡ None
+  pub there : unless_open w (trace w past) s j k ≡ None
+  pub on : unless_on w (trace w past) (Server s) ≡ None
   pub below : j < MAX_JOBS
   pub origin : Origin
   pub is_open : open_at (trace w past) s j k ≡ Some origin
@@ -35,7 +35,7 @@ pub record IsOpen (w : Setup) (past : List Change) (s j k : ℕ) (ticket : Ticke
 abbrev pub FindsWrite : Setup → List Change → ℕ → ℕ → ℕ → Result (Ticket × JobParts) Fault → Type 0
 FindsWrite w past s j k (Ok found) = IsOpen w past s j k found.0 found.1
 FindsWrite w past s j k (Err fault) =
-    (unopen w (trace w past) s j k ≡ Some fault) × (sort_of fault ≡ Refusal)
+    (unless_open w (trace w past) s j k ≡ Some fault) × (sort_of fault ≡ Refusal)
 
 -- The state with which a check is made.
 abbrev pub state_of : Progress → Option State
@@ -49,7 +49,7 @@ IsMadeBy c j job (Some state) = progress_after c j job c.since ≡ With state
 
 -- Job j of the open check at server s is ready to be checked.
 pub record IsReady (w : Setup) (past : List Change) (s j : ℕ) (ready : Ready) : Type 0 where
-  pub on : off w (trace w past) (Server s) ≡ None
+  pub on : unless_on w (trace w past) (Server s) ≡ None
   pub below : j < MAX_JOBS
   pub now : Check
   pub is_open : check (opening_of s) (of_server s (trace w past)) ≡ Some now
@@ -65,8 +65,8 @@ pub record IsReady (w : Setup) (past : List Change) (s j : ℕ) (ready : Ready) 
 -- The server is off or isn't there; or it has no such job that is ready.
 abbrev pub IsUnready : Setup → List Change → ℕ → ℕ → Fault → Type 0
 IsUnready w past s j fault =
-    ((off w (trace w past) (Server s) ≡ Some fault) × (sort_of fault ≡ Refusal))
-    ⊎ ((off w (trace w past) (Server s) ≡ None) × (fault ≡ NotInFlight) × (checked w past s j ≡ None))
+    ((unless_on w (trace w past) (Server s) ≡ Some fault) × (sort_of fault ≡ Refusal))
+    ⊎ ((unless_on w (trace w past) (Server s) ≡ None) × (fault ≡ NotInFlight) × (end_of_check w past s j ≡ None))
 
 -- The job is found, or why it isn't.
 abbrev pub FindsReady : Setup → List Change → ℕ → ℕ → Result Ready Fault → Type 0

@@ -7,7 +7,7 @@ use Rattle.messages.specs.declared.packet.PacketParts.{PacketParts}
 use Rattle.messages.specs.declared.piece.PieceParts.{PieceParts}
 use Rattle.messages.specs.declared.frame.Frame.TheVariants.{Piece}
 use Rattle.messages.specs.Pieces.{frames_of}
-use Rattle.messages.specs.Assemblies.{look, Gives}
+use Rattle.messages.specs.Assemblies.{look_at_piece, Gives}
 use Rattle.messages.specs.PieceLaws.{ArePackets, OneBodyOfEachTag, all_taken}
 use Rattle.messages.specs.Hearing.{Coming, heard}
 use Rattle.disk_model.specs.declared.left.Left.{Left}
@@ -16,8 +16,8 @@ use Rattle.server_core.specs.Hearing.{heard_at}
 use Rattle.server_core.specs.FrameAnswers as answers
 use Rattle.net_world.specs.Setup.{Setup}
 use Rattle.net_world.specs.Trace as packets
-use Rattle.net_world.specs.Trace.{Step, IsTrace, sent, opening_of}
-use Rattle.net_world.specs.Holders.{carried}
+use Rattle.net_world.specs.Trace.{Step, IsTrace, sent_packets, opening_of}
+use Rattle.net_world.specs.Holders.{carried_state}
 use Rattle.net_world.specs.Frames.{FrameStep, OfServer, of_server, of_client, of_mirror, at_server, at_client, frames_of_step, frames_sent, IsFrameTrace, trace_heard, frame_entry, server_entries}
 use Rattle.net_world.specs.InRange.{FitsFrames}
 
@@ -34,12 +34,12 @@ NodesHearTheirOwn = (w : Setup) (t : List FrameStep) → EachHearsItsOwn w t
 -- The frames that were sent are those of the packets that were sent.
 abbrev pub FramesAreOfPackets : Type 0
 FramesAreOfPackets =
-    (w : Setup) (t : List FrameStep) → frames_sent w t ≡ flat_map frames_of (sent w (trace_heard w t))
+    (w : Setup) (t : List FrameStep) → frames_sent w t ≡ flat_map frames_of (sent_packets w (trace_heard w t))
 
 -- In each trace a tag names one body.
 abbrev pub TagsNameOneBody : Type 0
 TagsNameOneBody =
-    (w : Setup) (t : List Step) → IsTrace w t → ArePackets (sent w t) → OneBodyOfEachTag (sent w t)
+    (w : Setup) (t : List Step) → IsTrace w t → ArePackets (sent_packets w t) → OneBodyOfEachTag (sent_packets w t)
 
 -- What a trace of frames says is a trace: each packet that is heard was sent.
 abbrev pub OnlySentIsHeard : Type 0
@@ -52,8 +52,8 @@ pub record PiecesHold (w : Setup) (t : List FrameStep) (key : Key) (state : Stat
   pub others : List PieceParts
   pub each : (q : PieceParts) → Contains (last ∷ others) q → Contains (frames_sent w t) (Piece q)
   pub packet : PacketParts
-  pub together : look (all_taken [] others) last ≡ Gives packet
-  pub state_is : carried packet.body ≡ Some state
+  pub together : look_at_piece (all_taken [] others) last ≡ Gives packet
+  pub state_is : carried_state packet.body ≡ Some state
   pub key_is : state.key ≡ key
 
 -- A server's list of frames says what the server hears in the trace, and it sends what the trace sends.

@@ -68,17 +68,17 @@ frames_by sends past None = []
 frames_by sends past (Some e) = flat_map frames_of (sends past e)
 
 -- The frames that a node sends, to which this has happened, with what happens now.
-abbrev pub frames_with :
+abbrev pub frames_of_coming :
     {E : Type 0} → Rules E Left → (List E → E → List PacketParts) → List (Coming E Left)
     → Coming E Left → List Frame
-frames_with r sends past c = frames_by sends (heard r past).entries (entry_of r (heard r past) c)
+frames_of_coming r sends past c = frames_by sends (heard r past).entries (entry_of r (heard r past) c)
 
 -- The frames that a step sends.
 abbrev pub frames_of_step : Setup → List FrameStep → FrameStep → List Frame
 frames_of_step w past (OfServer s c) =
-    frames_with (at_server s) (servers.packets (opening_of s)) (of_server s past) c
+    frames_of_coming (at_server s) (servers.packets (opening_of s)) (of_server s past) c
 frames_of_step w past (OfClient c) =
-    frames_with (at_client w) (clients.packets (client_opening w)) (of_client w past) c
+    frames_of_coming (at_client w) (clients.packets (client_opening w)) (of_client w past) c
 frames_of_step w past (OfMirror e) = flat_map frames_of (mirrors.packets mirror_opening (of_mirror past) e)
 
 -- Every frame that was ever sent, the oldest first.

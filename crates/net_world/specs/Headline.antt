@@ -17,23 +17,23 @@ use Rattle.server_core.specs.Words.{work}
 use Rattle.server_core.specs.Answers.{act}
 use Rattle.server_core.specs.Accepted.{IsTaking}
 use Rattle.server_core.specs.Check.{Check, With, progress}
-use Rattle.client_core.specs.Life.{life, done}
+use Rattle.client_core.specs.Life.{life, deeds_done}
 use Rattle.client_core.specs.Requests.{Served, trigger_at}
-use Rattle.client_core.specs.Words.{kept}
+use Rattle.client_core.specs.Words.{kept_state}
 use Rattle.client_core.specs.Laws.{runs_in, attempts_in}
-use Rattle.net_world.specs.declared.told.Answer.TheVariants.{Checked}
+use Rattle.net_world.specs.declared.told.WorldAnswer.TheVariants.{Checked}
 use Rattle.net_world.specs.declared.told.Told.{Told}
 use Rattle.net_world.specs.Setup.{Setup}
-use Rattle.net_world.specs.Trace.{Step, AtServer, opening_of, of_server, of_client, client_opening, sent}
+use Rattle.net_world.specs.Trace.{Step, AtServer, opening_of, of_server, of_client, client_opening, sent_packets}
 use Rattle.net_world.specs.Holders.{Holds, taken_of, key_at}
 use Rattle.net_world.specs.Passes.{WasKept}
-use Rattle.net_world.specs.Started.{started}
+use Rattle.net_world.specs.Started.{started_runs}
 use Rattle.net_world.specs.Frames.{FrameStep, trace_heard}
 use Rattle.net_world.specs.FrameLaws.{PiecesHold}
 use Rattle.net_world.specs.Happenings.{Happening}
 use Rattle.net_world.specs.Happenings as happenings
 use Rattle.net_world.specs.Changes.{Change}
-use Rattle.net_world.specs.World.{told}
+use Rattle.net_world.specs.World.{told_of_happening}
 use Rattle.net_world.specs.Exact.{IsBased, IsExact}
 use Rattle.net_world.specs.Honest.{AreHonest, AreWhole, IsCheckedWith, IsFaulty, WasInFlight}
 
@@ -66,7 +66,7 @@ QuietUntilTheCheck w t =
 -- A check that isn't refused answers the exact report.
 abbrev pub ExactReports : Setup → List Change → Type 0
 ExactReports w past =
-    (s j : ℕ) (t : Told) → told w past (happenings.Check s j) ≡ Ok t →
+    (s j : ℕ) (t : Told) → told_of_happening w past (happenings.Check s j) ≡ Ok t →
     (r : ReportParts) × (t.answer ≡ Checked r) × IsExact w past s j r
 
 -- On honest disks a check with a state faults only blocks to which a write was in flight at the taking.
@@ -85,21 +85,21 @@ NoFaults w past =
 
 -- Nothing that happens is refused as another state of a kept key.
 abbrev pub NoConflict : Setup → List Change → Type 0
-NoConflict w past = (e : Happening) → told w past e ≡ Err Conflict → ⊥
+NoConflict w past = (e : Happening) → told_of_happening w past e ≡ Err Conflict → ⊥
 
 -- Two State packets of one key are equal, and so are their bytes.
 abbrev pub StatePacketsAreEqual : Setup → List Step → Type 0
 StatePacketsAreEqual w t =
     (p q : PacketParts) (jobs more : ℕ) (a b : State) →
-    Contains (sent w t) p → p.body ≡ bodies.State jobs a →
-    Contains (sent w t) q → q.body ≡ bodies.State more b → a.key ≡ b.key → p ≡ q
+    Contains (sent_packets w t) p → p.body ≡ bodies.State jobs a →
+    Contains (sent_packets w t) q → q.body ≡ bodies.State more b → a.key ≡ b.key → p ≡ q
 
 -- Where a trigger has ended well at a server, each state that this server took in the run is kept.
 abbrev pub KeptWhereServed : Setup → List Step → Type 0
 KeptWhereServed w t =
     (key : Key) (state : State) →
     trigger_at key.run key.server (life (client_opening w) (of_client w t)) ≡ Served →
-    Contains (taken_of key t) state → kept (client_opening w) (of_client w t) key ≡ Some state
+    Contains (taken_of key t) state → kept_state (client_opening w) (of_client w t) key ≡ Some state
 
 -- Where a server asked for the cut, each state that it took in its run was kept by then: a note can be
 -- lost since.
@@ -113,27 +113,27 @@ KeptWhereCut w t =
 
 -- No run is given twice, whatever was cut and lost.
 abbrev pub RunsAreGivenOnce : Setup → List Step → Type 0
-RunsAreGivenOnce w t = IsTrue (is_distinct (runs_in (done (client_opening w) (of_client w t))))
+RunsAreGivenOnce w t = IsTrue (is_distinct (runs_in (deeds_done (client_opening w) (of_client w t))))
 
 -- No attempt is given twice.
 abbrev pub AttemptsAreGivenOnce : Setup → List Step → Type 0
-AttemptsAreGivenOnce w t = IsTrue (is_distinct (attempts_in (done (client_opening w) (of_client w t))))
+AttemptsAreGivenOnce w t = IsTrue (is_distinct (attempts_in (deeds_done (client_opening w) (of_client w t))))
 
 -- A server accepts a Start of a run once.
 abbrev pub StartsAreAcceptedOnce : Setup → List Step → Type 0
-StartsAreAcceptedOnce w t = (s : ℕ) → IsTrue (is_distinct (started (opening_of s) (of_server s t)))
+StartsAreAcceptedOnce w t = (s : ℕ) → IsTrue (is_distinct (started_runs (opening_of s) (of_server s t)))
 
 -- All Jobs packets of a run carry one text, to whichever servers they go.
 abbrev pub OneTextOfEachRun : Setup → List Step → Type 0
 OneTextOfEachRun w t =
     (p q : PacketParts) (run : ℕ) (text other : List ℕ) →
-    Contains (sent w t) p → p.body ≡ bodies.Jobs run text →
-    Contains (sent w t) q → q.body ≡ bodies.Jobs run other → text ≡ other
+    Contains (sent_packets w t) p → p.body ≡ bodies.Jobs run text →
+    Contains (sent_packets w t) q → q.body ≡ bodies.Jobs run other → text ≡ other
 
 -- All Verify packets of an attempt carry one run and text.
 abbrev pub OneTextOfEachAttempt : Setup → List Step → Type 0
 OneTextOfEachAttempt w t =
     (p q : PacketParts) (attempt run run_there : ℕ) (text other : List ℕ) →
-    Contains (sent w t) p → p.body ≡ bodies.Verify run attempt text →
-    Contains (sent w t) q → q.body ≡ bodies.Verify run_there attempt other →
+    Contains (sent_packets w t) p → p.body ≡ bodies.Verify run attempt text →
+    Contains (sent_packets w t) q → q.body ≡ bodies.Verify run_there attempt other →
     (run ≡ run_there) × (text ≡ other)

@@ -9,7 +9,7 @@ use Rattle.server_core.specs.declared.event.Event.{Event}
 use Rattle.server_core.specs.declared.event.Event.TheVariants.{Deliver, Issue, WriteDone, CheckDone}
 use Rattle.server_core.specs.History.{Entry, Met, Cut, Restart}
 use Rattle.net_world.specs.Setup.{Setup}
-use Rattle.net_world.specs.Trace.{Step, AtServer, AtClient, AtMirror, IsTrace, sent}
+use Rattle.net_world.specs.Trace.{Step, AtServer, AtClient, AtMirror, IsTrace, sent_packets}
 use Rattle.net_world.specs.Frames.{FrameStep, OfServer, OfClient, OfMirror}
 
 -- The report of a check is within its ranges.
@@ -50,4 +50,4 @@ pub record FitsFrames (w : Setup) (t : List FrameStep) : Type 0 where
 
 -- All that is sent in a trace is within the ranges of packets.
 abbrev pub SentAreInRange : Type 0
-SentAreInRange = (w : Setup) (t : List Step) → IsTrace w t → Fits w t → ArePackets (sent w t)
+SentAreInRange = (w : Setup) (t : List Step) → IsTrace w t → Fits w t → ArePackets (sent_packets w t)

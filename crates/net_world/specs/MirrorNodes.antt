@@ -10,10 +10,10 @@ use Rattle.messages.specs.declared.frame.Frame.{Frame}
 use Rattle.mirror_core.specs.declared.noted.Noted.{Noted}
 use Rattle.mirror_core.specs.History.{Entry, Met, Restart}
 use Rattle.mirror_core.specs.Note.{Says}
-use Rattle.mirror_core.specs.Words.{is_on, noted, refusal, due}
-use Rattle.mirror_core.specs.Packets.{packets, framed}
+use Rattle.mirror_core.specs.Words.{is_on, words_noted, refusal, due}
+use Rattle.mirror_core.specs.Packets.{packets, frame_bytes}
 use Rattle.mirror_core.specs.Stands.{StandsFor}
-use Rattle.mirror_core.specs.Ends.{answered}
+use Rattle.mirror_core.specs.Ends.{answered_entry}
 use Rattle.net_world.specs.declared.mirror_node.MirrorNode.{MirrorNode}
 use Rattle.net_world.specs.declared.mirror_node.MirrorNode.TheVariants.{On, Off}
 use Rattle.net_world.specs.Outcomes.{lost_by}
@@ -22,14 +22,14 @@ use Rattle.net_world.specs.Outcomes.{lost_by}
 -- says, the note says what the list says.
 abbrev pub Stands : Noted → List Entry → MirrorNode → Type 0
 Stands o past (On mirror) = StandsFor note_of mirror o past × (is_on past ≡ true)
-Stands o past (Off notes) = Says (note_of notes).bytes (noted o past) × (is_on past ≡ false)
+Stands o past (Off notes) = Says (note_of notes).bytes (words_noted o past) × (is_on past ≡ false)
 
 -- A frame is answered as the list says, and added.
 pub record Answers (o : Noted) (past : List Entry) (f : Frame) (new : MirrorNode) (frames : List (List ℕ)) : Type 0 where
   pub on : is_on past ≡ true
   pub free : refusal o past f ≡ None
-  pub frames_are : frames ≡ framed (packets o past (answered o past f))
-  pub stands : Stands o (answered o past f ∷ past) new
+  pub frames_are : frames ≡ frame_bytes (packets o past (answered_entry o past f))
+  pub stands : Stands o (answered_entry o past f ∷ past) new
 
 -- It is refused by the mirror, and nothing changes.
 pub record Refuses (o : Noted) (past : List Entry) (f : Frame) (fault : Fault) (new : MirrorNode) : Type 0 where

@@ -32,8 +32,8 @@ use Rattle.net_world.specs.Frames as frames
 use Rattle.net_world.specs.Frames.{FrameStep, OfServer, OfClient, OfMirror, at_server, at_client, frames_sent, to_of}
 use Rattle.net_world.specs.Changes.{Change, Met, Landed, Rotted, steps, trace}
 use Rattle.net_world.specs.Writes.{open_at}
-use Rattle.net_world.specs.Checks.{checked}
-use Rattle.net_world.specs.Barred.{barred}
+use Rattle.net_world.specs.Checks.{end_of_check}
+use Rattle.net_world.specs.Barred.{barring_fault}
 
 -- What comes of what happens: a change; a refusal; or a piece is refused and its tag is dropped, which
 -- is a step of its node.
@@ -43,9 +43,9 @@ pub data Outcome : Type 0 where
   Drops : FrameStep → Outcome
 
 -- A step, or why it isn't made.
-abbrev pub stepped : Result FrameStep Fault → Outcome
-stepped (Ok step) = Does (Met step)
-stepped (Err fault) = Refuses fault
+abbrev pub outcome_of_step : Result FrameStep Fault → Outcome
+outcome_of_step (Ok step) = Does (Met step)
+outcome_of_step (Err fault) = Refuses fault
 
 -- This, unless there is a fault.
 abbrev pub unless_fault : {X : Type 0} → Option Fault → Result X Fault → Result X Fault
@@ -88,7 +88,7 @@ abbrev pub comes_to_server : List Step → ℕ → Frame → Meaning → Outcome
 comes_to_server t s f (Says p) =
     let o = opening_of s in
     let past = of_server s t in
-    stepped (unless_fault (answers.refusal o past (events.Deliver p))
+    outcome_of_step (unless_fault (answers.refusal o past (events.Deliver p))
     (Ok (OfServer s (Comes f (left_for (servers.due o past (events.Deliver p)))))))
 comes_to_server t s f Waits = Does (Met (OfServer s (Comes f lefts.NoSave)))
 comes_to_server t s f Spoils = Drops (OfServer s (Comes f lefts.NoSave))
@@ -99,7 +99,7 @@ abbrev pub comes_to_client : Setup → List Step → Frame → Meaning → Outco
 comes_to_client w t f (Says p) =
     let o = client_opening w in
     let past = of_client w t in
-    stepped (unless_fault (clients.refusal o past (calls.Deliver p))
+    outcome_of_step (unless_fault (clients.refusal o past (calls.Deliver p))
     (Ok (OfClient (Comes f (left_for (clients.due o past (calls.Deliver p)))))))
 comes_to_client w t f Waits = Does (Met (OfClient (Comes f lefts.NoSave)))
 comes_to_client w t f Spoils = Drops (OfClient (Comes f lefts.NoSave))
@@ -123,21 +123,21 @@ comes_to_mirror t f =
 abbrev pub comes_to : Setup → List Change → Node → Frame → Outcome
 comes_to w past (Server s) f = comes_to_server (trace w past) s f (said_to_server (steps past) s f)
 comes_to w past Client f = comes_to_client w (trace w past) f (said_to_client w (steps past) f)
-comes_to w past Mirror f = stepped (comes_to_mirror (trace w past) f)
+comes_to w past Mirror f = outcome_of_step (comes_to_mirror (trace w past) f)
 
-abbrev pub delivered : Setup → List Change → Option Frame → Outcome
-delivered w past None = Refuses NoFrame
-delivered w past (Some f) = comes_to w past (to_of f) f
+abbrev pub delivery : Setup → List Change → Option Frame → Outcome
+delivery w past None = Refuses NoFrame
+delivery w past (Some f) = comes_to w past (to_of f) f
 
 -- The worker of an open write tells how it ended.
-abbrev pub ended : List Step → ℕ → ℕ → WriteEnd → Option Origin → Result FrameStep Fault
-ended t s k end None = Err NoWrite
-ended t s k end (Some origin) = met_by_server t s (events.WriteDone (ticket_of origin k) end)
+abbrev pub end_of_write : List Step → ℕ → ℕ → WriteEnd → Option Origin → Result FrameStep Fault
+end_of_write t s k end None = Err NoWrite
+end_of_write t s k end (Some origin) = met_by_server t s (events.WriteDone (ticket_of origin k) end)
 
 -- A server meets the end of a check, where the job is ready.
-abbrev pub reported : List Step → ℕ → Option Event → Result FrameStep Fault
-reported t s None = Err NotInFlight
-reported t s (Some e) = met_by_server t s e
+abbrev pub end_of_check_met : List Step → ℕ → Option Event → Result FrameStep Fault
+end_of_check_met t s None = Err NotInFlight
+end_of_check_met t s (Some e) = met_by_server t s e
 
 -- A node loses its power.
 abbrev pub cut : Node → Result FrameStep Fault
@@ -151,21 +151,21 @@ has_boot t s = nat_lt (servers.boot (opening_of s) (of_server s t) + 1) (2 ^ 64)
 
 -- What the client's note says.
 abbrev pub noted_in : Setup → List Step → Noted
-noted_in w t = clients.noted (client_opening w) (of_client w t)
+noted_in w t = clients.words_noted (client_opening w) (of_client w t)
 
 -- A node is started again; a server saves its boot before, and a client with a mirror is started only on a
 -- note.
-abbrev pub restarted : Setup → List Step → Node → Result FrameStep Fault
-restarted w t (Server s) =
+abbrev pub restart_of : Setup → List Step → Node → Result FrameStep Fault
+restart_of w t (Server s) =
     if has_boot t s then Ok (OfServer s (Happens (server.Restart lefts.Saved))) else Err NumbersSpent
-restarted w t Client =
+restart_of w t Client =
     if w.mirror && is_blank (noted_in w t) then Err BadNote
     else Ok (OfClient (Happens (client.Restart w.mirror)))
-restarted w t Mirror = Ok (OfMirror mirror.Restart)
+restart_of w t Mirror = Ok (OfMirror mirror.Restart)
 
 -- The client is started on no note, and saves the generation that it is given.
-abbrev pub renewed : Setup → List Step → ℕ → Result FrameStep Fault
-renewed w t g =
+abbrev pub renewal : Setup → List Step → ℕ → Result FrameStep Fault
+renewal w t g =
     if is_blank (noted_in w t) then Ok (OfClient (Happens (client.Renew g lefts.Saved))) else Err BadNote
 
 -- The client loses its power within the save that a call is due to make.
@@ -228,23 +228,23 @@ cut_in w past landed _ = Err NoSave
 
 -- What comes of what the world doesn't refuse.
 abbrev pub brings : Setup → List Change → Happening → Outcome
-brings w past (Begin text) = stepped (met_by_client w (trace w past) (calls.Begin text))
-brings w past (Trigger run act) = stepped (met_by_client w (trace w past) (calls.Trigger run act))
-brings w past (StopRun run) = stepped (met_by_client w (trace w past) (calls.Stop run))
-brings w past (Verify run text) = stepped (met_by_client w (trace w past) (calls.Verify run text))
-brings w past Tick = stepped (met_by_client w (trace w past) calls.Tick)
-brings w past (Deliver i) = delivered w past (slice_get (frames_sent w (steps past)) i)
-brings w past (Issue s j) = stepped (met_by_server (trace w past) s (events.Issue j))
+brings w past (Begin text) = outcome_of_step (met_by_client w (trace w past) (calls.Begin text))
+brings w past (Trigger run act) = outcome_of_step (met_by_client w (trace w past) (calls.Trigger run act))
+brings w past (StopRun run) = outcome_of_step (met_by_client w (trace w past) (calls.Stop run))
+brings w past (Verify run text) = outcome_of_step (met_by_client w (trace w past) (calls.Verify run text))
+brings w past Tick = outcome_of_step (met_by_client w (trace w past) calls.Tick)
+brings w past (Deliver i) = delivery w past (slice_get (frames_sent w (steps past)) i)
+brings w past (Issue s j) = outcome_of_step (met_by_server (trace w past) s (events.Issue j))
 brings w past (Land s j k mask) = Does (Landed s j k mask)
-brings w past (Done s j k) = stepped (ended (trace w past) s k ends.Done (open_at (trace w past) s j k))
-brings w past (Fail s j k) = stepped (ended (trace w past) s k ends.Failed (open_at (trace w past) s j k))
+brings w past (Done s j k) = outcome_of_step (end_of_write (trace w past) s k ends.Done (open_at (trace w past) s j k))
+brings w past (Fail s j k) = outcome_of_step (end_of_write (trace w past) s k ends.Failed (open_at (trace w past) s j k))
 brings w past (Rot s j sector bytes) = Does (Rotted s j sector bytes)
-brings w past (Check s j) = stepped (reported (trace w past) s (checked w past s j))
-brings w past (Cut node) = stepped (cut node)
-brings w past (Restart node) = stepped (restarted w (trace w past) node)
+brings w past (Check s j) = outcome_of_step (end_of_check_met (trace w past) s (end_of_check w past s j))
+brings w past (Cut node) = outcome_of_step (cut node)
+brings w past (Restart node) = outcome_of_step (restart_of w (trace w past) node)
 brings w past LoseNote = Does (Met (OfClient (Happens client.Lose)))
-brings w past (Renew g) = stepped (renewed w (trace w past) g)
-brings w past (CutIn landed e) = stepped (cut_in w past landed e)
+brings w past (Renew g) = outcome_of_step (renewal w (trace w past) g)
+brings w past (CutIn landed e) = outcome_of_step (cut_in w past landed e)
 
 -- What happens, unless the world refuses it.
 abbrev pub unless_barred : Option Fault → Outcome → Outcome
@@ -254,4 +254,4 @@ unless_barred (Some fault) x = Refuses fault
 -- What comes of what happens: first the world may refuse it, and then its node.
 abbrev pub outcome : Setup → List Change → Happening → Outcome
 outcome w past e =
-    unless_barred (barred w (trace w past) (frames_sent w (steps past)) e) (brings w past e)
+    unless_barred (barring_fault w (trace w past) (frames_sent w (steps past)) e) (brings w past e)

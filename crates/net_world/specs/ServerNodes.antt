@@ -19,15 +19,15 @@ use Rattle.server_core.specs.History.{Opening}
 use Rattle.server_core.specs.Note.{Says}
 use Rattle.server_core.specs.Words.{is_on, boot, last_run}
 use Rattle.server_core.specs.Hearing.{FrameEntry, Met, Restart, packets_heard}
-use Rattle.server_core.specs.FrameAnswers.{sense, frames, refusal, issue, act, answered, would_save}
+use Rattle.server_core.specs.FrameAnswers.{sense, frames, refusal, issue, act, answered_entry, would_save}
 use Rattle.server_core.specs.FrameEnds.{StandsFor, is_drop}
 use Rattle.net_world.specs.Outcomes.{lost_by}
 use Rattle.net_world.specs.declared.server_node.ServerNode.{ServerNode}
 use Rattle.net_world.specs.declared.server_node.ServerNode.TheVariants.{On, Off}
 
 -- What the note of a server says behind this list.
-abbrev pub noted : Opening → List packets.Entry → Noted
-noted o past = record { boot = boot o past; last_run = last_run o past }
+abbrev pub words_noted : Opening → List packets.Entry → Noted
+words_noted o past = record { boot = boot o past; last_run = last_run o past }
 
 -- It is on, by the list.
 abbrev pub is_up : Opening → List FrameEntry → Bool
@@ -38,7 +38,7 @@ is_up o past = is_on (packets_heard o past)
 abbrev pub Stands : Opening → List FrameEntry → ServerNode → Type 0
 Stands o past (On server) = StandsFor note_of server o past × (is_up o past ≡ true)
 Stands o past (Off notes) =
-    Says (note_of notes).bytes (noted o (packets_heard o past)) × (is_up o past ≡ false)
+    Says (note_of notes).bytes (words_noted o (packets_heard o past)) × (is_up o past ≡ false)
 
 -- A server that stands for the list is there where it is on.
 abbrev pub Shows : Opening → List FrameEntry → Option (Server Kept) → Type 0
@@ -49,10 +49,10 @@ Shows o past None = is_up o past ≡ false
 pub record Answers (o : Opening) (past : List FrameEntry) (e : Input) (new : ServerNode) (outs : Outs) : Type 0 where
   pub on : is_up o past ≡ true
   pub free : refusal o past e ≡ None
-  pub frames_are : outs.frames ≡ map frame_spelling (frames o past (answered o past e))
+  pub frames_are : outs.frames ≡ map frame_spelling (frames o past (answered_entry o past e))
   pub issue_is : outs.issue ≡ issue o past e
   pub act_is : outs.act ≡ act o past e
-  pub stands : Stands o (answered o past e ∷ past) new
+  pub stands : Stands o (answered_entry o past e ∷ past) new
 
 -- What comes is refused by the server, and may stand in the list; it may be left out, but where it drops
 -- a tag.

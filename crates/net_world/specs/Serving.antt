@@ -8,8 +8,8 @@ use Rattle.fc_base.specs.Fault.{sort_of}
 use Rattle.disk_model.specs.declared.left.Left.TheVariants.{NoSave}
 use Rattle.messages.specs.declared.node.Node.TheVariants as nodes
 use Rattle.server_core.specs.declared.input.Input.{Input}
-use Rattle.server_core.specs.Hearing.{FrameEntry, Met, coming}
-use Rattle.server_core.specs.FrameAnswers.{sense, refusal, issue, act, answered}
+use Rattle.server_core.specs.Hearing.{FrameEntry, Met, coming_of}
+use Rattle.server_core.specs.FrameAnswers.{sense, refusal, issue, act, answered_entry}
 use Rattle.server_core.specs.FrameEnds.{is_drop}
 use Rattle.net_world.specs.declared.served.Served.{Served}
 use Rattle.net_world.specs.declared.world.World.{World}
@@ -18,7 +18,7 @@ use Rattle.net_world.specs.Trace.{opening_of}
 use Rattle.net_world.specs.Frames.{FrameStep, OfServer, frames_sent, frames_of_step, server_entries}
 use Rattle.net_world.specs.Changes as changes
 use Rattle.net_world.specs.Changes.{Change, steps, trace}
-use Rattle.net_world.specs.Barred.{off}
+use Rattle.net_world.specs.Barred.{unless_on}
 use Rattle.net_world.specs.Stands.{StandsFor}
 
 -- The list of frames of server s.
@@ -27,15 +27,15 @@ entries past s = server_entries s (steps past)
 
 -- An entry of its list, as a step of the world.
 abbrev pub step_of : ℕ → FrameEntry → FrameStep
-step_of s e = OfServer s (coming e)
+step_of s e = OfServer s (coming_of e)
 
 -- The step of what comes to it and is answered.
 abbrev pub step_by : List Change → ℕ → Input → FrameStep
-step_by past s e = step_of s (answered (opening_of s) (entries past s) e)
+step_by past s e = step_of s (answered_entry (opening_of s) (entries past s) e)
 
 -- The server is there and on, doesn't refuse what comes, and its step is added.
 pub record Serves (w : Setup) (past : List Change) (s : ℕ) (e : Input) (new : World) (served : Served) : Type 0 where
-  pub on : off w (trace w past) (nodes.Server s) ≡ None
+  pub on : unless_on w (trace w past) (nodes.Server s) ≡ None
   pub free : refusal (opening_of s) (entries past s) e ≡ None
   pub first_is : served.first ≡ length (frames_sent w (steps past))
   pub sent_is : served.sent ≡ length (frames_of_step w (steps past) (step_by past s e))
@@ -45,12 +45,12 @@ pub record Serves (w : Setup) (past : List Change) (s : ℕ) (e : Input) (new : 
 
 -- There is no such server, or it is off.
 pub record IsBarred (w : Setup) (past : List Change) (s : ℕ) (fault : Fault) (new : World) : Type 0 where
-  pub why : off w (trace w past) (nodes.Server s) ≡ Some fault
+  pub why : unless_on w (trace w past) (nodes.Server s) ≡ Some fault
   pub unchanged : StandsFor w past new
 
 -- The server refuses what comes. That may stand in the list, or be left out, but where it drops a tag.
 pub record Refuses (w : Setup) (past : List Change) (s : ℕ) (e : Input) (fault : Fault) (new : World) : Type 0 where
-  pub on : off w (trace w past) (nodes.Server s) ≡ None
+  pub on : unless_on w (trace w past) (nodes.Server s) ≡ None
   pub why : refusal (opening_of s) (entries past s) e ≡ Some fault
   pub stands : StandsFor w (changes.Met (step_of s (Met e NoSave)) ∷ past) new
   pub unchanged : is_drop (sense (opening_of s) (entries past s) e) ≡ false → StandsFor w past new

@@ -11,8 +11,8 @@ started_by Saved (Some s) = s.run ∷ []
 started_by _ _ = []
 
 -- The runs of which a server has accepted a Start, over all its lives, the newest first.
-abbrev pub started : Opening → List Entry → List ℕ
-started o [] = []
-started o (Met e left ∷ past) = started_by left (due o past e) ++ started o past
-started o (Cut ∷ past) = started o past
-started o (Restart left ∷ past) = started o past
+abbrev pub started_runs : Opening → List Entry → List ℕ
+started_runs o [] = []
+started_runs o (Met e left ∷ past) = started_by left (due o past e) ++ started_runs o past
+started_runs o (Cut ∷ past) = started_runs o past
+started_runs o (Restart left ∷ past) = started_runs o past

@@ -8,12 +8,12 @@ use Rattle.messages.specs.declared.node.Node.TheVariants.{Server, Client, Mirror
 use Rattle.messages.specs.Ranges.{is_generation}
 use Rattle.disk_model.specs.declared.left.Left.TheVariants.{Saved}
 use Rattle.server_core.specs.History as server
-use Rattle.server_core.specs.Heard.{heard}
+use Rattle.server_core.specs.Heard.{heard_packets}
 use Rattle.server_core.specs.Answers as servers
 use Rattle.client_core.specs.History as client
 use Rattle.client_core.specs.Note.{blank}
 use Rattle.client_core.specs.Ranges.{packet_in}
-use Rattle.client_core.specs.Words.{noted}
+use Rattle.client_core.specs.Words.{words_noted}
 use Rattle.client_core.specs.Laws.{generations}
 use Rattle.client_core.specs.Packets as clients
 use Rattle.mirror_core.specs.declared.noted.Noted.{Noted as MirrorNoted}
@@ -74,13 +74,13 @@ packets_of w past (AtClient e) = clients.packets (client_opening w) (of_client w
 packets_of w past (AtMirror e) = mirrors.packets mirror_opening (of_mirror past) e
 
 -- Every packet that was ever sent, the oldest first.
-unfoldable pub sent : Setup → List Step → List PacketParts
-sent w [] = []
-sent w (step ∷ past) = sent w past ++ packets_of w past step
+unfoldable pub sent_packets : Setup → List Step → List PacketParts
+sent_packets w [] = []
+sent_packets w (step ∷ past) = sent_packets w past ++ packets_of w past step
 
 -- The packet that a step takes, if it takes one.
 abbrev pub taken_by : Step → List PacketParts
-taken_by (AtServer s e) = heard (e ∷ [])
+taken_by (AtServer s e) = heard_packets (e ∷ [])
 taken_by (AtClient e) = packet_in e
 taken_by (AtMirror e) = mirror_laws.packet_in e
 
@@ -104,7 +104,7 @@ is_alone _ = true
 -- What comes to a client that has one: it is restarted with the mirror, over a note of a generation, and
 -- no generation is handed in twice.
 abbrev pub is_with_mirror : client.Opening → List client.Entry → client.Entry → Bool
-is_with_mirror o past (client.Restart mirror) = mirror && nat_lt 0 (noted o past).generation
+is_with_mirror o past (client.Restart mirror) = mirror && nat_lt 0 (words_noted o past).generation
 is_with_mirror o past (client.Renew g left) = is_generation g && not (has (generations past) g)
 is_with_mirror o past _ = true
 
@@ -120,5 +120,5 @@ is_of_setup w past (AtMirror e) = w.mirror
 abbrev pub IsTrace : Setup → List Step → Type 0
 IsTrace w [] = Unit {0}
 IsTrace w (step ∷ past) =
-    IsTrace w past × AllByRecursion (WasSentTo (sent w past) (node_of step)) (taken_by step)
+    IsTrace w past × AllByRecursion (WasSentTo (sent_packets w past) (node_of step)) (taken_by step)
     × IsTrue (is_of_setup w past step)

@@ -17,15 +17,15 @@ use Rattle.server_core.specs.History as server
 use Rattle.server_core.specs.Answers as servers
 use Rattle.client_core.specs.declared.noted.Noted.{Noted}
 use Rattle.client_core.specs.Words as clients
-use Rattle.net_world.specs.declared.told.Answer.{Answer}
-use Rattle.net_world.specs.declared.told.Answer.TheVariants as answers
+use Rattle.net_world.specs.declared.told.WorldAnswer.{WorldAnswer}
+use Rattle.net_world.specs.declared.told.WorldAnswer.TheVariants as answers
 use Rattle.net_world.specs.declared.told.Told.{Told}
 use Rattle.net_world.specs.Setup.{Setup}
 use Rattle.net_world.specs.Happenings.{Happening, Begin, Verify, Issue, Check}
 use Rattle.net_world.specs.Trace.{Step, AtServer, of_server, of_client, opening_of, client_opening}
 use Rattle.net_world.specs.Frames.{frames_sent, frames_of_step, step_heard}
 use Rattle.net_world.specs.Changes.{Change, Met, Landed, Rotted, steps, trace}
-use Rattle.net_world.specs.Checks.{checked}
+use Rattle.net_world.specs.Checks.{end_of_check}
 use Rattle.net_world.specs.Barred.{is_on}
 use Rattle.net_world.specs.Outcomes.{Outcome, Does, Refuses, Drops, outcome}
 
@@ -45,13 +45,13 @@ abbrev pub frames : Setup → List Change → List (List ℕ)
 frames w past = map frame_spelling (frames_sent w (steps past))
 
 -- What the client's note says.
-abbrev pub noted : Setup → List Change → Noted
-noted w past = clients.noted (client_opening w) (of_client w (trace w past))
+abbrev pub client_note : Setup → List Change → Noted
+client_note w past = clients.words_noted (client_opening w) (of_client w (trace w past))
 
 -- The state that the client keeps of a key, while it is on.
-abbrev pub saved : Setup → List Change → Key → Option State
-saved w past key =
-    if is_on w (trace w past) Client then clients.kept (client_opening w) (of_client w (trace w past)) key
+abbrev pub saved_state : Setup → List Change → Key → Option State
+saved_state w past key =
+    if is_on w (trace w past) Client then clients.kept_state (client_opening w) (of_client w (trace w past)) key
     else None
 
 -- What a server shows of itself, while it is there and on.
@@ -62,30 +62,30 @@ status w past s =
     else None
 
 -- What is answered to a worker that asks for a write.
-abbrev pub issued : Option Issued → Answer
-issued None = answers.Plain
-issued (Some answer) = answers.Issued answer
+abbrev pub answer_of_issue : Option Issued → WorldAnswer
+answer_of_issue None = answers.Plain
+answer_of_issue (Some answer) = answers.Issued answer
 
 -- The report of a check that is done.
-abbrev pub report_in : Option Event → Answer
+abbrev pub report_in : Option Event → WorldAnswer
 report_in (Some (events.CheckDone boot attempt j report)) = answers.Checked report
 report_in _ = answers.Plain
 
 -- What is answered where it isn't refused: the number of the run or attempt, what the worker is told,
 -- or the report.
-abbrev pub answer : Setup → List Change → Happening → Answer
-answer w past (Begin text) = answers.Run ((noted w past).runs + 1)
-answer w past (Verify run text) = answers.Attempt ((noted w past).attempts + 1)
+abbrev pub answer : Setup → List Change → Happening → WorldAnswer
+answer w past (Begin text) = answers.Run ((client_note w past).runs + 1)
+answer w past (Verify run text) = answers.Attempt ((client_note w past).attempts + 1)
 answer w past (Issue s j) =
-    issued (servers.issue (opening_of s) (of_server s (trace w past)) (events.Issue j))
-answer w past (Check s j) = report_in (checked w past s j)
+    answer_of_issue (servers.issue (opening_of s) (of_server s (trace w past)) (events.Issue j))
+answer w past (Check s j) = report_in (end_of_check w past s j)
 answer w past _ = answers.Plain
 
 -- How many frames are sent with a change.
-abbrev pub frames_with : Setup → List Change → Change → ℕ
-frames_with w past (Met step) = length (frames_of_step w (steps past) step)
-frames_with w past (Landed s j k mask) = 0
-frames_with w past (Rotted s j sector bytes) = 0
+abbrev pub frame_count : Setup → List Change → Change → ℕ
+frame_count w past (Met step) = length (frames_of_step w (steps past) step)
+frame_count w past (Landed s j k mask) = 0
+frame_count w past (Rotted s j sector bytes) = 0
 
 -- What a server asks of its caller in a step of packets, if there is one.
 abbrev pub act_of : List Step → Option Step → Act
@@ -105,10 +105,10 @@ told_by w past e (Drops step) = Err FrameBadField
 told_by w past e (Does change) = Ok (record {
   answer = answer w past e;
   first = length (frames_sent w (steps past));
-  sent = frames_with w past change;
+  sent = frame_count w past change;
   act = act w past change;
 })
 
 -- What is told of what happens, or why it is refused.
-abbrev pub told : Setup → List Change → Happening → Result Told Fault
-told w past e = told_by w past e (outcome w past e)
+abbrev pub told_of_happening : Setup → List Change → Happening → Result Told Fault
+told_of_happening w past e = told_by w past e (outcome w past e)

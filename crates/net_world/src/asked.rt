@@ -2,19 +2,19 @@
 
 ghost use Rattle.std.specs.Prelude.{◌≡◌};
 
-use crate::told::Answer;
+use crate::told::WorldAnswer;
 use messages::Frames;
 
 /// What is answered, and the frames that are sent.
 #[derive(Drop)]
 pub struct Asked {
-    pub answer: Answer,
+    pub answer: WorldAnswer,
     pub frames: Frames,
 }
 
 impl Asked {
     /// This answer, and these frames.
-    pub(crate) fn of(answer: Answer, frames: Frames) -> Asked
+    pub(crate) fn of(answer: WorldAnswer, frames: Frames) -> Asked
         ensures { result ≡ record { answer = answer; frames = frames } }
     {
         Asked { answer, frames }

@@ -35,7 +35,8 @@ impl ClientNode {
     pub(crate) fn open(alloc: Global, servers: u32) -> Result<ClientNode, Fault>
         requires some { 1 ≤ servers }
         requires few { servers ≤ MAX_SERVERS }
-        ensures stands { IfOk result (Stands (record { servers = servers; noted = blank }) (Restart false ∷ [])) }
+        ensures stands { IfOk result
+            (Stands (record { servers = servers; noted = blank }) (Restart false ∷ [])) }
         ensures fault { IfErr result (λ fault. fault ≡ NoMemory) }
     {
         match Client::restart(alloc, servers, false, MemNotes::new(Vec::new(alloc))) {
@@ -107,7 +108,8 @@ impl ClientNode {
     pub(crate) fn restart(&mut self, alloc: Global, servers: u32, mirror: bool) -> Result<(), Fault>
         requires some { 1 ≤ servers }
         requires few { servers ≤ MAX_SERVERS }
-        ensures { (o : Opening) (past : List FrameEntry) → o.servers ≡ servers → Stands o past self.old →
+        ensures { (o : Opening) (past : List FrameEntry) → o.servers ≡ servers →
+            Stands o past self.old →
             Restarts o past mirror self.new result }
     {
         client_core::one_note();

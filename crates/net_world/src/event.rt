@@ -85,7 +85,7 @@ pub enum PlainEvent {
 
 /// What can happen in a world.
 #[derive(Clone, Debug, Drop)]
-pub enum Event {
+pub enum WorldEvent {
     /// This.
     Plain(PlainEvent),
     /// A node loses its power within the save that this would make: once the new bytes have landed, or

@@ -4,8 +4,8 @@
 //!
 //! ```text
 //! let mut world = World::new(alloc, Config { servers: 2, mirror: false })?;
-//! let told = world.apply(&Event::Plain(PlainEvent::Begin { text }))?;
-//! let told = world.apply(&Event::Plain(PlainEvent::Deliver { frame: told.first }))?;
+//! let told = world.apply(&WorldEvent::Plain(PlainEvent::Begin { text }))?;
+//! let told = world.apply(&WorldEvent::Plain(PlainEvent::Deliver { frame: told.first }))?;
 //! let world = play(alloc, config, &events)?;         // the same of a whole list
 //! ```
 //!
@@ -36,7 +36,7 @@ mod world;
 mod world_law;
 
 pub use config::Config;
-pub use event::{Event, PlainEvent};
+pub use event::{PlainEvent, WorldEvent};
 pub use example::examples;
 pub use frame_law::{
     frames_are_of_packets, frames_hold_the_taken, only_sent_is_heard, sent_are_in_range,
@@ -50,7 +50,7 @@ pub use passes::{
 pub use playing::play;
 pub use put_in::{with_cut, with_stop};
 pub use sent::Sent;
-pub use told::{Answer, BoxedReport, Told};
+pub use told::{BoxedReport, Told, WorldAnswer};
 pub use verdict::one_state_of_each_job;
 pub use world::World;
 pub use world_law::{

@@ -83,7 +83,8 @@ impl MirrorNode {
 
     /// The notes that are left where it loses its power.
     pub(crate) fn off(self) -> MemNotes
-        ensures { (o : Noted) (past : List Entry) → Stands o past self → Stands o (Cut ∷ past) (Off result) }
+        ensures { (o : Noted) (past : List Entry) → Stands o past self →
+            Stands o (Cut ∷ past) (Off result) }
     {
         match self {
             MirrorNode::On(mirror) => mirror.off(),
@@ -102,7 +103,8 @@ impl MirrorNode {
     ///
     /// `NodeOn`: it runs. `NoMemory`. Nothing changes.
     pub(crate) fn restart(&mut self, alloc: Global) -> Result<(), Fault>
-        ensures { (o : Noted) (past : List Entry) → Stands o past self.old → Restarts o past self.new result }
+        ensures { (o : Noted) (past : List Entry) → Stands o past self.old →
+            Restarts o past self.new result }
     {
         let kept = match self {
             MirrorNode::On(_) => return Err(Fault::NodeOn),
@@ -149,7 +151,8 @@ impl MirrorNode {
     /// Loses its power once what a frame brings is saved.
     fn cut_behind_delivery(&mut self, alloc: Global, frame: &Frame) -> Result<(), Fault>
         ensures { (o : Noted) (past : List Entry) → Stands o past self.old →
-            is_on past ≡ true → is_some (due o past frame.now) ≡ true → CutsIn o past true frame.now self.new result }
+            is_on past ≡ true → is_some (due o past frame.now) ≡ true →
+            CutsIn o past true frame.now self.new result }
     {
         if let Err(fault) = self.deliver(frame) {
             return Err(fault);

@@ -4,11 +4,11 @@ ghost use Rattle.std.specs.Prelude.{◌≤◌, IfOk, OnOk};
 ghost use Rattle.fc_base.specs.declared.limits.TheConstants.{MAX_SERVERS};
 ghost use Rattle.net_world.specs.Setup.{setup_of};
 ghost use Rattle.net_world.specs.Stands.{StandsFor};
-ghost use Rattle.net_world.specs.Claims.{played, AtEachMoment, OfItsTrace, OfItsFrames};
+ghost use Rattle.net_world.specs.Claims.{world_of, AtEachMoment, OfItsTrace, OfItsFrames};
 ghost use Rattle.net_world.specs.Headline.{OneTaking, HeldIsTheTaken, PiecesHoldTheTaken, CountsTheCompleted, QuietUntilTheCheck, ExactReports, FewFaults, NoFaults, NoConflict, StatePacketsAreEqual, KeptWhereServed, KeptWhereCut, RunsAreGivenOnce, AttemptsAreGivenOnce, StartsAreAcceptedOnce, OneTextOfEachRun, OneTextOfEachAttempt};
 
 use crate::config::Config;
-use crate::event::Event;
+use crate::event::WorldEvent;
 use crate::frame_law::frames_hold_the_taken;
 use crate::fresh::{ends_are_kept, nothing_differs, numbers_are_given_once, one_text_of_each};
 use crate::honest::honest_disks;
@@ -20,10 +20,10 @@ use server_core::legal_histories;
 use std::alloc::{AllocError, Global};
 
 /// The world once these have happened in it, the first of them first. What is refused is passed over.
-pub fn play(alloc: Global, config: Config, events: &[Event]) -> Result<World, AllocError>
+pub fn play(alloc: Global, config: Config, events: &[WorldEvent]) -> Result<World, AllocError>
     requires some { 1 ≤ config.servers }
     requires few { config.servers ≤ MAX_SERVERS }
-    ensures stands { IfOk result (StandsFor (setup_of config) (played config events.now)) }
+    ensures stands { IfOk result (StandsFor (setup_of config) (world_of config events.now)) }
     ensures one_taking { OnOk result (AtEachMoment (OfItsTrace OneTaking) config events.now) }
     ensures one_state { OnOk result (AtEachMoment (OfItsTrace HeldIsTheTaken) config events.now) }
     ensures pieces { OnOk result (AtEachMoment (OfItsFrames PiecesHoldTheTaken) config events.now) }
@@ -37,10 +37,13 @@ pub fn play(alloc: Global, config: Config, events: &[Event]) -> Result<World, Al
     ensures served { OnOk result (AtEachMoment (OfItsTrace KeptWhereServed) config events.now) }
     ensures cut { OnOk result (AtEachMoment (OfItsTrace KeptWhereCut) config events.now) }
     ensures runs { OnOk result (AtEachMoment (OfItsTrace RunsAreGivenOnce) config events.now) }
-    ensures attempts { OnOk result (AtEachMoment (OfItsTrace AttemptsAreGivenOnce) config events.now) }
-    ensures starts { OnOk result (AtEachMoment (OfItsTrace StartsAreAcceptedOnce) config events.now) }
+    ensures attempts { OnOk result
+        (AtEachMoment (OfItsTrace AttemptsAreGivenOnce) config events.now) }
+    ensures starts { OnOk result
+        (AtEachMoment (OfItsTrace StartsAreAcceptedOnce) config events.now) }
     ensures run_texts { OnOk result (AtEachMoment (OfItsTrace OneTextOfEachRun) config events.now) }
-    ensures attempt_texts { OnOk result (AtEachMoment (OfItsTrace OneTextOfEachAttempt) config events.now) }
+    ensures attempt_texts { OnOk result
+        (AtEachMoment (OfItsTrace OneTextOfEachAttempt) config events.now) }
 {
     each_world_is_a_trace();
     one_state_of_each_job();

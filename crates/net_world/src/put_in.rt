@@ -5,7 +5,7 @@ ghost use Rattle.net_world.specs.Happenings.{Cut, Restart};
 ghost use Rattle.net_world.specs.Events.{happening};
 ghost use Rattle.net_world.specs.PutIn.{stop_in, with_cut, with_stop};
 
-use crate::event::{Event, PlainEvent};
+use crate::event::{PlainEvent, WorldEvent};
 use messages::Node;
 use std::alloc::{AllocError, Global};
 
@@ -13,12 +13,13 @@ use std::alloc::{AllocError, Global};
 /// at the length it does so behind them all.
 pub fn with_cut(
     alloc: Global,
-    events: &[Event],
+    events: &[WorldEvent],
     at: usize,
     node: Node,
-) -> Result<Vec<Event>, AllocError>
+) -> Result<Vec<WorldEvent>, AllocError>
     requires { at ≤ length events.now }
-    ensures { IfOk result (λ all. map happening all.items ≡ with_cut at node (map happening events.now)) }
+    ensures { IfOk result
+        (λ all. map happening all.items ≡ with_cut at node (map happening events.now)) }
 {
     put_before(alloc, events, at, cut(&node), restart(&node))
 }
@@ -28,13 +29,14 @@ pub fn with_cut(
 /// refused.
 pub fn with_stop(
     alloc: Global,
-    events: &[Event],
+    events: &[WorldEvent],
     at: usize,
     landed: bool,
     node: Node,
-) -> Result<Vec<Event>, AllocError>
+) -> Result<Vec<WorldEvent>, AllocError>
     requires { at < length events.now }
-    ensures { IfOk result (λ all. map happening all.items ≡ with_stop at landed node (map happening events.now)) }
+    ensures { IfOk result
+        (λ all. map happening all.items ≡ with_stop at landed node (map happening events.now)) }
 {
     let stop = stop_in(landed, &events[at])?;
     put_before(alloc, events, at, stop, restart(&node))
@@ -43,13 +45,16 @@ pub fn with_stop(
 /// A copy of these events, with two more before the one at a place.
 fn put_before(
     alloc: Global,
-    events: &[Event],
+    events: &[WorldEvent],
     at: usize,
-    first: Event,
-    second: Event,
-) -> Result<Vec<Event>, AllocError>
+    first: WorldEvent,
+    second: WorldEvent,
+) -> Result<Vec<WorldEvent>, AllocError>
     requires { at ≤ length events.now }
-    ensures { IfOk result (λ all. map happening all.items ≡ take at (map happening events.now) ++ happening first ∷ happening second ∷ drop at (map happening events.now)) }
+    ensures { IfOk result
+        (λ all. map happening all.items
+        ≡ take at (map happening events.now) ++ happening first ∷ happening second ∷ drop at
+        (map happening events.now)) }
 {
     let mut all = Vec::new(alloc);
     add_copies(&mut all, &events[..at])?;
@@ -60,8 +65,9 @@ fn put_before(
 }
 
 /// Adds a copy of each event.
-fn add_copies(all: &mut Vec<Event>, events: &[Event]) -> Result<(), AllocError>
-    ensures { OnOk result (map happening all.new.items ≡ map happening all.old.items ++ map happening events.now) }
+fn add_copies(all: &mut Vec<WorldEvent>, events: &[WorldEvent]) -> Result<(), AllocError>
+    ensures { OnOk result
+        (map happening all.new.items ≡ map happening all.old.items ++ map happening events.now) }
 {
     for event in events {
         all.push(copied(event)?)?;
@@ -70,35 +76,35 @@ fn add_copies(all: &mut Vec<Event>, events: &[Event]) -> Result<(), AllocError>
 }
 
 /// A copy of an event.
-fn copied(event: &Event) -> Result<Event, AllocError>
+fn copied(event: &WorldEvent) -> Result<WorldEvent, AllocError>
     ensures { IfOk result (λ copy. happening copy ≡ happening event.now) }
 {
     event.clone()
 }
 
 /// A cut of a node.
-fn cut(node: &Node) -> Event
+fn cut(node: &Node) -> WorldEvent
     ensures { happening result ≡ Cut node.now }
 {
-    Event::Plain(PlainEvent::Cut { node: *node })
+    WorldEvent::Plain(PlainEvent::Cut { node: *node })
 }
 
 /// A node's restart.
-fn restart(node: &Node) -> Event
+fn restart(node: &Node) -> WorldEvent
     ensures { happening result ≡ Restart node.now }
 {
-    Event::Plain(PlainEvent::Restart { node: *node })
+    WorldEvent::Plain(PlainEvent::Restart { node: *node })
 }
 
 /// The cut within the save of an event.
-fn stop_in(landed: bool, event: &Event) -> Result<Event, AllocError>
+fn stop_in(landed: bool, event: &WorldEvent) -> Result<WorldEvent, AllocError>
     ensures { IfOk result (λ stop. happening stop ≡ stop_in landed (happening event.now)) }
 {
     match event {
-        Event::Plain(event) => Ok(Event::CutIn {
+        WorldEvent::Plain(event) => Ok(WorldEvent::CutIn {
             landed,
             event: event.clone()?,
         }),
-        Event::CutIn { .. } | Event::CutInCut => Ok(Event::CutInCut),
+        WorldEvent::CutIn { .. } | WorldEvent::CutInCut => Ok(WorldEvent::CutInCut),
     }
 }

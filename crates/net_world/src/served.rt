@@ -1,10 +1,10 @@
 //! What comes of a step of a node.
 
 ghost use Rattle.std.specs.Prelude.{◌≡◌};
-ghost use Rattle.net_world.specs.World.{issued};
+ghost use Rattle.net_world.specs.World.{answer_of_issue};
 ghost use Rattle.net_world.specs.Telling.{told_of, issue_told};
 
-use crate::told::{Answer, Told};
+use crate::told::{Told, WorldAnswer};
 use engine::Issue;
 use messages::Act;
 
@@ -21,7 +21,7 @@ pub(crate) struct Served {
 impl Served {
     /// It is told with this answer.
     #[inline(always)]
-    pub(crate) fn told(self, answer: Answer) -> Told
+    pub(crate) fn told(self, answer: WorldAnswer) -> Told
         ensures { result ≡ told_of self answer }
     {
         Told {
@@ -53,11 +53,11 @@ impl Served {
 }
 
 /// What a worker is told that asks for a write.
-fn issued(issue: Option<Issue>) -> Answer
-    ensures { result ≡ issued issue }
+fn issued(issue: Option<Issue>) -> WorldAnswer
+    ensures { result ≡ answer_of_issue issue }
 {
     match issue {
-        Some(issue) => Answer::Issued(issue),
-        None => Answer::Plain,
+        Some(issue) => WorldAnswer::Issued(issue),
+        None => WorldAnswer::Plain,
     }
 }

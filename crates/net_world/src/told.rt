@@ -11,7 +11,7 @@ use std::marker::Model;
 
 /// What is answered.
 #[derive(Debug, Drop)]
-pub enum Answer {
+pub enum WorldAnswer {
     /// Nothing more.
     Plain,
     /// The number of the run that has begun.
@@ -61,7 +61,7 @@ impl BoxedReport {
 /// from `first` on, and what a server asks of its caller.
 #[derive(Debug, Drop)]
 pub struct Told {
-    pub answer: Answer,
+    pub answer: WorldAnswer,
     pub first: u64,
     pub sent: u64,
     pub act: Act,
@@ -73,7 +73,7 @@ impl Told {
         ensures { result ≡ plainly_told first }
     {
         Told {
-            answer: Answer::Plain,
+            answer: WorldAnswer::Plain,
             first: first as u64,
             sent: 0,
             act: Act::None,

@@ -27,7 +27,7 @@ mod write;
 use crate::ask::Ask;
 use crate::client_node::ClientNode;
 use crate::config::Config;
-use crate::event::{Event, PlainEvent};
+use crate::event::{PlainEvent, WorldEvent};
 use crate::mirror_node::{MirrorNode, Mirrored};
 use crate::sent::Sent;
 use crate::server_node::ServerNode;
@@ -72,10 +72,10 @@ impl Drop for World {
 
 impl World {
     ghost use Rattle.net_world.specs.Happenings.{Happening};
-    ghost use Rattle.net_world.specs.Events.{plainly, happening};
+    ghost use Rattle.net_world.specs.Events.{plain_happening, happening};
     ghost use Rattle.net_world.specs.Changes.{Change};
     ghost use Rattle.net_world.specs.Sending.{sent_in};
-    ghost use Rattle.net_world.specs.World.{world, frames, saved, status};
+    ghost use Rattle.net_world.specs.World.{world, frames, saved_state, status};
     ghost use Rattle.net_world.specs.Stands.{StandsFor};
     ghost use Rattle.net_world.specs.Ends.{Ends};
 
@@ -108,23 +108,25 @@ impl World {
     /// `NoSave`. A refused event changes nothing, but for
     /// `FrameBadField`: the node has dropped what came together of the frame's body. `NoMemory`: nothing
     /// has happened.
-    pub fn apply(&mut self, event: &Event) -> Result<Told, Fault>
+    pub fn apply(&mut self, event: &WorldEvent) -> Result<Told, Fault>
         ensures { (w : Setup) (events : List Happening) → StandsFor w (world w events) self.old →
             Ends w (world w events) (happening event.now) self.new result }
     {
         match event {
-            Event::Plain(event) => self.happen(event),
-            Event::CutIn { landed, event } => self.cut_in(*landed, event),
-            Event::CutInCut => Err(Fault::NoSave),
+            WorldEvent::Plain(event) => self.happen(event),
+            WorldEvent::CutIn { landed, event } => self.cut_in(*landed, event),
+            WorldEvent::CutInCut => Err(Fault::NoSave),
         }
     }
 
     /// Something happens, which is passed over where it is refused. An error is that memory ran out:
     /// nothing has happened.
-    pub(crate) fn pass(&mut self, event: &Event) -> Result<(), AllocError>
-        ensures passed { OnOk result ((w : Setup) (events : List Happening) → StandsFor w (world w events) self.old →
+    pub(crate) fn pass(&mut self, event: &WorldEvent) -> Result<(), AllocError>
+        ensures passed { OnOk result
+            ((w : Setup) (events : List Happening) → StandsFor w (world w events) self.old →
             StandsFor w (world w (happening event.now ∷ events)) self.new) }
-        ensures spent { OnErr result ((w : Setup) (events : List Happening) → StandsFor w (world w events) self.old →
+        ensures spent { OnErr result
+            ((w : Setup) (events : List Happening) → StandsFor w (world w events) self.old →
             StandsFor w (world w events) self.new) }
     {
         match self.apply(event) {
@@ -139,7 +141,7 @@ impl World {
     /// Something happens, but for a cut within a save.
     fn happen(&mut self, event: &PlainEvent) -> Result<Told, Fault>
         ensures { (w : Setup) (events : List Happening) → StandsFor w (world w events) self.old →
-            Ends w (world w events) (plainly event.now) self.new result }
+            Ends w (world w events) (plain_happening event.now) self.new result }
     {
         match event {
             PlainEvent::Begin { text } => self.ask(Ask::Begin(text)),
@@ -186,7 +188,7 @@ impl World {
     /// The state that the client keeps of a key, while it is on.
     pub fn saved(&self, key: Key) -> Option<&VerifyState>
         ensures { (w : Setup) (past : List Change) → StandsFor w past self.now →
-            option_copied result ≡ saved w past key }
+            option_copied result ≡ saved_state w past key }
     {
         client_core::looks_at_all();
         match &self.client {
@@ -229,7 +231,8 @@ impl World {
     /// Whether it has a file of this job at this server.
     pub(crate) fn has_file(&self, server: ServerNo, job: JobNo) -> bool
         ensures { result
-            ≡ (nat_lt job MAX_JOBS && nat_lt (MAX_JOBS * server + job) (length self.now.files.items)) }
+            ≡ (nat_lt job MAX_JOBS && nat_lt (MAX_JOBS * server + job)
+            (length self.now.files.items)) }
     {
         job.0 < MAX_JOBS && place_of(server, job) < self.files.as_slice().len()
     }
@@ -263,7 +266,8 @@ fn open_mirror(alloc: Global, config: Config) -> Result<Mirrored, AllocError>
 fn open_client(alloc: Global, config: Config) -> Result<ClientNode, AllocError>
     requires some { 1 ≤ config.servers }
     requires few { config.servers ≤ MAX_SERVERS }
-    ensures { IfOk result (λ c. Stands (client_opening (setup_of config)) (client_entries (setup_of config) []) c) }
+    ensures { IfOk result
+        (λ c. Stands (client_opening (setup_of config)) (client_entries (setup_of config) []) c) }
 {
     if config.mirror {
         return ClientNode::open_renewed(alloc, config.servers);

@@ -8,7 +8,7 @@ use Rattle.client_core.specs.declared.noted.Noted.{Noted}
 use Rattle.client_core.specs.declared.client.Client.{Client}
 use Rattle.client_core.specs.History.{Opening}
 use Rattle.client_core.specs.Note.{Says}
-use Rattle.client_core.specs.Words.{noted}
+use Rattle.client_core.specs.Words.{words_noted}
 use Rattle.client_core.specs.Stands.{IsBadNote, NotOpened}
 use Rattle.client_core.specs.Hearing.{FrameEntry, Restart, packets_heard}
 use Rattle.client_core.specs.FrameEnds as ends
@@ -26,19 +26,19 @@ no_note : (bytes : List ℕ) → IsBadNote false bytes → (said : Noted) → Sa
 no_note bytes (inl bad) said says = bad said says
 no_note bytes (inr empty) said says = cc
 
-unstarted : {T : Type 0} (note : T → Note) (o : Opening) (past : List FrameEntry) (notes back : T) (fault : Fault) → is_up o past ≡ false → Says (note notes).bytes (noted o (packets_heard o past)) → NotOpened false (note notes) (note back) fault
+unstarted : {T : Type 0} (note : T → Note) (o : Opening) (past : List FrameEntry) (notes back : T) (fault : Fault) → is_up o past ≡ false → Says (note notes).bytes (words_noted o (packets_heard o past)) → NotOpened false (note notes) (note back) fault
     → TaskEnds (ways (client_kind note o)) past Restarts (Off back) (Err fault)
 unstarted note o past notes back LoadFault off says h = record {
   after = past;
   ends = record { why = inr (refl, ap not off); sends_none = refl; after_is = refl };
-  stands = (subst (λ bytes. Says bytes (noted o (packets_heard o past))) (sym h.1) says, off);
+  stands = (subst (λ bytes. Says bytes (words_noted o (packets_heard o past))) (sym h.1) says, off);
   ranges = λ h. h;
 }
-unstarted note o past notes back BadNote off says h = absurd (no_note (note notes).bytes h.1 (noted o (packets_heard o past)) says)
-unstarted note o past notes back NoMemory off says h = (refl, (subst (λ (n : Note). Says n.bytes (noted o (packets_heard o past))) (sym h) says, off))
+unstarted note o past notes back BadNote off says h = absurd (no_note (note notes).bytes h.1 (words_noted o (packets_heard o past)) says)
+unstarted note o past notes back NoMemory off says h = (refl, (subst (λ (n : Note). Says n.bytes (words_noted o (packets_heard o past))) (sym h) says, off))
 unstarted note o past notes back _ off says h = absurd h
 
-pub starts : {T : Type 0} (note : T → Note) (o : Opening) (past : List FrameEntry) (servers : ℕ) (notes : T) (result : Result (Client T) (T × Fault)) → o.servers ≡ servers → is_up o past ≡ false → Says (note notes).bytes (noted o (packets_heard o past)) → ends.Restarts note servers false (note notes) result
+pub starts : {T : Type 0} (note : T → Note) (o : Opening) (past : List FrameEntry) (servers : ℕ) (notes : T) (result : Result (Client T) (T × Fault)) → o.servers ≡ servers → is_up o past ≡ false → Says (note notes).bytes (words_noted o (packets_heard o past)) → ends.Restarts note servers false (note notes) result
     → TaskEnds (ways (client_kind note o)) past Restarts (left_by result) (told_of result)
 starts note o past servers notes (Ok client) is off says h = record {
   after = Restart false ∷ past;

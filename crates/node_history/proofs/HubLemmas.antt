@@ -15,7 +15,7 @@ use Rattle.messages.specs.Pieces.{frames_of}
 use Rattle.hub.specs.Laws.{FramesAreSpelled}
 use Rattle.hub.specs.Network.{Network, IsSpelled}
 use Rattle.node_history.specs.declared.answer.Said.{Said}
-use Rattle.node_history.specs.declared.answer.Told.{Told}
+use Rattle.node_history.specs.declared.answer.CallerAnswer.{CallerAnswer}
 use Rattle.node_history.specs.declared.came.Came.{Came}
 use Rattle.node_history.specs.declared.logged.Logged.{Logged}
 use Rattle.node_history.specs.declared.logged.Turn.{Turn}
@@ -70,9 +70,9 @@ pub lack_why : {E X S : Type 0} (w : Ways E X S) (history : List Logged) (state 
 lack_why w history state k ask on = why_on w.rules history k.past ask NoMemory k.made on refl
 
 -- What a step is refused for is by the rules.
-pub step_why : {E X S : Type 0} (w : Ways E X S) (history : List Logged) (old new : S) (k : IsKept w history old) (e : E) (step : Result (Said × List (List ℕ)) Fault) (first sent : ℕ) (result : Result Told Fault) → is_off w.rules k.past ≡ false → w.rules.loads k.past (Meets e) ≡ false → StepEnds w k.past e new step
+pub step_why : {E X S : Type 0} (w : Ways E X S) (history : List Logged) (old new : S) (k : IsKept w history old) (e : E) (step : Result (Said × List (List ℕ)) Fault) (first sent : ℕ) (result : Result CallerAnswer Fault) → is_off w.rules k.past ≡ false → w.rules.loads k.past (Meets e) ≡ false → StepEnds w k.past e new step
     → result ≡ told_at first sent (outcome_of step).0 → IfErr result (HasWhy w.rules history (Meets e))
-step_why w history old new k e step first sent result on loads f is = subst (λ (r : Result Told Fault). IfErr r (HasWhy w.rules history (Meets e))) (sym is) (by_step step f)
+step_why w history old new k e step first sent result on loads f is = subst (λ (r : Result CallerAnswer Fault). IfErr r (HasWhy w.rules history (Meets e))) (sym is) (by_step step f)
   where
     by_step : (step : Result (Said × List (List ℕ)) Fault) → StepEnds w k.past e new step → IfErr (told_at first sent (outcome_of step).0) (HasWhy w.rules history (Meets e))
     by_step (Ok outs) f = tt
@@ -81,7 +81,7 @@ step_why w history old new k e step first sent result on loads f is = subst (λ 
 -- ---- the device's failures
 
 -- What is told of a step counts it.
-pub hear_counts : (before old new first sent : ℕ) (step : Result (Said × List (List ℕ)) Fault) (result : Result Told Fault) → old ≡ before → result ≡ told_at first sent (outcome_of step).0 → Counts false old new step → Counts false before new result
+pub hear_counts : (before old new first sent : ℕ) (step : Result (Said × List (List ℕ)) Fault) (result : Result CallerAnswer Fault) → old ≡ before → result ≡ told_at first sent (outcome_of step).0 → Counts false old new step → Counts false before new result
 hear_counts before old new first sent step result same is h =
     subst (λ (n : ℕ). Counts false n new result) same (subst (Counts false old new) (sym is) (by_step step h))
   where

@@ -7,7 +7,7 @@ use Rattle.fc_base.specs.declared.fault.Fault.TheVariants.{NodeOff, NodeOn}
 use Rattle.messages.specs.FrameBytes.{frame_spelling}
 use Rattle.node_history.specs.declared.power.Power.{Power}
 use Rattle.node_history.specs.declared.power.Power.TheVariants.{Off}
-use Rattle.node_history.specs.Moves.{plain, TaskEnds}
+use Rattle.node_history.specs.Moves.{plain_reply, TaskEnds}
 use Rattle.node_history.specs.Powers.{Kind, Stands, Shows, HasPower, ways}
 use Rattle.node_history.specs.Rules.{Cuts, Restarts}
 use Rattle.node_history.proofs.MoveLemmas.{up, refused}
@@ -28,7 +28,7 @@ there k past (Some core) s h = s.1
 pub cut_off : {E X C N : Type 0} (k : Kind E X C N) (past : List X) (power : Power C N) → HasPower k past → k.is_up past ≡ false → Stands k past power → TaskEnds (ways k) past Cuts power (Err NodeOff)
 cut_off k past power h off s = refused (ways k) past Cuts NodeOff power refl (h.cuts ∙ ap (λ b. if b then None else Some NodeOff) off) h.no_cut s
 
-pub cut_ends : {E X C N : Type 0} (k : Kind E X C N) (past : List X) (notes : N) → HasPower k past → k.is_up past ≡ true → k.Says past notes → TaskEnds (ways k) past Cuts (Off notes) (Ok plain)
+pub cut_ends : {E X C N : Type 0} (k : Kind E X C N) (past : List X) (notes : N) → HasPower k past → k.is_up past ≡ true → k.Says past notes → TaskEnds (ways k) past Cuts (Off notes) (Ok plain_reply)
 cut_ends k past notes h on says = record {
   after = h.cut.entry ∷ past;
   ends = record {

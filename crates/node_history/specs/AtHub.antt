@@ -10,7 +10,7 @@ use Rattle.messages.specs.declared.frame.Frame.{Frame}
 use Rattle.messages.specs.FrameBytes.{frame_at}
 use Rattle.hub.specs.Network.{Network, line_of}
 use Rattle.node_history.specs.declared.answer.Said.{Said}
-use Rattle.node_history.specs.declared.answer.Told.{Told}
+use Rattle.node_history.specs.declared.answer.CallerAnswer.{CallerAnswer}
 use Rattle.node_history.specs.declared.came.Came.{Came}
 use Rattle.node_history.specs.declared.came.Came.TheVariants as came
 use Rattle.node_history.specs.declared.logged.Logged.{Logged}
@@ -52,12 +52,12 @@ abbrev pub is_quiet : Logged → Bool
 is_quiet l = not (is_left_out l.answer) && not (is_frame l.came) && (length l.sent == 0)
 
 -- What is told of an answer, with so many frames behind so many.
-abbrev pub told_at : ℕ → ℕ → Result Said Fault → Result Told Fault
+abbrev pub told_at : ℕ → ℕ → Result Said Fault → Result CallerAnswer Fault
 told_at first sent (Ok said) = Ok (record { answer = said.answer; first = first; sent = sent; act = said.act })
 told_at first sent (Err fault) = Err fault
 
 -- What is told of an answer that sends nothing.
-abbrev pub told_by : Result Said Fault → Result Told Fault
+abbrev pub told_by : Result Said Fault → Result CallerAnswer Fault
 told_by answer = told_at 0 0 answer
 
 -- The event is entered in the history; its frames stand behind those of the hub; and the journal has its
@@ -79,7 +79,7 @@ Hears false node came taken answer sent old new before after = IsHeard node came
 
 -- How what comes to a node at the hub ends: an answer is told and entered, or left out where it is a
 -- refusal that changes nothing.
-abbrev pub Posts : Node → Came → Option ℕ → Network → Network → List Logged → List Logged → Result Told Fault → Type 0
+abbrev pub Posts : Node → Came → Option ℕ → Network → Network → List Logged → List Logged → Result CallerAnswer Fault → Type 0
 Posts node came taken old new before after result =
     (answer : Result Said Fault) × (sent : List (List ℕ)) × (result ≡ told_at (length old.frames) (length sent) answer)
     × Hears (is_left_out answer) node came taken answer sent old new before after

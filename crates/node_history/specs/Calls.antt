@@ -4,7 +4,7 @@ use Rattle.fc_base.specs.declared.fault.Fault.{Fault}
 use Rattle.fc_base.specs.declared.fault.Fault.TheVariants.{NodeOff, NoFrame}
 use Rattle.messages.specs.declared.node.Node.{Node}
 use Rattle.hub.specs.Network.{Network}
-use Rattle.node_history.specs.declared.answer.Told.{Told}
+use Rattle.node_history.specs.declared.answer.CallerAnswer.{CallerAnswer}
 use Rattle.node_history.specs.declared.came.Came.{Came}
 use Rattle.node_history.specs.declared.came.Came.TheVariants.{Frame}
 use Rattle.node_history.specs.declared.logged.Logged.{Logged}
@@ -50,21 +50,21 @@ IsWhyNot rules history (Some bytes) fault = HasWhy rules history (rules.asked (F
 
 -- How a delivery ends, where these are the bytes at its position: the frame comes; where there is none, it
 -- is refused, and nothing changes.
-abbrev pub Delivers : Node → ℕ → Option (List ℕ) → Network → Network → List Logged → List Logged → Result Told Fault → Type 0
+abbrev pub Delivers : Node → ℕ → Option (List ℕ) → Network → Network → List Logged → List Logged → Result CallerAnswer Fault → Type 0
 Delivers node position None old new before after (Ok told) = ⊥
 Delivers node position None old new before after (Err fault) = IsSame old new before after
 Delivers node position (Some bytes) old new before after result =
     Posts node (Frame bytes) (Some position) old new before after result
 
 -- It is refused, and nothing changes.
-pub record Misses (old new : Network) (before after : List Logged) (result : Result Told Fault) : Type 0 where
+pub record Misses (old new : Network) (before after : List Logged) (result : Result CallerAnswer Fault) : Type 0 where
   pub fault : Fault
   pub refused : result ≡ Err fault
   pub same : IsSame old new before after
 
 -- How a command ends, which asks this: it comes, is kept as what asks it, and takes no frame; or it
 -- doesn't come.
-abbrev pub Commands : {E X : Type 0} → Rules E X → Ask E → Node → Network → Network → List Logged → List Logged → Result Told Fault → Type 0
+abbrev pub Commands : {E X : Type 0} → Rules E X → Ask E → Node → Network → Network → List Logged → List Logged → Result CallerAnswer Fault → Type 0
 Commands rules ask node old new before after result =
     Misses old new before after result
     ⊎ ((kept : Came) × (rules.asked kept ≡ ask) × Posts node kept None old new before after result)

@@ -9,7 +9,7 @@ use Rattle.client_core.specs.Bounds.{AreShort}
 use Rattle.client_core.specs.History.{Opening}
 use Rattle.client_core.specs.Note.{Says}
 use Rattle.client_core.specs.Ranges.{OpensInRange, CameInRange}
-use Rattle.client_core.specs.Words.{noted}
+use Rattle.client_core.specs.Words.{words_noted}
 use Rattle.client_core.specs.Hearing.{FrameEntry, Cut, packets_heard}
 use Rattle.client_core.specs.FrameEnds.{StandsFor, most_packets}
 use Rattle.node_history.specs.Powers.{Kind, HasPower}
@@ -24,7 +24,7 @@ client_kind note o = record {
   SendsFew = λ past e sent.
       OpensInRange o → CameInRange (packets_heard o past) → AreShort (most_packets o past e) sent;
   StandsFor = λ past client. StandsFor note client o past;
-  Says = λ past notes. Says (note notes).bytes (noted o (packets_heard o past));
+  Says = λ past notes. Says (note notes).bytes (words_noted o (packets_heard o past));
 }
 
 on_refuses : (on : _) (free : Option Fault) → on ≡ true → (if on then Some NodeOn else free) ≡ Some NodeOn

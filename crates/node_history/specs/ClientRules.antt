@@ -10,7 +10,7 @@ use Rattle.messages.specs.FrameBytes.{frame_at}
 use Rattle.client_core.specs.declared.input.Input.{Input}
 use Rattle.client_core.specs.declared.input.Input.TheVariants as inputs
 use Rattle.client_core.specs.History.{Opening}
-use Rattle.client_core.specs.Words.{is_on, noted}
+use Rattle.client_core.specs.Words.{is_on, words_noted}
 use Rattle.client_core.specs.Hearing.{FrameEntry, Met, Cut, Restart, packets_heard}
 use Rattle.client_core.specs.FrameAnswers as answers
 use Rattle.node_history.specs.declared.came.Came.{Came}
@@ -23,21 +23,21 @@ use Rattle.node_history.specs.Rules.{Ask, Meets, Cuts, Restarts, Nothing, Rules}
 use Rattle.node_history.specs.ServerRules.{left_by}
 
 -- The frame that the bytes say is delivered.
-abbrev pub delivered : Option Frame → Ask Input
-delivered None = Nothing
-delivered (Some f) = Meets (inputs.Deliver f)
+abbrev pub ask_of_frame : Option Frame → Ask Input
+ask_of_frame None = Nothing
+ask_of_frame (Some f) = Meets (inputs.Deliver f)
 
 -- What is asked of the client.
-abbrev pub asked : Came → Ask Input
-asked (came.Frame bytes) = delivered (frame_at bytes)
-asked (came.Begin text) = Meets (inputs.Begin text)
-asked (came.Trigger run act) = Meets (inputs.Trigger run act)
-asked (came.Stop run) = Meets (inputs.Stop run)
-asked (came.Verify run text) = Meets (inputs.Verify run text)
-asked came.Tick = Meets inputs.Tick
-asked came.Cut = Cuts
-asked came.Restart = Restarts
-asked _ = Nothing
+abbrev pub ask_of : Came → Ask Input
+ask_of (came.Frame bytes) = ask_of_frame (frame_at bytes)
+ask_of (came.Begin text) = Meets (inputs.Begin text)
+ask_of (came.Trigger run act) = Meets (inputs.Trigger run act)
+ask_of (came.Stop run) = Meets (inputs.Stop run)
+ask_of (came.Verify run text) = Meets (inputs.Verify run text)
+ask_of came.Tick = Meets inputs.Tick
+ask_of came.Cut = Cuts
+ask_of came.Restart = Restarts
+ask_of _ = Nothing
 
 -- It is on, by the list.
 abbrev pub is_up : Opening → List FrameEntry → Bool
@@ -58,44 +58,44 @@ loads o past _ = false
 
 -- A begin is answered by its run, a verify by its attempt.
 abbrev pub answer_to : Opening → List FrameEntry → Input → Answer
-answer_to o past (inputs.Begin text) = Run ((noted o (packets_heard o past)).runs + 1)
-answer_to o past (inputs.Verify run text) = Attempt ((noted o (packets_heard o past)).attempts + 1)
+answer_to o past (inputs.Begin text) = Run ((words_noted o (packets_heard o past)).runs + 1)
+answer_to o past (inputs.Verify run text) = Attempt ((words_noted o (packets_heard o past)).attempts + 1)
 answer_to o past _ = Plain
 
 -- What is answered. A client asks nothing of its caller.
-abbrev pub said : Opening → List FrameEntry → Ask Input → Said
-said o past (Meets e) = record { answer = answer_to o past e; act = acts.None }
-said o past _ = record { answer = Plain; act = acts.None }
+abbrev pub reply_to : Opening → List FrameEntry → Ask Input → Said
+reply_to o past (Meets e) = record { answer = answer_to o past e; act = acts.None }
+reply_to o past _ = record { answer = Plain; act = acts.None }
 
 -- The entry that is added where all goes well. A restart is one without a mirror; a renewal and the loss of
 -- a note are never added.
-abbrev pub added : Opening → List FrameEntry → Ask Input → Option FrameEntry
-added o past (Meets e) = Some (answers.answered o past e)
-added o past Cuts = Some Cut
-added o past Restarts = Some (Restart false)
-added o past Nothing = None
+abbrev pub added_entry : Opening → List FrameEntry → Ask Input → Option FrameEntry
+added_entry o past (Meets e) = Some (answers.answered_entry o past e)
+added_entry o past Cuts = Some Cut
+added_entry o past Restarts = Some (Restart false)
+added_entry o past Nothing = None
 
 -- What is refused doesn't stand in the list, but for a piece whose tag is dropped, without a save.
-abbrev pub passed : List FrameEntry → Ask Input → Fault → List FrameEntry
-passed past (Meets e) fault = if is_drop fault then Met e NoSave ∷ past else past
-passed past _ fault = past
+abbrev pub entries_past_refusal : List FrameEntry → Ask Input → Fault → List FrameEntry
+entries_past_refusal past (Meets e) fault = if is_drop fault then Met e NoSave ∷ past else past
+entries_past_refusal past _ fault = past
 
 -- The entry of a call that was due to add something to the note, whose save failed. A restart saves
 -- nothing.
-abbrev pub lost : Opening → List FrameEntry → Ask Input → Bool → Option FrameEntry
-lost o past (Meets e) landed = option_map (λ addition. Met e (left_by landed)) (answers.due o past e)
-lost o past _ landed = None
+abbrev pub unsaved_entry : Opening → List FrameEntry → Ask Input → Bool → Option FrameEntry
+unsaved_entry o past (Meets e) landed = option_map (λ addition. Met e (left_by landed)) (answers.due o past e)
+unsaved_entry o past _ landed = None
 
 -- The rules of a client that opens by a restart without a mirror.
 abbrev pub rules : Opening → Rules Input FrameEntry
 rules o = record {
   opened = Restart false ∷ [];
-  asked = asked;
+  asked = ask_of;
   refusal = refusal o;
   loads = loads o;
-  said = said o;
-  added = added o;
-  passed = passed;
-  lost = lost o;
+  said = reply_to o;
+  added = added_entry o;
+  passed = entries_past_refusal;
+  lost = unsaved_entry o;
   frames = answers.frames o;
 }

@@ -30,6 +30,6 @@ IsPlaced count (Short short) = Unit {0}
 IsPlaced count (Other place) = place < count
 
 -- The entry that is lent.
-abbrev pub lent : Lent → Logged
-lent (Made entry) = entry
-lent (Kept entry) = entry.now
+abbrev pub lent_entry : Lent → Logged
+lent_entry (Made entry) = entry
+lent_entry (Kept entry) = entry.now

@@ -62,8 +62,8 @@ TaskEnds w past ask new (Ok said) = Moves w past ask (Ok said) [] new
 TaskEnds w past ask new (Err fault) = Fails w past ask (sort_of fault) fault new
 
 -- What is told of what is done, and has no answer.
-abbrev pub plain : Said
-plain = record { answer = Plain; act = acts.None }
+abbrev pub plain_reply : Said
+plain_reply = record { answer = Plain; act = acts.None }
 
 -- What a step is answered.
 abbrev pub answer_of : Result (Said × List (List ℕ)) Fault → Result Said Fault

@@ -5,7 +5,7 @@ use Rattle.fc_base.specs.declared.fault.Fault.TheVariants.{NodeOff, NodeOn}
 use Rattle.node_history.specs.declared.answer.Said.{Said}
 use Rattle.node_history.specs.declared.power.Power.{Power}
 use Rattle.node_history.specs.declared.power.Power.TheVariants.{On, Off, Lent}
-use Rattle.node_history.specs.Moves.{Ways, plain}
+use Rattle.node_history.specs.Moves.{Ways, plain_reply}
 use Rattle.node_history.specs.Rules.{Cuts, Restarts, Rules}
 
 -- A kind of node, of cores C over notes N, whose core meets inputs E and whose lists have entries X: its
@@ -48,13 +48,13 @@ left_by (Err back) = Off back.0
 
 -- What is told of a start.
 abbrev pub told_of : {C N : Type 0} → Result C (N × Fault) → Result Said Fault
-told_of (Ok core) = Ok plain
+told_of (Ok core) = Ok plain_reply
 told_of (Err back) = Err back.1
 
 -- A cut of a node that is on is answered by no more than an entry, which sends nothing. The node is off then,
 -- all stays within its ranges, and what notes say is the same.
 pub record IsCut {E X C N : Type 0} (k : Kind E X C N) (past : List X) : Type 0 where
-  pub said : k.rules.said past Cuts ≡ plain
+  pub said : k.rules.said past Cuts ≡ plain_reply
   pub entry : X
   pub entry_is : k.rules.added past Cuts ≡ Some entry
   pub sends_none : k.rules.frames past entry ≡ []

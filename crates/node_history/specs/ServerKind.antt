@@ -18,8 +18,8 @@ use Rattle.node_history.specs.Powers.{Kind, HasPower}
 use Rattle.node_history.specs.ServerRules.{rules, is_up, has_boot}
 
 -- What the note of a server says behind this list.
-abbrev pub noted : Opening → List packets.Entry → Noted
-noted o past = record { boot = boot o past; last_run = last_run o past }
+abbrev pub words_noted : Opening → List packets.Entry → Noted
+words_noted o past = record { boot = boot o past; last_run = last_run o past }
 
 -- The kind of a server that was opened so.
 abbrev pub server_kind : {T : Type 0} → (T → Note) → Opening → Kind Input FrameEntry (Server T) T
@@ -29,7 +29,7 @@ server_kind note o = record {
   InRange = λ past. CameInRange (packets_heard o past);
   SendsFew = λ past e sent. OpensInRange o → CameInRange (packets_heard o past) → AreShort sent;
   StandsFor = λ past server. StandsFor note server o past;
-  Says = λ past notes. Says (note notes).bytes (noted o (packets_heard o past));
+  Says = λ past notes. Says (note notes).bytes (words_noted o (packets_heard o past));
 }
 
 on_refuses : (on : _) (spent : Option Fault) → on ≡ true → (if on then Some NodeOn else spent) ≡ Some NodeOn

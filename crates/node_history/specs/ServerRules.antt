@@ -25,25 +25,25 @@ use Rattle.node_history.specs.AtHub.{is_drop}
 use Rattle.node_history.specs.Rules.{Ask, Meets, Cuts, Restarts, Nothing, Rules}
 
 -- The frame that the bytes say is delivered.
-abbrev pub delivered : Option Frame → Ask Input
-delivered None = Nothing
-delivered (Some f) = Meets (inputs.Deliver f)
+abbrev pub ask_of_frame : Option Frame → Ask Input
+ask_of_frame None = Nothing
+ask_of_frame (Some f) = Meets (inputs.Deliver f)
 
 -- The report of a check comes, as all that are handed in are within their ranges.
-abbrev pub reported : Bool → Input → Ask Input
-reported true e = Meets e
-reported false e = Nothing
+abbrev pub ask_of_report : Bool → Input → Ask Input
+ask_of_report true e = Meets e
+ask_of_report false e = Nothing
 
 -- What is asked of a server.
-abbrev pub asked : Came → Ask Input
-asked (came.Frame bytes) = delivered (frame_at bytes)
-asked (came.Issue j) = Meets (inputs.Issue j)
-asked (came.WriteDone ticket end) = Meets (inputs.WriteDone ticket end)
-asked (came.CheckDone now attempt job report) =
-    reported (is_report report.value) (inputs.CheckDone now attempt job report.value)
-asked came.Cut = Cuts
-asked came.Restart = Restarts
-asked _ = Nothing
+abbrev pub ask_of : Came → Ask Input
+ask_of (came.Frame bytes) = ask_of_frame (frame_at bytes)
+ask_of (came.Issue j) = Meets (inputs.Issue j)
+ask_of (came.WriteDone ticket end) = Meets (inputs.WriteDone ticket end)
+ask_of (came.CheckDone now attempt job report) =
+    ask_of_report (is_report report.value) (inputs.CheckDone now attempt job report.value)
+ask_of came.Cut = Cuts
+ask_of came.Restart = Restarts
+ask_of _ = Nothing
 
 -- It is on, by the list.
 abbrev pub is_up : Opening → List FrameEntry → Bool
@@ -72,21 +72,21 @@ answer_of None = Plain
 answer_of (Some issue) = Issued issue
 
 -- What is answered, and whether the server asks for a cut.
-abbrev pub said : Opening → List FrameEntry → Ask Input → Said
-said o past (Meets e) = record { answer = answer_of (answers.issue o past e); act = answers.act o past e }
-said o past _ = record { answer = Plain; act = acts.None }
+abbrev pub reply_to : Opening → List FrameEntry → Ask Input → Said
+reply_to o past (Meets e) = record { answer = answer_of (answers.issue o past e); act = answers.act o past e }
+reply_to o past _ = record { answer = Plain; act = acts.None }
 
 -- The entry that is added where all goes well.
-abbrev pub added : Opening → List FrameEntry → Ask Input → Option FrameEntry
-added o past (Meets e) = Some (answers.answered o past e)
-added o past Cuts = Some Cut
-added o past Restarts = Some (Restart Saved)
-added o past Nothing = None
+abbrev pub added_entry : Opening → List FrameEntry → Ask Input → Option FrameEntry
+added_entry o past (Meets e) = Some (answers.answered_entry o past e)
+added_entry o past Cuts = Some Cut
+added_entry o past Restarts = Some (Restart Saved)
+added_entry o past Nothing = None
 
 -- What is refused doesn't stand in the list, but for a piece whose tag is dropped, without a save.
-abbrev pub passed : List FrameEntry → Ask Input → Fault → List FrameEntry
-passed past (Meets e) fault = if is_drop fault then Met e NoSave ∷ past else past
-passed past _ fault = past
+abbrev pub entries_past_refusal : List FrameEntry → Ask Input → Fault → List FrameEntry
+entries_past_refusal past (Meets e) fault = if is_drop fault then Met e NoSave ∷ past else past
+entries_past_refusal past _ fault = past
 
 -- What a save left that failed.
 abbrev pub left_by : Bool → Left
@@ -94,21 +94,21 @@ left_by true = LostNew
 left_by false = LostOld
 
 -- The entry of a Start that was due, or of a restart, whose save failed.
-abbrev pub lost : Opening → List FrameEntry → Ask Input → Bool → Option FrameEntry
-lost o past (Meets e) landed = option_map (λ began. Met e (left_by landed)) (answers.due o past e)
-lost o past Restarts landed = Some (Restart (left_by landed))
-lost o past _ landed = None
+abbrev pub unsaved_entry : Opening → List FrameEntry → Ask Input → Bool → Option FrameEntry
+unsaved_entry o past (Meets e) landed = option_map (λ began. Met e (left_by landed)) (answers.due o past e)
+unsaved_entry o past Restarts landed = Some (Restart (left_by landed))
+unsaved_entry o past _ landed = None
 
 -- The rules of a server that opens by a restart.
 abbrev pub rules : Opening → Rules Input FrameEntry
 rules o = record {
   opened = Restart Saved ∷ [];
-  asked = asked;
+  asked = ask_of;
   refusal = refusal o;
   loads = loads o;
-  said = said o;
-  added = added o;
-  passed = passed;
-  lost = lost o;
+  said = reply_to o;
+  added = added_entry o;
+  passed = entries_past_refusal;
+  lost = unsaved_entry o;
   frames = answers.frames o;
 }

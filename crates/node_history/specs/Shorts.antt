@@ -21,8 +21,8 @@ abbrev pub turn_entry : Turn → Came → Result Said Fault → Logged
 turn_entry by came answer = record { by = Some by; came = came; answer = answer; sent = [] }
 
 -- It was answered so, without an act.
-abbrev pub answered : Answer → Result Said Fault
-answered answer = Ok (record { answer = answer; act = acts.None })
+abbrev pub reply_of : Answer → Result Said Fault
+reply_of answer = Ok (record { answer = answer; act = acts.None })
 
 -- Whose turn it was.
 abbrev pub turn_of : Short → Turn
@@ -56,4 +56,4 @@ answer_by deeds.Failed ticket = Plain
 
 -- The entry that a short one stands for.
 abbrev pub entry_of : Short → Logged
-entry_of s = turn_entry (turn_of s) (came_by s.deed (ticket_of s)) (answered (answer_by s.deed (ticket_of s)))
+entry_of s = turn_entry (turn_of s) (came_by s.deed (ticket_of s)) (reply_of (answer_by s.deed (ticket_of s)))

@@ -29,7 +29,7 @@ pub struct Said {
 /// What a caller is told: the answer, how many frames were sent, which the hub numbers from `first` on,
 /// and what a server asks of it. Both numbers are 0 for what sends nothing over a hub.
 #[derive(Clone, Copy, Debug, PartialEq, Eq)]
-pub struct Told {
+pub struct CallerAnswer {
     pub answer: Answer,
     pub first: u64,
     pub sent: u64,
@@ -37,13 +37,13 @@ pub struct Told {
 }
 
 impl Said {
-    ghost use Rattle.node_history.specs.Moves.{plain};
+    ghost use Rattle.node_history.specs.Moves.{plain_reply};
     ghost use Rattle.node_history.specs.ServerRules.{answer_of};
 
     /// Nothing but that it was done.
     #[inline(always)]
     pub fn plain() -> Said
-        ensures { result ≡ plain }
+        ensures { result ≡ plain_reply }
     {
         Said {
             answer: Answer::Plain,

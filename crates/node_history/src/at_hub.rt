@@ -3,7 +3,7 @@
 ghost use Rattle.std.specs.Prelude.{◌≡◌, ◌≤◌, ◌∷◌, [], IfOk, Err};
 ghost use Rattle.node_history.specs.AtHub.{is_left_out, is_save, is_drop, is_frame, is_quiet, lacks_memory, told_at, Comes};
 
-use crate::answer::{Said, Told};
+use crate::answer::{CallerAnswer, Said};
 use crate::came::{Came, FrameBytes};
 use crate::logged::Logged;
 use fc_base::{Fault, FaultSort};
@@ -89,11 +89,11 @@ pub fn lacks_memory(answer: &Result<Said, Fault>) -> bool
 
 /// What is told of an answer, with so many frames behind so many.
 #[inline(always)]
-pub fn told_at(first: u64, sent: u64, answer: &Result<Said, Fault>) -> Result<Told, Fault>
+pub fn told_at(first: u64, sent: u64, answer: &Result<Said, Fault>) -> Result<CallerAnswer, Fault>
     ensures { result ≡ told_at first sent answer.now }
 {
     match answer {
-        Ok(said) => Ok(Told {
+        Ok(said) => Ok(CallerAnswer {
             answer: said.answer,
             first,
             sent,

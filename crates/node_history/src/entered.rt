@@ -5,7 +5,7 @@ ghost use Rattle.std.specs.Option.{ForSome};
 ghost use Rattle.hub.specs.Network.{HasRoom, IsSpelled};
 ghost use Rattle.node_history.specs.AtHub.{is_left_out, told_at, Hears};
 
-use crate::answer::{Said, Told};
+use crate::answer::{CallerAnswer, Said};
 use crate::at_hub::{is_left_out, told_at};
 use crate::came::Came;
 use crate::history::History;
@@ -41,13 +41,16 @@ pub fn enter(
     came: Came,
     taken: Option<u64>,
     outcome: (Result<Said, Fault>, Frames),
-) -> Result<Told, Fault>
+) -> Result<CallerAnswer, Fault>
     requires place { 1 ≤ history.old.room }
-    requires room { HasRoom hub.old.room (length outcome.1) (sum_by (λ frame. length frame) outcome.1) }
+    requires room { HasRoom hub.old.room (length outcome.1)
+        (sum_by (λ frame. length frame) outcome.1) }
     requires taken { ForSome taken (λ i. i < length hub.old.net.frames) }
     requires spelled { All IsSpelled outcome.1 }
     ensures told { result ≡ told_at (length hub.old.net.frames) (length outcome.1) outcome.0 }
-    ensures heard { Hears (is_left_out outcome.0) node came taken outcome.0 outcome.1 hub.old.net hub.new.net (reverse history.old.items) (reverse history.new.items) }
+    ensures heard { Hears
+        (is_left_out outcome.0) node came taken outcome.0 outcome.1 hub.old.net hub.new.net
+        (reverse history.old.items) (reverse history.new.items) }
 {
     let (answer, sent) = outcome;
     if is_left_out(&answer) {

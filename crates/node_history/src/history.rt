@@ -4,7 +4,7 @@ ghost use Rattle.std.specs.Prelude.{◌≡◌, ◌≤◌, ◌<◌, ◌^◌, ◌�
 ghost use Rattle.std.specs.Option.{ForSome};
 ghost use Rattle.node_history.specs.declared.came.Came.TheVariants as came;
 ghost use Rattle.node_history.specs.AtHub.{is_quiet};
-ghost use Rattle.node_history.specs.Histories.{lent};
+ghost use Rattle.node_history.specs.Histories.{lent_entry};
 ghost use Rattle.node_history.specs.Shorts.{entry_of, turn_entry};
 
 use crate::answer::{Answer, Said};
@@ -72,7 +72,7 @@ pub enum Lent<'a> {
 impl<'a> Lent<'a> {
     /// The entry.
     pub fn as_logged(&self) -> &Logged
-        ensures { result.now ≡ lent self.now }
+        ensures { result.now ≡ lent_entry self.now }
     {
         match self {
             Lent::Made(entry) => entry,
@@ -103,7 +103,7 @@ impl History {
     /// The entry at this place, from 0 on, in constant time; `None` where there are no more.
     pub fn get(&self, at: usize) -> Option<Lent<'_>>
         ensures { MatchOption result (length self.now.items ≤ at)
-            (λ entry. slice_get self.now.items at ≡ Some (lent entry)) }
+            (λ entry. slice_get self.now.items at ≡ Some (lent_entry entry)) }
     {
         if at < self.rows.len() {
             Some(self.at(at))
@@ -115,7 +115,7 @@ impl History {
     /// The entry at this place, from 0 on, in constant time.
     pub fn at(&self, at: usize) -> Lent<'_>
         requires { at < length self.now.items }
-        ensures { slice_get self.now.items at ≡ Some (lent result) }
+        ensures { slice_get self.now.items at ≡ Some (lent_entry result) }
     {
         match &self.rows.as_slice()[at] {
             Row::Short(short) => Lent::Made(short.logged(self.alloc)),
@@ -176,7 +176,8 @@ impl History {
     pub fn push_issue(&mut self, by: Turn, job: JobNo, answer: &Result<Said, Fault>)
         requires { 1 ≤ self.old.room }
         ensures few { length self.new.items < 2 ^ 64 }
-        ensures items { self.new.items ≡ self.old.items ++ turn_entry by (came.Issue job) answer.now ∷ [] }
+        ensures items { self.new.items
+            ≡ self.old.items ++ turn_entry by (came.Issue job) answer.now ∷ [] }
     {
         match short_issue(by, job, answer) {
             Some(short) => self.rows.push_reserved(Row::Short(short)),
@@ -195,7 +196,8 @@ impl History {
     )
         requires { 1 ≤ self.old.room }
         ensures few { length self.new.items < 2 ^ 64 }
-        ensures items { self.new.items ≡ self.old.items ++ turn_entry by (came.WriteDone ticket.now end) answer.now ∷ [] }
+        ensures items { self.new.items
+            ≡ self.old.items ++ turn_entry by (came.WriteDone ticket.now end) answer.now ∷ [] }
     {
         match short_end(by, ticket, end, answer) {
             Some(short) => self.rows.push_reserved(Row::Short(short)),
@@ -228,7 +230,8 @@ fn short_end(
     end: WriteEnd,
     answer: &Result<Said, Fault>,
 ) -> Option<Short>
-    ensures { IfSome result (λ short. entry_of short ≡ turn_entry by (came.WriteDone ticket.now end) answer.now) }
+    ensures { IfSome result
+        (λ short. entry_of short ≡ turn_entry by (came.WriteDone ticket.now end) answer.now) }
 {
     match answer {
         Ok(

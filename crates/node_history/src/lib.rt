@@ -26,7 +26,7 @@ mod power;
 mod server;
 mod short;
 
-pub use answer::{Answer, Said, Told};
+pub use answer::{Answer, CallerAnswer, Said};
 pub use at_hub::{frame_came, is_left_out, lacks_memory, told_at};
 pub use came::{Came, FrameBytes};
 pub use entered::{enter, make_room};

@@ -7,7 +7,7 @@ ghost use Rattle.node_history.specs.Calls.{Replays, Delivers, IsWhyNot, HasWhy, 
 ghost use Rattle.node_history.specs.Failures.{Counts};
 ghost use Rattle.node_history.specs.Rules.{Ask, Rules};
 
-use crate::answer::Told;
+use crate::answer::CallerAnswer;
 use crate::history::History;
 use fc_base::Fault;
 use hub::Hub;
@@ -61,21 +61,27 @@ pub trait Node {
     /// a save fails, or a piece completes a body that isn't the packet of its tag, that is entered in the
     /// history and in the hub's journal, as what is answered is; any other refusal, and `NoMemory`,
     /// changes nothing.
-    fn deliver(&mut self, hub: &mut Hub, position: u64) -> Result<Told, Fault>
+    fn deliver(&mut self, hub: &mut Hub, position: u64) -> Result<CallerAnswer, Fault>
         ensures opening { opening self.new ≡ opening self.old }
         ensures failures { Counts false (failures self.old) (failures self.new) result }
-        ensures ends { Delivers (name (opening self.old)) position (slice_get hub.old.net.frames position) hub.old.net hub.new.net (log self.old) (log self.new) result }
-        ensures why { IfErr result (IsWhyNot (rules (opening self.old)) (log self.old) (slice_get hub.old.net.frames position)) }
+        ensures ends { Delivers (name (opening self.old)) position
+            (slice_get hub.old.net.frames position) hub.old.net hub.new.net (log self.old)
+            (log self.new) result }
+        ensures why { IfErr result
+            (IsWhyNot (rules (opening self.old)) (log self.old)
+            (slice_get hub.old.net.frames position)) }
         ensures replay { Replays (rules (opening self.new)) (log self.new) };
 
     /// Has the node do this, whose frames go to the hub.
     ///
     /// `NodeOff`, it isn't on; the node's own. A save that fails is entered in the history, as what is
     /// answered is; any other refusal, and `NoMemory`, changes nothing.
-    fn post(&mut self, hub: &mut Hub, command: Self::Command) -> Result<Told, Fault>
+    fn post(&mut self, hub: &mut Hub, command: Self::Command) -> Result<CallerAnswer, Fault>
         ensures opening { opening self.new ≡ opening self.old }
         ensures failures { Counts false (failures self.old) (failures self.new) result }
-        ensures ends { Commands (rules (opening self.old)) (asks command) (name (opening self.old)) hub.old.net hub.new.net (log self.old) (log self.new) result }
-        ensures why { IfErr result (HasWhy (rules (opening self.old)) (log self.old) (asks command)) }
+        ensures ends { Commands (rules (opening self.old)) (asks command)
+            (name (opening self.old)) hub.old.net hub.new.net (log self.old) (log self.new) result }
+        ensures why { IfErr result
+            (HasWhy (rules (opening self.old)) (log self.old) (asks command)) }
         ensures replay { Replays (rules (opening self.new)) (log self.new) };
 }

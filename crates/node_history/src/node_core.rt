@@ -40,19 +40,23 @@ pub trait NodeCore<N>: Drop {
 
     /// Whether it is on.
     fn is_up(&self) -> bool
-        ensures { (o : Opening) (past : List Past) → (kind o).StandsFor past self.now → result ≡ (kind o).is_up past };
+        ensures { (o : Opening) (past : List Past) → (kind o).StandsFor past self.now →
+            result ≡ (kind o).is_up past };
 
     /// Its notes, where it is taken off.
     fn into_notes(self) -> N
         ensures count { notes_failures result ≡ failures self }
-        ensures says { (o : Opening) (past : List Past) → (kind o).StandsFor past self → (kind o).Says past result };
+        ensures says { (o : Opening) (past : List Past) → (kind o).StandsFor past self →
+            (kind o).Says past result };
 
     /// Starts a core over these notes, or gives them back.
     fn start(alloc: Global, seed: Self::Seed, notes: N) -> Result<Self, (N, Fault)>
         requires { IsSeed seed }
-        ensures ends { (o : Opening) (past : List Past) → IsOf seed o → (kind o).is_up past ≡ false → (kind o).Says past notes →
+        ensures ends { (o : Opening) (past : List Past) → IsOf seed o →
+            (kind o).is_up past ≡ false → (kind o).Says past notes →
             TaskEnds (ways (kind o)) past Restarts (left_by result) (told_of result) }
-        ensures count { Counts true (notes_failures notes) (failures_of failures notes_failures (left_by result)) (told_of result) };
+        ensures count { Counts true (notes_failures notes)
+            (failures_of failures notes_failures (left_by result)) (told_of result) };
 
     /// It is cut and started as any node.
     ghost has_power: { (o : Opening) (past : List Past) → HasPower (kind o) past };

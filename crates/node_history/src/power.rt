@@ -39,7 +39,8 @@ impl<N: Drop, C: NodeCore<N>> Power<C, N> {
         ensures ends { (o : C.Opening) (past : List C.Past) → Stands (C.kind o) past self.old →
             TaskEnds (ways (C.kind o)) past Cuts self.new result }
         ensures count { (o : C.Opening) (past : List C.Past) → Stands (C.kind o) past self.old →
-            Counts false (failures_of C.failures C.notes_failures self.old) (failures_of C.failures C.notes_failures self.new) result }
+            Counts false (failures_of C.failures C.notes_failures self.old)
+            (failures_of C.failures C.notes_failures self.new) result }
     {
         if self.core().is_none() {
             return Err(Fault::NodeOff);
@@ -56,10 +57,13 @@ impl<N: Drop, C: NodeCore<N>> Power<C, N> {
     /// Starts again. `NodeOn`: it is on, and nothing changes. Any other fault is the core's.
     pub fn restart(&mut self, alloc: Global, seed: C::Seed) -> Result<Said, Fault>
         requires { C.IsSeed seed }
-        ensures ends { (o : C.Opening) (past : List C.Past) → C.IsOf seed o → Stands (C.kind o) past self.old →
+        ensures ends { (o : C.Opening) (past : List C.Past) → C.IsOf seed o →
+            Stands (C.kind o) past self.old →
             TaskEnds (ways (C.kind o)) past Restarts self.new result }
-        ensures count { (o : C.Opening) (past : List C.Past) → C.IsOf seed o → Stands (C.kind o) past self.old →
-            Counts true (failures_of C.failures C.notes_failures self.old) (failures_of C.failures C.notes_failures self.new) result }
+        ensures count { (o : C.Opening) (past : List C.Past) → C.IsOf seed o →
+            Stands (C.kind o) past self.old →
+            Counts true (failures_of C.failures C.notes_failures self.old)
+            (failures_of C.failures C.notes_failures self.new) result }
     {
         if !self.core().is_none() {
             return Err(Fault::NodeOn);
@@ -73,9 +77,11 @@ impl<N: Drop, C: NodeCore<N>> Power<C, N> {
     /// Starts a core over these notes.
     fn start(&mut self, alloc: Global, seed: C::Seed, notes: N) -> Result<Said, Fault>
         requires { C.IsSeed seed }
-        ensures ends { (o : C.Opening) (past : List C.Past) → C.IsOf seed o → (C.kind o).is_up past ≡ false →
+        ensures ends { (o : C.Opening) (past : List C.Past) → C.IsOf seed o →
+            (C.kind o).is_up past ≡ false →
             (C.kind o).Says past notes → TaskEnds (ways (C.kind o)) past Restarts self.new result }
-        ensures count { Counts true (C.notes_failures notes) (failures_of C.failures C.notes_failures self.new) result }
+        ensures count { Counts true (C.notes_failures notes)
+            (failures_of C.failures C.notes_failures self.new) result }
     {
         match C::start(alloc, seed, notes) {
             Ok(core) => {
@@ -91,10 +97,12 @@ impl<N: Drop, C: NodeCore<N>> Power<C, N> {
 
     /// Its notes, which are lent until they are put back; `None` where they are lent already.
     fn lend(&mut self) -> Option<N>
-        ensures count { IfSome result (λ notes. C.notes_failures notes ≡ failures_of C.failures C.notes_failures self.old) }
+        ensures count { IfSome result
+            (λ notes. C.notes_failures notes ≡ failures_of C.failures C.notes_failures self.old) }
         ensures some { (o : C.Opening) (past : List C.Past) → Stands (C.kind o) past self.old →
             IfSome result (λ notes. (C.kind o).Says past notes) }
-        ensures none { (o : C.Opening) (past : List C.Past) → Stands (C.kind o) past self.old → IfNone result ⊥ }
+        ensures none { (o : C.Opening) (past : List C.Past) → Stands (C.kind o) past self.old →
+            IfNone result ⊥ }
     {
         match mem::replace(self, Power::Lent) {
             Power::On(core) => Some(core.into_notes()),

@@ -3,7 +3,7 @@
 ghost use Rattle.std.specs.Prelude.{◌≡◌, IfSome};
 ghost use Rattle.node_history.specs.declared.answer.Answer.TheVariants.{Plain, Issued};
 ghost use Rattle.node_history.specs.declared.came.Came.TheVariants as came;
-ghost use Rattle.node_history.specs.Shorts.{entry_of, turn_entry, answered, turn_of, ticket_of, came_by, answer_by};
+ghost use Rattle.node_history.specs.Shorts.{entry_of, turn_entry, reply_of, turn_of, ticket_of, came_by, answer_by};
 
 use crate::answer::{Answer, Said};
 use crate::came::Came;
@@ -50,7 +50,8 @@ impl Short {
     /// The entry of a request for a write of a job; `None` where a number of it is too large.
     #[inline(always)]
     pub(crate) fn of_issue(by: Turn, job: JobNo, issue: Issue) -> Option<Short>
-        ensures { IfSome result (λ short. entry_of short ≡ turn_entry by (came.Issue job) (answered (Issued issue))) }
+        ensures { IfSome result
+            (λ short. entry_of short ≡ turn_entry by (came.Issue job) (reply_of (Issued issue))) }
     {
         match issue {
             Issue::Write(ticket) => {
@@ -71,7 +72,9 @@ impl Short {
     /// The entry of the end of a write; `None` where a number of it is too large.
     #[inline(always)]
     pub(crate) fn of_end(by: Turn, ticket: &Ticket, end: WriteEnd) -> Option<Short>
-        ensures { IfSome result (λ short. entry_of short ≡ turn_entry by (came.WriteDone ticket.now end) (answered Plain)) }
+        ensures { IfSome result
+            (λ short. entry_of short
+            ≡ turn_entry by (came.WriteDone ticket.now end) (reply_of Plain)) }
     {
         match end {
             WriteEnd::Done => Short::new(Deed::Done, by, ticket),

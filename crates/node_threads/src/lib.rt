@@ -7,7 +7,7 @@
 //! let mut hub = Hub::new(alloc);
 //! let mut client = ClientCell::new(alloc, 1, notes)?;
 //! let (mut server, mut seats) = ServerCell::new(alloc, ServerNo(0), notes, workers)?;
-//! let told = post(&mut hub, &mut client, ClientCommand::Request(Request::Begin(text)))?;
+//! let told = post(&mut hub, &mut client, ClientCommand::Request(ClientRequest::Begin(text)))?;
 //! if let Some(position) = pick(&hub, server.number(), word) {
 //!     deliver(&mut hub, &mut server, position)?;
 //! }
@@ -22,10 +22,12 @@ mod calls;
 
 pub use assembly::{AssembleFault, Assembled, Place, assemble};
 pub use calls::{deliver, pick, post};
-pub use client_cell::{ClientCell, Command as ClientCommand, Request, Task as ClientTask};
-pub use fleet::{End, FleetFault, Left, Trigger, run_and_leave, run_fleet, run_post};
+pub use client_cell::{ClientCell, ClientCommand, ClientRequest, ClientTask};
+pub use fleet::{CheckEnd, FleetFault, FleetLeft, Trigger, run_and_leave, run_fleet, run_post};
 pub use hub::{Hub, Line};
-pub use node_history::{Answer, Came, FrameBytes, History, Lent, Logged, Node, Said, Told, Turn};
-pub use parallel_checks::{Task as CheckTask, check_jobs};
+pub use node_history::{
+    Answer, CallerAnswer, Came, FrameBytes, History, Lent, Logged, Node, Said, Turn,
+};
+pub use parallel_checks::{CheckTask, check_jobs};
 pub use server_cell::{Report, Seat, ServerCell, Task as ServerTask};
 pub use workers::{Gate, OpenGate, TURNS, run_worker};

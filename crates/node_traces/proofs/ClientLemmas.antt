@@ -20,7 +20,7 @@ use Rattle.messages.specs.declared.packet.PacketParts.{PacketParts}
 use Rattle.messages.specs.declared.piece.PieceParts.{PieceParts}
 use Rattle.messages.specs.FrameBytes.{frame_at, frame_spelling}
 use Rattle.messages.specs.Hearing.{Meaning, Says, Waits, Spoils, Strays, meaning, heard_by, said_by}
-use Rattle.messages.specs.Assemblies.{look}
+use Rattle.messages.specs.Assemblies.{look_at_piece}
 use Rattle.messages.specs.Kinds.{is_of_server}
 use Rattle.messages.specs.Nodes.{is_client}
 use Rattle.messages.specs.Pieces.{frames_of}
@@ -36,8 +36,8 @@ use Rattle.client_core.specs.Refusals.{is_for_client, is_from_server, is_from_mi
 use Rattle.client_core.specs.declared.peers.Peers.{Peers}
 use Rattle.client_core.specs.Saves.{Addition, is_answer}
 use Rattle.client_core.specs.Words as words
-use Rattle.client_core.specs.Words.{is_on, noted}
-use Rattle.client_core.specs.Hearing.{FrameEntry, Met, Cut, Restart, Renew, Lose, coming, heard_at, packets_heard, rules as hearing}
+use Rattle.client_core.specs.Words.{is_on, words_noted}
+use Rattle.client_core.specs.Hearing.{FrameEntry, Met, Cut, Restart, Renew, Lose, coming_of, heard_at, packets_heard, rules as hearing}
 use Rattle.client_core.specs.FrameAnswers as answers
 use Rattle.node_history.specs.declared.answer.Said.{Said}
 use Rattle.node_history.specs.declared.came.Came.{Came}
@@ -46,7 +46,7 @@ use Rattle.node_history.specs.AtHub.{is_drop, is_left_out, is_save}
 use Rattle.node_history.specs.Replay.{Ends, Passes, Stops}
 use Rattle.node_history.specs.Rules.{Ask, Meets, Cuts, Restarts, Nothing}
 use Rattle.node_history.specs.ServerRules.{left_by}
-use Rattle.node_history.specs.ClientRules.{rules, asked, added, delivered, is_up, lost, passed, refusal}
+use Rattle.node_history.specs.ClientRules.{rules, ask_of, added_entry, ask_of_frame, is_up, unsaved_entry, entries_past_refusal, refusal}
 use Rattle.net_world.specs.Setup.{without_mirror}
 use Rattle.net_world.specs.Frames.{FrameStep, OfClient, MayHappen, is_allowed, to_of}
 use Rattle.node_traces.specs.Marks.{frame_of}
@@ -83,9 +83,9 @@ piece_to o past q false a b m h = absurd (strays (is_on past) h)
 
 to_me : (o : Opening) (past : List FrameEntry) (f : Frame) → MayPass (answers.refusal o past (inputs.Deliver f)) → to_of f ≡ Client
 to_me o past (Whole p) h =
-    to_client p.to (for_client (words.peers o (packets_heard o past)) p (whole_to (is_on (packets_heard o past)) (is_for_client (words.peers o (packets_heard o past)) p) (faults_of_body (noted o (packets_heard o past)) p.body) h))
+    to_client p.to (for_client (words.peers o (packets_heard o past)) p (whole_to (is_on (packets_heard o past)) (is_for_client (words.peers o (packets_heard o past)) p) (faults_of_body (words_noted o (packets_heard o past)) p.body) h))
 to_me o past (Piece q) h =
-    to_client q.to (piece_to o (packets_heard o past) q (is_on (packets_heard o past)) (is_client q.to) (is_server_of o.servers q.from && is_of_server q.tag.whole) (said_by (look (heard_at o past).rows q)) h)
+    to_client q.to (piece_to o (packets_heard o past) q (is_on (packets_heard o past)) (is_client q.to) (is_server_of o.servers q.from && is_of_server q.tag.whole) (said_by (look_at_piece (heard_at o past).rows q)) h)
 
 -- ---- what is refused, or whose save failed, sends nothing
 
@@ -111,7 +111,7 @@ unanswered None y left (inr h) = cc
 
 call_quiet : (o : Opening) (list : List history.Entry) (c : Call) (left : Left) → Quiet (is_lost left) (words.refusal o list c) → answers.frames_by o list (Some (history.Met c left)) ≡ []
 call_quiet o list c left h =
-    ap (λ b. flat_map frames_of (if b then packets_for (words.peers o list) (noted o list) (life o list) c else [])) (unanswered (words.refusal o list c) (words.due o list c) left h)
+    ap (λ b. flat_map frames_of (if b then packets_for (words.peers o list) (words_noted o list) (life o list) c else [])) (unanswered (words.refusal o list c) (words.due o list c) left h)
 
 piece_quiet : (o : Opening) (list : List history.Entry) (q : PieceParts) (left : Left) (m : Meaning) → Quiet (is_lost left) (answers.refusal_in o list (answers.sense_of q m)) → answers.frames_by o list (heard_by (hearing o) left m) ≡ []
 piece_quiet o list q left (Says p) h = call_quiet o list (calls.Deliver p) left h
@@ -167,10 +167,10 @@ as_core false x h = absurd (no_pass NodeOff refl h)
 some_is : (x y : FrameEntry) → Some x ≡ Some y → x ≡ y
 some_is x y h = cc
 
-accepted : (o : Opening) (past : List FrameEntry) (ask : Ask Input) (entry : FrameEntry) → refusal o past ask ≡ None → added o past ask ≡ Some entry → IsAsked ask entry
+accepted : (o : Opening) (past : List FrameEntry) (ask : Ask Input) (entry : FrameEntry) → refusal o past ask ≡ None → added_entry o past ask ≡ Some entry → IsAsked ask entry
 unfolding IsAsked
 accepted o past (Meets e) entry free is =
-    subst (IsAsked (Meets e)) (some_is (answers.answered o past e) entry is) (met_asked o past e _ (as_core (is_up o past) (answers.refusal o past e) (inl free)))
+    subst (IsAsked (Meets e)) (some_is (answers.answered_entry o past e) entry is) (met_asked o past e _ (as_core (is_up o past) (answers.refusal o past e) (inl free)))
 accepted o past Cuts entry free is = subst (IsAsked Cuts) (some_is Cut entry is) tt
 accepted o past Restarts entry free is = subst (IsAsked Restarts) (some_is (Restart false) entry is) refl
 accepted o past Nothing entry free is = cc
@@ -191,7 +191,7 @@ lost_met o past e landed entry (Some addition) h is =
     subst (IsLost o past (Meets e)) (some_is (Met e (left_by landed)) entry is)
     (record { silent = quiet o past e (left_by landed) (inl (lost_of landed)); is_asked = met_asked o past e (left_by landed) h })
 
-lost_save : (o : Opening) (past : List FrameEntry) (ask : Ask Input) (landed : Bool) (entry : FrameEntry) → refusal o past ask ≡ None → lost o past ask landed ≡ Some entry → IsLost o past ask entry
+lost_save : (o : Opening) (past : List FrameEntry) (ask : Ask Input) (landed : Bool) (entry : FrameEntry) → refusal o past ask ≡ None → unsaved_entry o past ask landed ≡ Some entry → IsLost o past ask entry
 lost_save o past (Meets e) landed entry free is = lost_met o past e landed entry (answers.due o past e) (as_core (is_up o past) (answers.refusal o past e) (inl free)) is
 lost_save o past Restarts landed entry free is = cc
 lost_save o past Cuts landed entry free is = cc
@@ -228,7 +228,7 @@ drops o past Nothing fault sent after d p = absurd (no_power None false fault d 
 
 -- ---- each event
 
-passed_none : (past : List FrameEntry) (ask : Ask Input) (fault : Fault) → is_drop fault ≡ false → passed past ask fault ≡ past
+passed_none : (past : List FrameEntry) (ask : Ask Input) (fault : Fault) → is_drop fault ≡ false → entries_past_refusal past ask fault ≡ past
 passed_none past (Meets e) fault h = ap (λ b. if b then Met e lefts.NoSave ∷ past else past) h
 passed_none past Cuts fault h = refl
 passed_none past Restarts fault h = refl
@@ -265,12 +265,12 @@ IsOf frames Cuts = Unit {0}
 IsOf frames Restarts = Unit {0}
 IsOf frames Nothing = Unit {0}
 
-asked_frame : (frames : List Frame) (x : Option Frame) → ((f : Frame) → x ≡ Some f → Contains frames f) → IsOf frames (delivered x)
+asked_frame : (frames : List Frame) (x : Option Frame) → ((f : Frame) → x ≡ Some f → Contains frames f) → IsOf frames (ask_of_frame x)
 unfolding IsOf
 asked_frame frames None h = tt
 asked_frame frames (Some f) h = h f refl
 
-asked_of : (frames : List Frame) (c : Came) → CameOf frames (frame_of c) → IsOf frames (asked c)
+asked_of : (frames : List Frame) (c : Came) → CameOf frames (frame_of c) → IsOf frames (ask_of c)
 unfolding IsOf
 asked_of frames (came.Frame bytes) h = asked_frame frames (frame_at bytes) h
 asked_of frames (came.Issue j) h = tt
@@ -284,7 +284,7 @@ asked_of frames came.Tick h = tt
 asked_of frames came.Cut h = tt
 asked_of frames came.Restart h = tt
 
-happens : (frames : List Frame) (ask : Ask Input) (e : FrameEntry) → IsOf frames ask → IsAsked ask e → MayHappen frames (OfClient (coming e))
+happens : (frames : List Frame) (ask : Ask Input) (e : FrameEntry) → IsOf frames ask → IsAsked ask e → MayHappen frames (OfClient (coming_of e))
 unfolding IsOf IsAsked
 happens frames ask (Met (inputs.Deliver f) left) h k = (subst (IsOf frames) k.0 h, k.1)
 happens frames ask (Met (inputs.Begin text) left) h k = refl
@@ -298,10 +298,10 @@ happens frames ask (Renew g left) h k = absurd k
 happens frames ask Lose h k = absurd k
 
 -- It may happen behind these frames.
-pub client_happens : (frames : List Frame) (c : Came) (e : FrameEntry) → CameOf frames (frame_of c) → IsAsked (asked c) e → MayHappen frames (OfClient (coming e))
-client_happens frames c e h k = happens frames (asked c) e (asked_of frames c h) k
+pub client_happens : (frames : List Frame) (c : Came) (e : FrameEntry) → CameOf frames (frame_of c) → IsAsked (ask_of c) e → MayHappen frames (OfClient (coming_of e))
+client_happens frames c e h k = happens frames (ask_of c) e (asked_of frames c h) k
 
-allowed : (n : ℕ) (t : List FrameStep) (ask : Ask Input) (e : FrameEntry) → IsAsked ask e → is_allowed (without_mirror n) t (OfClient (coming e)) ≡ true
+allowed : (n : ℕ) (t : List FrameStep) (ask : Ask Input) (e : FrameEntry) → IsAsked ask e → is_allowed (without_mirror n) t (OfClient (coming_of e)) ≡ true
 unfolding IsAsked
 allowed n t ask (Met (inputs.Deliver f) left) k = refl
 allowed n t ask (Met (inputs.Begin text) left) k = refl
@@ -315,5 +315,5 @@ allowed n t ask (Renew g left) k = absurd k
 allowed n t ask Lose k = absurd k
 
 -- It is one without a mirror.
-pub client_allowed : (n : ℕ) (t : List FrameStep) (c : Came) (e : FrameEntry) → IsAsked (asked c) e → is_allowed (without_mirror n) t (OfClient (coming e)) ≡ true
-client_allowed n t c e k = allowed n t (asked c) e k
+pub client_allowed : (n : ℕ) (t : List FrameStep) (c : Came) (e : FrameEntry) → IsAsked (ask_of c) e → is_allowed (without_mirror n) t (OfClient (coming_of e)) ≡ true
+client_allowed n t c e k = allowed n t (ask_of c) e k

@@ -9,7 +9,7 @@ use Rattle.server_core.specs.Taken.{takings}
 use Rattle.server_core.specs.Check.{With, progress}
 use Rattle.verify_state.specs.State.{State}
 use Rattle.client_core.specs.History as client
-use Rattle.client_core.specs.Words.{kept}
+use Rattle.client_core.specs.Words.{kept_state}
 use Rattle.net_world.specs.Setup.{without_mirror}
 use Rattle.net_world.specs.Trace.{Step, AtServer, AtClient, AtMirror, IsTrace, of_server, opening_of, client_opening}
 use Rattle.net_world.specs.Frames.{at_server, at_client, trace_heard}
@@ -89,7 +89,7 @@ hold_one_state laws are n frames servers list trace is =
     let t = trace_heard (without_mirror n) trace in
     record {
       once = λ key. subst (λ (past : List server.Entry). length (takings (opening_of key.server) key.run key.job past) ≤ 1) (heard.servers_are key.server) (laws.once (without_mirror n) t key);
-      keeps = λ key state h. ByClient (subst (λ (past : List client.Entry). kept (client_opening (without_mirror n)) past key ≡ Some state) (sym heard.client_is) h);
+      keeps = λ key state h. ByClient (subst (λ (past : List client.Entry). kept_state (client_opening (without_mirror n)) past key ≡ Some state) (sym heard.client_is) h);
       held = λ key state h. subst (λ (past : List server.Entry). takings (opening_of key.server) key.run key.job past ≡ state ∷ []) (heard.servers_are key.server) (laws.held (without_mirror n) t heard.legal key state h);
       counted = λ key state h. subst (λ (past : List server.Entry). IsTaking (opening_of key.server) key.run key.job past state) (heard.servers_are key.server) (laws.counted (without_mirror n) t heard.legal key state h);
       quiet = λ s j state later past split h.

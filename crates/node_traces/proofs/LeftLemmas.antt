@@ -11,7 +11,7 @@ use Rattle.node_traces.specs.declared.place.Place.{Place}
 use Rattle.hub.specs.Journal.{count_sent}
 use Rattle.node_traces.specs.Marks.{Mark, mark_of_line, marks_in, marks_of}
 use Rattle.node_traces.specs.Lists.{EndAt}
-use Rattle.node_traces.specs.Orders.{IsWithin, place_of, places_of, standing}
+use Rattle.node_traces.specs.Orders.{IsWithin, place_of, places_of, standing_places}
 use Rattle.node_traces.proofs.PlaceLemmas.{IsIn, Falls, in_falls, own_places, other_places, same_node, standing_falls}
 use Rattle.node_traces.proofs.MergedLemmas.{below_or_not, marked_at, marks_fall}
 use Rattle.node_traces.proofs.NodeLemmas.{IsBelow, with_history}
@@ -19,13 +19,13 @@ use Rattle.node_traces.proofs.NodeLemmas.{IsBelow, with_history}
 -- ---- the histories
 
 -- A node with an event is one of those that ran.
-none_stands : (h : List Logged) (at : ℕ) (rest : List ℕ) → h ≡ [] → standing h ≡ at ∷ rest → ⊥
-none_stands h at rest e is = never (sym (ap standing e) ∙ is)
+none_stands : (h : List Logged) (at : ℕ) (rest : List ℕ) → h ≡ [] → standing_places h ≡ at ∷ rest → ⊥
+none_stands h at rest e is = never (sym (ap standing_places e) ∙ is)
   where
     never : [] ≡ at ∷ rest → ⊥
     never h = cc
 
-pub node_below : (n : ℕ) (ran : Node → List Logged) (node : Node) (at : ℕ) (rest : List ℕ) → EndAt n ran → standing (ran node) ≡ at ∷ rest → IsBelow n node
+pub node_below : (n : ℕ) (ran : Node → List Logged) (node : Node) (at : ℕ) (rest : List ℕ) → EndAt n ran → standing_places (ran node) ≡ at ∷ rest → IsBelow n node
 node_below n ran Client at rest ends is = tt
 node_below n ran Mirror at rest ends is = none_stands (ran Mirror) at rest ends.mirror is
 node_below n ran (Server s) at rest ends is = by_number (below_or_not s n)
@@ -51,11 +51,11 @@ ends_with n (Server r) h ran b ends = record {
     differ a b h = grind (arith, nat_tests, h)
 
 -- So the order without that event has the places of what is left.
-pub places_left : (p : Place) (order : List Place) (ran : Node → List Logged) (older : List Logged) → ((node : Node) → places_of node (p ∷ order) ≡ standing (ran node)) → standing older ≡ places_of p.node order → (node : Node) → places_of node order ≡ standing (with_history p.node older ran node)
+pub places_left : (p : Place) (order : List Place) (ran : Node → List Logged) (older : List Logged) → ((node : Node) → places_of node (p ∷ order) ≡ standing_places (ran node)) → standing_places older ≡ places_of p.node order → (node : Node) → places_of node order ≡ standing_places (with_history p.node older ran node)
 places_left p order ran older places rest node = by_test (is_same_node p.node node) refl
   where
-    by_test : (b : Bool) → is_same_node p.node node ≡ b → places_of node order ≡ standing (if b then older else ran node)
-    by_test true e = subst (λ (m : Node). places_of m order ≡ standing older) (same_node p.node node e) (sym rest)
+    by_test : (b : Bool) → is_same_node p.node node ≡ b → places_of node order ≡ standing_places (if b then older else ran node)
+    by_test true e = subst (λ (m : Node). places_of m order ≡ standing_places older) (same_node p.node node e) (sym rest)
     by_test false e = sym (other_places p.node node (p.at ∷ []) order e) ∙ places node
 
 -- ---- which entry of the journal it is
@@ -109,9 +109,9 @@ older_place older at mark marks len is e =
     omega (arith, falls.0, len, e)
 
 -- A place that isn't left isn't that of a mark.
-pub place_left : (older : List Logged) (order : List Place) (node : Node) (at : ℕ) → length older ≡ at → standing older ≡ places_of node order → HasPlace order node at → ⊥
+pub place_left : (older : List Logged) (order : List Place) (node : Node) (at : ℕ) → length older ≡ at → standing_places older ≡ places_of node order → HasPlace order node at → ⊥
 place_left older order node at len rest h =
-    let less = in_falls (length older) at (standing older) (standing_falls older) (subst (λ (xs : List ℕ). IsIn xs at) (sym rest) (has_in order node at h)) in
+    let less = in_falls (length older) at (standing_places older) (standing_falls older) (subst (λ (xs : List ℕ). IsIn xs at) (sym rest) (has_in order node at h)) in
     omega (arith, less, len)
 
 -- ---- the marks of what is left

@@ -15,12 +15,12 @@ use Rattle.hub.specs.Waiting.{is_same_node}
 use Rattle.server_core.specs.History as server
 use Rattle.server_core.specs.Answers.{packets as server_packets}
 use Rattle.server_core.specs.declared.input.Input.{Input as ServerInput}
-use Rattle.server_core.specs.Hearing.{FrameEntry as ServerEntry, coming as server_coming}
+use Rattle.server_core.specs.Hearing.{FrameEntry as ServerEntry, coming_of as server_coming}
 use Rattle.server_core.specs.FrameAnswers as server_answers
 use Rattle.client_core.specs.History as client
 use Rattle.client_core.specs.Packets.{packets as client_packets}
 use Rattle.client_core.specs.declared.input.Input.{Input as ClientInput}
-use Rattle.client_core.specs.Hearing.{FrameEntry as ClientEntry, coming as client_coming}
+use Rattle.client_core.specs.Hearing.{FrameEntry as ClientEntry, coming_of as client_coming}
 use Rattle.client_core.specs.FrameAnswers as client_answers
 use Rattle.node_history.specs.declared.answer.Answer.TheVariants.{Plain}
 use Rattle.node_history.specs.declared.logged.Logged.{Logged}

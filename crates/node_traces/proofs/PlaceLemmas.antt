@@ -10,7 +10,7 @@ use Rattle.hub.specs.Waiting.{is_same_node}
 use Rattle.node_history.specs.declared.logged.Logged.{Logged}
 use Rattle.node_history.specs.AtHub.{is_left_out}
 use Rattle.node_traces.specs.declared.place.Place.{Place}
-use Rattle.node_traces.specs.Orders.{standing, places_of, IsWithin, place_of, next_place, between, up_to_last}
+use Rattle.node_traces.specs.Orders.{standing_places, places_of, IsWithin, place_of, next_place, places_between, up_to_last}
 
 -- ---- two nodes are one, or they aren't
 
@@ -168,7 +168,7 @@ next_le node (l ∷ older) top h = by_test (λ k. next_le node older top k) (is_
 -- What is asked of the journal: of each node its entries fall, and stand in its list.
 pub record AreNoted (ran : Node → List Logged) (journal : List Line) : Type 0 where
   pub falls : (node : Node) → (top : ℕ) × Falls top (noted_at node journal)
-  pub within : (node : Node) → IsWithin (noted_at node journal) (standing (ran node))
+  pub within : (node : Node) → IsWithin (noted_at node journal) (standing_places (ran node))
 
 older_noted : (ran : Node → List Logged) (l : Line) (older : List Line) → AreNoted ran (l ∷ older) → AreNoted ran older
 older_noted ran l older h = record {
@@ -180,14 +180,14 @@ older_noted ran l older h = record {
     fall node true f = (l.at, f.1.1)
     fall node false f = f
 
-    stand : (node : Node) (b : Bool) → IsWithin (if b then l.at ∷ noted_at node older else noted_at node older) (standing (ran node)) → IsWithin (noted_at node older) (standing (ran node))
-    stand node true w = within_rest l.at (noted_at node older) (standing (ran node)) w
+    stand : (node : Node) (b : Bool) → IsWithin (if b then l.at ∷ noted_at node older else noted_at node older) (standing_places (ran node)) → IsWithin (noted_at node older) (standing_places (ran node))
+    stand node true w = within_rest l.at (noted_at node older) (standing_places (ran node)) w
     stand node false w = w
 
 -- What is known of a journal's last entry.
 record IsLast (ran : Node → List Logged) (l : Line) (older : List Line) : Type 0 where
   behind : next_place l.node older ≤ l.at
-  there : IsIn (standing (ran l.node)) l.at
+  there : IsIn (standing_places (ran l.node)) l.at
 
 last_noted : (ran : Node → List Logged) (l : Line) (older : List Line) → AreNoted ran (l ∷ older) → IsLast ran l older
 last_noted ran l older h = record {
@@ -199,23 +199,23 @@ last_noted ran l older h = record {
     fall true e f = next_le l.node older l.at f.1.1
     fall false e f = cc
 
-    stand : (b : Bool) → b ≡ true → IsWithin (if b then l.at ∷ noted_at l.node older else noted_at l.node older) (standing (ran l.node)) → IsIn (standing (ran l.node)) l.at
-    stand true e w = within_in l.at (noted_at l.node older) (standing (ran l.node)) w
+    stand : (b : Bool) → b ≡ true → IsWithin (if b then l.at ∷ noted_at l.node older else noted_at l.node older) (standing_places (ran l.node)) → IsIn (standing_places (ran l.node)) l.at
+    stand true e w = within_in l.at (noted_at l.node older) (standing_places (ran l.node)) w
     stand false e w = cc
 
 -- The places that stand fall.
-pub standing_falls : (h : List Logged) → Falls (length h) (standing h)
+pub standing_falls : (h : List Logged) → Falls (length h) (standing_places h)
 standing_falls [] = tt
 standing_falls (l ∷ ls) = by_test (standing_falls ls) (is_left_out l.answer)
   where
-    by_test : Falls (length ls) (standing ls) → (b : Bool) → Falls (suc (length ls)) (if b then standing ls else length ls ∷ standing ls)
-    by_test later true = falls_wider (length ls) (suc (length ls)) (standing ls) (omega arith) later
+    by_test : Falls (length ls) (standing_places ls) → (b : Bool) → Falls (suc (length ls)) (if b then standing_places ls else length ls ∷ standing_places ls)
+    by_test later true = falls_wider (length ls) (suc (length ls)) (standing_places ls) (omega arith) later
     by_test later false = (omega arith, later)
 
 -- ---- up to the last entry
 
-pub up_to : (ran : Node → List Logged) (journal : List Line) → AreNoted ran journal → (node : Node) → places_of node (up_to_last ran journal) ≡ below (next_place node journal) (standing (ran node))
-up_to ran [] h node = sym (none_below (standing (ran node)))
+pub up_to : (ran : Node → List Logged) (journal : List Line) → AreNoted ran journal → (node : Node) → places_of node (up_to_last ran journal) ≡ below (next_place node journal) (standing_places (ran node))
+up_to ran [] h node = sym (none_below (standing_places (ran node)))
 up_to ran (l ∷ older) h node = by_test (up_to ran older (older_noted ran l older h) node) (is_same_node l.node node) refl
   where
     from : ℕ
@@ -224,14 +224,14 @@ up_to ran (l ∷ older) h node = by_test (up_to ran older (older_noted ran l old
     last : IsLast ran l older
     last = last_noted ran l older h
 
-    by_test : places_of node (up_to_last ran older) ≡ below (next_place node older) (standing (ran node)) → (b : Bool) → is_same_node l.node node ≡ b → places_of node (between l.node from (l.at + 1) (ran l.node) ++ up_to_last ran older) ≡ below (if b then l.at + 1 else next_place node older) (standing (ran node))
+    by_test : places_of node (up_to_last ran older) ≡ below (next_place node older) (standing_places (ran node)) → (b : Bool) → is_same_node l.node node ≡ b → places_of node (places_between l.node from (l.at + 1) (ran l.node) ++ up_to_last ran older) ≡ below (if b then l.at + 1 else next_place node older) (standing_places (ran node))
     by_test before true e =
         let same = same_node l.node node e in
-        own_places l.node node (span from (l.at + 1) (standing (ran l.node))) (up_to_last ran older) e
-        ∙ (ap (λ ys. span from (l.at + 1) (standing (ran l.node)) ++ ys) before
-        ∙ subst (λ (m : Node). span from (l.at + 1) (standing (ran l.node)) ++ below (next_place m older) (standing (ran m)) ≡ below (l.at + 1) (standing (ran m))) same
-        (spans_meet (length (ran l.node)) from (l.at + 1) (standing (ran l.node)) (omega (arith, last.behind)) (standing_falls (ran l.node))))
-    by_test before false e = other_places l.node node (span from (l.at + 1) (standing (ran l.node))) (up_to_last ran older) e ∙ before
+        own_places l.node node (span from (l.at + 1) (standing_places (ran l.node))) (up_to_last ran older) e
+        ∙ (ap (λ ys. span from (l.at + 1) (standing_places (ran l.node)) ++ ys) before
+        ∙ subst (λ (m : Node). span from (l.at + 1) (standing_places (ran l.node)) ++ below (next_place m older) (standing_places (ran m)) ≡ below (l.at + 1) (standing_places (ran m))) same
+        (spans_meet (length (ran l.node)) from (l.at + 1) (standing_places (ran l.node)) (omega (arith, last.behind)) (standing_falls (ran l.node))))
+    by_test before false e = other_places l.node node (span from (l.at + 1) (standing_places (ran l.node))) (up_to_last ran older) e ∙ before
 
 -- An entry's own event comes first of those up to it.
 first_of : (node : Node) (from at top : ℕ) (xs : List ℕ) (lines ws : List Place) → Falls top xs → IsIn xs at → from ≤ at → IsWithin lines ws → IsWithin (record { node = node; at = at } ∷ lines) (map (λ k. record { node = node; at = k }) (span from (at + 1) xs) ++ ws)
@@ -250,4 +250,4 @@ pub in_order : (ran : Node → List Logged) (journal : List Line) → AreNoted r
 in_order ran [] h = refl
 in_order ran (l ∷ older) h =
     let last = last_noted ran l older h in
-    first_of l.node (next_place l.node older) l.at (length (ran l.node)) (standing (ran l.node)) (map place_of older) (up_to_last ran older) (standing_falls (ran l.node)) last.there last.behind (in_order ran older (older_noted ran l older h))
+    first_of l.node (next_place l.node older) l.at (length (ran l.node)) (standing_places (ran l.node)) (map place_of older) (up_to_last ran older) (standing_falls (ran l.node)) last.there last.behind (in_order ran older (older_noted ran l older h))

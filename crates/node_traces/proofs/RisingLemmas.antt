@@ -10,7 +10,7 @@ use Rattle.node_history.specs.declared.logged.Logged.{Logged}
 use Rattle.node_history.specs.AtHub.{is_left_out}
 use Rattle.node_traces.specs.declared.place.Place.{Place}
 use Rattle.node_traces.specs.Marks.{Mark, frame_of, mark_of, marks_if, marks_of}
-use Rattle.node_traces.specs.Orders.{between, standing}
+use Rattle.node_traces.specs.Orders.{places_between, standing_places}
 use Rattle.node_traces.specs.Rising.{PlacesRise, MarksRise, HistoriesRise, marks_before}
 use Rattle.node_traces.proofs.MarkLemmas.{HasNone, none_or_one}
 use Rattle.node_traces.proofs.PlaceLemmas.{Falls, falls_wider, span, le_true, lt_false, lt_true, standing_falls}
@@ -73,14 +73,14 @@ one_more from at (x ∷ xs) h =
     by_test false e = e
 
 here : (from : ℕ) (l : Logged) (older : List Logged) → from ≤ length older → (b : Bool) →
-    span from (length older + 1) (if b then standing older else length older ∷ standing older)
-    ≡ (if b then span from (length older) (if b then standing older else length older ∷ standing older) else length older ∷ span from (length older) (if b then standing older else length older ∷ standing older))
-here from l older low true = one_more from (length older) (standing older) (standing_falls older)
+    span from (length older + 1) (if b then standing_places older else length older ∷ standing_places older)
+    ≡ (if b then span from (length older) (if b then standing_places older else length older ∷ standing_places older) else length older ∷ span from (length older) (if b then standing_places older else length older ∷ standing_places older))
+here from l older low true = one_more from (length older) (standing_places older) (standing_falls older)
 here from l older low false =
     let there : nat_le from (length older) ≡ true = le_true from (length older) low in
     let above : nat_lt (length older) (length older + 1) ≡ true = lt_true (length older) (length older + 1) (omega arith) in
     let not_below : nat_lt (length older) (length older) ≡ false = lt_false (length older) (length older) (omega arith) in
-    rw (there, above, not_below) (ap (λ ys. length older ∷ ys) (one_more from (length older) (standing older) (standing_falls older)))
+    rw (there, above, not_below) (ap (λ ys. length older ∷ ys) (one_more from (length older) (standing_places older) (standing_falls older)))
 
 skipped : (from at k : ℕ) (xs : List ℕ) (b : Bool) → from ≤ at → at + 1 ≤ k → (out : Bool) → span from (at + 1) xs ≡ (if out then span from at xs else at ∷ span from at xs)
     → span from (at + 1) (if b then xs else k ∷ xs) ≡ (if out then span from at (if b then xs else k ∷ xs) else at ∷ span from at (if b then xs else k ∷ xs))
@@ -92,10 +92,10 @@ skipped from at k xs false low far out h =
     rw (there, one, two) h
 
 rises : (from : ℕ) (newer older : List Logged) (l : Logged) → from ≤ length older →
-    span from (length older + 1) (standing (newer ++ l ∷ older)) ≡ (if is_left_out l.answer then span from (length older) (standing (newer ++ l ∷ older)) else length older ∷ span from (length older) (standing (newer ++ l ∷ older)))
+    span from (length older + 1) (standing_places (newer ++ l ∷ older)) ≡ (if is_left_out l.answer then span from (length older) (standing_places (newer ++ l ∷ older)) else length older ∷ span from (length older) (standing_places (newer ++ l ∷ older)))
 rises from [] older l low = here from l older low (is_left_out l.answer)
 rises from (e ∷ es) older l low =
-    skipped from (length older) (length (es ++ l ∷ older)) (standing (es ++ l ∷ older)) (is_left_out e.answer) low (longer es older l) (is_left_out l.answer) (rises from es older l low)
+    skipped from (length older) (length (es ++ l ∷ older)) (standing_places (es ++ l ∷ older)) (is_left_out e.answer) low (longer es older l) (is_left_out l.answer) (rises from es older l low)
 
 none_between : (at : ℕ) (xs : List ℕ) → span at at xs ≡ []
 none_between at [] = refl
@@ -117,7 +117,7 @@ none_between at (x ∷ xs) = by_test (none_between at xs) (nat_lt x at) refl
 
 places_rise : (node : Node) (h : List Logged) → PlacesRise node h
 places_rise node h = record {
-  none = λ at. ap (map {B = Place} (λ k. record { node = node; at = k })) (none_between at (standing h));
+  none = λ at. ap (map {B = Place} (λ k. record { node = node; at = k })) (none_between at (standing_places h));
   more = λ from at l low is. by_among from at l low (among h at l is);
 }
   where
@@ -125,9 +125,9 @@ places_rise node h = record {
     mapped true at xs ys e = ap (map {B = Place} (λ k. record { node = node; at = k })) e
     mapped false at xs ys e = ap (map {B = Place} (λ k. record { node = node; at = k })) e
 
-    by_among : (from at : ℕ) (l : Logged) → from ≤ at → Among h at l → between node from (at + 1) h ≡ (if is_left_out l.answer then between node from at h else record { node = node; at = at } ∷ between node from at h)
+    by_among : (from at : ℕ) (l : Logged) → from ≤ at → Among h at l → places_between node from (at + 1) h ≡ (if is_left_out l.answer then places_between node from at h else record { node = node; at = at } ∷ places_between node from at h)
     by_among from at l low a =
-        mapped (is_left_out l.answer) at (span from (at + 1) (standing h)) (span from at (standing h))
+        mapped (is_left_out l.answer) at (span from (at + 1) (standing_places h)) (span from at (standing_places h))
         (rw (a.all, ← a.at_is) (rises from a.newer a.older l (omega (arith, low, a.at_is))))
 
 -- ---- marks

@@ -16,7 +16,7 @@ use Rattle.disk_model.specs.declared.left.Left.{Left}
 use Rattle.hub.specs.Laws.{FramesAreReadable, IsReadable}
 use Rattle.client_core.specs.History as client
 use Rattle.net_world.specs.Setup.{without_mirror}
-use Rattle.net_world.specs.Trace.{Step, AtServer, AtClient, sent}
+use Rattle.net_world.specs.Trace.{Step, AtServer, AtClient, sent_packets}
 use Rattle.net_world.specs.Frames.{FrameStep, OfServer, OfClient, OfMirror, of_server, of_client, at_server, at_client, frames_sent, step_heard, trace_heard, IsFrameTrace}
 use Rattle.net_world.specs.FrameLaws.{FramesAreOfPackets, OnlySentIsHeard}
 use Rattle.net_world.specs.InRange.{FrameStepFits, StepFits, FitsFrames, SentAreInRange}
@@ -76,7 +76,7 @@ all_readable law (p ∷ ps) are =
 pub sent_readable : Laws → (n : ℕ) (t : List FrameStep) → IsFrameTrace (without_mirror n) t → FitsFrames (without_mirror n) t → All IsReadable (frames_sent (without_mirror n) t)
 sent_readable laws n t legal fits =
     let are = laws.in_range (without_mirror n) (trace_heard (without_mirror n) t) (laws.only_sent (without_mirror n) t legal fits) (record { few = fits.few; steps = all_fit n t fits.steps }) in
-    subst (All IsReadable) (sym (laws.of_packets (without_mirror n) t)) (all_readable laws.readable (sent (without_mirror n) (trace_heard (without_mirror n) t)) are)
+    subst (All IsReadable) (sym (laws.of_packets (without_mirror n) t)) (all_readable laws.readable (sent_packets (without_mirror n) (trace_heard (without_mirror n) t)) are)
 
 -- ---- a frame by its bytes
 

@@ -22,7 +22,7 @@ use Rattle.messages.specs.declared.node.Node.TheVariants.{Server, Client, Mirror
 use Rattle.messages.specs.declared.piece.PieceParts.{PieceParts}
 use Rattle.messages.specs.FrameBytes.{frame_at, frame_spelling}
 use Rattle.messages.specs.Hearing.{Meaning, Says, Waits, Spoils, Strays, meaning, heard_by, said_by}
-use Rattle.messages.specs.Assemblies.{look}
+use Rattle.messages.specs.Assemblies.{look_at_piece}
 use Rattle.messages.specs.Kinds.{is_of_client}
 use Rattle.messages.specs.Nodes.{is_client, is_server}
 use Rattle.messages.specs.Pieces.{frames_of}
@@ -34,11 +34,11 @@ use Rattle.server_core.specs.History as history
 use Rattle.server_core.specs.History.{Opening}
 use Rattle.server_core.specs.Answers as words
 use Rattle.server_core.specs.Answers.{refusal_of, sent_by, to_client}
-use Rattle.server_core.specs.Request.{ToNobody, asked_by}
+use Rattle.server_core.specs.Request.{ToNobody, request_in}
 use Rattle.server_core.specs.Request as requests
 use Rattle.server_core.specs.Replies.{Now, replies}
 use Rattle.server_core.specs.Words.{Staged, is_on}
-use Rattle.server_core.specs.Hearing.{FrameEntry, Met, Cut, Restart, coming, heard_at, packets_heard, rules as hearing}
+use Rattle.server_core.specs.Hearing.{FrameEntry, Met, Cut, Restart, coming_of, heard_at, packets_heard, rules as hearing}
 use Rattle.server_core.specs.FrameAnswers as answers
 use Rattle.node_history.specs.declared.answer.Said.{Said}
 use Rattle.node_history.specs.declared.came.Came.{Came}
@@ -46,7 +46,7 @@ use Rattle.node_history.specs.declared.came.Came.TheVariants as came
 use Rattle.node_history.specs.AtHub.{is_drop, is_left_out, is_save}
 use Rattle.node_history.specs.Replay.{Ends, Passes, Stops}
 use Rattle.node_history.specs.Rules.{Ask, Meets, Cuts, Restarts, Nothing}
-use Rattle.node_history.specs.ServerRules.{rules, asked, added, delivered, has_boot, is_up, left_by, lost, passed, refusal, reported}
+use Rattle.node_history.specs.ServerRules.{rules, ask_of, added_entry, ask_of_frame, has_boot, is_up, left_by, unsaved_entry, entries_past_refusal, refusal, ask_of_report}
 use Rattle.net_world.specs.Frames.{OfServer, MayHappen, to_of}
 use Rattle.net_world.specs.InRange.{FrameStepFits}
 use Rattle.node_traces.specs.Marks.{frame_of}
@@ -59,7 +59,7 @@ to_server me (Server s) h = ap (λ i. Server i) (eqb-true s me h)
 to_server me Client h = cc
 to_server me Mirror h = cc
 
-whole_to : (now : Now) (on a b : Bool) (body : Body) → MayPass (if on then refusal_of now (if a && b then asked_by body else ToNobody) else Some Down) → b ≡ true
+whole_to : (now : Now) (on a b : Bool) (body : Body) → MayPass (if on then refusal_of now (if a && b then request_in body else ToNobody) else Some Down) → b ≡ true
 whole_to now true true true body h = refl
 whole_to now true true false body h = absurd (no_pass Misdirected refl h)
 whole_to now true false b body h = absurd (no_pass Misdirected refl h)
@@ -69,7 +69,7 @@ strays : (on : Bool) → MayPass (if on then Some Misdirected else Some Down) �
 strays true h = no_pass Misdirected refl h
 strays false h = no_pass Down refl h
 
-piece_to : (o : Opening) (past : List history.Entry) (q : PieceParts) (on a b c : Bool) (m : Meaning) → MayPass (answers.refusal_in o past (answers.sense_of q (if on && (a && (b && c)) then m else Strays))) → b ≡ true
+piece_to : (o : Opening) (past : List history.Entry) (q : PieceParts) (on a b c : Bool) (m : Meaning) → MayPass (answers.refusal_of_sense o past (answers.sense_of q (if on && (a && (b && c)) then m else Strays))) → b ≡ true
 piece_to o past q true true true c m h = refl
 piece_to o past q true true false c m h = absurd (strays (is_on past) h)
 piece_to o past q true false b c m h = absurd (strays (is_on past) h)
@@ -79,7 +79,7 @@ to_me : (o : Opening) (past : List FrameEntry) (f : Frame) → MayPass (answers.
 to_me o past (Whole p) h =
     to_server o.me p.to (whole_to (words.now o (packets_heard o past)) (is_on (packets_heard o past)) (is_client p.from) (is_server o.me p.to) p.body h)
 to_me o past (Piece q) h =
-    to_server o.me q.to (piece_to o (packets_heard o past) q (is_on (packets_heard o past)) (is_client q.from) (is_server o.me q.to) (is_of_client q.tag.whole) (said_by (look (heard_at o past).rows q)) h)
+    to_server o.me q.to (piece_to o (packets_heard o past) q (is_on (packets_heard o past)) (is_client q.from) (is_server o.me q.to) (is_of_client q.tag.whole) (said_by (look_at_piece (heard_at o past).rows q)) h)
 
 -- ---- what is refused, or whose save failed, sends nothing
 
@@ -94,9 +94,9 @@ none_sent me gone None bodies (inl h) = ap (λ b. flat_map frames_of (to_client 
 none_sent me gone None bodies (inr h) = cc
 
 event_quiet : (o : Opening) (list : List history.Entry) (e : Event) (left : Left) → Quiet (is_lost left) (words.refusal o list e) → answers.frames_by o list (Some (history.Met e left)) ≡ []
-event_quiet o list e left h = none_sent o.me (is_lost left) (words.refusal o list e) (replies (words.now o list) (requests.asked o.me e)) h
+event_quiet o list e left h = none_sent o.me (is_lost left) (words.refusal o list e) (replies (words.now o list) (requests.request_of o.me e)) h
 
-piece_quiet : (o : Opening) (list : List history.Entry) (q : PieceParts) (left : Left) (m : Meaning) → Quiet (is_lost left) (answers.refusal_in o list (answers.sense_of q m)) → answers.frames_by o list (heard_by (hearing o) left m) ≡ []
+piece_quiet : (o : Opening) (list : List history.Entry) (q : PieceParts) (left : Left) (m : Meaning) → Quiet (is_lost left) (answers.refusal_of_sense o list (answers.sense_of q m)) → answers.frames_by o list (heard_by (hearing o) left m) ≡ []
 piece_quiet o list q left (Says p) h = event_quiet o list (events.Deliver p) left h
 piece_quiet o list q left Waits h = refl
 piece_quiet o list q left Spoils h = refl
@@ -142,10 +142,10 @@ as_core false x h = absurd (no_pass NodeOff refl h)
 some_is : (x y : FrameEntry) → Some x ≡ Some y → x ≡ y
 some_is x y h = cc
 
-accepted : (o : Opening) (past : List FrameEntry) (ask : Ask Input) (entry : FrameEntry) → refusal o past ask ≡ None → added o past ask ≡ Some entry → IsAsked o ask entry
+accepted : (o : Opening) (past : List FrameEntry) (ask : Ask Input) (entry : FrameEntry) → refusal o past ask ≡ None → added_entry o past ask ≡ Some entry → IsAsked o ask entry
 unfolding IsAsked
 accepted o past (Meets e) entry free is =
-    subst (IsAsked o (Meets e)) (some_is (answers.answered o past e) entry is) (met_asked o past e _ (as_core (is_up o past) (answers.refusal o past e) (inl free)))
+    subst (IsAsked o (Meets e)) (some_is (answers.answered_entry o past e) entry is) (met_asked o past e _ (as_core (is_up o past) (answers.refusal o past e) (inl free)))
 accepted o past Cuts entry free is = subst (IsAsked o Cuts) (some_is Cut entry is) tt
 accepted o past Restarts entry free is = subst (IsAsked o Restarts) (some_is (Restart lefts.Saved) entry is) tt
 accepted o past Nothing entry free is = cc
@@ -166,7 +166,7 @@ lost_met o past e landed entry (Some began) h is =
     subst (IsLost o past (Meets e)) (some_is (Met e (left_by landed)) entry is)
     (record { silent = quiet o past e (left_by landed) (inl (lost_of landed)); is_asked = met_asked o past e (left_by landed) h })
 
-lost_save : (o : Opening) (past : List FrameEntry) (ask : Ask Input) (landed : Bool) (entry : FrameEntry) → refusal o past ask ≡ None → lost o past ask landed ≡ Some entry → IsLost o past ask entry
+lost_save : (o : Opening) (past : List FrameEntry) (ask : Ask Input) (landed : Bool) (entry : FrameEntry) → refusal o past ask ≡ None → unsaved_entry o past ask landed ≡ Some entry → IsLost o past ask entry
 unfolding IsAsked
 lost_save o past (Meets e) landed entry free is = lost_met o past e landed entry (answers.due o past e) (as_core (is_up o past) (answers.refusal o past e) (inl free)) is
 lost_save o past Restarts landed entry free is = subst (IsLost o past Restarts) (some_is (Restart (left_by landed)) entry is) (record { silent = refl; is_asked = tt })
@@ -205,7 +205,7 @@ drops o past Nothing fault sent after d p = absurd (no_power None false fault d 
 
 -- ---- each event
 
-passed_none : (past : List FrameEntry) (ask : Ask Input) (fault : Fault) → is_drop fault ≡ false → passed past ask fault ≡ past
+passed_none : (past : List FrameEntry) (ask : Ask Input) (fault : Fault) → is_drop fault ≡ false → entries_past_refusal past ask fault ≡ past
 passed_none past (Meets e) fault h = ap (λ b. if b then Met e lefts.NoSave ∷ past else past) h
 passed_none past Cuts fault h = refl
 passed_none past Restarts fault h = refl
@@ -240,17 +240,17 @@ IsOf frames Cuts = Unit {0}
 IsOf frames Restarts = Unit {0}
 IsOf frames Nothing = Unit {0}
 
-asked_frame : (frames : List Frame) (x : Option Frame) → ((f : Frame) → x ≡ Some f → Contains frames f) → IsOf frames (delivered x)
+asked_frame : (frames : List Frame) (x : Option Frame) → ((f : Frame) → x ≡ Some f → Contains frames f) → IsOf frames (ask_of_frame x)
 unfolding IsOf
 asked_frame frames None h = tt
 asked_frame frames (Some f) h = h f refl
 
-asked_report : (frames : List Frame) (boot a j : ℕ) (report : ReportParts) (b : Bool) → is_report report ≡ b → IsOf frames (reported b (inputs.CheckDone boot a j report))
+asked_report : (frames : List Frame) (boot a j : ℕ) (report : ReportParts) (b : Bool) → is_report report ≡ b → IsOf frames (ask_of_report b (inputs.CheckDone boot a j report))
 unfolding IsOf
 asked_report frames boot a j report true h = h
 asked_report frames boot a j report false h = tt
 
-asked_of : (frames : List Frame) (c : Came) → CameOf frames (frame_of c) → IsOf frames (asked c)
+asked_of : (frames : List Frame) (c : Came) → CameOf frames (frame_of c) → IsOf frames (ask_of c)
 unfolding IsOf
 asked_of frames (came.Frame bytes) h = asked_frame frames (frame_at bytes) h
 asked_of frames (came.Issue j) h = tt
@@ -264,7 +264,7 @@ asked_of frames came.Tick h = tt
 asked_of frames came.Cut h = tt
 asked_of frames came.Restart h = tt
 
-happens : (frames : List Frame) (s : ℕ) (ask : Ask Input) (e : FrameEntry) (o : Opening) → o.me ≡ s → IsOf frames ask → IsAsked o ask e → MayHappen frames (OfServer s (coming e))
+happens : (frames : List Frame) (s : ℕ) (ask : Ask Input) (e : FrameEntry) (o : Opening) → o.me ≡ s → IsOf frames ask → IsAsked o ask e → MayHappen frames (OfServer s (coming_of e))
 unfolding IsOf IsAsked
 happens frames s ask (Met (inputs.Deliver f) left) o me h k = (subst (IsOf frames) k.0 h, k.1 ∙ ap (λ i. Server i) me)
 happens frames s ask (Met (inputs.Issue j) left) o me h k = refl
@@ -273,7 +273,7 @@ happens frames s ask (Met (inputs.CheckDone boot a j report) left) o me h k = re
 happens frames s ask Cut o me h k = refl
 happens frames s ask (Restart left) o me h k = refl
 
-fits : (frames : List Frame) (s : ℕ) (ask : Ask Input) (e : FrameEntry) (o : Opening) → s < 8 → IsOf frames ask → IsAsked o ask e → FrameStepFits (OfServer s (coming e))
+fits : (frames : List Frame) (s : ℕ) (ask : Ask Input) (e : FrameEntry) (o : Opening) → s < 8 → IsOf frames ask → IsAsked o ask e → FrameStepFits (OfServer s (coming_of e))
 unfolding IsOf IsAsked
 fits frames s ask (Met (inputs.Deliver f) left) o l h k = l
 fits frames s ask (Met (inputs.Issue j) left) o l h k = (l, tt)
@@ -283,8 +283,8 @@ fits frames s ask Cut o l h k = (l, tt)
 fits frames s ask (Restart left) o l h k = (l, tt)
 
 -- It may happen behind these frames, and is within its ranges.
-pub server_happens : (frames : List Frame) (o : Opening) (c : Came) (e : FrameEntry) → CameOf frames (frame_of c) → IsAsked o (asked c) e → MayHappen frames (OfServer o.me (coming e))
-server_happens frames o c e h k = happens frames o.me (asked c) e o refl (asked_of frames c h) k
+pub server_happens : (frames : List Frame) (o : Opening) (c : Came) (e : FrameEntry) → CameOf frames (frame_of c) → IsAsked o (ask_of c) e → MayHappen frames (OfServer o.me (coming_of e))
+server_happens frames o c e h k = happens frames o.me (ask_of c) e o refl (asked_of frames c h) k
 
-pub server_fits : (frames : List Frame) (o : Opening) (c : Came) (e : FrameEntry) → o.me < 8 → CameOf frames (frame_of c) → IsAsked o (asked c) e → FrameStepFits (OfServer o.me (coming e))
-server_fits frames o c e l h k = fits frames o.me (asked c) e o l (asked_of frames c h) k
+pub server_fits : (frames : List Frame) (o : Opening) (c : Came) (e : FrameEntry) → o.me < 8 → CameOf frames (frame_of c) → IsAsked o (ask_of c) e → FrameStepFits (OfServer o.me (coming_of e))
+server_fits frames o c e l h k = fits frames o.me (ask_of c) e o l (asked_of frames c h) k

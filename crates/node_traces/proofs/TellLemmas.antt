@@ -14,7 +14,7 @@ use Rattle.net_world.specs.Frames.{FrameStep, frames_of_step, frames_sent, IsFra
 use Rattle.net_world.specs.InRange.{FrameStepFits}
 use Rattle.node_traces.specs.declared.place.Place.{Place}
 use Rattle.node_traces.specs.Marks.{frame_of, mark_of, marks_if, marks_of}
-use Rattle.node_traces.specs.Orders.{standing}
+use Rattle.node_traces.specs.Orders.{standing_places}
 use Rattle.node_traces.specs.Names.{node_of}
 use Rattle.node_traces.proofs.PlaceLemmas.{same_node}
 use Rattle.node_traces.proofs.NodeLemmas.{EntryOf, Goes, coming_to, frames_at, happened_to, node_at, other_list, other_step, own_list, own_step, rules_of, stays, step_at, with_list}
@@ -27,7 +27,7 @@ pub record Newest (n : ℕ) (node : Node) (h : List Logged) (list : List (EntryO
   pub older : List Logged
   pub stands : is_left_out event.answer ≡ false
   pub at_is : length older ≡ at
-  pub rest_is : standing older ≡ rest
+  pub rest_is : standing_places older ≡ rest
   pub marks_are : marks_of h ≡ mark_of (length older) event ++ marks_of older
   pub past : List (EntryOf node)
   pub made : Makes (rules_of n node) older past
@@ -53,21 +53,21 @@ head_is x y xs ys h = cc
 pub tail_is : {X : Type 0} (x y : X) (xs ys : List X) → x ∷ xs ≡ y ∷ ys → xs ≡ ys
 tail_is x y xs ys h = cc
 
-pub newest_of : (n : ℕ) (node : Node) (h : List Logged) (list : List (EntryOf node)) (at : ℕ) (rest : List ℕ) → Makes (rules_of n node) h list → standing h ≡ at ∷ rest → Newest n node h list at rest
+pub newest_of : (n : ℕ) (node : Node) (h : List Logged) (list : List (EntryOf node)) (at : ℕ) (rest : List ℕ) → Makes (rules_of n node) h list → standing_places h ≡ at ∷ rest → Newest n node h list at rest
 newest_of n node [] list at rest made is = absurd (never is)
   where
     never : [] ≡ at ∷ rest → ⊥
     never h = cc
 newest_of n node (l ∷ ls) list at rest made is = by_test (λ h. newest_of n node ls made.0 at rest made.1 h) (is_left_out l.answer) refl is
   where
-    by_test : (standing ls ≡ at ∷ rest → Newest n node ls made.0 at rest) → (b : Bool) → is_left_out l.answer ≡ b → (if b then standing ls else length ls ∷ standing ls) ≡ at ∷ rest → Newest n node (l ∷ ls) list at rest
+    by_test : (standing_places ls ≡ at ∷ rest → Newest n node ls made.0 at rest) → (b : Bool) → is_left_out l.answer ≡ b → (if b then standing_places ls else length ls ∷ standing_places ls) ≡ at ∷ rest → Newest n node (l ∷ ls) list at rest
     by_test later true out is = left_out n node l ls list made.0 at rest out (stays n node made.0 list l out made.2) (later is)
     by_test later false out is = record {
       event = l;
       older = ls;
       stands = out;
-      at_is = head_is (length ls) at (standing ls) rest is;
-      rest_is = tail_is (length ls) at (standing ls) rest is;
+      at_is = head_is (length ls) at (standing_places ls) rest is;
+      rest_is = tail_is (length ls) at (standing_places ls) rest is;
       marks_are = refl;
       past = made.0;
       made = made.1;
@@ -75,15 +75,15 @@ newest_of n node (l ∷ ls) list at rest made is = by_test (λ h. newest_of n no
     }
 
 -- Where none stands, the list is the one with which the node opened.
-pub opened_still : (n : ℕ) (node : Node) (h : List Logged) (list : List (EntryOf node)) → Makes (rules_of n node) h list → standing h ≡ [] → list ≡ (rules_of n node).opened
+pub opened_still : (n : ℕ) (node : Node) (h : List Logged) (list : List (EntryOf node)) → Makes (rules_of n node) h list → standing_places h ≡ [] → list ≡ (rules_of n node).opened
 opened_still n node [] list made is = made
 opened_still n node (l ∷ ls) list made is = by_test (λ h. opened_still n node ls made.0 made.1 h) (is_left_out l.answer) refl is
   where
-    by_test : (standing ls ≡ [] → made.0 ≡ (rules_of n node).opened) → (b : Bool) → is_left_out l.answer ≡ b → (if b then standing ls else length ls ∷ standing ls) ≡ [] → list ≡ (rules_of n node).opened
+    by_test : (standing_places ls ≡ [] → made.0 ≡ (rules_of n node).opened) → (b : Bool) → is_left_out l.answer ≡ b → (if b then standing_places ls else length ls ∷ standing_places ls) ≡ [] → list ≡ (rules_of n node).opened
     by_test later true out is = stays n node made.0 list l out made.2 ∙ later is
     by_test later false out is = absurd (never is)
       where
-        never : length ls ∷ standing ls ≡ [] → ⊥
+        never : length ls ∷ standing_places ls ≡ [] → ⊥
         never h = cc
 
 -- ---- a trace of so much of an order

@@ -16,7 +16,7 @@ use Rattle.node_traces.specs.declared.place.Place.{Place}
 use Rattle.hub.specs.Journal.{count_sent, AreSentBefore}
 use Rattle.node_traces.specs.Marks.{Mark, frame_of, mark_of_line, marks_if, marks_in, marks_of}
 use Rattle.node_traces.specs.Lists.{EndAt, Lists}
-use Rattle.node_traces.specs.Orders.{IsWithin, place_of, places_of, standing}
+use Rattle.node_traces.specs.Orders.{IsWithin, place_of, places_of, standing_places}
 use Rattle.node_traces.specs.Laws.{MergesNameATrace, MergedOrdersAreMerges, AgreeingNodesAreATrace}
 use Rattle.node_traces.proofs.MarkLemmas.{HasNone, none_or_one}
 use Rattle.node_traces.proofs.RefusalLemmas.{CameOf}
@@ -33,7 +33,7 @@ AreMarked frames journal ran = (node : Node) → marks_of (ran node) ≡ marks_i
 -- What is told of the order without its newest event.
 abbrev Before : ℕ → List (List ℕ) → Place → List Place → (Node → List Logged) → ((node : Node) → List (EntryOf node)) → Type 0
 Before n frames p order ran lists =
-    (journal : List Line) (older : List Logged) (past : List (EntryOf p.node)) → AreSentBefore journal → Makes (rules_of n p.node) older past → standing older ≡ places_of p.node order
+    (journal : List Line) (older : List Logged) (past : List (EntryOf p.node)) → AreSentBefore journal → Makes (rules_of n p.node) older past → standing_places older ≡ places_of p.node order
     → AreMarked frames journal (with_history p.node older ran) → IsWithin (map place_of journal) order
     → Told n (take (count_sent journal) frames) (with_list p.node past lists) order
 
@@ -169,7 +169,7 @@ event laws n few frames p order journal ran lists below sent marked within top b
         (sym (marks_are ∙ ap (λ ms. ms ++ marks_of top.older) one) ∙ marked p.node) before
 
 tell : Laws → (n : ℕ) → n ≤ 8 → (frames : List (List ℕ)) (order : List Place) (journal : List Line) (ran : Node → List Logged) (lists : (node : Node) → List (EntryOf node)) →
-    AreMade n ran lists → EndAt n ran → AreSentBefore journal → AreMarked frames journal ran → ((node : Node) → places_of node order ≡ standing (ran node)) → IsWithin (map place_of journal) order →
+    AreMade n ran lists → EndAt n ran → AreSentBefore journal → AreMarked frames journal ran → ((node : Node) → places_of node order ≡ standing_places (ran node)) → IsWithin (map place_of journal) order →
     Told n (take (count_sent journal) frames) lists order
 tell laws n few frames [] [] ran lists made ends sent marked places within = (
   [],
@@ -186,7 +186,7 @@ tell laws n few frames [] (l ∷ lines) ran lists made ends sent marked places w
     never : place_of l ∷ map place_of lines ≡ [] → ⊥
     never h = cc
 tell laws n few frames (p ∷ order) journal ran lists made ends sent marked places within =
-    let at_top : standing (ran p.node) ≡ p.at ∷ places_of p.node order = sym (places p.node) ∙ own_places p.node p.node (p.at ∷ []) order (itself p.node) in
+    let at_top : standing_places (ran p.node) ≡ p.at ∷ places_of p.node order = sym (places p.node) ∙ own_places p.node p.node (p.at ∷ []) order (itself p.node) in
     let top = newest_of n p.node (ran p.node) (lists p.node) p.at (places_of p.node order) (made p.node) at_top in
     let below = node_below n ran p.node p.at (places_of p.node order) ends at_top in
     event laws n few frames p order journal ran lists below sent marked within top

@@ -13,14 +13,14 @@ use Rattle.node_history.specs.declared.came.Came.TheVariants as came
 use Rattle.node_history.specs.declared.logged.Logged.{Logged}
 use Rattle.node_traces.specs.declared.place.Place.{Place}
 use Rattle.node_traces.specs.Marks.{marks_in, marks_of}
-use Rattle.node_traces.specs.Orders.{merged}
+use Rattle.node_traces.specs.Orders.{merged_order}
 
 -- The bytes of two frames.
-abbrev pub asking : List ℕ
-asking = 7 ∷ []
+abbrev pub request_bytes : List ℕ
+request_bytes = 7 ∷ []
 
-abbrev pub answering : List ℕ
-answering = 8 ∷ []
+abbrev pub reply_bytes : List ℕ
+reply_bytes = 8 ∷ []
 
 -- An event that was answered, or refused.
 abbrev pub event : Came → Result Said Fault → List (List ℕ) → Logged
@@ -32,19 +32,19 @@ good = Ok (record { answer = Plain; act = acts.None })
 -- The client ticks, and sends a frame; it ticks and sends none; and a frame comes to it. To the server
 -- comes what asks for a write, and then the client's frame, to which it sends one; what asks for a
 -- write is refused; and it is cut.
-abbrev pub ran : Node → List Logged
-ran Client =
-    event (came.Frame answering) good [] ∷ event came.Tick good [] ∷ event came.Tick good (asking ∷ []) ∷ []
-ran (Server zero) =
+abbrev pub history_of : Node → List Logged
+history_of Client =
+    event (came.Frame reply_bytes) good [] ∷ event came.Tick good [] ∷ event came.Tick good (request_bytes ∷ []) ∷ []
+history_of (Server zero) =
     event came.Cut good [] ∷ event (came.Issue 0) (Err NodeOff) []
-    ∷ event (came.Frame asking) good (answering ∷ []) ∷ event (came.Issue 0) good [] ∷ []
-ran (Server (suc s)) = []
-ran Mirror = []
+    ∷ event (came.Frame request_bytes) good (reply_bytes ∷ []) ∷ event (came.Issue 0) good [] ∷ []
+history_of (Server (suc s)) = []
+history_of Mirror = []
 
 -- The journal tells of three of these events.
 abbrev pub net : Network
 net = record {
-  frames = asking ∷ answering ∷ [];
+  frames = request_bytes ∷ reply_bytes ∷ [];
   journal =
       record { node = Client; at = 2; taken = Some 1; sent = 0 }
       ∷ record { node = Server 0; at = 1; taken = Some 0; sent = 1 }
@@ -54,8 +54,8 @@ net = record {
 -- They agree with it.
 abbrev pub AgreeWithIt : Type 0
 AgreeWithIt =
-    (marks_of (ran Client) ≡ marks_in net.frames Client net.journal)
-    × (marks_of (ran (Server 0)) ≡ marks_in net.frames (Server 0) net.journal)
+    (marks_of (history_of Client) ≡ marks_in net.frames Client net.journal)
+    × (marks_of (history_of (Server 0)) ≡ marks_in net.frames (Server 0) net.journal)
 
 abbrev pub place : Node → ℕ → Place
 place node at = record { node = node; at = at }
@@ -64,5 +64,5 @@ place node at = record { node = node; at = at }
 -- tick before the frame that came to that, and the cut at the end; the refusal isn't told.
 abbrev pub AreToldSo : Type 0
 AreToldSo =
-    merged 1 ran net.journal
+    merged_order 1 history_of net.journal
     ≡ place (Server 0) 3 ∷ place Client 2 ∷ place Client 1 ∷ place (Server 0) 1 ∷ place (Server 0) 0 ∷ place Client 0 ∷ []

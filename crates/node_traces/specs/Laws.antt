@@ -11,7 +11,7 @@ use Rattle.node_traces.specs.declared.place.Place.{Place}
 use Rattle.hub.specs.Journal.{IsLegal}
 use Rattle.node_traces.specs.Marks.{AreMarked}
 use Rattle.node_traces.specs.Lists.{EndAt}
-use Rattle.node_traces.specs.Orders.{IsMerge, merged}
+use Rattle.node_traces.specs.Orders.{IsMerge, merged_order}
 use Rattle.node_traces.specs.Names.{IsAssembled, IsOrder}
 use Rattle.node_traces.specs.Verdict.{IsHeard, HoldOneState}
 
@@ -32,13 +32,13 @@ MergesNameATrace =
 abbrev pub MergedOrdersAreMerges : Type 0
 MergedOrdersAreMerges =
     (n : ℕ) (net : Network) (ran : Node → List Logged) →
-    Agree n net ran → IsMerge ran net.journal (merged n ran net.journal)
+    Agree n net ran → IsMerge ran net.journal (merged_order n ran net.journal)
 
 -- So it names one trace.
 abbrev pub AgreeingNodesAreATrace : Type 0
 AgreeingNodesAreATrace =
     (n : ℕ) (net : Network) (ran : Node → List Logged) →
-    Agree n net ran → IsOrder n net ran (merged n ran net.journal)
+    Agree n net ran → IsOrder n net ran (merged_order n ran net.journal)
 
 -- What is heard in such a trace is a trace of packets.
 abbrev pub AssembledAreHeard : Type 0

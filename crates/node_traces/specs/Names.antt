@@ -3,8 +3,8 @@ use Rattle.std.specs.Prelude.{◌≡◌, ℕ, List, map}
 use Rattle.messages.specs.declared.node.Node.{Node}
 use Rattle.messages.specs.declared.node.Node.TheVariants.{Server, Client, Mirror}
 use Rattle.messages.specs.FrameBytes.{frame_spelling}
-use Rattle.server_core.specs.Hearing.{FrameEntry as ServerEntry, coming as server_coming}
-use Rattle.client_core.specs.Hearing.{FrameEntry as ClientEntry, coming as client_coming}
+use Rattle.server_core.specs.Hearing.{FrameEntry as ServerEntry, coming_of as server_coming}
+use Rattle.client_core.specs.Hearing.{FrameEntry as ClientEntry, coming_of as client_coming}
 use Rattle.node_history.specs.declared.logged.Logged.{Logged}
 use Rattle.hub.specs.Network.{Network}
 use Rattle.net_world.specs.Setup.{without_mirror}
@@ -12,7 +12,7 @@ use Rattle.net_world.specs.Frames.{FrameStep, OfServer, OfClient, OfMirror, of_s
 use Rattle.net_world.specs.InRange.{FitsFrames}
 use Rattle.node_traces.specs.declared.place.Place.{Place}
 use Rattle.node_traces.specs.Lists.{Lists}
-use Rattle.node_traces.specs.Orders.{standing, places_of}
+use Rattle.node_traces.specs.Orders.{standing_places, places_of}
 
 -- One trace of frames, in which just this happens to each server and to the client, and just these frames
 -- are sent.
@@ -33,7 +33,7 @@ node_of (OfMirror e) = Mirror
 -- events that stand in its list.
 pub record Names (ran : Node → List Logged) (order : List Place) (trace : List FrameStep) : Type 0 where
   pub nodes_are : map (λ place. place.node) order ≡ map node_of trace
-  pub places_are : (node : Node) → places_of node order ≡ standing (ran node)
+  pub places_are : (node : Node) → places_of node order ≡ standing_places (ran node)
 
 -- Whatever lists the histories make, the order names one trace of just these, with just the network's frames.
 abbrev pub IsOrder : ℕ → Network → (Node → List Logged) → List Place → Type 0

@@ -5,7 +5,7 @@ use Rattle.messages.specs.declared.node.Node.{Node}
 use Rattle.node_history.specs.declared.logged.Logged.{Logged}
 use Rattle.node_history.specs.AtHub.{is_left_out}
 use Rattle.node_traces.specs.Marks.{Mark, mark_of, marks_of}
-use Rattle.node_traces.specs.Orders.{between}
+use Rattle.node_traces.specs.Orders.{places_between}
 
 -- The marks of the events before a place.
 abbrev pub marks_before : ℕ → List Logged → List Mark
@@ -14,10 +14,10 @@ marks_before to h = filter (λ mark. nat_lt mark.at to) (marks_of h)
 -- Between a place and itself there is none; and the event at a place comes first of those up to it, if
 -- it stands.
 pub record PlacesRise (node : Node) (h : List Logged) : Type 0 where
-  pub none : (at : ℕ) → between node at at h ≡ []
+  pub none : (at : ℕ) → places_between node at at h ≡ []
   pub more :
       (from at : ℕ) (l : Logged) → from ≤ at → slice_get (reverse h) at ≡ Some l
-      → between node from (at + 1) h ≡ (if is_left_out l.answer then between node from at h else record { node = node; at = at } ∷ between node from at h)
+      → places_between node from (at + 1) h ≡ (if is_left_out l.answer then places_between node from at h else record { node = node; at = at } ∷ places_between node from at h)
 
 -- Before the first place there is no mark; that of the event at a place comes first of those up to it;
 -- and those of all events are the history's.

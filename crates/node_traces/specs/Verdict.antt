@@ -9,7 +9,7 @@ use Rattle.server_core.specs.Taken.{takings}
 use Rattle.server_core.specs.Check.{With, progress}
 use Rattle.client_core.specs.History as client_history
 use Rattle.client_core.specs.Hearing.{FrameEntry as ClientEntry, packets_heard as client_heard}
-use Rattle.client_core.specs.Words.{kept}
+use Rattle.client_core.specs.Words.{kept_state}
 use Rattle.net_world.specs.Setup.{without_mirror}
 use Rattle.net_world.specs.Trace.{opening_of, client_opening, of_server, of_client, IsTrace}
 use Rattle.net_world.specs.Frames.{FrameStep, trace_heard}
@@ -39,7 +39,7 @@ taken_by servers key = takings (opening_of key.server) key.run key.job (server_h
 -- server's list a job is checked with it, no write was issued there since: up to the end of that check.
 pub record HoldOneState (n : ℕ) (servers : ℕ → List ServerEntry) (client : List ClientEntry) (trace : List FrameStep) : Type 0 where
   pub once : (key : Key) → length (taken_by servers key) ≤ 1
-  pub keeps : (key : Key) (state : State) → kept (client_opening (without_mirror n)) (client_hears n client) key ≡ Some state → Holds (without_mirror n) (trace_heard (without_mirror n) trace) key state
+  pub keeps : (key : Key) (state : State) → kept_state (client_opening (without_mirror n)) (client_hears n client) key ≡ Some state → Holds (without_mirror n) (trace_heard (without_mirror n) trace) key state
   pub held : (key : Key) (state : State) → Holds (without_mirror n) (trace_heard (without_mirror n) trace) key state → taken_by servers key ≡ state ∷ []
   pub counted : (key : Key) (state : State) → Holds (without_mirror n) (trace_heard (without_mirror n) trace) key state → IsTaking (opening_of key.server) key.run key.job (server_hears servers key.server) state
   pub quiet :

@@ -6,7 +6,7 @@ use Rattle.std.proofs.lemmas.Slice.Zip.{all_zipped_more}
 use Rattle.fc_base.specs.declared.fault.Fault.{Fault}
 use Rattle.fc_base.specs.declared.report.ReportParts.{ReportParts}
 use Rattle.disk_model.specs.File.{File}
-use Rattle.parallel_checks.specs.declared.task.Task.{Task}
+use Rattle.parallel_checks.specs.declared.task.CheckTask.{CheckTask}
 use Rattle.parallel_checks.specs.declared.slot.Slot.{Slot}
 use Rattle.parallel_checks.specs.Tasks.{Answers, AreReports, IsFirstRefusal}
 use Rattle.parallel_checks.specs.Slots.{IsAnswered, AreAnswered, ReportsOf, IsFirstRefused}
@@ -30,7 +30,7 @@ first_refused {T} slots reports i slot fault low at held reported = record {
 }
 
 -- A slot holds one answer.
-held_answer : {T : Type 0} (file : T → File) (task : Task T) (slot : Slot T) (answer : Result ReportParts Fault) → IsAnswered file task slot → slot.answer ≡ Some answer → Answers file task answer
+held_answer : {T : Type 0} (file : T → File) (task : CheckTask T) (slot : Slot T) (answer : Result ReportParts Fault) → IsAnswered file task slot → slot.answer ≡ Some answer → Answers file task answer
 held_answer file task slot answer answered held =
     let both : Some answered.answer ≡ Some answer = sym answered.held ∙ held in
     let same : answered.answer ≡ answer = cc in
@@ -45,7 +45,7 @@ each_answered file (old ∷ olds) (new ∷ news) len each =
     (each 0 old (omega arith), each_answered file olds news (omega arith) (λ i d low. each (suc i) d (omega arith)))
 
 -- The reports that the slots hold are those of the tasks.
-pub all_reported : {T : Type 0} (file : T → File) (tasks : List (Task T)) (slots : List (Slot T)) (reports : List ReportParts) → AreAnswered file tasks slots → ReportsOf slots reports → AreReports file tasks reports
+pub all_reported : {T : Type 0} (file : T → File) (tasks : List (CheckTask T)) (slots : List (Slot T)) (reports : List ReportParts) → AreAnswered file tasks slots → ReportsOf slots reports → AreReports file tasks reports
 all_reported file [] [] [] answered held = tt
 all_reported file [] [] (r ∷ rs) answered held = absurd held
 all_reported file [] (s ∷ ss) reports answered held = absurd answered
@@ -55,7 +55,7 @@ all_reported file (t ∷ ts) (s ∷ ss) (r ∷ rs) answered held =
     (held_answer file t s (Ok r) answered.0 held.0, all_reported file ts ss rs answered.1 held.1)
 
 -- The first refusal that the slots hold is the first of the tasks.
-refusal_behind : {T : Type 0} (file : T → File) (tasks : List (Task T)) (before : List (Slot T)) (slot : Slot T) (behind : List (Slot T)) (reports : List ReportParts) (fault : Fault) → AreAnswered file tasks (before ++ slot ∷ behind) → ReportsOf before reports → slot.answer ≡ Some (Err fault) → IsFirstRefusal file tasks fault
+refusal_behind : {T : Type 0} (file : T → File) (tasks : List (CheckTask T)) (before : List (Slot T)) (slot : Slot T) (behind : List (Slot T)) (reports : List ReportParts) (fault : Fault) → AreAnswered file tasks (before ++ slot ∷ behind) → ReportsOf before reports → slot.answer ≡ Some (Err fault) → IsFirstRefusal file tasks fault
 refusal_behind file [] [] slot behind reports fault answered held refused = absurd answered
 refusal_behind file [] (s ∷ ss) slot behind reports fault answered held refused = absurd answered
 refusal_behind file (t ∷ ts) [] slot behind reports fault answered held refused = record {
@@ -73,13 +73,13 @@ refusal_behind file (t ∷ ts) (s ∷ ss) slot behind (r ∷ rs) fault answered 
       before = t ∷ rest.before;
       task = rest.task;
       behind = rest.behind;
-      place = ap (λ (l : List (Task _)). t ∷ l) rest.place;
+      place = ap (λ (l : List (CheckTask _)). t ∷ l) rest.place;
       reports = r ∷ rest.reports;
       reported = (held_answer file t s (Ok r) answered.0 held.0, rest.reported);
       refused = rest.refused;
     }
 
-pub first_refusal : {T : Type 0} (file : T → File) (tasks : List (Task T)) (slots : List (Slot T)) (fault : Fault) → AreAnswered file tasks slots → IsFirstRefused slots fault → IsFirstRefusal file tasks fault
+pub first_refusal : {T : Type 0} (file : T → File) (tasks : List (CheckTask T)) (slots : List (Slot T)) (fault : Fault) → AreAnswered file tasks slots → IsFirstRefused slots fault → IsFirstRefusal file tasks fault
 first_refusal {T} file tasks slots fault answered first =
     refusal_behind file tasks first.before first.slot first.behind first.reports fault
     (subst (λ (l : List (Slot T)). AreAnswered file tasks l) first.place answered) first.reported first.refused

@@ -4,18 +4,18 @@ use Rattle.std.specs.List.{AllZip}
 use Rattle.fc_base.specs.declared.fault.Fault.{Fault}
 use Rattle.fc_base.specs.declared.report.ReportParts.{ReportParts}
 use Rattle.disk_model.specs.File.{File}
-use Rattle.parallel_checks.specs.declared.task.Task.{Task}
+use Rattle.parallel_checks.specs.declared.task.CheckTask.{CheckTask}
 use Rattle.parallel_checks.specs.declared.slot.Slot.{Slot}
 use Rattle.parallel_checks.specs.Tasks.{Answers}
 
 -- The slot holds an answer to this task.
-pub record IsAnswered {T : Type 0} (file : T → File) (task : Task T) (slot : Slot T) : Type 0 where
+pub record IsAnswered {T : Type 0} (file : T → File) (task : CheckTask T) (slot : Slot T) : Type 0 where
   pub answer : Result ReportParts Fault
   pub held : slot.answer ≡ Some answer
   pub answers : Answers file task answer
 
 -- The slots hold answers to these tasks, place by place.
-abbrev pub AreAnswered : {T : Type 0} → (T → File) → List (Task T) → List (Slot T) → Type 0
+abbrev pub AreAnswered : {T : Type 0} → (T → File) → List (CheckTask T) → List (Slot T) → Type 0
 AreAnswered file tasks slots = AllZip (IsAnswered file) tasks slots
 
 -- The slots hold these reports.

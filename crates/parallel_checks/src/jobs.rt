@@ -5,7 +5,7 @@ ghost use Rattle.parallel_checks.specs.Tasks.{AreReports, IsFirstRefusal};
 ghost use Rattle.parallel_checks.specs.Slots.{AreAnswered, ReportsOf, IsFirstRefused};
 
 use crate::slot::Slot;
-use crate::task::Task;
+use crate::task::CheckTask;
 use disk_model::Disk;
 use fc_base::{CheckReport, Fault, MAX_WORKERS};
 use std::alloc::{AllocError, Global};
@@ -23,7 +23,7 @@ use std::thread::Threads;
 pub fn check_jobs<R: Threads + Sync, D: Disk + Send + Drop>(
     rt: &R,
     alloc: Global,
-    tasks: Vec<Task<D>>,
+    tasks: Vec<CheckTask<D>>,
     workers: u32,
 ) -> Result<Vec<CheckReport>, Fault>
     requires some { 1 ≤ workers }
@@ -40,7 +40,7 @@ pub fn check_jobs<R: Threads + Sync, D: Disk + Send + Drop>(
 }
 
 /// A slot for each task.
-fn slots_of<D: Drop>(alloc: Global, tasks: Vec<Task<D>>) -> Result<Vec<Slot<D>>, AllocError>
+fn slots_of<D: Drop>(alloc: Global, tasks: Vec<CheckTask<D>>) -> Result<Vec<Slot<D>>, AllocError>
     ensures { IfOk result (λ slots. map (λ slot. slot.task) slots.items ≡ tasks.items) }
 {
     let mut slots = Vec::with_capacity(alloc, tasks.len())?;

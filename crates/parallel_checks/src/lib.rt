@@ -13,4 +13,4 @@ mod slot;
 mod task;
 
 pub use jobs::check_jobs;
-pub use task::Task;
+pub use task::CheckTask;

@@ -3,7 +3,7 @@
 ghost use Rattle.std.specs.Prelude.{◌≡◌};
 ghost use Rattle.parallel_checks.specs.Slots.{IsAnswered};
 
-use crate::task::Task;
+use crate::task::CheckTask;
 use disk_model::Disk;
 use fc_base::{CheckReport, Fault};
 use recheck::check_disk;
@@ -12,12 +12,12 @@ use std::alloc::Global;
 /// A task, and what its check answered, once it has.
 #[derive(Drop)]
 pub(crate) struct Slot<D> {
-    task: Task<D>,
+    task: CheckTask<D>,
     answer: Option<Result<CheckReport, Fault>>,
 }
 
 impl<D> Slot<D> {
-    pub fn new(task: Task<D>) -> Slot<D>
+    pub fn new(task: CheckTask<D>) -> Slot<D>
         ensures { result.task ≡ task }
     {
         Slot { task, answer: None }

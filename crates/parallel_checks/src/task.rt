@@ -5,7 +5,7 @@ use verify_state::VerifyState;
 
 /// A file that has to be checked, and what it is checked by.
 #[derive(Drop)]
-pub struct Task<D> {
+pub struct CheckTask<D> {
     /// The job that wrote the file.
     pub rec: JobRecord,
     /// The run, server and number of that job.

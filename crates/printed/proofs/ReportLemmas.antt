@@ -3,7 +3,7 @@ use Rattle.std.proofs.Common.{◌≡◌, ℕ, List, [], ◌∷◌, ◌++◌, Res
 use Rattle.std.specs.List.{flat_map}
 use Rattle.fc_base.specs.declared.report.ReportEnd.{ReportEnd}
 use Rattle.fc_base.specs.declared.report.ReportEnd.TheVariants.{Whole, AtFault, ReadFault}
-use Rattle.printed.specs.Words.{spaced, blank_before}
+use Rattle.printed.specs.Words.{with_blanks_between, blank_before}
 use Rattle.printed.specs.Reports.{end_words}
 
 -- What holds where there is an answer.
@@ -12,7 +12,7 @@ on_ok (Ok x) f p = f p
 on_ok (Err e) f p = tt
 
 -- Words are the first, and each of the others with a blank before it.
-words_text : (word : List ℕ) (words : List (List ℕ)) → spaced (word ∷ words) ≡ word ++ flat_map blank_before words
+words_text : (word : List ℕ) (words : List (List ℕ)) → with_blanks_between (word ∷ words) ≡ word ++ flat_map blank_before words
 words_text word [] = sym (append-nil word)
 words_text word (next ∷ words) = ap (λ text. word ++ 32 ∷ text) (words_text next words)
 
@@ -25,16 +25,16 @@ two_behind d f b c rest =
 -- The blocks stand behind the other words.
 blocks_behind : (d f b c : List ℕ) (blocks : List (List ℕ))
     → (d ++ (b ++ (f ++ (c ++ codes "first")))) ++ flat_map blank_before blocks
-    ≡ d ++ (b ++ (f ++ (c ++ spaced (codes "first" ∷ blocks))))
+    ≡ d ++ (b ++ (f ++ (c ++ with_blanks_between (codes "first" ∷ blocks))))
 blocks_behind d f b c blocks =
     two_behind d f b (c ++ codes "first") (flat_map blank_before blocks)
     ∙ ap (λ l. d ++ (b ++ (f ++ l))) (append_assoc c (codes "first") (flat_map blank_before blocks) ∙ ap (λ l. c ++ l) (sym (words_text (codes "first") blocks)))
 
 -- The words of a report.
 pub report_text : (checked faults : ℕ) (end : ReportEnd) (blocks : List (List ℕ))
-    → (codes "checked " ++ (decimal checked ++ (codes " faults " ++ (decimal faults ++ (codes " end " ++ (spaced (end_words end) ++ codes " first"))))))
+    → (codes "checked " ++ (decimal checked ++ (codes " faults " ++ (decimal faults ++ (codes " end " ++ (with_blanks_between (end_words end) ++ codes " first"))))))
     ++ flat_map blank_before blocks
-    ≡ spaced (codes "checked" ∷ decimal checked ∷ codes "faults" ∷ decimal faults ∷ codes "end" ∷ (end_words end ++ (codes "first" ∷ blocks)))
+    ≡ with_blanks_between (codes "checked" ∷ decimal checked ∷ codes "faults" ∷ decimal faults ∷ codes "end" ∷ (end_words end ++ (codes "first" ∷ blocks)))
 report_text checked faults Whole blocks =
     ap (λ l. codes "checked " ++ l) (blocks_behind (decimal checked) (decimal faults) (codes " faults ") (codes " end whole ") blocks)
 report_text checked faults AtFault blocks =
@@ -44,4 +44,4 @@ report_text checked faults (ReadFault block) blocks =
     (sym (append_assoc (decimal block) (codes " ") (codes "first")))
     ∙ ap (λ l. codes "checked " ++ l) (blocks_behind (decimal checked) (decimal faults) (codes " faults ") (codes " end read " ++ (decimal block ++ codes " ")) blocks)
     ∙ ap (λ l. codes "checked " ++ (decimal checked ++ (codes " faults " ++ (decimal faults ++ (codes " end read " ++ l)))))
-    (append_assoc (decimal block) (codes " ") (spaced (codes "first" ∷ blocks)))
+    (append_assoc (decimal block) (codes " ") (with_blanks_between (codes "first" ∷ blocks)))

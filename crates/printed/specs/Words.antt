@@ -4,16 +4,16 @@ use Rattle.std.specs.List.{join_with_byte}
 use Rattle.std.specs.Io.KnownBytes.{Appends}
 
 -- Words separated by blanks.
-abbrev pub spaced : List (List ℕ) → List ℕ
-spaced words = join_with_byte 32 words
+abbrev pub with_blanks_between : List (List ℕ) → List ℕ
+with_blanks_between words = join_with_byte 32 words
 
 -- A word with a blank before it.
 abbrev pub blank_before : List ℕ → List ℕ
 blank_before word = codes " " ++ word
 
 -- A line with its line feed.
-abbrev pub ended : List ℕ → List ℕ
-ended line = line ++ codes "\n"
+abbrev pub with_line_feed : List ℕ → List ℕ
+with_line_feed line = line ++ codes "\n"
 
 -- This text is written and nothing else, and this is the status.
 abbrev pub Finishes : List ℕ → ℕ → Option (List ℕ) → Option (List ℕ) → ℕ → Type 0

@@ -1,7 +1,7 @@
 //! What is printed of a refusal, of a report and of a bad command line, by each program and each command.
 //!
 //! ```text
-//! write_refusal(&mut writer, Refusal::from(fault))?;     // refused 91 ReadError
+//! write_refusal(&mut writer, PrintedRefusal::from(fault))?;     // refused 91 ReadError
 //! write_report_words(&mut writer, &report)?;             // checked 2 faults 1 end whole first 1
 //! ```
 //!
@@ -12,6 +12,6 @@ mod refusal;
 mod report;
 mod words;
 
-pub use refusal::{Refusal, write_refusal};
+pub use refusal::{PrintedRefusal, write_refusal};
 pub use report::write_report_words;
 pub use words::{REFUSED, refuse_words};

@@ -3,7 +3,7 @@
 ghost use Rattle.std.specs.Prelude.{◌≡◌, OnOk, Some};
 ghost use Rattle.std.specs.Io.KnownBytes.{Appends};
 ghost use Rattle.fc_base.specs.declared.fault.Fault.TheVariants.{JobNoMemory};
-ghost use Rattle.printed.specs.Words.{ended};
+ghost use Rattle.printed.specs.Words.{with_line_feed};
 ghost use Rattle.printed.specs.Refusals.{refusal_line};
 
 use bounded_input::InputFault;
@@ -16,13 +16,13 @@ use std::{fmt, io};
 /// A fault, and the line or the job where it is found, if it has one. It prints as
 /// `refused CODE NAME` or `refused CODE NAME NUMBER`, and takes no memory for that.
 #[derive(Clone, Copy)]
-pub struct Refusal {
+pub struct PrintedRefusal {
     pub fault: Fault,
     /// The line, counted from 1, or the job, counted from 0.
     pub line_or_job: Option<u32>,
 }
 
-impl fmt::Display for Refusal {
+impl fmt::Display for PrintedRefusal {
     ghost use Rattle.printed.specs.Refusals.{refusal_line};
 
     ghost output = { λ refusal. Some (refusal_line refusal) };
@@ -36,61 +36,61 @@ impl fmt::Display for Refusal {
     }
 }
 
-impl From<InputFault> for Refusal {
+impl From<InputFault> for PrintedRefusal {
     ghost use Rattle.printed.specs.Refusals.{of_input};
 
     ghost from_gives = { λ fault refusal. refusal ≡ of_input fault };
 
-    fn from(fault: InputFault) -> Refusal {
+    fn from(fault: InputFault) -> PrintedRefusal {
         match fault {
-            InputFault::ReadError => Refusal::from(Fault::ReadError),
-            InputFault::NoMemory => Refusal::from(Fault::JobNoMemory),
+            InputFault::ReadError => PrintedRefusal::from(Fault::ReadError),
+            InputFault::NoMemory => PrintedRefusal::from(Fault::JobNoMemory),
         }
     }
 }
 
-impl From<Fault> for Refusal {
+impl From<Fault> for PrintedRefusal {
     ghost use Rattle.printed.specs.Refusals.{plain};
 
     ghost from_gives = { λ fault refusal. refusal ≡ plain fault };
 
-    fn from(fault: Fault) -> Refusal {
-        Refusal {
+    fn from(fault: Fault) -> PrintedRefusal {
+        PrintedRefusal {
             fault,
             line_or_job: None,
         }
     }
 }
 
-impl From<JobFault> for Refusal {
+impl From<JobFault> for PrintedRefusal {
     ghost use Rattle.printed.specs.Refusals.{refusal_for};
 
     ghost from_gives = { λ fault refusal. refusal ≡ refusal_for fault };
 
-    fn from(found: JobFault) -> Refusal {
+    fn from(found: JobFault) -> PrintedRefusal {
         // A fault is passed on whole, so the second call gets a copy.
         let again = found;
-        Refusal {
+        PrintedRefusal {
             fault: found.fault(),
             line_or_job: again.line_or_job(),
         }
     }
 }
 
-impl From<AllocError> for Refusal {
+impl From<AllocError> for PrintedRefusal {
     ghost use Rattle.printed.specs.Refusals.{plain};
 
     ghost from_gives = { λ _ refusal. refusal ≡ plain JobNoMemory };
 
-    fn from(_error: AllocError) -> Refusal {
-        Refusal::from(Fault::JobNoMemory)
+    fn from(_error: AllocError) -> PrintedRefusal {
+        PrintedRefusal::from(Fault::JobNoMemory)
     }
 }
 
 /// Writes the one line of a refusal, and flushes. An error is that of a write.
-pub fn write_refusal<W: Write>(writer: &mut W, refusal: Refusal) -> io::Result<()>
+pub fn write_refusal<W: Write>(writer: &mut W, refusal: PrintedRefusal) -> io::Result<()>
     ensures { OnOk result (Appends (W.contents writer.old) (W.contents writer.new)
-        (ended (refusal_line refusal))) }
+        (with_line_feed (refusal_line refusal))) }
 {
     writeln!(writer, "{refusal}")?;
     writer.flush()

@@ -4,7 +4,7 @@ ghost use Rattle.std.specs.Prelude.{◌≡◌, ◌++◌, [], ◌∷◌, map, tak
 ghost use Rattle.std.specs.List.{flat_map};
 ghost use Rattle.std.specs.Io.KnownBytes.{Appends};
 ghost use Rattle.printed.specs.Reports.{report_words, block_words};
-ghost use Rattle.printed.specs.Words.{spaced, blank_before};
+ghost use Rattle.printed.specs.Words.{with_blanks_between, blank_before};
 
 use fc_base::{CheckReport, ReportEnd};
 use std::io::Write;
@@ -15,7 +15,9 @@ use std::{fmt, io};
 ///
 /// An error is that of a write: nothing is written after it.
 pub fn write_report_words<W: Write>(writer: &mut W, report: &CheckReport) -> io::Result<()>
-    ensures { OnOk result (Appends (W.contents writer.old) (W.contents writer.new) (spaced (report_words report.now))) }
+    ensures { OnOk result
+        (Appends (W.contents writer.old) (W.contents writer.new)
+        (with_blanks_between (report_words report.now))) }
 {
     write!(
         writer,
@@ -29,7 +31,9 @@ pub fn write_report_words<W: Write>(writer: &mut W, report: &CheckReport) -> io:
 
 /// Writes blocks with a blank before each, or `-` for none.
 fn write_blocks<W: Write>(writer: &mut W, blocks: &[u32]) -> io::Result<()>
-    ensures { OnOk result (Appends (W.contents writer.old) (W.contents writer.new) (flat_map blank_before (block_words blocks.now))) }
+    ensures { OnOk result
+        (Appends (W.contents writer.old) (W.contents writer.new)
+        (flat_map blank_before (block_words blocks.now))) }
 {
     if blocks.is_empty() {
         return write!(writer, " -");
@@ -46,9 +50,9 @@ struct EndWords(ReportEnd);
 
 impl fmt::Display for EndWords {
     ghost use Rattle.printed.specs.Reports.{end_words};
-    ghost use Rattle.printed.specs.Words.{spaced};
+    ghost use Rattle.printed.specs.Words.{with_blanks_between};
 
-    ghost output = { λ words. Some (spaced (end_words words.0)) };
+    ghost output = { λ words. Some (with_blanks_between (end_words words.0)) };
 
     fn fmt<W: fmt::Write>(&self, f: &mut fmt::Formatter<W>) -> fmt::Result {
         match self.0 {

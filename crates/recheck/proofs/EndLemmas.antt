@@ -7,16 +7,16 @@ use Rattle.fc_base.specs.declared.report.ReportEnd.{ReportEnd}
 use Rattle.fc_base.specs.declared.report.ReportEnd.TheVariants.{AtFault, Whole}
 use Rattle.recheck.specs.Expected.{Expected}
 use Rattle.recheck.specs.Faults.{is_fault}
-use Rattle.recheck.specs.Report.{end_of, looked_at, report, report_of, tally, through}
+use Rattle.recheck.specs.Report.{end_of, looked_at, report, report_of, tally, up_to_first}
 use Rattle.recheck.proofs.DiskLemmas.{range_append}
 use Rattle.recheck.proofs.ReportLemmas.{through_some}
 
 -- Where none passes, nothing is cut.
-through_all : (p : ℕ → Bool) (xs : List ℕ) → length (filter p xs) ≡ 0 → through p xs ≡ xs
+through_all : (p : ℕ → Bool) (xs : List ℕ) → length (filter p xs) ≡ 0 → up_to_first p xs ≡ xs
 through_all p [] none = refl
 through_all p (x ∷ xs) none = by (p x) refl (through_all p xs)
   where
-    by : (b : Bool) → p x ≡ b → (length (filter p xs) ≡ 0 → through p xs ≡ xs) → through p (x ∷ xs) ≡ x ∷ xs
+    by : (b : Bool) → p x ≡ b → (length (filter p xs) ≡ 0 → up_to_first p xs ≡ xs) → up_to_first p (x ∷ xs) ≡ x ∷ xs
     by true e ih = let some : suc (length (filter p xs)) ≡ 0 = rw e at none in absurd cc
     by false e ih = let rest : length (filter p xs) ≡ 0 = rw e at none in rw (e, ih rest) refl
 

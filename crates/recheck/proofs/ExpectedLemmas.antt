@@ -15,7 +15,7 @@ use Rattle.fc_base.specs.NumberLaws.{filter_next, filter_not_next}
 use Rattle.write_order.specs.Blocks.{block_of}
 use Rattle.write_order.specs.Progress.{Progress, next_block}
 use Rattle.verify_state.specs.State.{State}
-use Rattle.recheck.specs.Expected.{issued_in, counts, greatest_below, last_completed, in_flight, placed, expected_by}
+use Rattle.recheck.specs.Expected.{issued_in, counts, greatest_below, last_completed, in_flight, placed_write, expected_by}
 use Rattle.recheck.specs.declared.expected.Placed.{Placed}
 use Rattle.recheck.specs.Faults.{writes_to}
 
@@ -52,7 +52,7 @@ none_found test block writes n all none =
 pub record Gone (job : JobParts) (state : Option State) (n : ℕ) (last : List (Option ℕ)) (open_writes : List Placed) : Type 0 where
   pub all : length last ≡ job.blocks
   pub each : (b : ℕ) → b < job.blocks → get_or last b None ≡ greatest_below (λ k. counts state k && eqb (block_of job k) b) n
-  pub in_flight : open_writes ≡ map (placed job) (filter (λ k. not (counts state k)) (numbers_below n))
+  pub in_flight : open_writes ≡ map (placed_write job) (filter (λ k. not (counts state k)) (numbers_below n))
 
 -- A completed write is the last one to its block.
 pub gone_counted : (job : JobParts) (state : Option State) (n : ℕ) (last : List (Option ℕ)) (open_writes : List Placed) → counts state n ≡ true → Gone job state n last open_writes → Gone job state (n + 1) (set last (block_of job n) (Some n)) open_writes
@@ -66,18 +66,18 @@ gone_counted job state n last open_writes counted gone = rw add-one (record {
         rw (counted, ne_eqb (block_of job n) b other)
         (get_or-set_other last (block_of job n) b (Some n) None (λ e. other (sym e)) ∙ gone.each b lt)
   ];
-  in_flight = gone.in_flight ∙ ap (map (placed job)) (sym (filter_not_next (λ k. not (counts state k)) n (ap not counted)));
+  in_flight = gone.in_flight ∙ ap (map (placed_write job)) (sym (filter_not_next (λ k. not (counts state k)) n (ap not counted)));
 })
 
 -- A write that isn't completed is in flight.
-pub gone_in_flight : (job : JobParts) (state : Option State) (n : ℕ) (last : List (Option ℕ)) (open_writes : List Placed) → counts state n ≡ false → Gone job state n last open_writes → Gone job state (n + 1) last (open_writes ++ placed job n ∷ [])
+pub gone_in_flight : (job : JobParts) (state : Option State) (n : ℕ) (last : List (Option ℕ)) (open_writes : List Placed) → counts state n ≡ false → Gone job state n last open_writes → Gone job state (n + 1) last (open_writes ++ placed_write job n ∷ [])
 gone_in_flight job state n last open_writes not_counted gone = rw add-one (record {
   all = gone.all;
   each = λ b lt. rw not_counted (gone.each b lt);
   in_flight =
-      ap (λ xs. xs ++ placed job n ∷ []) gone.in_flight
-      ∙ sym (map-append (placed job) (filter (λ k. not (counts state k)) (numbers_below n)) (n ∷ []))
-      ∙ ap (map (placed job)) (sym (filter_next (λ k. not (counts state k)) n (ap not not_counted)));
+      ap (λ xs. xs ++ placed_write job n ∷ []) gone.in_flight
+      ∙ sym (map-append (placed_write job) (filter (λ k. not (counts state k)) (numbers_below n)) (n ∷ []))
+      ∙ ap (map (placed_write job)) (sym (filter_next (λ k. not (counts state k)) n (ap not not_counted)));
 })
 
 -- All writes are gone through.
@@ -85,7 +85,7 @@ pub gone_all : (key : Key) (job : JobParts) (state : Option State) (n : ℕ) (la
 gone_all key job state n last open_writes is gone =
     let table : last ≡ map (last_completed job state) (range_with_len 0 job.blocks) =
     fill_by_all (last_completed job state) last job.blocks None gone.all (λ b lt. gone.each b lt ∙ ap (greatest_below (λ k. counts state k && eqb (block_of job k) b)) is) in
-    let list : open_writes ≡ map (placed job) (in_flight job state) = gone.in_flight ∙ ap (λ m. map (placed job) (filter (λ k. not (counts state k)) (numbers_below m))) is in
+    let list : open_writes ≡ map (placed_write job) (in_flight job state) = gone.in_flight ∙ ap (λ m. map (placed_write job) (filter (λ k. not (counts state k)) (numbers_below m))) is in
     rw (table, list) refl
 
 -- The next write's block.

@@ -8,7 +8,7 @@ use Rattle.fc_base.specs.Ascending.{ascends, is_block}
 use Rattle.fc_base.specs.Report.{has_counts, has_list, has_end}
 use Rattle.recheck.specs.Expected.{Expected}
 use Rattle.recheck.specs.Faults.{is_checked, is_expected, is_fault}
-use Rattle.recheck.specs.Report.{Tally, tally, through, looked_at, end_of, told, report}
+use Rattle.recheck.specs.Report.{Tally, tally, up_to_first, looked_at, end_of, report_with, report}
 use Rattle.recheck.specs.Fits.{ReportsFit}
 
 -- Numbers from low on and below high, each above the one before.
@@ -33,11 +33,11 @@ rising_take zero low high xs r = tt
 rising_take (suc n) low high [] r = tt
 rising_take (suc n) low high (x ∷ xs) r = (r.0, r.1, rising_take n (x + 1) high xs r.2)
 
-through_first : (p : ℕ → Bool) (low high x : ℕ) (xs : List ℕ) (b : Bool) → p x ≡ b → low ≤ x → x < high → Rising (x + 1) high (through p xs) → Rising low high (through p (x ∷ xs))
+through_first : (p : ℕ → Bool) (low high x : ℕ) (xs : List ℕ) (b : Bool) → p x ≡ b → low ≤ x → x < high → Rising (x + 1) high (up_to_first p xs) → Rising low high (up_to_first p (x ∷ xs))
 through_first p low high x xs true e l h r = rw e (l, h, tt)
 through_first p low high x xs false e l h r = rw e (l, h, r)
 
-rising_through : (p : ℕ → Bool) (low high : ℕ) (xs : List ℕ) → Rising low high xs → Rising low high (through p xs)
+rising_through : (p : ℕ → Bool) (low high : ℕ) (xs : List ℕ) → Rising low high xs → Rising low high (up_to_first p xs)
 rising_through p low high [] r = tt
 rising_through p low high (x ∷ xs) r = through_first p low high x xs (p x) refl r.0 r.1 (rising_through p (x + 1) high xs r.2)
 
@@ -83,11 +83,11 @@ length_take (suc n) [] = omega arith
 length_take (suc n) (x ∷ xs) = omega (arith, length_take n xs)
 
 -- Up to the first that passes at most one does.
-one_by : (p : ℕ → Bool) (x : ℕ) (xs : List ℕ) (b : Bool) → p x ≡ b → length (filter p (through p xs)) ≤ 1 → length (filter p (through p (x ∷ xs))) ≤ 1
+one_by : (p : ℕ → Bool) (x : ℕ) (xs : List ℕ) (b : Bool) → p x ≡ b → length (filter p (up_to_first p xs)) ≤ 1 → length (filter p (up_to_first p (x ∷ xs))) ≤ 1
 one_by p x xs true e rest = rw (e, e) (omega arith)
 one_by p x xs false e rest = rw (e, e) rest
 
-through_one : (p : ℕ → Bool) (xs : List ℕ) → length (filter p (through p xs)) ≤ 1
+through_one : (p : ℕ → Bool) (xs : List ℕ) → length (filter p (up_to_first p xs)) ≤ 1
 through_one p [] = omega arith
 through_one p (x ∷ xs) = one_by p x xs (p x) refl (through_one p xs)
 
@@ -96,14 +96,14 @@ rising_seen true e held n high l = rising_through (is_fault e held) 0 high (rang
 rising_seen false e held n high l = rising_range 0 n high (omega (arith, l))
 
 -- A check that ends at a fault has found one.
-found_one : (n : ℕ) (t : Tally) → t.faults ≤ 1 → (b : Bool) → nat_lt 0 t.faults ≡ b → has_end (told t (end_of true t)) ≡ true
+found_one : (n : ℕ) (t : Tally) → t.faults ≤ 1 → (b : Bool) → nat_lt 0 t.faults ≡ b → has_end (report_with t (end_of true t)) ≡ true
 found_one n t most true h = let some = ltb-true 0 t.faults h in rw h (eq-eqb t.faults 1 (omega (arith, most, some)))
 found_one n t most false h = rw h refl
 
 ends_well : (fatal : Bool) (e : Expected) (held : ℕ → List ℕ) (n : ℕ) → has_end (report fatal e held (range_with_len 0 n)) ≡ true
 ends_well false e held n = refl
 ends_well true e held n =
-    let t = tally e held (through (is_fault e held) (range_with_len 0 n)) in
+    let t = tally e held (up_to_first (is_fault e held) (range_with_len 0 n)) in
     found_one n t (through_one (is_fault e held) (range_with_len 0 n)) (nat_lt 0 t.faults) refl
 
 pub reports_fit : ReportsFit

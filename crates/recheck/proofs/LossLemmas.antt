@@ -14,7 +14,7 @@ use Rattle.fc_base.specs.NumberLaws.{filter_next, filter_not_next}
 use Rattle.write_order.specs.Blocks.{block_of}
 use Rattle.write_order.specs.Stamps.{written_bytes}
 use Rattle.verify_state.specs.State.{State}
-use Rattle.recheck.specs.Expected.{issued_in, counts, greatest_below, last_completed, placed, expected_by}
+use Rattle.recheck.specs.Expected.{issued_in, counts, greatest_below, last_completed, placed_write, expected_by}
 use Rattle.recheck.specs.declared.expected.Placed.{Placed}
 use Rattle.recheck.specs.Faults.{last_write, is_write, writes_to, is_fault}
 use Rattle.recheck.specs.Laws.{IsCompletedTo, IsLastCompleted, IsInFlightTo, Holds, HasLost}
@@ -59,16 +59,16 @@ greatest_none test (suc n) j e lt passes = by (test n) refl (greatest_none test 
 
 -- A write of those in flight among the first n that goes to the block and passes.
 abbrev flight : JobParts → Option State → ℕ → List Placed
-flight job state n = map (placed job) (filter (λ k. not (counts state k)) (numbers_below n))
+flight job state n = map (placed_write job) (filter (λ k. not (counts state k)) (numbers_below n))
 
-flight_next : (job : JobParts) (state : Option State) (n : ℕ) → counts state n ≡ false → flight job state (suc n) ≡ flight job state n ++ placed job n ∷ []
+flight_next : (job : JobParts) (state : Option State) (n : ℕ) → counts state n ≡ false → flight job state (suc n) ≡ flight job state n ++ placed_write job n ∷ []
 flight_next job state n out =
-    ap (map (placed job)) (filter_next (λ k. not (counts state k)) n (ap not out))
-    ∙ map-append (placed job) (filter (λ k. not (counts state k)) (numbers_below n)) (n ∷ [])
+    ap (map (placed_write job)) (filter_next (λ k. not (counts state k)) n (ap not out))
+    ∙ map-append (placed_write job) (filter (λ k. not (counts state k)) (numbers_below n)) (n ∷ [])
 
 flight_not_next : (job : JobParts) (state : Option State) (n : ℕ) → counts state n ≡ true → flight job state (suc n) ≡ flight job state n
 flight_not_next job state n counted =
-    ap (map (placed job)) (filter_not_next (λ k. not (counts state k)) n (ap not counted))
+    ap (map (placed_write job)) (filter_not_next (λ k. not (counts state k)) n (ap not counted))
 
 record Passes (job : JobParts) (state : Option State) (test : ℕ → Bool) (block n : ℕ) : Type 0 where
   pub write : ℕ
@@ -93,7 +93,7 @@ some_passes job state test block (suc n) e = by (counts state n) refl (some_pass
       passes = p.passes;
     }
 
-    at_last : (b : Bool) → goes_to test block (placed job n) ≡ b → counts state n ≡ false → (list_any (goes_to test block) (flight job state n) || (b || false)) ≡ true → (list_any (goes_to test block) (flight job state n) ≡ true → Passes job state test block n) → Passes job state test block (suc n)
+    at_last : (b : Bool) → goes_to test block (placed_write job n) ≡ b → counts state n ≡ false → (list_any (goes_to test block) (flight job state n) || (b || false)) ≡ true → (list_any (goes_to test block) (flight job state n) ≡ true → Passes job state test block n) → Passes job state test block (suc n)
     at_last true is out any ih =
         let parts = and_parts (eqb (block_of job n) block) (test n) is in
         record { write = n; below = omega arith; uncounted = out; goes = eqb-true (block_of job n) block parts.0; passes = parts.1 }
@@ -106,15 +106,15 @@ some_passes job state test block (suc n) e = by (counts state n) refl (some_pass
     by : (b : Bool) → counts state n ≡ b → (list_any (goes_to test block) (flight job state n) ≡ true → Passes job state test block n) → Passes job state test block (suc n)
     by true is ih = one_more (ih (ap (list_any (goes_to test block)) (sym (flight_not_next job state n is)) ∙ e))
     by false is ih =
-        at_last (goes_to test block (placed job n)) refl is
-        (sym (list_any-append (goes_to test block) (flight job state n) (placed job n ∷ [])) ∙ ap (list_any (goes_to test block)) (sym (flight_next job state n is)) ∙ e) ih
+        at_last (goes_to test block (placed_write job n)) refl is
+        (sym (list_any-append (goes_to test block) (flight job state n) (placed_write job n ∷ [])) ∙ ap (list_any (goes_to test block)) (sym (flight_next job state n is)) ∙ e) ih
 
 passes_some : (job : JobParts) (state : Option State) (test : ℕ → Bool) (block n k : ℕ) → k < n → counts state k ≡ false → block_of job k ≡ block → test k ≡ true → list_any (goes_to test block) (flight job state n) ≡ true
 passes_some job state test block zero k lt out at passes = absurd (omega arith)
 passes_some job state test block (suc n) k lt out at passes =
     by (counts state n) refl (passes_some job state test block n k)
   where
-    here : k ≡ n → goes_to test block (placed job n) ≡ true
+    here : k ≡ n → goes_to test block (placed_write job n) ≡ true
     here same = rw (← same, eq-eqb (block_of job k) block at, passes) refl
 
     by : (b : Bool) → counts state n ≡ b → (k < n → counts state k ≡ false → block_of job k ≡ block → test k ≡ true → list_any (goes_to test block) (flight job state n) ≡ true) → list_any (goes_to test block) (flight job state (suc n)) ≡ true
@@ -123,10 +123,10 @@ passes_some job state test block (suc n) k lt out at passes =
       | inr other ↦ ap (list_any (goes_to test block)) (flight_not_next job state n is) ∙ ih (omega arith) out at passes
     ]
     by false is ih =
-        let split = ap (list_any (goes_to test block)) (flight_next job state n is) ∙ list_any-append (goes_to test block) (flight job state n) (placed job n ∷ []) in
+        let split = ap (list_any (goes_to test block)) (flight_next job state n is) ∙ list_any-append (goes_to test block) (flight job state n) (placed_write job n ∷ []) in
         elim (cases_eq k n) [
           | inl same ↦
-              let last : (goes_to test block (placed job n) || false) ≡ true = ap (λ b. b || false) (here same) in
+              let last : (goes_to test block (placed_write job n) || false) ≡ true = ap (λ b. b || false) (here same) in
               split ∙ or_right (list_any (goes_to test block) (flight job state n)) _ last
           | inr other ↦ split ∙ or_left (list_any (goes_to test block) (flight job state n)) _ (ih (omega arith) out at passes)
         ]

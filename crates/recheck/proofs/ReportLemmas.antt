@@ -7,7 +7,7 @@ use Rattle.std.proofs.lemmas.List.Elements.{filter-append}
 use Rattle.recheck.specs.declared.verdict.Verdict.TheVariants as verdicts
 use Rattle.recheck.specs.Expected.{Expected}
 use Rattle.recheck.specs.Faults.{is_checked, is_expected, is_fault, verdict}
-use Rattle.recheck.specs.Report.{tally, through}
+use Rattle.recheck.specs.Report.{tally, up_to_first}
 use Rattle.recheck.specs.Check.{Check, with_verdict, has_ended, HasSeen}
 
 pub filter_in : (p : ℕ → Bool) (xs : List ℕ) (x : ℕ) → p x ≡ true → filter p (xs ++ x ∷ []) ≡ filter p xs ++ x ∷ []
@@ -41,20 +41,20 @@ tally_more e held xs x = by (is_checked e x) (is_expected e x (held x)) refl ref
         rw (filter_in (is_checked e) xs x c_is, filter_in (is_fault e held) xs x faulty, length_push (filter (is_checked e) xs) x, length_push (filter (is_fault e held) xs) x, first_more (filter (is_fault e held) xs) x) refl
 
 -- Where none passes, nothing is cut behind the next one.
-pub through_none : (p : ℕ → Bool) (xs : List ℕ) (x : ℕ) → length (filter p xs) ≡ 0 → through p (xs ++ x ∷ []) ≡ xs ++ x ∷ []
+pub through_none : (p : ℕ → Bool) (xs : List ℕ) (x : ℕ) → length (filter p xs) ≡ 0 → up_to_first p (xs ++ x ∷ []) ≡ xs ++ x ∷ []
 through_none p [] x none = elim (cases_Bool (p x)) [ inl t ↦ rw t refl | inr f ↦ rw f refl ]
 through_none p (y ∷ ys) x none = by (p y) refl (through_none p ys x)
   where
-    by : (b : Bool) → p y ≡ b → (length (filter p ys) ≡ 0 → through p (ys ++ x ∷ []) ≡ ys ++ x ∷ []) → through p (y ∷ ys ++ x ∷ []) ≡ y ∷ ys ++ x ∷ []
+    by : (b : Bool) → p y ≡ b → (length (filter p ys) ≡ 0 → up_to_first p (ys ++ x ∷ []) ≡ ys ++ x ∷ []) → up_to_first p (y ∷ ys ++ x ∷ []) ≡ y ∷ ys ++ x ∷ []
     by true e ih = let some : suc (length (filter p ys)) ≡ 0 = rw e at none in absurd cc
     by false e ih = let rest : length (filter p ys) ≡ 0 = rw e at none in rw (e, ih rest) refl
 
 -- Behind one that passes all is cut.
-pub through_some : (p : ℕ → Bool) (xs ys : List ℕ) → 0 < length (filter p xs) → through p (xs ++ ys) ≡ through p xs
+pub through_some : (p : ℕ → Bool) (xs ys : List ℕ) → 0 < length (filter p xs) → up_to_first p (xs ++ ys) ≡ up_to_first p xs
 through_some p [] ys some = absurd (omega arith)
 through_some p (x ∷ xs) ys some = by (p x) refl (through_some p xs ys)
   where
-    by : (b : Bool) → p x ≡ b → (0 < length (filter p xs) → through p (xs ++ ys) ≡ through p xs) → through p (x ∷ xs ++ ys) ≡ through p (x ∷ xs)
+    by : (b : Bool) → p x ≡ b → (0 < length (filter p xs) → up_to_first p (xs ++ ys) ≡ up_to_first p xs) → up_to_first p (x ∷ xs ++ ys) ≡ up_to_first p (x ∷ xs)
     by true e ih = rw e refl
     by false e ih = let rest : 0 < length (filter p xs) = rw e at some in rw (e, ih rest) refl
 

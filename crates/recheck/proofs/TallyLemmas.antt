@@ -11,7 +11,7 @@ use Rattle.fc_base.specs.Report.{has_counts, has_list, has_end, is_report}
 use Rattle.fc_base.specs.declared.report.ReportParts.{ReportParts}
 use Rattle.fc_base.specs.declared.report.ReportEnd.{ReportEnd}
 use Rattle.fc_base.specs.declared.report.ReportEnd.TheVariants.{Whole, AtFault, ReadFault}
-use Rattle.recheck.specs.Report.{Tally, can_end, told}
+use Rattle.recheck.specs.Report.{Tally, can_end, report_with}
 use Rattle.recheck.specs.Tally.{Noted}
 
 -- Behind an ascending list of numbers below a bound comes one that isn't below it.
@@ -59,7 +59,7 @@ listed_more faults next block first le kept = elim (cases_lt (length first) MAX_
       })
 ]
 
-told_whole : (found : Tally) (end : ReportEnd) → can_end found end ≡ true → has_end (told found end) ≡ true
+told_whole : (found : Tally) (end : ReportEnd) → can_end found end ≡ true → has_end (report_with found end) ≡ true
 told_whole found Whole e = refl
 told_whole found AtFault e = e
 told_whole found (ReadFault block) e = e
@@ -67,7 +67,7 @@ told_whole found (ReadFault block) e = e
 -- A tally's numbers make a report.
 pub told_by : (noted : Noted) (next checked faults : ℕ) (first items : List ℕ) (end : ReportEnd) (answer : Result ReportParts ReportParts) →
     record { next = next; found = record { checked = checked; faults = faults; first = items } } ≡ noted → first ≡ items → next ≤ MAX_BLOCKS → checked ≤ next → faults ≤ checked → Listed faults next items → can_end noted.found end ≡ true →
-    answer ≡ (if is_report (record { checked = checked; faults = faults; first = first; end = end }) then Ok (record { checked = checked; faults = faults; first = first; end = end }) else Err (record { checked = checked; faults = faults; first = first; end = end })) → answer ≡ Ok (told noted.found end)
+    answer ≡ (if is_report (record { checked = checked; faults = faults; first = first; end = end }) then Ok (record { checked = checked; faults = faults; first = first; end = end }) else Err (record { checked = checked; faults = faults; first = first; end = end })) → answer ≡ Ok (report_with noted.found end)
 told_by noted next checked faults first items end answer is same below few fewer listed can made =
     let parts : ReportParts = record { checked = checked; faults = faults; first = items; end = end } in
     let found : Tally = record { checked = checked; faults = faults; first = items } in
@@ -77,4 +77,4 @@ told_by noted next checked faults first items end answer is same below few fewer
     let ends : has_end parts ≡ true = told_whole found end (ap (λ n. can_end n.found end) is ∙ can) in
     let good : is_report parts ≡ true = rw (counts, list, ends) refl in
     let answered = (rw (same, good) at made) in
-    answered ∙ ap (λ n. Ok (told n.found end)) is
+    answered ∙ ap (λ n. Ok (report_with n.found end)) is

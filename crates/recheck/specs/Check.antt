@@ -39,8 +39,8 @@ with_verdict found block verdicts.Fault = record {
 }
 
 -- The check once this was found at a block.
-abbrev pub after : Check → ℕ → Verdict → Check
-after check block seen =
+abbrev pub with_block_checked : Check → ℕ → Verdict → Check
+with_block_checked check block seen =
     record check { next = block + 1; found = with_verdict check.found block seen }
 
 -- A check has ended where a fault is fatal and one was found.

@@ -33,8 +33,8 @@ abbrev pub in_flight : JobParts → Option State → List ℕ
 in_flight job state = filter (λ k. not (counts state k)) (numbers_below (issued_in job state))
 
 -- A write and its block.
-abbrev pub placed : JobParts → ℕ → Placed
-placed job k = record { seq = k; block = block_of job k }
+abbrev pub placed_write : JobParts → ℕ → Placed
+placed_write job k = record { seq = k; block = block_of job k }
 
 -- What a check goes by: whose blocks they are and by which job, the last completed write to each of
 -- them, and the writes in flight with their blocks.
@@ -50,5 +50,5 @@ expected_by key job state = record {
   key = key;
   job = job;
   last = map (last_completed job state) (range_with_len 0 job.blocks);
-  in_flight = map (placed job) (in_flight job state);
+  in_flight = map (placed_write job) (in_flight job state);
 }

@@ -23,25 +23,25 @@ tally e held blocks = record {
 }
 
 -- The numbers up to and with the first that passes, or all where none does.
-abbrev pub through : (ℕ → Bool) → List ℕ → List ℕ
-through test [] = []
-through test (n ∷ ns) = if test n then n ∷ [] else n ∷ through test ns
+abbrev pub up_to_first : (ℕ → Bool) → List ℕ → List ℕ
+up_to_first test [] = []
+up_to_first test (n ∷ ns) = if test n then n ∷ [] else n ∷ up_to_first test ns
 
 -- The blocks that are looked at: where a fault is fatal, none behind the first fault.
 abbrev pub looked_at : Bool → Expected → (ℕ → List ℕ) → List ℕ → List ℕ
-looked_at fatal e held blocks = if fatal then through (is_fault e held) blocks else blocks
+looked_at fatal e held blocks = if fatal then up_to_first (is_fault e held) blocks else blocks
 
 -- A check ends at a fault where that is fatal.
 abbrev pub end_of : Bool → Tally → ReportEnd
 end_of fatal found = if fatal && nat_lt 0 found.faults then AtFault else Whole
 
 -- The report that tells this tally and this end.
-abbrev pub told : Tally → ReportEnd → ReportParts
-told found end = record { checked = found.checked; faults = found.faults; first = found.first; end = end }
+abbrev pub report_with : Tally → ReportEnd → ReportParts
+report_with found end = record { checked = found.checked; faults = found.faults; first = found.first; end = end }
 
 -- The report of a tally.
 abbrev pub report_of : Bool → Tally → ReportParts
-report_of fatal found = told found (end_of fatal found)
+report_of fatal found = report_with found (end_of fatal found)
 
 -- The report of these blocks.
 abbrev pub report : Bool → Expected → (ℕ → List ℕ) → List ℕ → ReportParts

@@ -3,9 +3,9 @@
 ghost use Rattle.std.specs.Prelude.{◌≡◌, ℕ, ◌<◌, ◌≤◌, List, [], ◌∷◌, ◌++◌, length, false};
 ghost use Rattle.std.specs.Option.{option_copied};
 ghost use Rattle.fc_base.specs.Ascending.{is_block};
-ghost use Rattle.recheck.specs.Check.{after, has_ended, FitsIfAny, HasSeen, Starts};
+ghost use Rattle.recheck.specs.Check.{with_block_checked, has_ended, FitsIfAny, HasSeen, Starts};
 ghost use Rattle.recheck.specs.Faults.{is_checked, verdict};
-ghost use Rattle.recheck.specs.Report.{can_end, report, report_of, told};
+ghost use Rattle.recheck.specs.Report.{can_end, report, report_of, report_with};
 
 use crate::expected::Expected;
 use crate::tally::Tally;
@@ -85,7 +85,7 @@ impl Recheck {
         requires bytes { length bytes.now ≡ self.old.expected.job.bs }
         requires unended { has_ended self.old ≡ false }
         ensures verdict { result ≡ verdict self.old.expected block bytes.now }
-        ensures left { self.new ≡ after self.old block result }
+        ensures left { self.new ≡ with_block_checked self.old block result }
         // Whatever the content that the earlier blocks are of, if this one is of it too.
         ensures seen { (held : ℕ → List ℕ) (blocks : List ℕ) → held block ≡ bytes.now
             → HasSeen self.old held blocks → HasSeen self.new held (blocks ++ block ∷ []) }
@@ -124,7 +124,7 @@ impl Recheck {
     /// The report of the blocks that came, where this one could not be read. It takes no memory.
     pub fn finish_at(self, block: u32) -> CheckReport
         requires { block < MAX_BLOCKS }
-        ensures { result ≡ told self.found (ReportEnd.ReadFault block) }
+        ensures { result ≡ report_with self.found (ReportEnd.ReadFault block) }
     {
         let Recheck {
             expected: _,

@@ -2,7 +2,7 @@
 
 ghost use Rattle.std.specs.Prelude.{◌≡◌, ◌+◌, ◌≤◌, ◌<◌, IsTrue, [], ◌∷◌, ◌++◌, length, take};
 ghost use Rattle.recheck.specs.Check.{with_verdict, nothing};
-ghost use Rattle.recheck.specs.Report.{told, can_end};
+ghost use Rattle.recheck.specs.Report.{report_with, can_end};
 
 use crate::verdict::Verdict;
 use fc_base::{Blocks, CheckReport, MAX_BLOCKS, MAX_LISTED, ReportEnd, ReportParts};
@@ -48,7 +48,8 @@ impl Tally {
     pub fn note(&mut self, block: u32, verdict: Verdict)
         requires next { self.old.next ≤ block }
         requires range { block < MAX_BLOCKS }
-        ensures { self.new ≡ record { next = block + 1; found = with_verdict self.old.found block verdict } }
+        ensures { self.new
+            ≡ record { next = block + 1; found = with_verdict self.old.found block verdict } }
     {
         self.next = block + 1;
         match verdict {
@@ -72,7 +73,7 @@ impl Tally {
     /// The report of these blocks, for a check that ended so.
     pub fn into_report(self, end: ReportEnd) -> CheckReport
         requires { IsTrue (can_end self.found end) }
-        ensures { result ≡ told self.found end }
+        ensures { result ≡ report_with self.found end }
     {
         let Tally {
             next: _,

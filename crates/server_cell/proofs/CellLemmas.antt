@@ -9,16 +9,16 @@ use Rattle.server_core.specs.declared.note.Noted.{Noted}
 use Rattle.server_core.specs.declared.server.Server.{Server}
 use Rattle.server_core.specs.declared.status.Status.{Status}
 use Rattle.server_core.specs.History.{Opening}
-use Rattle.server_core.specs.Answers.{looked, status}
+use Rattle.server_core.specs.Answers.{shown_entries, status}
 use Rattle.server_core.specs.Hearing.{FrameEntry, Restart, packets_heard}
 use Rattle.server_core.specs.FrameEnds.{StandsFor, Restarts}
 use Rattle.node_history.specs.declared.logged.Logged.{Logged}
 use Rattle.node_history.specs.declared.came.Came.{Came}
 use Rattle.node_history.specs.declared.answer.Said.{Said}
-use Rattle.node_history.specs.declared.answer.Told.{Told}
+use Rattle.node_history.specs.declared.answer.CallerAnswer.{CallerAnswer}
 use Rattle.node_history.specs.declared.logged.Turn.{Turn}
 use Rattle.server_cell.specs.Seated.{Seated}
-use Rattle.node_history.specs.ServerRules.{asked}
+use Rattle.node_history.specs.ServerRules.{ask_of}
 use Rattle.node_history.specs.AtHub.{lacks_memory, told_by}
 use Rattle.node_history.specs.Failures.{Counts}
 use Rattle.node_history.specs.Moves.{Moves}
@@ -49,10 +49,10 @@ opening_by me n = record { me = me; boot = n.boot; last = n.last_run }
 pub opened_once : {T : Type 0} (note : T → Note) (me : ℕ) (notes : T) (server : Server T) (h : Restarts note me notes server) → StandsFor note server (opening_by me h.said) first
 opened_once note me notes server h = h.stands (opening_by me h.said) [] refl h.says
 
-pub boot_is : (o : Opening) (shown : Status) → shown ≡ status o (looked (packets_heard o first)) → shown.boot ≡ o.boot + 1
+pub boot_is : (o : Opening) (shown : Status) → shown ≡ status o (shown_entries (packets_heard o first)) → shown.boot ≡ o.boot + 1
 boot_is o shown h = ap (λ (s : Status). s.boot) h
 
-pub last_is : (o : Opening) (shown : Status) → shown ≡ status o (looked (packets_heard o first)) → shown.last_run ≡ o.last
+pub last_is : (o : Opening) (shown : Status) → shown ≡ status o (shown_entries (packets_heard o first)) → shown.last_run ≡ o.last
 last_is o shown h = ap (λ (s : Status). s.last_run) h
 
 pub one_at_least : (a b : ℕ) → a ≡ b + 1 → 1 ≤ a
@@ -134,7 +134,7 @@ is_next log seat right = eqb-true seat.applied (times seat.number log.history) (
 
 -- What was asked is entered.
 pub entered : {T : Type 0} (note : T → Note) (o : Opening) (power new : Power (Server T) T) (history : List Logged) (applied : List ℕ) (failures : ℕ) (seat : Seated) (task : Task) (answer : Result Said Fault) → (cell : IsCell note o power history applied) → is_right (record { opening = o; history = history; failures = failures }) seat ≡ true → seat.number < 17
-    → Moves (ways note o) cell.kept.past (asked (came_by task)) answer [] new → IsCell note o new (entry_of seat task answer ∷ history) (slice_set applied seat.number (slice_index_or applied seat.number 0 + 1))
+    → Moves (ways note o) cell.kept.past (ask_of (came_by task)) answer [] new → IsCell note o new (entry_of seat task answer ∷ history) (slice_set applied seat.number (slice_index_or applied seat.number 0 + 1))
 entered note o power new history applied failures seat task answer cell right few m = record {
   kept = kept_more (ways note o) history power new cell.kept _ (came_by task) answer [] m;
   numbered = (cell.numbered, is_next (record { opening = o; history = history; failures = failures }) seat right);
@@ -143,7 +143,7 @@ entered note o power new history applied failures seat task answer cell right fe
 }
 
 pub replayed : {T : Type 0} (note : T → Note) (o : Opening) {power new : Power (Server T) T} {history : List Logged} {applied : List ℕ} (cell : IsCell note o power history applied) (failures : ℕ) (seat : Seated) (task : Task) (answer : Result Said Fault) → is_right (record { opening = o; history = history; failures = failures }) seat ≡ true
-    → Moves (ways note o) cell.kept.past (asked (came_by task)) answer [] new → (past : List FrameEntry) × Replays o (entry_of seat task answer ∷ history) past
+    → Moves (ways note o) cell.kept.past (ask_of (came_by task)) answer [] new → (past : List FrameEntry) × Replays o (entry_of seat task answer ∷ history) past
 replayed note o {history = history} cell failures seat task answer right m = (
   m.after,
   record { numbered = (cell.numbered, is_next (record { opening = o; history = history; failures = failures }) seat right); made = (cell.kept.past, cell.kept.made, m.ends) },
@@ -154,7 +154,7 @@ seat_fits items cell seat right is small =
     omega (arith, is_next cell seat right, times_few seat.number cell.history, ap length is, length-reverse items, small)
 
 -- So a call ends that was entered.
-pub applied : (old : ServerLog) (seat : Seated) (task : Task) (answer : Result Said Fault) (new : ServerLog) (after : Seated) (result : Result Told Fault) → is_right old seat ≡ true → lacks_memory answer ≡ false → new.opening ≡ old.opening → new.history ≡ entry_of seat task answer ∷ old.history
+pub applied : (old : ServerLog) (seat : Seated) (task : Task) (answer : Result Said Fault) (new : ServerLog) (after : Seated) (result : Result CallerAnswer Fault) → is_right old seat ≡ true → lacks_memory answer ≡ false → new.opening ≡ old.opening → new.history ≡ entry_of seat task answer ∷ old.history
     → Counts (loads_note task) old.failures new.failures answer → after ≡ record { server = seat.server; number = seat.number; applied = seat.applied + 1; last = Some answer } → result ≡ told_by answer → Applies old seat task new after result
 applied old seat task answer new after result right kept opening history counted seat_is told =
     subst (λ b. AppliesBy b old seat task new after result) (sym right)

@@ -20,19 +20,19 @@ use Rattle.server_core.specs.History.{Opening}
 use Rattle.server_core.specs.Laws.{PacketsAreInRange}
 use Rattle.server_core.specs.Ranges.{OpensInRange, CameInRange}
 use Rattle.server_core.specs.Hearing.{FrameEntry, packets_heard}
-use Rattle.server_core.specs.FrameAnswers.{answered, entry_heard, frames_by}
+use Rattle.server_core.specs.FrameAnswers.{answered_entry, entry_heard, frames_by}
 use Rattle.node_history.specs.declared.came.Came.{Came}
 use Rattle.node_history.specs.declared.logged.Logged.{Logged}
 use Rattle.node_history.specs.AtHub.{is_left_out, Hears}
 use Rattle.node_history.specs.Calls.{is_off}
 use Rattle.node_history.specs.Moves.{IsKept, StepEnds, outcome_of}
 use Rattle.node_history.specs.Rules.{Meets}
-use Rattle.node_history.specs.ServerRules.{asked, rules, is_up}
+use Rattle.node_history.specs.ServerRules.{ask_of, rules, is_up}
 use Rattle.node_history.proofs.HubLemmas.{heard, packets_spelled, sent_spelled as spelled_by}
 use Rattle.node_history.proofs.MoveLemmas.{off_where}
 use Rattle.node_history.specs.declared.power.Power.{Power}
 use Rattle.server_cell.specs.Cells.{Replays, IsCell}
-use Rattle.server_cell.specs.Stands.{given, ways}
+use Rattle.server_cell.specs.Stands.{reply_and_frames, ways}
 use Rattle.messages.specs.declared.node.Node.{Node}
 use Rattle.hub.specs.Network.{Network}
 
@@ -41,7 +41,7 @@ use Rattle.hub.specs.Network.{Network}
 none_short : AreShort []
 none_short = record { few = omega arith; short = All-nil (λ (frame : List ℕ). length frame ≤ 1073) }
 
-pub short : {T : Type 0} (note : T → Note) (o : Opening) (past : List FrameEntry) (e : Input) (new : Power (Server T) T) (step : Result Outs Fault) → OpensInRange o → CameInRange (packets_heard o past) → StepEnds (ways note o) past e new (given step) → AreShort (outcome_of (given step)).1
+pub short : {T : Type 0} (note : T → Note) (o : Opening) (past : List FrameEntry) (e : Input) (new : Power (Server T) T) (step : Result Outs Fault) → OpensInRange o → CameInRange (packets_heard o past) → StepEnds (ways note o) past e new (reply_and_frames step) → AreShort (outcome_of (reply_and_frames step)).1
 short note o past e new (Ok outs) i h f = f.short i h
 short note o past e new (Err fault) i h f = none_short
 
@@ -58,27 +58,27 @@ by_entry : FramesAreSpelled → PacketsAreInRange → (o : Opening) (past : List
 by_entry law ranges o past i None came = All-nil IsSpelled
 by_entry law ranges o past i (Some x) came = packets_spelled law (packets o past x) (ranges o past x i (came x refl))
 
-pub sent_spelled : {T : Type 0} (note : T → Note) (o : Opening) (past : List FrameEntry) (e : Input) (new : Power (Server T) T) (step : Result Outs Fault) → FramesAreSpelled → PacketsAreInRange → OpensInRange o → CameInRange (packets_heard o past) → StepEnds (ways note o) past e new (given step) → All IsSpelled (outcome_of (given step)).1
+pub sent_spelled : {T : Type 0} (note : T → Note) (o : Opening) (past : List FrameEntry) (e : Input) (new : Power (Server T) T) (step : Result Outs Fault) → FramesAreSpelled → PacketsAreInRange → OpensInRange o → CameInRange (packets_heard o past) → StepEnds (ways note o) past e new (reply_and_frames step) → All IsSpelled (outcome_of (reply_and_frames step)).1
 sent_spelled note o past e new step law ranges i h f =
-    spelled_by (ways note o) past e (answered o past e) new (given step) refl h
-    (λ came. by_entry law ranges o (packets_heard o past) i (entry_heard o past (answered o past e)) (λ x is. subst (λ (y : Option history.Entry). CameInRange (with_entry y (packets_heard o past))) is came)) f
+    spelled_by (ways note o) past e (answered_entry o past e) new (reply_and_frames step) refl h
+    (λ came. by_entry law ranges o (packets_heard o past) i (entry_heard o past (answered_entry o past e)) (λ x is. subst (λ (y : Option history.Entry). CameInRange (with_entry y (packets_heard o past))) is came)) f
 
 -- ---- what came is entered
 
-pub heard_cell : {T : Type 0} (note : T → Note) (o : Opening) (power new : Power (Server T) T) (before after : List Logged) (applied : List ℕ) (cell : IsCell note o power before applied) (e : Input) (step : Result Outs Fault) (node : Node) (came : Came) (taken : Option ℕ) (net net' : Network) → asked came ≡ Meets e
-    → StepEnds (ways note o) cell.kept.past e new (given step) → Hears (is_left_out (outcome_of (given step)).0) node came taken (outcome_of (given step)).0 (outcome_of (given step)).1 net net' before after → IsCell note o new after applied
-heard_cell note o power new before after applied cell e step node came taken net net' asks f h = by_test (is_left_out (outcome_of (given step)).0) h
+pub heard_cell : {T : Type 0} (note : T → Note) (o : Opening) (power new : Power (Server T) T) (before after : List Logged) (applied : List ℕ) (cell : IsCell note o power before applied) (e : Input) (step : Result Outs Fault) (node : Node) (came : Came) (taken : Option ℕ) (net net' : Network) → ask_of came ≡ Meets e
+    → StepEnds (ways note o) cell.kept.past e new (reply_and_frames step) → Hears (is_left_out (outcome_of (reply_and_frames step)).0) node came taken (outcome_of (reply_and_frames step)).0 (outcome_of (reply_and_frames step)).1 net net' before after → IsCell note o new after applied
+heard_cell note o power new before after applied cell e step node came taken net net' asks f h = by_test (is_left_out (outcome_of (reply_and_frames step)).0) h
   where
     kept : IsKept (ways note o) after new
-    kept = heard (ways note o) before after power new cell.kept e (given step) node came taken net net' asks f h
+    kept = heard (ways note o) before after power new cell.kept e (reply_and_frames step) node came taken net net' asks f h
 
     same : after ≡ before → IsCell note o new after applied
     same is = record { kept = kept; numbered = rw is cell.numbered; opens = cell.opens; counted = rw is cell.counted }
 
-    more : after ≡ record { by = None; came = came; answer = (outcome_of (given step)).0; sent = (outcome_of (given step)).1 } ∷ before → IsCell note o new after applied
+    more : after ≡ record { by = None; came = came; answer = (outcome_of (reply_and_frames step)).0; sent = (outcome_of (reply_and_frames step)).1 } ∷ before → IsCell note o new after applied
     more is = record { kept = kept; numbered = rw is (cell.numbered, tt); opens = cell.opens; counted = rw is (record { long = cell.counted.long; each = cell.counted.each }) }
 
-    by_test : (b : Bool) → Hears b node came taken (outcome_of (given step)).0 (outcome_of (given step)).1 net net' before after → IsCell note o new after applied
+    by_test : (b : Bool) → Hears b node came taken (outcome_of (reply_and_frames step)).0 (outcome_of (reply_and_frames step)).1 net net' before after → IsCell note o new after applied
     by_test true h = same h.history
     by_test false h = more h.entry
 

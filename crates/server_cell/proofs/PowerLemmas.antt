@@ -43,7 +43,7 @@ use Rattle.node_history.specs.Rules.{Meets}
 use Rattle.node_history.specs.ServerRules.{is_up, left_by}
 use Rattle.node_history.proofs.MoveLemmas.{up, refused, refused_step, lost, left_is, silent, no_load}
 use Rattle.node_history.proofs.MoveLemmas as moves
-use Rattle.server_cell.specs.Stands.{given, ways, Stands}
+use Rattle.server_cell.specs.Stands.{reply_and_frames, ways, Stands}
 
 -- ---- what came stays within its ranges
 
@@ -63,14 +63,14 @@ came_after o past (inputs.CheckDone now a j report) left h came = (h, came)
 -- ---- a step
 
 answers_step : {T : Type 0} (note : T → Note) (o : Opening) (past : List FrameEntry) (e : Input) (old server : Server T) (outs : Outs) → is_up o past ≡ true
-    → steps.Answers (ends.steps note o) past e old server outs → SenseInRange (sense o past e) → StepEnds (ways note o) past e (On server) (given (Ok outs))
+    → steps.Answers (ends.steps note o) past e old server outs → SenseInRange (sense o past e) → StepEnds (ways note o) past e (On server) (reply_and_frames (Ok outs))
 answers_step note o past e old server outs on a h = record {
   moves = record {
-    after = answers.answered o past e ∷ past;
+    after = answers.answered_entry o past e ∷ past;
     ends = record {
       free = up (is_up o past) (answers.refusal o past e) (Some NodeOff) on ∙ a.free;
       said_is = rw (a.sends.issue_is, a.sends.act_is) refl;
-      entry = answers.answered o past e;
+      entry = answers.answered_entry o past e;
       entry_is = refl;
       sent_are = a.sends.frames_are;
       after_is = refl;
@@ -81,7 +81,7 @@ answers_step note o past e old server outs on a h = record {
   short = a.sends.short;
 }
 
-no_drop : (o : Opening) (past : List FrameEntry) (s : Sense) (fault : Fault) → answers.refusal_in o (packets_heard o past) s ≡ Some fault → (fault ≡ FrameBadField → ⊥) → is_drop s ≡ false
+no_drop : (o : Opening) (past : List FrameEntry) (s : Sense) (fault : Fault) → answers.refusal_of_sense o (packets_heard o past) s ≡ Some fault → (fault ≡ FrameBadField → ⊥) → is_drop s ≡ false
 no_drop o past (Hears e) fault h k = refl
 no_drop o past (Keeps q) fault h k = refl
 no_drop o past (Drops q) fault h k = absurd (k (same FrameBadField fault h))
@@ -103,7 +103,7 @@ faults_step note o past e old server fault on sorts.Refusal f h is =
 
 -- A server that is on takes what comes.
 pub step_ends : {T : Type 0} (note : T → Note) (o : Opening) (past : List FrameEntry) (e : Input) (old server : Server T) (result : Result Outs Fault) → is_up o past ≡ true
-    → steps.Ends (ends.steps note o) past e old server result → HearsInRange o past e result → StepEnds (ways note o) past e (On server) (given result)
+    → steps.Ends (ends.steps note o) past e old server result → HearsInRange o past e result → StepEnds (ways note o) past e (On server) (reply_and_frames result)
 step_ends note o past e old server (Ok outs) on a h = answers_step note o past e old server outs on a h
 step_ends note o past e old server (Err fault) on f h = faults_step note o past e old server fault on (sort_of fault) f h refl
 
@@ -118,24 +118,24 @@ none_sent lost (Some fault) = refl
 none_sent true None = refl
 none_sent false None = refl
 
-issue_sends_none : (o : Opening) (past : List FrameEntry) (j : ℕ) → map frame_spelling (answers.frames o past (answers.answered o past (inputs.Issue j))) ≡ []
+issue_sends_none : (o : Opening) (past : List FrameEntry) (j : ℕ) → map frame_spelling (answers.frames o past (answers.answered_entry o past (inputs.Issue j))) ≡ []
 issue_sends_none o past j =
     ap (λ bodies. map frame_spelling (flat_map frames_of (to_client o.me bodies))) (none_sent (is_lost (saved_for (answers.due o past (inputs.Issue j)))) (refusal o (packets_heard o past) (events.Issue j)))
 
-end_sends_none : (o : Opening) (past : List FrameEntry) (ticket : Ticket) (end : WriteEnd) → map frame_spelling (answers.frames o past (answers.answered o past (inputs.WriteDone ticket end))) ≡ []
+end_sends_none : (o : Opening) (past : List FrameEntry) (ticket : Ticket) (end : WriteEnd) → map frame_spelling (answers.frames o past (answers.answered_entry o past (inputs.WriteDone ticket end))) ≡ []
 end_sends_none o past ticket end =
     ap (λ bodies. map frame_spelling (flat_map frames_of (to_client o.me bodies))) (none_sent (is_lost (saved_for (answers.due o past (inputs.WriteDone ticket end)))) (refusal o (packets_heard o past) (events.WriteDone ticket end)))
 
-pub issue_task : {T : Type 0} (note : T → Note) (o : Opening) (past : List FrameEntry) (j : ℕ) (new : Power (Server T) T) (result : Result Outs Fault) → StepEnds (ways note o) past (inputs.Issue j) new (given result) → TaskEnds (ways note o) past (Meets (inputs.Issue j)) new (answer_of (given result))
-issue_task note o past j new result h = silent (ways note o) past (inputs.Issue j) _ new (given result) refl (issue_sends_none o past j) h
+pub issue_task : {T : Type 0} (note : T → Note) (o : Opening) (past : List FrameEntry) (j : ℕ) (new : Power (Server T) T) (result : Result Outs Fault) → StepEnds (ways note o) past (inputs.Issue j) new (reply_and_frames result) → TaskEnds (ways note o) past (Meets (inputs.Issue j)) new (answer_of (reply_and_frames result))
+issue_task note o past j new result h = silent (ways note o) past (inputs.Issue j) _ new (reply_and_frames result) refl (issue_sends_none o past j) h
 
-pub end_task : {T : Type 0} (note : T → Note) (o : Opening) (past : List FrameEntry) (ticket : Ticket) (end : WriteEnd) (new : Power (Server T) T) (result : Result Outs Fault) → StepEnds (ways note o) past (inputs.WriteDone ticket end) new (given result) → TaskEnds (ways note o) past (Meets (inputs.WriteDone ticket end)) new (answer_of (given result))
-end_task note o past ticket end new result h = silent (ways note o) past (inputs.WriteDone ticket end) _ new (given result) refl (end_sends_none o past ticket end) h
+pub end_task : {T : Type 0} (note : T → Note) (o : Opening) (past : List FrameEntry) (ticket : Ticket) (end : WriteEnd) (new : Power (Server T) T) (result : Result Outs Fault) → StepEnds (ways note o) past (inputs.WriteDone ticket end) new (reply_and_frames result) → TaskEnds (ways note o) past (Meets (inputs.WriteDone ticket end)) new (answer_of (reply_and_frames result))
+end_task note o past ticket end new result h = silent (ways note o) past (inputs.WriteDone ticket end) _ new (reply_and_frames result) refl (end_sends_none o past ticket end) h
 
 -- ---- the device's failures
 
 -- A step counts a failed save.
-pub step_counts : {T : Type 0} (note : T → Note) (o : Opening) (past : List FrameEntry) (e : Input) (old server : Server T) (result : Result Outs Fault) → steps.Ends (ends.steps note o) past e old server result → Counts false (note old.core.notes).failures (note server.core.notes).failures (given result)
+pub step_counts : {T : Type 0} (note : T → Note) (o : Opening) (past : List FrameEntry) (e : Input) (old server : Server T) (result : Result Outs Fault) → steps.Ends (ends.steps note o) past e old server result → Counts false (note old.core.notes).failures (note server.core.notes).failures (reply_and_frames result)
 step_counts note o past e old server (Ok outs) a = tt
 step_counts note o past e old server (Err fault) f = by_sort (sort_of fault) f
   where

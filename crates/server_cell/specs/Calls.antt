@@ -3,7 +3,7 @@ use Rattle.std.specs.Prelude.{◌≡◌, ◌+◌, ◌&&◌, ◌==◌, Bool, true
 use Rattle.fc_base.specs.declared.fault.Fault.{Fault}
 use Rattle.fc_base.specs.declared.fault.Fault.TheVariants.{NoMemory, WrongSeat}
 use Rattle.node_history.specs.declared.answer.Said.{Said}
-use Rattle.node_history.specs.declared.answer.Told.{Told}
+use Rattle.node_history.specs.declared.answer.CallerAnswer.{CallerAnswer}
 use Rattle.node_history.specs.declared.came.Came.{Came}
 use Rattle.node_history.specs.declared.logged.Logged.{Logged}
 pub use Rattle.node_history.specs.AtHub.{lacks_memory, told_by}
@@ -53,11 +53,11 @@ Enters false old seat task new after answer = IsAdded old seat task answer new a
 
 -- How what is asked ends: a wrong seat is refused, and nothing changes; else the answer is told, and
 -- sends nothing.
-abbrev pub AppliesBy : Bool → ServerLog → Seated → Task → ServerLog → Seated → Result Told Fault → Type 0
+abbrev pub AppliesBy : Bool → ServerLog → Seated → Task → ServerLog → Seated → Result CallerAnswer Fault → Type 0
 AppliesBy false old seat task new after result = IsSame old seat new after × (result ≡ Err WrongSeat)
 AppliesBy true old seat task new after result =
     (answer : Result Said Fault) × (result ≡ told_by answer)
     × Enters (lacks_memory answer) old seat task new after answer
 
-abbrev pub Applies : ServerLog → Seated → Task → ServerLog → Seated → Result Told Fault → Type 0
+abbrev pub Applies : ServerLog → Seated → Task → ServerLog → Seated → Result CallerAnswer Fault → Type 0
 Applies old seat task new after result = AppliesBy (is_right old seat) old seat task new after result

@@ -29,6 +29,6 @@ failures_of note power =
     powers.failures_of (λ server. (note server.core.notes).failures) (λ notes. (note notes).failures) power
 
 -- What a step says to its caller, and the frames that it sends.
-abbrev pub given : Result Outs Fault → Result (Said × List (List ℕ)) Fault
-given (Ok outs) = Ok (record { answer = answer_of outs.issue; act = outs.act }, outs.frames)
-given (Err fault) = Err fault
+abbrev pub reply_and_frames : Result Outs Fault → Result (Said × List (List ℕ)) Fault
+reply_and_frames (Ok outs) = Ok (record { answer = answer_of outs.issue; act = outs.act }, outs.frames)
+reply_and_frames (Err fault) = Err fault

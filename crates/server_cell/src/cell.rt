@@ -78,7 +78,8 @@ impl<N: Notes + Drop> ServerCell<N> {
         requires some { 1 ≤ workers }
         requires few { workers ≤ MAX_SEATS }
         ensures opened { IfOk result (λ made. (made.0.opening.me ≡ me)
-            × Says (N.note notes).bytes (record { boot = made.0.opening.boot; last_run = made.0.opening.last })
+            × Says (N.note notes).bytes
+            (record { boot = made.0.opening.boot; last_run = made.0.opening.last })
             × (made.0.history ≡ [])) }
         ensures seats { IfOk result (λ made. made.1.items ≡ new_seats me workers) }
         ensures refused { IfErr result (λ back. NotOpened (N.note notes) (N.note back.0) back.1) }
@@ -125,7 +126,8 @@ impl<N: Notes + Drop> ServerCell<N> {
     /// The server, where it is on: not off, and not down.
     pub fn server(&self) -> Option<&Server<N>>
         ensures on { IfSome result (λ server. (past : List FrameEntry) × IsReplay self.now past
-            × StandsFor N.note server.now self.now.opening past × (is_up self.now.opening past ≡ true)) }
+            × StandsFor N.note server.now self.now.opening past
+            × (is_up self.now.opening past ≡ true)) }
         ensures off { IfNone result ((past : List FrameEntry) × IsReplay self.now past
             × (is_up self.now.opening past ≡ false)) }
     {

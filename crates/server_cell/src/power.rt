@@ -2,13 +2,13 @@
 
 ghost use Rattle.std.specs.Prelude.{◌≡◌, ◌<◌, false, List};
 ghost use Rattle.server_core.specs.declared.input.Input.TheVariants as inputs;
-ghost use Rattle.server_core.specs.Handles.{issued, ended};
+ghost use Rattle.server_core.specs.Handles.{outs_of_issue, outs_of_end};
 ghost use Rattle.server_core.specs.Hearing.{FrameEntry};
 ghost use Rattle.server_core.specs.History.{Opening};
 ghost use Rattle.node_history.specs.Failures.{Counts};
 ghost use Rattle.node_history.specs.Moves.{answer_of, StepEnds, TaskEnds};
-ghost use Rattle.node_history.specs.ServerRules.{asked};
-ghost use Rattle.server_cell.specs.Stands.{failures_of, given, ways, Stands};
+ghost use Rattle.node_history.specs.ServerRules.{ask_of};
+ghost use Rattle.server_cell.specs.Stands.{failures_of, reply_and_frames, ways, Stands};
 ghost use Rattle.server_cell.specs.Tasks.{came_by, loads_note};
 
 use crate::task::Task;
@@ -26,9 +26,10 @@ pub(crate) fn step<N: Notes + Drop>(
     input: Input,
 ) -> Result<Outs, Fault>
     ensures ends { (o : Opening) (past : List FrameEntry) → Stands N.note o past power.old →
-        StepEnds (ways N.note o) past input power.new (given result) }
+        StepEnds (ways N.note o) past input power.new (reply_and_frames result) }
     ensures count { (o : Opening) (past : List FrameEntry) → Stands N.note o past power.old →
-        Counts false (failures_of N.note power.old) (failures_of N.note power.new) (given result) }
+        Counts false (failures_of N.note power.old) (failures_of N.note power.new)
+        (reply_and_frames result) }
 {
     match power {
         Power::On(server) => {
@@ -46,9 +47,11 @@ pub(crate) fn step<N: Notes + Drop>(
 #[inline(always)]
 fn issue<N: Notes + Drop>(power: &mut Power<Server<N>, N>, job: JobNo) -> Result<Issue, Fault>
     ensures ends { (o : Opening) (past : List FrameEntry) → Stands N.note o past power.old →
-        StepEnds (ways N.note o) past (inputs.Issue job) power.new (given (issued result)) }
+        StepEnds (ways N.note o) past (inputs.Issue job) power.new
+        (reply_and_frames (outs_of_issue result)) }
     ensures count { (o : Opening) (past : List FrameEntry) → Stands N.note o past power.old →
-        Counts false (failures_of N.note power.old) (failures_of N.note power.new) (given (issued result)) }
+        Counts false (failures_of N.note power.old) (failures_of N.note power.new)
+        (reply_and_frames (outs_of_issue result)) }
 {
     match power {
         Power::On(server) => {
@@ -70,9 +73,11 @@ fn end_write<N: Notes + Drop>(
     end: WriteEnd,
 ) -> Result<(), Fault>
     ensures ends { (o : Opening) (past : List FrameEntry) → Stands N.note o past power.old →
-        StepEnds (ways N.note o) past (inputs.WriteDone ticket end) power.new (given (ended result)) }
+        StepEnds (ways N.note o) past (inputs.WriteDone ticket end) power.new
+        (reply_and_frames (outs_of_end result)) }
     ensures count { (o : Opening) (past : List FrameEntry) → Stands N.note o past power.old →
-        Counts false (failures_of N.note power.old) (failures_of N.note power.new) (given (ended result)) }
+        Counts false (failures_of N.note power.old) (failures_of N.note power.new)
+        (reply_and_frames (outs_of_end result)) }
 {
     match power {
         Power::On(server) => {
@@ -95,10 +100,13 @@ pub(crate) fn perform<N: Notes + Drop>(
     task: &Task,
 ) -> Result<Said, Fault>
     requires { me < MAX_SERVERS }
-    ensures ends { (o : Opening) (past : List FrameEntry) → o.me ≡ me → Stands N.note o past power.old →
-        TaskEnds (ways N.note o) past (asked (came_by task.now)) power.new result }
-    ensures count { (o : Opening) (past : List FrameEntry) → o.me ≡ me → Stands N.note o past power.old →
-        Counts (loads_note task.now) (failures_of N.note power.old) (failures_of N.note power.new) result }
+    ensures ends { (o : Opening) (past : List FrameEntry) → o.me ≡ me →
+        Stands N.note o past power.old →
+        TaskEnds (ways N.note o) past (ask_of (came_by task.now)) power.new result }
+    ensures count { (o : Opening) (past : List FrameEntry) → o.me ≡ me →
+        Stands N.note o past power.old →
+        Counts (loads_note task.now) (failures_of N.note power.old)
+        (failures_of N.note power.new) result }
 {
     match task {
         Task::Issue(job) => issued(issue(power, *job)),
@@ -111,7 +119,7 @@ pub(crate) fn perform<N: Notes + Drop>(
 /// What is answered of a request for a write.
 #[inline(always)]
 fn issued(answer: Result<Issue, Fault>) -> Result<Said, Fault>
-    ensures { result ≡ answer_of (given (issued answer)) }
+    ensures { result ≡ answer_of (reply_and_frames (outs_of_issue answer)) }
 {
     match answer {
         Ok(issue) => Ok(Said {
@@ -125,7 +133,7 @@ fn issued(answer: Result<Issue, Fault>) -> Result<Said, Fault>
 /// What is answered of the end of a write.
 #[inline(always)]
 fn heard(answer: Result<(), Fault>) -> Result<Said, Fault>
-    ensures { result ≡ answer_of (given (ended answer)) }
+    ensures { result ≡ answer_of (reply_and_frames (outs_of_end answer)) }
 {
     match answer {
         Ok(()) => Ok(Said::plain()),

@@ -88,7 +88,8 @@ impl Seat {
     #[inline(always)]
     pub(crate) fn advance(&mut self, answer: &Result<Said, Fault>)
         requires { self.old.applied + 1 < 2 ^ 64 }
-        ensures { self.new ≡ record self.old { applied = self.old.applied + 1; last = Some answer.now } }
+        ensures { self.new
+            ≡ record self.old { applied = self.old.applied + 1; last = Some answer.now } }
     {
         self.applied += 1;
         self.last = Some(*answer);

@@ -9,11 +9,11 @@ use Rattle.fc_base.specs.Counted.{has, numbers_below}
 use Rattle.messages.specs.declared.refusal.Act.TheVariants as acts
 use Rattle.server_core.specs.declared.event.Event.{Event}
 use Rattle.server_core.specs.History.{Opening, Entry}
-use Rattle.server_core.specs.Request.{Request, ToStage, ToStart, ToTrigger, ToMark, ToStop, ToVerify, ToHold, ToPassFully, ToIssue, ToEnd, ToReport, ToNobody, asked}
-use Rattle.server_core.specs.Run.{Work, Halt, Triggered, Stopped, halted}
+use Rattle.server_core.specs.Request.{Request, ToStage, ToStart, ToTrigger, ToMark, ToStop, ToVerify, ToHold, ToPassFully, ToIssue, ToEnd, ToReport, ToNobody, request_of}
+use Rattle.server_core.specs.Run.{Work, Halt, Triggered, Stopped, halt_of}
 use Rattle.server_core.specs.Words.{work}
 use Rattle.server_core.specs.Answers.{marks_by, marks, is_marked, wants_cut, completes, act_of, act}
-use Rattle.server_core.specs.Heard.{heard, IsKept}
+use Rattle.server_core.specs.Heard.{heard_packets, AreStatesKept}
 use Rattle.server_core.proofs.HeardLemmas.{WorkHeard, one_heard, work_heard}
 use Rattle.server_core.proofs.ListLemmas.{first_of}
 
@@ -58,8 +58,8 @@ mark_of None run x j h = cc
 marked_asked : (run : ℕ) (since : List Request) (j : ℕ) → has (marks run since) j ≡ true → Contains since (ToMark run j)
 marked_asked run [] j h = cc
 marked_asked run (x ∷ since) j h =
-    elim (or_cases (has (marks_by (halted run since) run x) j) (has (marks run since) j) (sym (list_any-append (λ i. i == j) (marks_by (halted run since) run x) (marks run since)) ∙ h)) [
-      | inl a ↦ subst (λ y. Contains (x ∷ since) y) (mark_of (halted run since) run x j a) (first_of x since)
+    elim (or_cases (has (marks_by (halt_of run since) run x) j) (has (marks run since) j) (sym (list_any-append (λ i. i == j) (marks_by (halt_of run since) run x) (marks run since)) ∙ h)) [
+      | inl a ↦ subst (λ y. Contains (x ∷ since) y) (mark_of (halt_of run since) run x j a) (first_of x since)
       | inr b ↦ Contains-append_right (x ∷ []) since (ToMark run j) (marked_asked run since j b)
     ]
 
@@ -73,18 +73,18 @@ cut_if : (t : Bool) → (if t then acts.Cut else acts.None) ≡ acts.Cut → t �
 cut_if true h = refl
 cut_if false h = cc
 
-cut_at : (o : Opening) (past : List Entry) (e : Event) (x : Option Work) → work o past ≡ x → WorkHeard o.me (heard past) x → act_of x (asked o.me e) ≡ acts.Cut → IsKept o past e
+cut_at : (o : Opening) (past : List Entry) (e : Event) (x : Option Work) → work o past ≡ x → WorkHeard o.me (heard_packets past) x → act_of x (request_of o.me e) ≡ acts.Cut → AreStatesKept o past e
 cut_at o past e None is k h = cc
 cut_at o past e (Some w) is k h =
-    let x = asked o.me e in
-    let c = completes_marked (wants_cut (halted w.run w.since)) (is_marked w) (is_marked (record w { since = x ∷ w.since })) (cut_if (completes w x) h) in
+    let x = request_of o.me e in
+    let c = completes_marked (wants_cut (halt_of w.run w.since)) (is_marked w) (is_marked (record w { since = x ∷ w.since })) (cut_if (completes w x) h) in
     record {
       now = w;
       works = is;
       wants = c.0;
-      kept = λ j l. one_heard o.me e (heard past) w.since k (ToMark w.run j)
+      kept = λ j l. one_heard o.me e (heard_packets past) w.since k (ToMark w.run j)
           (marked_asked w.run (x ∷ w.since) j (all_below (has (marks w.run (x ∷ w.since))) (length w.jobs) c.1 j l));
     }
 
-pub cuts_when_kept : (o : Opening) (past : List Entry) (e : Event) → act o past e ≡ acts.Cut → IsKept o past e
+pub cuts_when_kept : (o : Opening) (past : List Entry) (e : Event) → act o past e ≡ acts.Cut → AreStatesKept o past e
 cuts_when_kept o past e h = cut_at o past e (work o past) refl (work_heard o past) h

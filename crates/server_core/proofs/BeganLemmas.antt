@@ -8,8 +8,8 @@ use Rattle.server_core.specs.declared.event.Event.{Event}
 use Rattle.disk_model.specs.declared.left.Left.{Left}
 use Rattle.disk_model.specs.declared.left.Left.TheVariants.{NoSave, Saved, LostNew, LostOld}
 use Rattle.server_core.specs.History.{Opening, Entry, Met, Cut, Restart}
-use Rattle.server_core.specs.Request.{Request, asked}
-use Rattle.server_core.specs.Run.{Work, halted, origin_of, history, goes_on}
+use Rattle.server_core.specs.Request.{Request, request_of}
+use Rattle.server_core.specs.Run.{Work, halt_of, origin_of, history, goes_on}
 use Rattle.server_core.specs.Words.{Staged, boot, work_after, work, due}
 use Rattle.server_core.specs.Accepted.{IsDoneBy, IsDoneIn}
 use Rattle.server_core.proofs.DoneLemmas.{IsAt, one_on, one_back, one_kept}
@@ -18,7 +18,7 @@ use Rattle.server_core.proofs.DoneLemmas.{IsAt, one_on, one_back, one_kept}
 abbrev pub Since : Opening → List Entry → List Entry → Work → Type 0
 Since o before [] w = (work o before ≡ Some w) × (w.since ≡ [])
 Since o before (Met e left ∷ between) w =
-    (v : Work) × Since o before between v × (record v { since = asked o.me e ∷ v.since } ≡ w) × (work o (Met e left ∷ (between ++ before)) ≡ Some w)
+    (v : Work) × Since o before between v × (record v { since = request_of o.me e ∷ v.since } ≡ w) × (work o (Met e left ∷ (between ++ before)) ≡ Some w)
 Since o before (Cut ∷ between) w = ⊥
 Since o before (Restart left ∷ between) w = ⊥
 
@@ -42,7 +42,7 @@ done_on o before (Met e left ∷ between) w j job k s f h =
     let here = subst (λ (x : Work). window.is_done (history (origin_of x j job) x.since) k ≡ true) (sym s.2) h in
     let key_is : (origin_of v j job).key ≡ (origin_of w j job).key = ap (λ (x : Work). (origin_of x j job).key) s.2 in
     subst (λ key. IsDoneIn o before between key k ⊎ IsDoneBy o (between ++ before) e key k) key_is
-    (elim (one_on o (between ++ before) v j job e k (is_some (halted v.run v.since)) at here) [
+    (elim (one_on o (between ++ before) v j job e k (is_some (halt_of v.run v.since)) at here) [
       | inl a ↦ inl (done_on o before between v j job k s.1 found a)
       | inr b ↦ inr b
     ])
@@ -61,8 +61,8 @@ done_back o before (Met e left ∷ between) w j job k s f d =
     let moved = subst (λ key. IsDoneIn o before between key k ⊎ IsDoneBy o (between ++ before) e key k) key_is d in
     subst (λ (x : Work). window.is_done (history (origin_of x j job) x.since) k ≡ true) s.2
     (elim moved [
-      | inl a ↦ one_kept o v j job e k (is_some (halted v.run v.since)) (done_back o before between v j job k s.1 found a)
-      | inr b ↦ one_back o (between ++ before) v j job e k (is_some (halted v.run v.since)) at b
+      | inl a ↦ one_kept o v j job e k (is_some (halt_of v.run v.since)) (done_back o before between v j job k s.1 found a)
+      | inr b ↦ one_back o (between ++ before) v j job e k (is_some (halt_of v.run v.since)) at b
     ])
 done_back o before (Cut ∷ between) w j job k s f d = absurd s
 done_back o before (Restart left ∷ between) w j job k s f d = absurd s
@@ -82,11 +82,11 @@ same_work : (x y : Work) → Some x ≡ Some y → x ≡ y
 same_work x y h = cc
 
 went_on : (o : Opening) (past : List Entry) (e : Event) (left : Left) (x : Option Work) (w : Work) → ((v : Work) → x ≡ Some v → Began o past v)
-    → work o (Met e left ∷ past) ≡ Some w → goes_on (asked o.me e) x ≡ Some w → Began o (Met e left ∷ past) w
+    → work o (Met e left ∷ past) ≡ Some w → goes_on (request_of o.me e) x ≡ Some w → Began o (Met e left ∷ past) w
 went_on o past e left None w f all h = cc
 went_on o past e left (Some v) w f all h =
     let b = f v refl in
-    let here = same_work (record v { since = asked o.me e ∷ v.since }) w h in
+    let here = same_work (record v { since = request_of o.me e ∷ v.since }) w h in
     record {
       between = Met e left ∷ b.between;
       start = b.start;
@@ -114,7 +114,7 @@ began_now o past e s w is all h =
     }
 
 began_at : (o : Opening) (past : List Entry) (e : Event) (left : Left) (d : Option Staged) (w : Work) → due o past e ≡ d → ((v : Work) → work o past ≡ Some v → Began o past v)
-    → work o (Met e left ∷ past) ≡ Some w → work_after left d o.me (boot o past) (asked o.me e) (work o past) ≡ Some w → Began o (Met e left ∷ past) w
+    → work o (Met e left ∷ past) ≡ Some w → work_after left d o.me (boot o past) (request_of o.me e) (work o past) ≡ Some w → Began o (Met e left ∷ past) w
 began_at o past e NoSave d w is f all h = went_on o past e NoSave (work o past) w f all h
 began_at o past e Saved None w is f all h = went_on o past e Saved (work o past) w f all h
 began_at o past e Saved (Some s) w is f all h = began_now o past e s w is all h

@@ -4,14 +4,14 @@ use Rattle.std.specs.Prelude.{get_or}
 use Rattle.job_file.specs.declared.job.Job.{Job}
 use Rattle.server_core.specs.declared.job_run.JobRun.{JobRun}
 use Rattle.server_core.specs.Request.{Request}
-use Rattle.server_core.specs.Run.{Work, halted}
+use Rattle.server_core.specs.Run.{Work, halt_of}
 use Rattle.server_core.specs.Kept.{end_kept, job_kept, jobs_kept, RunIs, Begins}
 use Rattle.server_core.proofs.NumberedLemmas.{take_numbered}
 use Rattle.server_core.proofs.RowLemmas.{kept_by, same_kept}
 
 pub begun : (number : ℕ) (jobs : List Job) (kept : List JobRun) (w : Work) → Begins number jobs kept w → RunIs (kept_by number None jobs kept) w
 begun number jobs kept w b = record {
-  is = same_kept _ _ _ _ _ _ _ _ (sym b.run_is) (sym (ap (λ (since : List Request). end_kept (halted w.run since)) b.since)) (sym b.jobs_are) (b.kept_is ∙ ap (jobs_kept w 0) (sym b.jobs_are));
+  is = same_kept _ _ _ _ _ _ _ _ (sym b.run_is) (sym (ap (λ (since : List Request). end_kept (halt_of w.run since)) b.since)) (sym b.jobs_are) (b.kept_is ∙ ap (jobs_kept w 0) (sym b.jobs_are));
   jobs = rw b.jobs_are b.set;
   run = rw b.run_is b.run;
   server = b.server;

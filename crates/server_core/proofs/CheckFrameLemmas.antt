@@ -9,7 +9,7 @@ use Rattle.messages.specs.declared.body.Body.{Body}
 use Rattle.server_core.specs.declared.progress.Progress.{Progress as Stored}
 use Rattle.server_core.specs.Check.{Check, Progress}
 use Rattle.server_core.specs.Replies.{progress_frame, check_frames_from}
-use Rattle.server_core.specs.Framed.{framed}
+use Rattle.server_core.specs.Framed.{frames_to_client}
 use Rattle.server_core.specs.KeptCheck.{CheckKept, check_kept, job_progress, progress_of}
 use Rattle.server_core.proofs.NumberedLemmas.{job_of}
 use Rattle.server_core.proofs.StateFrameLemmas.{framed-append}
@@ -34,11 +34,11 @@ from_more c k (first ∷ jobs) job =
     next : k + 1 + length jobs ≡ k + suc (length jobs)
     next = omega arith
 
-pub frames_more : (me : ℕ) (c : Check) (i : ℕ) (p : Progress) (old new : List (List ℕ)) (bodies : List Body) → IsHere c i p → old ≡ framed me (check_frames_from c 0 (take i c.jobs)) → new ≡ old ++ framed me bodies → bodies ≡ progress_frame c i p
-    → new ≡ framed me (check_frames_from c 0 (take (i + 1) c.jobs))
+pub frames_more : (me : ℕ) (c : Check) (i : ℕ) (p : Progress) (old new : List (List ℕ)) (bodies : List Body) → IsHere c i p → old ≡ frames_to_client me (check_frames_from c 0 (take i c.jobs)) → new ≡ old ++ frames_to_client me bodies → bodies ≡ progress_frame c i p
+    → new ≡ frames_to_client me (check_frames_from c 0 (take (i + 1) c.jobs))
 frames_more me c i p old new bodies h before push said =
     let lt = slice_get_within c.jobs i h.job h.is_job in
     let place : i ≡ 0 + length (take i c.jobs) = omega (arith, length-take-le i c.jobs (omega (arith, lt))) in
-    push ∙ ap (λ fs. fs ++ framed me bodies) before ∙ ap (λ bs. framed me (check_frames_from c 0 (take i c.jobs)) ++ framed me bs) (said ∙ ap (progress_frame c i) h.is ∙ ap (λ n. progress_frame c n (job_progress c n h.job)) place)
+    push ∙ ap (λ fs. fs ++ frames_to_client me bodies) before ∙ ap (λ bs. frames_to_client me (check_frames_from c 0 (take i c.jobs)) ++ frames_to_client me bs) (said ∙ ap (progress_frame c i) h.is ∙ ap (λ n. progress_frame c n (job_progress c n h.job)) place)
     ∙ sym (framed-append me (check_frames_from c 0 (take i c.jobs)) (progress_frame c (0 + length (take i c.jobs)) (job_progress c (0 + length (take i c.jobs)) h.job)))
-    ∙ ap (framed me) (sym (from_more c 0 (take i c.jobs) h.job) ∙ ap (check_frames_from c 0) (sym (take_more c.jobs i h.job lt ∙ ap (λ j. take i c.jobs ++ j ∷ []) (get_or_from_slice_get c.jobs i h.job h.job h.is_job))))
+    ∙ ap (frames_to_client me) (sym (from_more c 0 (take i c.jobs) h.job) ∙ ap (check_frames_from c 0) (sym (take_more c.jobs i h.job lt ∙ ap (λ j. take i c.jobs ++ j ∷ []) (get_or_from_slice_get c.jobs i h.job h.job h.is_job))))

@@ -17,9 +17,9 @@ use Rattle.server_core.specs.Request.{Request, ToStage, ToStart, ToTrigger, ToMa
 use Rattle.server_core.specs.Texts.{jobs_for}
 use Rattle.server_core.specs.Run.{is_open, is_unended}
 use Rattle.verify_state.specs.Misfit.{misfit}
-use Rattle.server_core.specs.Check.{Check, Progress, Wanting, Full, With, Refused, Done, held, passed, reported, begun, progress_after, progress_by, progress_at, progress_in}
+use Rattle.server_core.specs.Check.{Check, Progress, Wanting, Full, With, Refused, Done, progress_with_state, progress_without_state, progress_with_report, progress_at_first, progress_after, progress_by, progress_at, progress_in}
 use Rattle.server_core.specs.Replies.{Now, progress_frame, check_frames_from, check_frames, reply_to_check_text, reply_to_new_check, reply_to_attempt, misfit_frame, reply_to_state_for, reply_to_state, reply_to_report}
-use Rattle.server_core.specs.Answers.{is_ready, is_attempt as is_attempt_of, refused_by}
+use Rattle.server_core.specs.Answers.{is_ready, is_open_attempt as is_attempt_of, refused_by}
 use Rattle.server_core.proofs.RangeLemmas.{fault_word, TextFits, text_fits, RequestFits}
 use Rattle.server_core.proofs.BodyLemmas.{Below, CheckInRange, SomeCheck, BodyFits, Fit, all_append, fit_if, run_word, one_of, job_number, refuse_fits}
 
@@ -34,7 +34,7 @@ progress_if : (t : Bool) (p q : Progress) → ProgressFits p → ProgressFits q 
 progress_if true p q h k = h
 progress_if false p q h k = k
 
-held_fits : (m : Option Fault) (state : SavedState) (p : Progress) → ProgressFits p → ProgressFits (held m state p)
+held_fits : (m : Option Fault) (state : SavedState) (p : Progress) → ProgressFits p → ProgressFits (progress_with_state m state p)
 held_fits None state Wanting h = tt
 held_fits (Some fault) state Wanting h = fault_word fault
 held_fits m state Full h = tt
@@ -42,14 +42,14 @@ held_fits m state (With s) h = tt
 held_fits m state (Refused value) h = h
 held_fits m state (Done report) h = h
 
-passed_fits : (p : Progress) → ProgressFits p → ProgressFits (passed p)
+passed_fits : (p : Progress) → ProgressFits p → ProgressFits (progress_without_state p)
 passed_fits Wanting h = tt
 passed_fits Full h = tt
 passed_fits (With s) h = tt
 passed_fits (Refused value) h = h
 passed_fits (Done report) h = h
 
-reported_fits : (r : ReportParts) (p : Progress) → is_report r ≡ true → ProgressFits p → ProgressFits (reported r p)
+reported_fits : (r : ReportParts) (p : Progress) → is_report r ≡ true → ProgressFits p → ProgressFits (progress_with_report r p)
 reported_fits r Wanting k h = tt
 reported_fits r Full k h = k
 reported_fits r (With s) k h = k
@@ -58,10 +58,10 @@ reported_fits r (Done report) k h = h
 
 step_fits : (c : Check) (i : ℕ) (job : Job) (x : Request) (p : Progress) → RequestFits x → ProgressFits p → ProgressFits (progress_by c i job x p)
 step_fits c i job (ToHold a state) p r h =
-    progress_if ((a == c.attempt) && (state.key.job == i)) (held (misfit state (record { run = c.run; server = c.server; job = i }) job.rec) state p) p
+    progress_if ((a == c.attempt) && (state.key.job == i)) (progress_with_state (misfit state (record { run = c.run; server = c.server; job = i }) job.rec) state p) p
     (held_fits (misfit state (record { run = c.run; server = c.server; job = i }) job.rec) state p h) h
-step_fits c i job (ToPassFully a j) p r h = progress_if ((a == c.attempt) && (j == i)) (passed p) p (passed_fits p h) h
-step_fits c i job (ToReport b a j report) p r h = progress_if ((b == c.boot) && ((a == c.attempt) && (j == i))) (reported report p) p (reported_fits report p r h) h
+step_fits c i job (ToPassFully a j) p r h = progress_if ((a == c.attempt) && (j == i)) (progress_without_state p) p (passed_fits p h) h
+step_fits c i job (ToReport b a j report) p r h = progress_if ((b == c.boot) && ((a == c.attempt) && (j == i))) (progress_with_report report p) p (reported_fits report p r h) h
 step_fits c i job (ToStage u text) p r h = h
 step_fits c i job (ToStart u) p r h = h
 step_fits c i job (ToTrigger u act) p r h = h
@@ -72,7 +72,7 @@ step_fits c i job (ToIssue j) p r h = h
 step_fits c i job (ToEnd ticket end) p r h = h
 step_fits c i job ToNobody p r h = h
 
-begun_fits : (load : Bool) → ProgressFits (begun load)
+begun_fits : (load : Bool) → ProgressFits (progress_at_first load)
 begun_fits true = tt
 begun_fits false = tt
 

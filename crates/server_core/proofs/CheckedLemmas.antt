@@ -10,11 +10,11 @@ use Rattle.job_file.specs.declared.job.Job.{Job}
 use Rattle.verify_state.specs.State.{State}
 use Rattle.verify_state.specs.Misfit.{misfit}
 use Rattle.server_core.specs.Request.{Request, ToHold, ToPassFully, ToReport}
-use Rattle.server_core.specs.Check.{Check, Progress, Wanting, Full, With, Refused, Done, held, passed, reported, progress_at, progress_in, check_goes_on}
-use Rattle.server_core.specs.KeptCheck.{CheckKept, check_kept, job_progress, is_wanting, wants_in, ready_in, ready_now, with_progress, judged, judged_of}
+use Rattle.server_core.specs.Check.{Check, Progress, Wanting, Full, With, Refused, Done, progress_with_state, progress_without_state, progress_with_report, progress_at, progress_in, check_goes_on}
+use Rattle.server_core.specs.KeptCheck.{CheckKept, check_kept, job_progress, is_wanting, wants_in, ready_in, ready_now, with_progress, judgement, judgement_of_job}
 use Rattle.server_core.specs.Stands.{OpenIs}
-use Rattle.server_core.specs.Answers.{is_ready, is_attempt, refused_by}
-use Rattle.server_core.specs.Kept.{numbered}
+use Rattle.server_core.specs.Answers.{is_ready, is_open_attempt, refused_by}
+use Rattle.server_core.specs.Kept.{map_numbered}
 use Rattle.server_core.proofs.NumberedLemmas.{same_numbered, set_one, get_at, length-numbered}
 
 -- A check behind one more request.
@@ -82,10 +82,10 @@ unchanged kept c a j i job q is wants at same =
 pub pass_step : (kept : CheckKept) (c : Check) (a j : ℕ) → kept ≡ check_kept c → wants_in kept a j ≡ true → record kept { progress = set kept.progress j Full } ≡ check_kept (and_then c (ToPassFully a j))
 pass_step kept c a j is wants =
     let p = and_parts (a == kept.attempt) (is_wanting (slice_get kept.progress j)) wants in
-    one kept c (ToPassFully a j) j Full is (λ i job ne. if_out (a == c.attempt) (j == i) (passed (job_progress c i job)) (job_progress c i job) (not_same j i ne))
-    (λ job at. sym (if_in (a == c.attempt) (j == j) (passed (job_progress c j job)) (job_progress c j job) (ap (λ (k : CheckKept). a == k.attempt) (sym is) ∙ p.0) (eq-eqb j j refl) ∙ ap passed (waits kept c j job is p.1 at)))
+    one kept c (ToPassFully a j) j Full is (λ i job ne. if_out (a == c.attempt) (j == i) (progress_without_state (job_progress c i job)) (job_progress c i job) (not_same j i ne))
+    (λ job at. sym (if_in (a == c.attempt) (j == j) (progress_without_state (job_progress c j job)) (job_progress c j job) (ap (λ (k : CheckKept). a == k.attempt) (sym is) ∙ p.0) (eq-eqb j j refl) ∙ ap progress_without_state (waits kept c j job is p.1 at)))
 
-passes : (p : Progress) → is_wanting (Some p) ≡ false → passed p ≡ p
+passes : (p : Progress) → is_wanting (Some p) ≡ false → progress_without_state p ≡ p
 passes Wanting e = cc
 passes Full e = refl
 passes (With s) e = refl
@@ -93,18 +93,18 @@ passes (Refused v) e = refl
 passes (Done r) e = refl
 
 pub no_pass : (kept : CheckKept) (c : Check) (a j : ℕ) → kept ≡ check_kept c → wants_in kept a j ≡ false → kept ≡ check_kept (and_then c (ToPassFully a j))
-no_pass kept c a j is wants = idle kept c (ToPassFully a j) is (λ i job at. unchanged kept c a j i job (passed (job_progress c i job)) is wants at (passes (job_progress c i job)))
+no_pass kept c a j is wants = idle kept c (ToPassFully a j) is (λ i job at. unchanged kept c a j i job (progress_without_state (job_progress c i job)) is wants at (passes (job_progress c i job)))
 
 -- ---- a report
 
-ready : (r : ReportParts) (p : Progress) → is_ready (Some p) ≡ true → reported r p ≡ Done r
+ready : (r : ReportParts) (p : Progress) → is_ready (Some p) ≡ true → progress_with_report r p ≡ Done r
 ready r Wanting e = cc
 ready r Full e = refl
 ready r (With s) e = refl
 ready r (Refused v) e = cc
 ready r (Done q) e = cc
 
-pub unready : (r : ReportParts) (p : Progress) → is_ready (Some p) ≡ false → reported r p ≡ p
+pub unready : (r : ReportParts) (p : Progress) → is_ready (Some p) ≡ false → progress_with_report r p ≡ p
 unready r Wanting e = refl
 unready r Full e = cc
 unready r (With s) e = cc
@@ -115,8 +115,8 @@ pub report_step : (kept : CheckKept) (c : Check) (b a j : ℕ) (r : ReportParts)
 report_step kept c b a j r is boot ok =
     let p = and_parts (kept.attempt == a) (is_ready (slice_get kept.progress j)) ok in
     let at : (a == c.attempt) ≡ true = eq-eqb a c.attempt (sym (eqb-true c.attempt a (ap (λ (k : CheckKept). k.attempt == a) (sym is) ∙ p.0))) in
-    one kept c (ToReport b a j r) j (Done r) is (λ i job ne. if_far (b == c.boot) (a == c.attempt) (j == i) (reported r (job_progress c i job)) (job_progress c i job) (not_same j i ne))
-    (λ job has_it. sym (if_near (b == c.boot) (a == c.attempt) (j == j) (reported r (job_progress c j job)) (job_progress c j job) (eq-eqb b c.boot (sym boot)) at (eq-eqb j j refl)
+    one kept c (ToReport b a j r) j (Done r) is (λ i job ne. if_far (b == c.boot) (a == c.attempt) (j == i) (progress_with_report r (job_progress c i job)) (job_progress c i job) (not_same j i ne))
+    (λ job has_it. sym (if_near (b == c.boot) (a == c.attempt) (j == j) (progress_with_report r (job_progress c j job)) (job_progress c j job) (eq-eqb b c.boot (sym boot)) at (eq-eqb j j refl)
     ∙ ready r (job_progress c j job) (ap is_ready (sym (kept_at kept c j job is has_it)) ∙ p.1)))
   where
     if_far : (s t u : Bool) (x y : Progress) → u ≡ false → (if s && (t && u) then x else y) ≡ y
@@ -126,8 +126,8 @@ report_step kept c b a j r is boot ok =
     if_near : (s t u : Bool) (x y : Progress) → s ≡ true → t ≡ true → u ≡ true → (if s && (t && u) then x else y) ≡ x
     if_near s t u x y e f g = rw (e, f, g) refl
 
-none_at : (f : ℕ → Job → Progress) (jobs : List Job) (i : ℕ) → slice_get jobs i ≡ None → slice_get (numbered f 0 jobs) i ≡ None
-none_at f jobs i e = slice_get_past (numbered f 0 jobs) i (subst (λ n. n ≤ i) (sym (length-numbered f 0 jobs)) (past jobs i e))
+none_at : (f : ℕ → Job → Progress) (jobs : List Job) (i : ℕ) → slice_get jobs i ≡ None → slice_get (map_numbered f 0 jobs) i ≡ None
+none_at f jobs i e = slice_get_past (map_numbered f 0 jobs) i (subst (λ n. n ≤ i) (sym (length-numbered f 0 jobs)) (past jobs i e))
   where
     past : (js : List Job) (n : ℕ) → slice_get js n ≡ None → length js ≤ n
     past [] n e = omega arith
@@ -138,7 +138,7 @@ pub progress_kept : (kept : CheckKept) (c : Check) (i : ℕ) (o : Option Job) �
 progress_kept kept c i None is e = ap (λ (k : CheckKept). slice_get k.progress i) is ∙ none_at (job_progress c) c.jobs i e
 progress_kept kept c i (Some job) is e = kept_at kept c i job is e
 
-pub ready_is : (me now_boot : ℕ) (kept : Option CheckKept) (c : Option Check) (a j : ℕ) → OpenIs me now_boot kept c → ready_now kept a j ≡ (is_attempt a c && is_ready (progress_in c j))
+pub ready_is : (me now_boot : ℕ) (kept : Option CheckKept) (c : Option Check) (a j : ℕ) → OpenIs me now_boot kept c → ready_now kept a j ≡ (is_open_attempt a c && is_ready (progress_in c j))
 ready_is me now_boot None None a j h = refl
 ready_is me now_boot (Some kept) (Some c) a j h =
     ap (λ p. (kept.attempt == a) && is_ready p) (progress_kept kept c j (slice_get c.jobs j) h.is refl) ∙ ap (λ (k : CheckKept). (k.attempt == a) && is_ready (progress_at c j (slice_get c.jobs j))) h.is
@@ -154,24 +154,24 @@ report_kept me now_boot (Some kept) None a j r h ok = absurd h
 
 -- ---- a state
 
-pub hold_step : (kept : CheckKept) (c : Check) (a : ℕ) (state : State) (p : Progress) → kept ≡ check_kept c → judged c.server kept a state ≡ Some p → record kept { progress = set kept.progress state.key.job p } ≡ check_kept (and_then c (ToHold a state))
+pub hold_step : (kept : CheckKept) (c : Check) (a : ℕ) (state : State) (p : Progress) → kept ≡ check_kept c → judgement c.server kept a state ≡ Some p → record kept { progress = set kept.progress state.key.job p } ≡ check_kept (and_then c (ToHold a state))
 hold_step kept c a state p is h =
-    let wants = first (wants_in kept a state.key.job) (judged_of c.server kept.run state (slice_get kept.jobs state.key.job)) h in
+    let wants = first (wants_in kept a state.key.job) (judgement_of_job c.server kept.run state (slice_get kept.jobs state.key.job)) h in
     let q = and_parts (a == kept.attempt) (is_wanting (slice_get kept.progress state.key.job)) wants.0 in
     let at : (a == c.attempt) ≡ true = ap (λ (k : CheckKept). a == k.attempt) (sym is) ∙ q.0 in
     one kept c (ToHold a state) state.key.job p is
-    (λ i job ne. if_out (a == c.attempt) (state.key.job == i) (held (misfit state (record { run = c.run; server = c.server; job = i }) job.rec) state (job_progress c i job)) (job_progress c i job) (not_same state.key.job i ne))
-    (λ job has_it. sym (if_in (a == c.attempt) (state.key.job == state.key.job) (held (misfit state (record { run = c.run; server = c.server; job = state.key.job }) job.rec) state (job_progress c state.key.job job)) (job_progress c state.key.job job) at (eq-eqb state.key.job state.key.job refl)
-    ∙ ap (held (misfit state (record { run = c.run; server = c.server; job = state.key.job }) job.rec) state) (waits kept c state.key.job job is q.1 has_it)
-    ∙ judged_is job (ap (λ (k : CheckKept). judged_of c.server k.run state (slice_get k.jobs state.key.job)) (sym is) ∙ wants.1) has_it))
+    (λ i job ne. if_out (a == c.attempt) (state.key.job == i) (progress_with_state (misfit state (record { run = c.run; server = c.server; job = i }) job.rec) state (job_progress c i job)) (job_progress c i job) (not_same state.key.job i ne))
+    (λ job has_it. sym (if_in (a == c.attempt) (state.key.job == state.key.job) (progress_with_state (misfit state (record { run = c.run; server = c.server; job = state.key.job }) job.rec) state (job_progress c state.key.job job)) (job_progress c state.key.job job) at (eq-eqb state.key.job state.key.job refl)
+    ∙ ap (progress_with_state (misfit state (record { run = c.run; server = c.server; job = state.key.job }) job.rec) state) (waits kept c state.key.job job is q.1 has_it)
+    ∙ judged_is job (ap (λ (k : CheckKept). judgement_of_job c.server k.run state (slice_get k.jobs state.key.job)) (sym is) ∙ wants.1) has_it))
   where
     first : (t : Bool) (o : Option Progress) → (if t then o else None) ≡ Some p → (t ≡ true) × (o ≡ Some p)
     first true o e = (refl, e)
     first false o e = cc
 
-    judged_is : (job : Job) → judged_of c.server c.run state (slice_get c.jobs state.key.job) ≡ Some p → slice_get c.jobs state.key.job ≡ Some job
-        → held (misfit state (record { run = c.run; server = c.server; job = state.key.job }) job.rec) state Wanting ≡ p
-    judged_is job e has_it = some_is (sym (ap (judged_of c.server c.run state) has_it) ∙ e)
+    judged_is : (job : Job) → judgement_of_job c.server c.run state (slice_get c.jobs state.key.job) ≡ Some p → slice_get c.jobs state.key.job ≡ Some job
+        → progress_with_state (misfit state (record { run = c.run; server = c.server; job = state.key.job }) job.rec) state Wanting ≡ p
+    judged_is job e has_it = some_is (sym (ap (judgement_of_job c.server c.run state) has_it) ∙ e)
       where
         some_is : {x : Progress} → Some x ≡ Some p → x ≡ p
         some_is e = cc

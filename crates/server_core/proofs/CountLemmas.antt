@@ -15,8 +15,8 @@ use Rattle.server_core.specs.declared.event.Event.{Event}
 use Rattle.disk_model.specs.declared.left.Left.{Left}
 use Rattle.disk_model.specs.declared.left.Left.TheVariants.{Saved}
 use Rattle.server_core.specs.History.{Opening, Entry, Met, Cut, Restart}
-use Rattle.server_core.specs.Request.{Request, asked}
-use Rattle.server_core.specs.Run.{Work, Halt, halted, origin_of, history}
+use Rattle.server_core.specs.Request.{Request, request_of}
+use Rattle.server_core.specs.Run.{Work, Halt, halt_of, origin_of, history}
 use Rattle.server_core.specs.Words.{work}
 use Rattle.server_core.specs.Taken.{job_state, saved_state, triggers, takes_now, takes, and_those, takings}
 use Rattle.server_core.specs.Accepted.{IsDoneIn, IsTaking}
@@ -50,7 +50,7 @@ hit_one false t w run j None state e h = cc
 hit_one false t w run j (Some halt) state e h = cc
 
 takes_of : (run j : ℕ) (x : Request) (w : Work) (state : State) → takes run j x (Some w) ≡ Some state → Takes run j w state
-takes_of run j x w state h = hit_one (triggers run x) (w.run == run) w run j (halted w.run w.since) state (eqb-true w.run run) h
+takes_of run j x w state h = hit_one (triggers run x) (w.run == run) w run j (halt_of w.run w.since) state (eqb-true w.run run) h
 
 -- The laws of the layers below, on which the count rests.
 pub record Below : Type 0 where
@@ -62,10 +62,10 @@ state_counts : Below → (origin : Origin) (since : List Request) (k : ℕ) → 
 unfolding job_state
 state_counts below origin since k within = below.counted origin (history origin since) (below.legal origin since within) k
 
-taking_now : Below → (o : Opening) (run j : ℕ) (past : List Entry) (e : Event) (left : Left) (x : Option Work) (state : State) → work o past ≡ x → takes run j (asked o.me e) x ≡ Some state → IsTaking o run j (Met e left ∷ past) state
+taking_now : Below → (o : Opening) (run j : ℕ) (past : List Entry) (e : Event) (left : Left) (x : Option Work) (state : State) → work o past ≡ x → takes run j (request_of o.me e) x ≡ Some state → IsTaking o run j (Met e left ∷ past) state
 taking_now below o run j past e left None state is h = cc
 taking_now below o run j past e left (Some w) state is h =
-    let t = takes_of run j (asked o.me e) w state h in
+    let t = takes_of run j (request_of o.me e) w state h in
     let b = began o past w is in
     let of = is_of o past w is in
     let limits = job_at (λ job. IsTrue (is_within_limits job.rec)) w.jobs j t.job (below.runs o past w is).within.within t.has_job in
@@ -85,7 +85,7 @@ taking_now below o run j past e left (Some w) state is h =
       started = b.started;
       accepted = b.accepted;
       run_is = b.run_is ∙ t.here;
-      pulls = subst (λ l. takes run j (asked o.me e) (work o l) ≡ Some state) b.split (subst (λ v. takes run j (asked o.me e) v ≡ Some state) (sym is) h);
+      pulls = subst (λ l. takes run j (request_of o.me e) (work o l) ≡ Some state) b.split (subst (λ v. takes run j (request_of o.me e) v ≡ Some state) (sym is) h);
       counts = λ k c. subst (λ (n : Key). IsDoneIn o (Met b.start Saved ∷ b.older) b.between n k) key (done_on o (Met b.start Saved ∷ b.older) b.between w j t.job k b.since t.has_job (sym (counts k) ∙ c));
       counts_all = λ k d. counts k ∙ done_back o (Met b.start Saved ∷ b.older) b.between w j t.job k b.since t.has_job (subst (λ (n : Key). IsDoneIn o (Met b.start Saved ∷ b.older) b.between n k) (sym key) d);
     }
@@ -107,7 +107,7 @@ later o run j past e state t = record {
   counts_all = t.counts_all;
 }
 
-now_or_before : Below → (o : Opening) (run j : ℕ) (past : List Entry) (e : Event) (left : Left) (x : Option State) (state : State) → takes run j (asked o.me e) (work o past) ≡ x
+now_or_before : Below → (o : Opening) (run j : ℕ) (past : List Entry) (e : Event) (left : Left) (x : Option State) (state : State) → takes run j (request_of o.me e) (work o past) ≡ x
     → ((s : State) → Contains (takings o run j past) s → IsTaking o run j past s) → Contains (and_those x (takings o run j past)) state → IsTaking o run j (Met e left ∷ past) state
 now_or_before below o run j past e left None state is f h = later o run j past (Met e left) state (f state h)
 now_or_before below o run j past e left (Some s) state is f h =
@@ -118,6 +118,6 @@ now_or_before below o run j past e left (Some s) state is f h =
 
 pub taking_of : Below → (o : Opening) (run j : ℕ) (list : List Entry) (state : State) → Contains (takings o run j list) state → IsTaking o run j list state
 taking_of below o run j [] state h = absurd (none_in state h)
-taking_of below o run j (Met e left ∷ past) state h = now_or_before below o run j past e left (takes run j (asked o.me e) (work o past)) state refl (taking_of below o run j past) h
+taking_of below o run j (Met e left ∷ past) state h = now_or_before below o run j past e left (takes run j (request_of o.me e) (work o past)) state refl (taking_of below o run j past) h
 taking_of below o run j (Cut ∷ past) state h = later o run j past Cut state (taking_of below o run j past state h)
 taking_of below o run j (Restart left ∷ past) state h = later o run j past (Restart left) state (taking_of below o run j past state h)

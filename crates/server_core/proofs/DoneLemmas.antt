@@ -28,9 +28,9 @@ use Rattle.disk_model.specs.declared.left.Left.TheVariants.{NoSave, Saved, LostN
 use Rattle.disk_model.specs.Left.{is_lost}
 use Rattle.server_core.specs.History.{Opening, Entry, Met, Cut, Restart}
 use Rattle.messages.specs.Nodes.{is_client, is_server}
-use Rattle.server_core.specs.Request.{Request, ToStage, ToStart, ToTrigger, ToMark, ToStop, ToVerify, ToHold, ToPassFully, ToIssue, ToEnd, ToReport, ToNobody, asked_by, asked}
+use Rattle.server_core.specs.Request.{Request, ToStage, ToStart, ToTrigger, ToMark, ToStop, ToVerify, ToHold, ToPassFully, ToIssue, ToEnd, ToReport, ToNobody, request_in, request_of}
 use Rattle.server_core.specs.Run.{Work, is_open, origin_of, with_issue, with_ticket, with_request, history}
-use Rattle.server_core.specs.Words.{Staged, for_run, is_on, boot, is_due, work_after, last_run, staged, work, due}
+use Rattle.server_core.specs.Words.{Staged, for_run, is_on, boot, due_by, work_after, last_run, staged_run, work, due}
 use Rattle.server_core.specs.Answers.{names_open_of, refused_by, refusal}
 use Rattle.server_core.specs.Accepted.{IsDoneBy}
 use Rattle.server_core.proofs.WorkLemmas.{is_of}
@@ -56,7 +56,7 @@ none_or_on : (on b : Bool) (y : Option Staged) → (if on && b then y else None)
 none_or_on true b y = inr refl
 none_or_on false b y = inl refl
 
-due_on : (on : Bool) (last : ℕ) (s : Option Staged) (w : Option Work) (x : Request) → is_due on last s w x ≡ None ⊎ (on ≡ true)
+due_on : (on : Bool) (last : ℕ) (s : Option Staged) (w : Option Work) (x : Request) → due_by on last s w x ≡ None ⊎ (on ≡ true)
 due_on on last s w (ToStart r) = none_or_on on (nat_lt last r && not (is_open w)) (for_run r s)
 due_on on last s w (ToStage r text) = inl refl
 due_on on last s w (ToTrigger r act) = inl refl
@@ -72,7 +72,7 @@ due_on on last s w ToNobody = inl refl
 
 on_of : (o : Opening) (past : List Entry) → OnWith (is_on past) (work o past)
 on_of o [] = tt
-on_of o (Met e left ∷ past) = on_after (is_on past) left (due o past e) o.me (boot o past) (asked o.me e) (work o past) (due_on (is_on past) (last_run o past) (staged o past) (work o past) (asked o.me e)) (on_of o past)
+on_of o (Met e left ∷ past) = on_after (is_on past) left (due o past e) o.me (boot o past) (request_of o.me e) (work o past) (due_on (is_on past) (last_run o past) (staged_run o past) (work o past) (request_of o.me e)) (on_of o past)
 on_of o (Cut ∷ past) = tt
 on_of o (Restart left ∷ past) = tt
 
@@ -81,11 +81,11 @@ works_on o past w h = subst (λ v. OnWith (is_on past) v) h (on_of o past)
 
 -- ---- one request
 
-deliver_body : (origin : Origin) (stopped : Bool) (h : List window.Event) (b : Body) → with_request origin stopped (asked_by b) h ≡ h
+deliver_body : (origin : Origin) (stopped : Bool) (h : List window.Event) (b : Body) → with_request origin stopped (request_in b) h ≡ h
 deliver_body origin stopped h (bodies.Jobs r t) = refl
 deliver_body origin stopped h _ = refl
 
-deliver_by : (origin : Origin) (stopped t : Bool) (h : List window.Event) (b : Body) → with_request origin stopped (if t then asked_by b else ToNobody) h ≡ h
+deliver_by : (origin : Origin) (stopped t : Bool) (h : List window.Event) (b : Body) → with_request origin stopped (if t then request_in b else ToNobody) h ≡ h
 deliver_by origin stopped true h b = deliver_body origin stopped h b
 deliver_by origin stopped false h b = refl
 
@@ -204,7 +204,7 @@ kept_one (Err fault) seq h k e = e
 
 -- One event: what its job's history has more was accepted.
 pub one_on : (o : Opening) (past : List Entry) (v : Work) (j : ℕ) (job : Job) (e : Event) (k : ℕ) (stopped : Bool) → IsAt o past v j job
-    → window.is_done (with_request (origin_of v j job) stopped (asked o.me e) (history (origin_of v j job) v.since)) k ≡ true
+    → window.is_done (with_request (origin_of v j job) stopped (request_of o.me e) (history (origin_of v j job) v.since)) k ≡ true
     → (window.is_done (history (origin_of v j job) v.since) k ≡ true) ⊎ IsDoneBy o past e (origin_of v j job).key k
 one_on o past v j job (Deliver p) k stopped at h =
     inl (subst (λ l. window.is_done l k ≡ true) (deliver_by (origin_of v j job) stopped (is_client p.from && is_server o.me p.to) (history (origin_of v j job) v.since) p.body) h)
@@ -217,7 +217,7 @@ one_on o past v j job (CheckDone b a i report) k stopped at h = inl h
 
 pub one_back : (o : Opening) (past : List Entry) (v : Work) (j : ℕ) (job : Job) (e : Event) (k : ℕ) (stopped : Bool) → IsAt o past v j job
     → IsDoneBy o past e (origin_of v j job).key k
-    → window.is_done (with_request (origin_of v j job) stopped (asked o.me e) (history (origin_of v j job) v.since)) k ≡ true
+    → window.is_done (with_request (origin_of v j job) stopped (request_of o.me e) (history (origin_of v j job) v.since)) k ≡ true
 one_back o past v j job (WriteDone ticket Done) k stopped at d = ended_back o past v j job ticket k at d
 one_back o past v j job (WriteDone ticket Failed) k stopped at d = absurd d
 one_back o past v j job (Deliver p) k stopped at d = absurd d
@@ -225,7 +225,7 @@ one_back o past v j job (Issue i) k stopped at d = absurd d
 one_back o past v j job (CheckDone b a i report) k stopped at d = absurd d
 
 pub one_kept : (o : Opening) (v : Work) (j : ℕ) (job : Job) (e : Event) (k : ℕ) (stopped : Bool) → window.is_done (history (origin_of v j job) v.since) k ≡ true
-    → window.is_done (with_request (origin_of v j job) stopped (asked o.me e) (history (origin_of v j job) v.since)) k ≡ true
+    → window.is_done (with_request (origin_of v j job) stopped (request_of o.me e) (history (origin_of v j job) v.since)) k ≡ true
 one_kept o v j job (WriteDone ticket Done) k stopped h = kept_one (ticket_answer (origin_of v j job) (open_in v j job) ticket) ticket.seq (history (origin_of v j job) v.since) k h
 one_kept o v j job (WriteDone ticket Failed) k stopped h = failed_done (ticket_answer (origin_of v j job) (open_in v j job) ticket) ticket.seq (history (origin_of v j job) v.since) k ∙ h
 one_kept o v j job (Deliver p) k stopped h =

@@ -13,7 +13,7 @@ use Rattle.engine.specs.Answers.{ticket_answer, names_one_of}
 use Rattle.server_core.specs.declared.event.WriteEnd.{WriteEnd}
 use Rattle.server_core.specs.declared.job_run.JobRun.{JobRun}
 use Rattle.server_core.specs.Request.{ToEnd}
-use Rattle.server_core.specs.Run.{Work, Halt, Triggered, Stopped, with_ticket, halted, is_halted, origin_of, history, goes_on}
+use Rattle.server_core.specs.Run.{Work, Halt, Triggered, Stopped, with_ticket, halt_of, is_halted, origin_of, history, goes_on}
 use Rattle.server_core.specs.Answers.{marks_by, marks, names_open_of}
 use Rattle.server_core.specs.Laws.{HistoriesAreLegal}
 use Rattle.server_core.specs.Kept.{Kept, job_kept, RunIs, open_answer}
@@ -29,7 +29,7 @@ no_marks (Some Stopped) run ticket end = refl
 no_marks None run ticket end = refl
 
 pub unmarked : (w : Work) (ticket : Ticket) (end : WriteEnd) (j : ℕ) → has (marks w.run (ToEnd ticket end ∷ w.since)) j ≡ has (marks w.run w.since) j
-unmarked w ticket end j = ap (λ ms. has (ms ++ marks w.run w.since) j) (no_marks (halted w.run w.since) w.run ticket end)
+unmarked w ticket end j = ap (λ ms. has (ms ++ marks w.run w.since) j) (no_marks (halt_of w.run w.since) w.run ticket end)
 
 -- A ticket of another job is refused.
 refused : (boot : Bool) (a b c : Bool) (writes : Bool) (end : WriteEnd) (k : ℕ) (h : List window.Event) → c ≡ false
@@ -70,10 +70,10 @@ end_step legal kept w ticket end old new result h at told added same_origin same
     ∙ ap (λ s. running_of origin s (with_ticket result end ticket.seq past)) (same_stop ∙ ap (λ (r : Running). r.stopped) engine)
     ∙ ap (λ r. running_of origin (is_halted w) (with_ticket r end ticket.seq past)) answer in
     let here : (other : Job) → job ≡ other → new ≡ job_kept (and_then w (ToEnd ticket end)) i other =
-    λ other same. rest ∙ engine_row w (ToEnd ticket end) i job old new.engine (with_ticket (ticket_answer origin (window.open_writes past) ticket) end ticket.seq past) p.2 now (or_none (halted w.run w.since)) refl (unmarked w ticket end i)
+    λ other same. rest ∙ engine_row w (ToEnd ticket end) i job old new.engine (with_ticket (ticket_answer origin (window.open_writes past) ticket) end ticket.seq past) p.2 now (or_none (halt_of w.run w.since)) refl (unmarked w ticket end i)
     ∙ ap (job_kept (and_then w (ToEnd ticket end)) i) same in (
       λ boot. answer ∙ same_boot origin (window.open_writes past) ticket boot ∙ sym (ap (λ x. open_answer (names_open_of w ticket x)) p.1),
-      one_row kept w (ToEnd ticket end) i new h (or_none (halted w.run w.since)) (λ j other ne. other_job w ticket end j other ne) (λ j ne. unmarked w ticket end j)
+      one_row kept w (ToEnd ticket end) i new h (or_none (halt_of w.run w.since)) (λ j other ne. other_job w ticket end j other ne) (λ j ne. unmarked w ticket end j)
           (λ other has_it. here other (same_some job other (sym p.1 ∙ has_it))),
     )
   where
@@ -85,7 +85,7 @@ pub no_end : (kept : Kept) (w : Work) (ticket : Ticket) (end : WriteEnd) → Run
 no_end kept w ticket end h past =
     let none = no_job kept w ticket.key.job h past in (
       sym (ap (λ x. open_answer (names_open_of w ticket x)) none),
-      idle kept w (ToEnd ticket end) h (or_none (halted w.run w.since)) (λ j job is. other_job w ticket end j job (other j job none is)) (λ j job is. unmarked w ticket end j),
+      idle kept w (ToEnd ticket end) h (or_none (halt_of w.run w.since)) (λ j job is. other_job w ticket end j job (other j job none is)) (λ j job is. unmarked w ticket end j),
     )
   where
     other : (j : ℕ) (job : Job) → slice_get w.jobs ticket.key.job ≡ None → slice_get w.jobs j ≡ Some job → j ≢ ticket.key.job
@@ -98,7 +98,7 @@ no_end kept w ticket end h past =
 
 other_boot : (kept : Kept) (w : Work) (ticket : Ticket) (end : WriteEnd) → RunIs kept w → (ticket.boot == w.boot) ≡ false → RunIs kept (and_then w (ToEnd ticket end))
 other_boot kept w ticket end h e =
-    idle kept w (ToEnd ticket end) h (or_none (halted w.run w.since))
+    idle kept w (ToEnd ticket end) h (or_none (halt_of w.run w.since))
     (λ j job is.
     ap (λ t. with_ticket (if not t then Err OldBoot else (if names_one_of (origin_of w j job) (window.open_writes (history (origin_of w j job) w.since)) ticket then Ok tt else Err NotInFlight)) end ticket.seq (history (origin_of w j job) w.since))
     e)

@@ -11,9 +11,9 @@ use Rattle.messages.specs.declared.refusal.Asked.{Asked}
 use Rattle.messages.specs.declared.refusal.Asked.TheVariants as asks
 use Rattle.disk_model.specs.Left.{is_lost}
 use Rattle.server_core.specs.History.{Opening, Entry, Met, Cut, Restart}
-use Rattle.server_core.specs.Request.{Request, ToStage, ToStart, ToTrigger, ToMark, ToStop, ToVerify, ToHold, ToPassFully, ToIssue, ToEnd, ToReport, ToNobody, asked}
+use Rattle.server_core.specs.Request.{Request, ToStage, ToStart, ToTrigger, ToMark, ToStop, ToVerify, ToHold, ToPassFully, ToIssue, ToEnd, ToReport, ToNobody, request_of}
 use Rattle.server_core.specs.Texts.{jobs_for}
-use Rattle.server_core.specs.Run.{Work, Halt, Triggered, Stopped, halted, is_open, is_unended}
+use Rattle.server_core.specs.Run.{Work, Halt, Triggered, Stopped, halt_of, is_open, is_unended}
 use Rattle.server_core.specs.Words.{Staged, for_run}
 use Rattle.server_core.specs.Check.{Check, Progress, Wanting, Full, With, Refused, Done, progress_after, progress_by}
 use Rattle.server_core.specs.Replies.{Now, number_staged, reply_to_text, reply_to_new_jobs, present, reply_to_new_start, reply_to_start, gone_or_unknown, state_frames, reply_to_halt, reply_to_trigger, reply_to_stop, progress_frame, check_frames_from, reply_to_check_text, reply_to_new_check, reply_to_attempt, misfit_frame, reply_to_state_for, reply_to_state, reply_to_report, replies}
@@ -93,7 +93,7 @@ halt_few w last (Some (Triggered act before)) h = states_few w before h
 halt_few w last (Some Stopped) h = one
 
 present_few : (r : ℕ) (t : Bool) (n : Now) (w : Work) → IsFew w.jobs → Few (reply_to_trigger n r (if t then Some w else None))
-present_few r true n w h = halt_few w n.last (halted w.run w.since) h
+present_few r true n w h = halt_few w n.last (halt_of w.run w.since) h
 present_few r false n w h = gone_few asks.Trigger r n.last
 
 trigger_few : (n : Now) (r : ℕ) (w : Option Work) → WorkFew w → Few (reply_to_trigger n r (present r w))
@@ -179,8 +179,8 @@ mapped me (b ∷ bs) = ap suc (mapped me bs)
 
 pub packets_few : TextsGiveSets → RunsHaveSets → ChecksHaveSets → (o : Opening) (past : List Entry) (e : Entry) → length (packets o past e) ≤ MAX_JOBS
 packets_few texts runs checks o past (Met e left) =
-    let bs = sent_by (is_lost left) (refusal o past e) (replies (now o past) (asked o.me e)) in
-    let h = sent_few (is_lost left) (refusal o past e) (replies (now o past) (asked o.me e)) (replies_few texts (now o past) (asked o.me e) (run_few runs o past (work o past) refl) (check_jobs_few checks o past (check o past) refl)) in
+    let bs = sent_by (is_lost left) (refusal o past e) (replies (now o past) (request_of o.me e)) in
+    let h = sent_few (is_lost left) (refusal o past e) (replies (now o past) (request_of o.me e)) (replies_few texts (now o past) (request_of o.me e) (run_few runs o past (work o past) refl) (check_jobs_few checks o past (check o past) refl)) in
     subst (λ n. n ≤ MAX_JOBS) (sym (mapped o.me bs)) h
 packets_few texts runs checks o past Cut = omega arith
 packets_few texts runs checks o past (Restart left) = omega arith

@@ -5,13 +5,13 @@ use Rattle.std.proofs.lemmas.Bool.Decides.{nat_tests}
 use Rattle.disk_model.specs.declared.left.Left.TheVariants.{NoSave, Saved}
 use Rattle.server_core.specs.declared.event.Event.{Event}
 use Rattle.server_core.specs.History.{Opening, Entry, Met}
-use Rattle.server_core.specs.Request.{Request, asked}
+use Rattle.server_core.specs.Request.{Request, request_of}
 use Rattle.server_core.specs.Run.{Work}
-use Rattle.server_core.specs.Words.{Staged, is_on, boot, last_run, stagings, staged, work, due, stages, staged_after, greater, greatest, is_due, recorded, work_after}
+use Rattle.server_core.specs.Words.{Staged, is_on, boot, last_run, stagings, staged_run, work, due, stages, staged_after, greater, greatest, due_by, last_run_after, work_after}
 use Rattle.server_core.specs.Check.{Check, check, opens, check_after, check_goes_on, or_opened}
 use Rattle.server_core.specs.Replies.{Now}
 use Rattle.server_core.specs.Answers.{now}
-use Rattle.server_core.specs.Stands.{after, begun_by, with_staged}
+use Rattle.server_core.specs.WordsAfter.{words_after, begun_by, with_staged}
 use Rattle.server_core.proofs.Due.{rests, due_is_start}
 
 abbrev now_by : ℕ → ℕ → ℕ → Option Staged → Option Work → Option Check → Now
@@ -25,10 +25,10 @@ more_staged last None older = refl
 more_staged last (Some s) older = refl
 
 -- Behind an event that records no run.
-pub follows : (o : Opening) (past : List Entry) (e : Event) → is_on past ≡ true → due o past e ≡ None → now o (Met e NoSave ∷ past) ≡ after (now o past) (asked o.me e)
+pub follows : (o : Opening) (past : List Entry) (e : Event) → is_on past ≡ true → due o past e ≡ None → now o (Met e NoSave ∷ past) ≡ words_after (now o past) (request_of o.me e)
 follows o past e on none =
-    let x = asked o.me e in
-    let last : last_run o (Met e NoSave ∷ past) ≡ last_run o past = ap (λ d. recorded NoSave d (last_run o past)) none in
+    let x = request_of o.me e in
+    let last : last_run o (Met e NoSave ∷ past) ≡ last_run o past = ap (λ d. last_run_after NoSave d (last_run o past)) none in
     same_now o.me (boot o past) _ _ _ _ _ _ _ _ last
     (ap (λ l. greatest l (staged_after NoSave (stages (is_on past) (last_run o past) (work o past) x) (stagings o past))) last
     ∙ ap (λ b. greatest (last_run o past) (staged_after NoSave (stages b (last_run o past) (work o past) x) (stagings o past))) on
@@ -91,17 +91,17 @@ none_above last (new ∷ older) s e = by_older (none_above last older) (greatest
             (ap (greater t.run new) below.0 ∙ ap (λ b. if b then Some new else None) u, below.1)
 
 -- A request that is due to record a run stages none.
-due_stages_none : (on : Bool) (last : ℕ) (found : Option Staged) (w : Option Work) (x : Request) (s : Staged) (b : Bool) (l : ℕ) (v : Option Work) → is_due on last found w x ≡ Some s → stages b l v x ≡ None
+due_stages_none : (on : Bool) (last : ℕ) (found : Option Staged) (w : Option Work) (x : Request) (s : Staged) (b : Bool) (l : ℕ) (v : Option Work) → due_by on last found w x ≡ Some s → stages b l v x ≡ None
 due_stages_none on last found w x s b l v e = ap (stages b l v) (rests on last found w x s e).start
 
 pub starts_follow : (o : Opening) (past : List Entry) (e : Event) (s : Staged) → due o past e ≡ Some s → now o (Met e Saved ∷ past) ≡ begun_by (now o past) s
 starts_follow o past e s is =
-    let x = asked o.me e in
-    let found : staged o past ≡ Some s = (due_is_start o past e s is).staged_is in
-    let last : last_run o (Met e Saved ∷ past) ≡ s.run = ap (λ d. recorded Saved d (last_run o past)) is in
+    let x = request_of o.me e in
+    let found : staged_run o past ≡ Some s = (due_is_start o past e s is).staged_is in
+    let last : last_run o (Met e Saved ∷ past) ≡ s.run = ap (λ d. last_run_after Saved d (last_run o past)) is in
     same_now o.me (boot o past) _ _ _ _ _ _ _ _ last
     (ap (λ l. greatest l (staged_after Saved (stages (is_on past) (last_run o past) (work o past) x) (stagings o past))) last
-    ∙ ap (λ new. greatest s.run (staged_after Saved new (stagings o past))) (due_stages_none (is_on past) (last_run o past) (staged o past) (work o past) x s (is_on past) (last_run o past) (work o past) is)
+    ∙ ap (λ new. greatest s.run (staged_after Saved new (stagings o past))) (due_stages_none (is_on past) (last_run o past) (staged_run o past) (work o past) x s (is_on past) (last_run o past) (work o past) is)
     ∙ (none_above (last_run o past) (stagings o past) s found).0)
     (ap (λ d. work_after Saved d o.me (boot o past) x (work o past)) is)
     (ap (λ d. check_after Saved d (opens (is_on past) o.me (boot o past) (last_run o past) (work o past) (check o past) x) x (check o past)) is)

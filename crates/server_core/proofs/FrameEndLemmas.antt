@@ -19,7 +19,7 @@ use Rattle.disk_model.specs.Steps.{LeavesNote, Answers, Faults, Ends}
 use Rattle.messages.specs.declared.packet.PacketParts.{PacketParts}
 use Rattle.messages.specs.declared.piece.PieceParts.{PieceParts}
 use Rattle.messages.specs.declared.frame.Frame.TheVariants.{Piece}
-use Rattle.messages.specs.Assemblies.{Row, Look, Gives, look, taken, without}
+use Rattle.messages.specs.Assemblies.{Row, Look, Gives, look_at_piece, rows_after_piece, without_tag}
 use Rattle.messages.specs.FrameBytes.{frame_spelling}
 use Rattle.messages.specs.FramesOf.{spelled_frames}
 use Rattle.messages.specs.Pieces.{frames_of}
@@ -39,7 +39,7 @@ use Rattle.server_core.specs.Handles.{sent_alone}
 use Rattle.server_core.specs.Serves as whole
 use Rattle.server_core.specs.Note.{spelling}
 use Rattle.server_core.specs.Hearing.{FrameEntry, Met, is_piece_for, rules, heard_at, packets_heard, assembly}
-use Rattle.server_core.specs.FrameAnswers.{Sense, Hears, Keeps, Drops, sense_of, sense, refusal, refusal_in, due, due_in, issue_in, act_in, answered, entry_heard, frames_by}
+use Rattle.server_core.specs.FrameAnswers.{Sense, Hears, Keeps, Drops, sense_of, sense, refusal, refusal_of_sense, due, due_of_sense, issue_of_sense, act_of_sense, answered_entry, entry_heard, frames_by}
 use Rattle.server_core.specs.FrameEnds.{StandsFor, steps, is_drop}
 use Rattle.server_core.proofs.HearingLemmas.{rows_after, entry_by, entry_is, heard_is, kept_rows, dropped_rows, same_rows, refused_rows, piece_sense, given_gone}
 
@@ -77,18 +77,18 @@ heard_answers : {T : Type 0} (note : T → Note) (o : Opening) (past : List Fram
 heard_answers note o past e x old new outs is a k =
     let list = packets_heard o past in
     let left = saved_for (words.due o list x) in
-    let same_entry : answered o past e ≡ Met e left = ap (λ y. Met e (saved_for (due_in o list y))) is in
-    let says : entry_heard o past (answered o past e) ≡ Some (history.Met x left) = ap (entry_heard o past) same_entry ∙ entry_is o past e left ∙ ap (λ y. entry_by y left) is in
+    let same_entry : answered_entry o past e ≡ Met e left = ap (λ y. Met e (saved_for (due_of_sense o list y))) is in
+    let says : entry_heard o past (answered_entry o past e) ≡ Some (history.Met x left) = ap (entry_heard o past) same_entry ∙ entry_is o past e left ∙ ap (λ y. entry_by y left) is in
     record {
-      free = ap (refusal_in o list) is ∙ a.free;
+      free = ap (refusal_of_sense o list) is ∙ a.free;
       sends = record {
         frames_are = a.sends.frames_are ∙ spelled (answers.packets o list (history.Met x left)) ∙ ap (λ y. map frame_spelling (frames_by o list y)) (sym says);
-        issue_is = a.sends.issue_is ∙ sym (ap (issue_in o list) is);
-        act_is = a.sends.act_is ∙ sym (ap (act_in o list) is);
+        issue_is = a.sends.issue_is ∙ sym (ap (issue_of_sense o list) is);
+        act_is = a.sends.act_is ∙ sym (ap (act_of_sense o list) is);
         short = a.sends.short;
       };
-      leaves = subst (λ d. LeavesNote d (spelling (words.noted o (packets_heard o (answered o past e ∷ past)))) (note old.core.notes) (note new.core.notes)) (sym (ap (due_in o list) is))
-          (subst (λ (l : List history.Entry). LeavesNote (words.due o list x) (spelling (words.noted o l)) (note old.core.notes) (note new.core.notes)) (sym (ap (λ y. packets_heard o (y ∷ past)) same_entry ∙ heard_is o past e left (Hears x) is)) a.leaves);
+      leaves = subst (λ d. LeavesNote d (spelling (words.words_noted o (packets_heard o (answered_entry o past e ∷ past)))) (note old.core.notes) (note new.core.notes)) (sym (ap (due_of_sense o list) is))
+          (subst (λ (l : List history.Entry). LeavesNote (words.due o list x) (spelling (words.words_noted o l)) (note old.core.notes) (note new.core.notes)) (sym (ap (λ y. packets_heard o (y ∷ past)) same_entry ∙ heard_is o past e left (Hears x) is)) a.leaves);
       stands = subst (λ y. StandsFor note new o (y ∷ past)) (sym same_entry)
           (heard_stands note o past e x left new is a.stands (λ on. k (on_before (words.is_on list) (is_lost left) (sym (on_is o past e x left is) ∙ on)) ∙ same_rows o past e NoSave left));
     }
@@ -99,16 +99,16 @@ heard_faults note o past e x old new fault is w sorts.Memory h k =
     record { why = h.why; same_note = h.same_note; unchanged = record { core = h.unchanged; pieces = λ on. k ∙ w.pieces on } }
 heard_faults note o past e x old new fault is w sorts.Save h k = record {
   cause = h.cause;
-  free = ap (refusal_in o (packets_heard o past)) is ∙ h.free;
+  free = ap (refusal_of_sense o (packets_heard o past)) is ∙ h.free;
   addition = h.addition;
-  makes_one = ap (due_in o (packets_heard o past)) is ∙ h.makes_one;
+  makes_one = ap (due_of_sense o (packets_heard o past)) is ∙ h.makes_one;
   left = h.left;
   lost = h.lost;
-  bytes_are = subst (λ (l : List history.Entry). (note new.core.notes).bytes ≡ bytes_left h.left (spelling (words.noted o l)) (note old.core.notes).bytes) (sym (heard_is o past e h.left (Hears x) is)) h.bytes_are;
+  bytes_are = subst (λ (l : List history.Entry). (note new.core.notes).bytes ≡ bytes_left h.left (spelling (words.words_noted o l)) (note old.core.notes).bytes) (sym (heard_is o past e h.left (Hears x) is)) h.bytes_are;
   stands = heard_stands note o past e x h.left new is h.stands (λ on. absurd (off_lost (words.is_on (packets_heard o past)) (is_lost h.left) h.lost (sym (on_is o past e x h.left is) ∙ on)));
 }
 heard_faults note o past e x old new fault is w sorts.Refusal h k =
-    let why : refusal o past e ≡ Some fault = ap (refusal_in o (packets_heard o past)) is ∙ h.why in
+    let why : refusal o past e ≡ Some fault = ap (refusal_of_sense o (packets_heard o past)) is ∙ h.why in
     let rows = refused_rows o past e NoSave fault why (ap is_drop is) in
     record {
       why = why;
@@ -151,28 +151,28 @@ silent_stands note o past e s left old rows is none w k =
     }
 
 pub kept_ends : {T : Type 0} (note : T → Note) (o : Opening) (past : List FrameEntry) (e : Input) (q : PieceParts) (old : Server T) → sense o past e ≡ Keeps q → StandsFor note old o past
-    → Ends (steps note o) past e old (with_pieces old (taken old.pieces q)) (Ok (sent_alone []))
+    → Ends (steps note o) past e old (with_pieces old (rows_after_piece old.pieces q)) (Ok (sent_alone []))
 kept_ends note o past e q old is w =
     let list = packets_heard o past in
     let left = saved_for (due o past e) in
     record {
-      free = ap (refusal_in o list) is;
+      free = ap (refusal_of_sense o list) is;
       sends = record {
         frames_are = ap (λ y. map frame_spelling (frames_by o list y)) (sym (entry_is o past e left ∙ ap (λ y. entry_by y left) is));
-        issue_is = sym (ap (issue_in o list) is);
-        act_is = sym (ap (act_in o list) is);
+        issue_is = sym (ap (issue_of_sense o list) is);
+        act_is = sym (ap (act_of_sense o list) is);
         short = λ i h. record { few = omega arith; short = All-nil (λ (frame : List ℕ). length frame ≤ MAX_FRAME) };
       };
-      leaves = subst (λ d. LeavesNote d (spelling (words.noted o (packets_heard o (answered o past e ∷ past)))) (note old.core.notes) (note old.core.notes)) (sym (ap (due_in o list) is)) refl;
-      stands = silent_stands note o past e (Keeps q) left old (taken old.pieces q) is refl w (λ r. ap (λ x. taken x q) r ∙ sym (kept_rows o past e q left is));
+      leaves = subst (λ d. LeavesNote d (spelling (words.words_noted o (packets_heard o (answered_entry o past e ∷ past)))) (note old.core.notes) (note old.core.notes)) (sym (ap (due_of_sense o list) is)) refl;
+      stands = silent_stands note o past e (Keeps q) left old (rows_after_piece old.pieces q) is refl w (λ r. ap (λ x. rows_after_piece x q) r ∙ sym (kept_rows o past e q left is));
     }
 
 pub dropped_ends : {T : Type 0} (note : T → Note) (o : Opening) (past : List FrameEntry) (e : Input) (q : PieceParts) (old : Server T) → sense o past e ≡ Drops q → StandsFor note old o past
-    → Ends (steps note o) past e old (with_pieces old (taken old.pieces q)) (Err FrameBadField)
+    → Ends (steps note o) past e old (with_pieces old (rows_after_piece old.pieces q)) (Err FrameBadField)
 dropped_ends note o past e q old is w = record {
-  why = ap (refusal_in o (packets_heard o past)) is;
+  why = ap (refusal_of_sense o (packets_heard o past)) is;
   same_note = refl;
-  stands = silent_stands note o past e (Drops q) NoSave old (taken old.pieces q) is refl w (λ r. ap (λ x. taken x q) r ∙ sym (dropped_rows o past e q NoSave is));
+  stands = silent_stands note o past e (Drops q) NoSave old (rows_after_piece old.pieces q) is refl w (λ r. ap (λ x. rows_after_piece x q) r ∙ sym (dropped_rows o past e q NoSave is));
   unchanged = λ d. absurd (no_drop (sym (ap is_drop is) ∙ d));
 }
   where
@@ -183,15 +183,15 @@ dropped_ends note o past e q old is w = record {
 
 -- What a piece is to a server that is on, where it is for that server.
 pub arrives : {T : Type 0} (note : T → Note) (old : Server T) (o : Opening) (past : List FrameEntry) (q : PieceParts) (me : ℕ) → StandsFor note old o past → words.is_on (packets_heard o past) ≡ true → me ≡ o.me → is_piece_for me q ≡ true
-    → (l : Look) → look old.pieces q ≡ l → sense o past (Deliver (Piece q)) ≡ sense_of q (said_by l)
+    → (l : Look) → look_at_piece old.pieces q ≡ l → sense o past (Deliver (Piece q)) ≡ sense_of q (said_by l)
 arrives note old o past q me w on same mine l is = piece_sense o past q old.pieces l on (ap (λ n. is_piece_for n q) (sym same) ∙ mine) (w.pieces on) is
 
 -- A piece whose packet was answered is taken.
 pub given_rows : (o : Opening) (past : List FrameEntry) (q : PieceParts) (p : PacketParts) (rows : List Row) → sense o past (Deliver (Piece q)) ≡ Hears (events.Deliver p) → answers.refusal o (packets_heard o past) (events.Deliver p) ≡ None
-    → rows ≡ assembly o past → look rows q ≡ Gives p → without q.tag rows ≡ rows_after o past (Deliver (Piece q)) NoSave
+    → rows ≡ assembly o past → look_at_piece rows q ≡ Gives p → without_tag q.tag rows ≡ rows_after o past (Deliver (Piece q)) NoSave
 given_rows o past q p rows is free same gives =
-    sym (given_gone rows q p gives) ∙ ap (λ r. taken r q) same
-    ∙ sym (ap (λ (x : Option Fault). if is_some x then assembly o past else taken (assembly o past) q) free)
+    sym (given_gone rows q p gives) ∙ ap (λ r. rows_after_piece r q) same
+    ∙ sym (ap (λ (x : Option Fault). if is_some x then assembly o past else rows_after_piece (assembly o past) q) free)
     ∙ sym (ap (rows_by (rules o) (heard_at o past) q) (says_it (meaning (rules o) (heard_at o past) (Piece q)) is))
   where
     heard_event : (p r : PacketParts) → Hears (events.Deliver p) ≡ Hears (events.Deliver r) → p ≡ r
@@ -205,10 +205,10 @@ given_rows o past q p rows is free same gives =
 
 -- The packet that a piece completes is answered, and its tag is dropped; or it is refused, and the tag stays.
 pub given_ends : {T : Type 0} (note : T → Note) (old : Server T) (core : PacketServer T) (o : Opening) (past : List FrameEntry) (q : PieceParts) (p : PacketParts) (result : Result Outs Fault) → StandsFor note old o past → words.is_on (packets_heard o past) ≡ true
-    → sense o past (Deliver (Piece q)) ≡ Hears (events.Deliver p) → look old.pieces q ≡ Gives p → Ends (whole.steps note o) (packets_heard o past) (events.Deliver p) old.core core result → is_ok result ≡ true
-    → Ends (steps note o) past (Deliver (Piece q)) old (record { alloc = old.alloc; core = core; pieces = without q.tag old.pieces }) result
+    → sense o past (Deliver (Piece q)) ≡ Hears (events.Deliver p) → look_at_piece old.pieces q ≡ Gives p → Ends (whole.steps note o) (packets_heard o past) (events.Deliver p) old.core core result → is_ok result ≡ true
+    → Ends (steps note o) past (Deliver (Piece q)) old (record { alloc = old.alloc; core = core; pieces = without_tag q.tag old.pieces }) result
 given_ends note old core o past q p (Ok outs) w on is gives h ok =
-    heard_ends note o past (Deliver (Piece q)) (events.Deliver p) old (record { alloc = old.alloc; core = core; pieces = without q.tag old.pieces }) (Ok outs) is w h (λ up. given_rows o past q p old.pieces is h.free (w.pieces on) gives)
+    heard_ends note o past (Deliver (Piece q)) (events.Deliver p) old (record { alloc = old.alloc; core = core; pieces = without_tag q.tag old.pieces }) (Ok outs) is w h (λ up. given_rows o past q p old.pieces is h.free (w.pieces on) gives)
 given_ends note old core o past q p (Err fault) w on is gives h ok = absurd cc
 
 pub refused_ends : {T : Type 0} (note : T → Note) (old : Server T) (core : PacketServer T) (o : Opening) (past : List FrameEntry) (q : PieceParts) (p : PacketParts) (result : Result Outs Fault) → StandsFor note old o past

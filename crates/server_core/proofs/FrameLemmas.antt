@@ -22,10 +22,10 @@ use Rattle.disk_model.specs.declared.left.Left.TheVariants.{NoSave, Saved, LostN
 use Rattle.disk_model.specs.Left.{is_lost}
 use Rattle.server_core.specs.declared.event.Event.{Event}
 use Rattle.server_core.specs.History.{Opening, Entry, Met, Cut, Restart}
-use Rattle.server_core.specs.Request.{Request, ToStage, ToStart, ToTrigger, ToMark, ToStop, ToVerify, ToHold, ToPassFully, ToIssue, ToEnd, ToReport, ToNobody, asked}
+use Rattle.server_core.specs.Request.{Request, ToStage, ToStart, ToTrigger, ToMark, ToStop, ToVerify, ToHold, ToPassFully, ToIssue, ToEnd, ToReport, ToNobody, request_of}
 use Rattle.server_core.specs.Texts.{jobs_for}
-use Rattle.server_core.specs.Run.{Work, Halt, Triggered, Stopped, halts, halted, origin_of, goes_on, is_open, is_unended}
-use Rattle.server_core.specs.Words.{Staged, for_run, is_on, boot, last_run, work, staged, due, work_after}
+use Rattle.server_core.specs.Run.{Work, Halt, Triggered, Stopped, halt_by, halt_of, origin_of, goes_on, is_open, is_unended}
+use Rattle.server_core.specs.Words.{Staged, for_run, is_on, boot, last_run, work, staged_run, due, work_after}
 use Rattle.server_core.specs.Taken.{job_state, state_of_job, taken_by_halt, and_those, takings}
 use Rattle.server_core.specs.Check.{Check, Progress, Wanting, Full, With, Refused, Done, progress_after, progress_by}
 use Rattle.server_core.specs.Replies.{Now, number_staged, reply_to_text, reply_to_new_jobs, present, reply_to_new_start, reply_to_start, gone_or_unknown, state_frames, reply_to_halt, reply_to_trigger, reply_to_stop, progress_frame, check_frames_from, reply_to_check_text, reply_to_new_check, reply_to_attempt, misfit_frame, reply_to_state_for, reply_to_state, reply_to_report, replies}
@@ -170,13 +170,13 @@ halt_frames w last None new f = each_weaker (IsFrameOf w w.since) (IsFrameBy w n
 halt_frames w last (Some (Triggered act before)) new f = each_weaker (IsFrameOf w before) (IsFrameBy w (Some (Triggered act before))) (state_frames w before 0 w.jobs) (by_halt w act before) (all_frames w before)
 halt_frames w last (Some Stopped) new f = (tt, tt)
 
-new_halt : (w : Work) (r : ℕ) (act : Act) (b : Body) → w.run ≡ r → Of (IsFrameOf w w.since) b → Of (IsFrameBy w (halts w.run (ToTrigger r act) w.since)) b
+new_halt : (w : Work) (r : ℕ) (act : Act) (b : Body) → w.run ≡ r → Of (IsFrameOf w w.since) b → Of (IsFrameBy w (halt_by w.run (ToTrigger r act) w.since)) b
 new_halt w r act b e h = let same : (r == w.run) ≡ true = grind (arith, nat_tests) in rw same (by_halt w act w.since b h)
 
 -- What each frame says of the run behind the request.
 abbrev IsSaid : Option Work → Body → Type 0
 IsSaid None b = ⊥
-IsSaid (Some v) b = IsFrameBy v (halted v.run v.since) b
+IsSaid (Some v) b = IsFrameBy v (halt_of v.run v.since) b
 
 abbrev IsSent : Request → Option Work → Body → Type 0
 IsSent x w b = IsSaid (goes_on x w) b
@@ -184,7 +184,7 @@ IsSent x w b = IsSaid (goes_on x w) b
 trigger_frames : (n : Now) (r : ℕ) (act : _) (w : Work) (t : Bool) → (t ≡ true → w.run ≡ r)
     → Each (IsSent (ToTrigger r act) (Some w)) (reply_to_trigger n r (if t then Some w else None))
 trigger_frames n r act w true e =
-    halt_frames w n.last (halted w.run w.since) (halts w.run (ToTrigger r act) w.since) (λ b h. new_halt w r act b (e refl) h)
+    halt_frames w n.last (halt_of w.run w.since) (halt_by w.run (ToTrigger r act) w.since) (λ b h. new_halt w r act b (e refl) h)
 trigger_frames n r act w false e = gone_frames (IsSent (ToTrigger r act) (Some w)) asks.Trigger r n.last
 
 trigger_of : (n : Now) (r : ℕ) (act : _) (w : Option Work) → Each (IsSent (ToTrigger r act) w) (reply_to_trigger n r (present r w))
@@ -227,19 +227,19 @@ unsent LostNew d me now_boot x w h f = cc
 unsent LostOld d me now_boot x w h f = cc
 
 entry_frames : (o : Opening) (past : List Entry) (e : Event) (left : Left) (d : Option Staged) → due o past e ≡ d → is_lost left ≡ false
-    → Each (IsSaid (work o (Met e left ∷ past))) (replies (now o past) (asked o.me e))
+    → Each (IsSaid (work o (Met e left ∷ past))) (replies (now o past) (request_of o.me e))
 entry_frames o past e left None is h =
-    subst (λ v. Each (IsSaid v) (replies (now o past) (asked o.me e))) (unsent left (due o past e) o.me (boot o past) (asked o.me e) (work o past) h (λ v. is))
-    (reply_frames (now o past) (asked o.me e))
+    subst (λ v. Each (IsSaid v) (replies (now o past) (request_of o.me e))) (unsent left (due o past e) o.me (boot o past) (request_of o.me e) (work o past) h (λ v. is))
+    (reply_frames (now o past) (request_of o.me e))
 entry_frames o past e left (Some t) is h =
-    let i = due_start (is_on past) (last_run o past) (staged o past) (work o past) (asked o.me e) t is in
+    let i = due_start (is_on past) (last_run o past) (staged_run o past) (work o past) (request_of o.me e) t is in
     subst (λ x. Each (IsSaid (work o (Met e left ∷ past))) (replies (now o past) x)) (sym i.start)
     (start_frames (IsSaid (work o (Met e left ∷ past))) (now o past) t.run (present t.run (work o past)))
 
 said : (o : Opening) (past : List Entry) (e : Entry) (p : PacketParts) → Contains (packets o past e) p → Of (IsSaid (work o (e ∷ past))) p.body
 said o past (Met e left) p h =
-    found (IsSaid (work o (Met e left ∷ past))) o.me (sent_by (is_lost left) (refusal o past e) (replies (now o past) (asked o.me e))) p
-    (sent_frames (IsSaid (work o (Met e left ∷ past))) (is_lost left) (refusal o past e) (replies (now o past) (asked o.me e)) (entry_frames o past e left (due o past e) refl)) h
+    found (IsSaid (work o (Met e left ∷ past))) o.me (sent_by (is_lost left) (refusal o past e) (replies (now o past) (request_of o.me e))) p
+    (sent_frames (IsSaid (work o (Met e left ∷ past))) (is_lost left) (refusal o past e) (replies (now o past) (request_of o.me e)) (entry_frames o past e left (due o past e) refl)) h
 said o past Cut p h = absurd (none_in p h)
 said o past (Restart left) p h = absurd (none_in p h)
 
@@ -262,7 +262,7 @@ state_tells_jobs o past e p jobs s h b = (state_said o past e p jobs s h b).0
 pub sends_the_taken : (o : Opening) (past : List Entry) (e : Entry) (p : PacketParts) (jobs : ℕ) (s : SavedState) → Contains (packets o past e) p → p.body ≡ bodies.State jobs s → (j : ℕ) × IsTheTaken o (e ∷ past) j s
 sends_the_taken o past e p jobs s h b = (state_said o past e p jobs s h b).1
 
-empty : (run j last : ℕ) (states : List SavedState) (w : Work) → Known run j last states (Some w) → run ≡ w.run → taken_by_halt w j (halted w.run w.since) ≡ None → states ≡ []
+empty : (run j last : ℕ) (states : List SavedState) (w : Work) → Known run j last states (Some w) → run ≡ w.run → taken_by_halt w j (halt_of w.run w.since) ≡ None → states ≡ []
 empty run j last states w k e h = stands_by run j last states w k (sym e) ∙ ap (λ now. and_those now []) h
 
 none_at : (o : Opening) (list : List Entry) (x : Option Work) (r j jobs : ℕ) → work o list ≡ x → IsSaid x (bodies.NoState r j jobs) → IsUntaken o list r j jobs

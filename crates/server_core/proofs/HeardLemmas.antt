@@ -20,12 +20,12 @@ use Rattle.server_core.specs.declared.event.Event.{Event}
 use Rattle.server_core.specs.declared.event.Event.TheVariants.{Deliver, Issue, WriteDone, CheckDone}
 use Rattle.server_core.specs.History.{Opening, Entry, Met, Cut, Restart}
 use Rattle.messages.specs.Nodes.{is_client, is_server}
-use Rattle.server_core.specs.Request.{Request, ToStage, ToStart, ToTrigger, ToMark, ToStop, ToVerify, ToHold, ToPassFully, ToIssue, ToEnd, ToReport, ToNobody, asked_by, asked}
+use Rattle.server_core.specs.Request.{Request, ToStage, ToStart, ToTrigger, ToMark, ToStop, ToVerify, ToHold, ToPassFully, ToIssue, ToEnd, ToReport, ToNobody, request_in, request_of}
 use Rattle.server_core.specs.Texts.{jobs_for}
 use Rattle.server_core.specs.Run.{Work, goes_on, is_open, is_unended}
 use Rattle.server_core.specs.Words.{Staged, is_on, boot, last_run, work, work_after, due}
-use Rattle.server_core.specs.Check.{Check, With, is_above, opened, opens, check_goes_on, or_opened, check_after, check, progress}
-use Rattle.server_core.specs.Heard.{heard_with, heard, IsHeard}
+use Rattle.server_core.specs.Check.{Check, With, is_above, new_check, opens, check_goes_on, or_opened, check_after, check, progress}
+use Rattle.server_core.specs.Heard.{heard_with, heard_packets, IsHeard}
 use Rattle.server_core.specs.Answers.{job_of_check, check_job}
 use Rattle.server_core.proofs.HeldLemmas.{key_fits, with_state}
 use Rattle.server_core.proofs.ListLemmas.{none_in, only_in, first_of}
@@ -52,18 +52,18 @@ same_packet f g t u b c x y z = cc
 here : (me : ℕ) (p : PacketParts) (older : List PacketParts) (b : Body) → p.from ≡ nodes.Client → p.to ≡ nodes.Server me → p.body ≡ b → Contains (p ∷ older) (record { from = nodes.Client; to = nodes.Server me; body = b })
 here me p older b f t e = subst (λ q. Contains (p ∷ older) q) (same_packet p.from nodes.Client p.to (nodes.Server me) p.body b f t e) (first_of p older)
 
-body_said : (me : ℕ) (p : PacketParts) (older : List PacketParts) (b : Body) → p.from ≡ nodes.Client → p.to ≡ nodes.Server me → p.body ≡ b → IsSaid me (p ∷ older) (asked_by b)
+body_said : (me : ℕ) (p : PacketParts) (older : List PacketParts) (b : Body) → p.from ≡ nodes.Client → p.to ≡ nodes.Server me → p.body ≡ b → IsSaid me (p ∷ older) (request_in b)
 body_said me p older (bodies.Saved a s) from_is to_is e = here me p older (bodies.Saved a s) from_is to_is e
 body_said me p older (bodies.StateAck r j) from_is to_is e = here me p older (bodies.StateAck r j) from_is to_is e
 body_said me p older _ from_is to_is e = tt
 
-packet_said : (me : ℕ) (p : PacketParts) (older : List PacketParts) (t : Bool) → (is_client p.from && is_server me p.to) ≡ t → IsSaid me (p ∷ older) (if t then asked_by p.body else ToNobody)
+packet_said : (me : ℕ) (p : PacketParts) (older : List PacketParts) (t : Bool) → (is_client p.from && is_server me p.to) ≡ t → IsSaid me (p ∷ older) (if t then request_in p.body else ToNobody)
 packet_said me p older true e =
     let ends = and_parts (is_client p.from) (is_server me p.to) e in
     body_said me p older p.body (from_client p.from ends.0) (to_server me p.to ends.1) refl
 packet_said me p older false e = tt
 
-event_said : (me : ℕ) (e : Event) (older : List PacketParts) → IsSaid me (heard_with e older) (asked me e)
+event_said : (me : ℕ) (e : Event) (older : List PacketParts) → IsSaid me (heard_with e older) (request_of me e)
 event_said me (Deliver p) older = packet_said me p older (is_client p.from && is_server me p.to) refl
 event_said me (Issue j) older = tt
 event_said me (WriteDone ticket end) older = tt
@@ -93,10 +93,10 @@ said_before me e older ToNobody h = tt
 abbrev pub Heard : ℕ → List PacketParts → List Request → Type 0
 Heard me older since = (x : Request) → Contains since x → IsSaid me older x
 
-pub one_heard : (me : ℕ) (e : Event) (older : List PacketParts) (since : List Request) → Heard me older since → Heard me (heard_with e older) (asked me e ∷ since)
+pub one_heard : (me : ℕ) (e : Event) (older : List PacketParts) (since : List Request) → Heard me older since → Heard me (heard_with e older) (request_of me e ∷ since)
 one_heard me e older since f = λ x h.
-    elim (Contains-append_cases (asked me e ∷ []) since x h) [
-      | inl i ↦ subst (λ y. IsSaid me (heard_with e older) y) (only_in (asked me e) x i) (event_said me e older)
+    elim (Contains-append_cases (request_of me e ∷ []) since x h) [
+      | inl i ↦ subst (λ y. IsSaid me (heard_with e older) y) (only_in (request_of me e) x i) (event_said me e older)
       | inr i ↦ said_before me e older x (f x i)
     ]
 
@@ -109,20 +109,20 @@ abbrev pub WorkHeard : ℕ → List PacketParts → Option Work → Type 0
 WorkHeard me older None = Unit {0}
 WorkHeard me older (Some w) = Heard me older w.since
 
-work_on : (me : ℕ) (e : Event) (older : List PacketParts) (w : Option Work) → WorkHeard me older w → WorkHeard me (heard_with e older) (goes_on (asked me e) w)
+work_on : (me : ℕ) (e : Event) (older : List PacketParts) (w : Option Work) → WorkHeard me older w → WorkHeard me (heard_with e older) (goes_on (request_of me e) w)
 work_on me e older None h = tt
 work_on me e older (Some w) h = one_heard me e older w.since h
 
-work_after_heard : (me b : ℕ) (e : Event) (older : List PacketParts) (left : Left) (d : Option Staged) (w : Option Work) → WorkHeard me older w → WorkHeard me (heard_with e older) (work_after left d me b (asked me e) w)
+work_after_heard : (me b : ℕ) (e : Event) (older : List PacketParts) (left : Left) (d : Option Staged) (w : Option Work) → WorkHeard me older w → WorkHeard me (heard_with e older) (work_after left d me b (request_of me e) w)
 work_after_heard me b e older NoSave d w h = work_on me e older w h
 work_after_heard me b e older Saved None w h = work_on me e older w h
 work_after_heard me b e older Saved (Some s) w h = none_heard me (heard_with e older) [] refl
 work_after_heard me b e older LostNew d w h = tt
 work_after_heard me b e older LostOld d w h = tt
 
-pub work_heard : (o : Opening) (past : List Entry) → WorkHeard o.me (heard past) (work o past)
+pub work_heard : (o : Opening) (past : List Entry) → WorkHeard o.me (heard_packets past) (work o past)
 work_heard o [] = tt
-work_heard o (Met e left ∷ past) = work_after_heard o.me (boot o past) e (heard past) left (due o past e) (work o past) (work_heard o past)
+work_heard o (Met e left ∷ past) = work_after_heard o.me (boot o past) e (heard_packets past) left (due o past e) (work o past) (work_heard o past)
 work_heard o (Cut ∷ past) = tt
 work_heard o (Restart left ∷ past) = tt
 
@@ -133,7 +133,7 @@ abbrev Fresh : Option Check → Type 0
 Fresh None = Unit {0}
 Fresh (Some c) = c.since ≡ []
 
-opened_fresh : (me b r a : ℕ) (jobs : Result (List Job) ℕ) → Fresh (opened me b r a jobs)
+opened_fresh : (me b r a : ℕ) (jobs : Result (List Job) ℕ) → Fresh (new_check me b r a jobs)
 opened_fresh me b r a (Ok js) = refl
 opened_fresh me b r a (Err value) = tt
 
@@ -143,7 +143,7 @@ fresh_if false c h = tt
 
 opens_fresh : (on : Bool) (me b last : ℕ) (w : Option Work) (old : Option Check) (x : Request) → Fresh (opens on me b last w old x)
 opens_fresh on me b last w old (ToVerify r a text) =
-    fresh_if (on && ((r == last) && (is_above a old && (not (is_open w) && not (is_unended w))))) (opened me b r a (jobs_for Read text)) (opened_fresh me b r a (jobs_for Read text))
+    fresh_if (on && ((r == last) && (is_above a old && (not (is_open w) && not (is_unended w))))) (new_check me b r a (jobs_for Read text)) (opened_fresh me b r a (jobs_for Read text))
 opens_fresh on me b last w old (ToStage r text) = tt
 opens_fresh on me b last w old (ToStart r) = tt
 opens_fresh on me b last w old (ToTrigger r act) = tt
@@ -160,23 +160,23 @@ abbrev CheckHeard : ℕ → List PacketParts → Option Check → Type 0
 CheckHeard me older None = Unit {0}
 CheckHeard me older (Some c) = Heard me older c.since
 
-check_on : (me : ℕ) (e : Event) (older : List PacketParts) (new old : Option Check) → Fresh new → CheckHeard me older old → CheckHeard me (heard_with e older) (or_opened new (check_goes_on (asked me e) old))
+check_on : (me : ℕ) (e : Event) (older : List PacketParts) (new old : Option Check) → Fresh new → CheckHeard me older old → CheckHeard me (heard_with e older) (or_opened new (check_goes_on (request_of me e) old))
 check_on me e older (Some c) old f h = none_heard me (heard_with e older) c.since f
 check_on me e older None None f h = tt
 check_on me e older None (Some c) f h = one_heard me e older c.since h
 
-check_after_heard : (me : ℕ) (e : Event) (older : List PacketParts) (left : Left) (d : Option Staged) (new old : Option Check) → Fresh new → CheckHeard me older old → CheckHeard me (heard_with e older) (check_after left d new (asked me e) old)
+check_after_heard : (me : ℕ) (e : Event) (older : List PacketParts) (left : Left) (d : Option Staged) (new old : Option Check) → Fresh new → CheckHeard me older old → CheckHeard me (heard_with e older) (check_after left d new (request_of me e) old)
 check_after_heard me e older NoSave d new old f h = check_on me e older new old f h
 check_after_heard me e older Saved None new old f h = check_on me e older new old f h
 check_after_heard me e older Saved (Some s) new old f h = tt
 check_after_heard me e older LostNew d new old f h = tt
 check_after_heard me e older LostOld d new old f h = tt
 
-check_heard : (o : Opening) (past : List Entry) → CheckHeard o.me (heard past) (check o past)
+check_heard : (o : Opening) (past : List Entry) → CheckHeard o.me (heard_packets past) (check o past)
 check_heard o [] = tt
 check_heard o (Met e left ∷ past) =
-    check_after_heard o.me e (heard past) left (due o past e) (opens (is_on past) o.me (boot o past) (last_run o past) (work o past) (check o past) (asked o.me e)) (check o past)
-    (opens_fresh (is_on past) o.me (boot o past) (last_run o past) (work o past) (check o past) (asked o.me e)) (check_heard o past)
+    check_after_heard o.me e (heard_packets past) left (due o past e) (opens (is_on past) o.me (boot o past) (last_run o past) (work o past) (check o past) (request_of o.me e)) (check o past)
+    (opens_fresh (is_on past) o.me (boot o past) (last_run o past) (work o past) (check o past) (request_of o.me e)) (check_heard o past)
 check_heard o (Cut ∷ past) = tt
 check_heard o (Restart left ∷ past) = tt
 
@@ -189,7 +189,7 @@ fits_own s key job e = subst (λ k. misfit s k job ≡ None) (sym (key_fits s ke
 pub with_was_heard : (o : Opening) (past : List Entry) (j : ℕ) (s : State) → progress o past j ≡ Some (With s) → IsHeard o past j s
 with_was_heard o past j s h =
     let w = with_state o past j s h in
-    let all = subst (λ c. CheckHeard o.me (heard past) c) w.is_open_check (check_heard o past) in
+    let all = subst (λ c. CheckHeard o.me (heard_packets past) c) w.is_open_check (check_heard o past) in
     record {
       key = w.key;
       job = w.job;

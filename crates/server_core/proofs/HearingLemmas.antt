@@ -8,7 +8,7 @@ use Rattle.messages.specs.declared.packet.PacketParts.{PacketParts}
 use Rattle.messages.specs.declared.piece.PieceParts.{PieceParts}
 use Rattle.messages.specs.declared.frame.Frame.TheVariants.{Whole, Piece}
 use Rattle.messages.specs.Assemblies as looks
-use Rattle.messages.specs.Assemblies.{Row, Look, Gives, look, look_at, completed, with_piece, taken, taken_at, without, LookAnswers}
+use Rattle.messages.specs.Assemblies.{Row, Look, Gives, look_at_piece, look_by_body, completed_body, with_piece, rows_after_piece, rows_after_body, without_tag, LookAnswers}
 use Rattle.messages.specs.declared.places.Filled.{Filled}
 use Rattle.messages.specs.Hearing.{Meaning, Says, Waits, Spoils, Strays, meaning, said_by, heard_by, rows_by, rows_of, with_entry}
 use Rattle.server_core.specs.declared.event.Event.TheVariants as events
@@ -18,13 +18,13 @@ use Rattle.server_core.specs.History as history
 use Rattle.server_core.specs.History.{Opening}
 use Rattle.server_core.specs.Words.{is_on}
 use Rattle.server_core.specs.Answers as answers
-use Rattle.server_core.specs.Hearing.{FrameEntry, Met, is_piece_for, rules, coming, heard_at, packets_heard, assembly}
-use Rattle.server_core.specs.FrameAnswers.{Sense, Hears, Keeps, Drops, Misses, sense_of, sense, refusal_in, entry_heard}
+use Rattle.server_core.specs.Hearing.{FrameEntry, Met, is_piece_for, rules, coming_of, heard_at, packets_heard, assembly}
+use Rattle.server_core.specs.FrameAnswers.{Sense, Hears, Keeps, Drops, Misses, sense_of, sense, refusal_of_sense, entry_heard}
 use Rattle.server_core.specs.FrameEnds.{is_drop}
 
 -- What has come together behind an input.
 abbrev pub rows_after : Opening → List FrameEntry → Input → Left → List Row
-rows_after o past e left = rows_of (rules o) (heard_at o past) (coming (Met e left))
+rows_after o past e left = rows_of (rules o) (heard_at o past) (coming_of (Met e left))
 
 -- The entry that is heard, by what the input is.
 abbrev pub entry_by : Sense → Left → Option history.Entry
@@ -53,8 +53,8 @@ heard_is o past e left s is = ap (λ (y : Option history.Entry). with_entry y (p
 -- What a piece that says nothing leaves together.
 abbrev IsTaken : List Row → List Row → Sense → Type 0
 IsTaken old new (Hears x) = Unit {0}
-IsTaken old new (Keeps q) = new ≡ taken old q
-IsTaken old new (Drops q) = new ≡ taken old q
+IsTaken old new (Keeps q) = new ≡ rows_after_piece old q
+IsTaken old new (Drops q) = new ≡ rows_after_piece old q
 IsTaken old new Misses = new ≡ old
 
 piece_taken : (o : Opening) (past : List FrameEntry) (q : PieceParts) (m : Meaning) → IsTaken (assembly o past) (rows_by (rules o) (heard_at o past) q m) (sense_of q m)
@@ -70,10 +70,10 @@ taken_is o past (Issue j) left = tt
 taken_is o past (WriteDone ticket end) left = tt
 taken_is o past (CheckDone boot a j report) left = tt
 
-pub kept_rows : (o : Opening) (past : List FrameEntry) (e : Input) (q : PieceParts) (left : Left) → sense o past e ≡ Keeps q → rows_after o past e left ≡ taken (assembly o past) q
+pub kept_rows : (o : Opening) (past : List FrameEntry) (e : Input) (q : PieceParts) (left : Left) → sense o past e ≡ Keeps q → rows_after o past e left ≡ rows_after_piece (assembly o past) q
 kept_rows o past e q left is = subst (IsTaken (assembly o past) (rows_after o past e left)) is (taken_is o past e left)
 
-pub dropped_rows : (o : Opening) (past : List FrameEntry) (e : Input) (q : PieceParts) (left : Left) → sense o past e ≡ Drops q → rows_after o past e left ≡ taken (assembly o past) q
+pub dropped_rows : (o : Opening) (past : List FrameEntry) (e : Input) (q : PieceParts) (left : Left) → sense o past e ≡ Drops q → rows_after o past e left ≡ rows_after_piece (assembly o past) q
 dropped_rows o past e q left is = subst (IsTaken (assembly o past) (rows_after o past e left)) is (taken_is o past e left)
 
 -- The save doesn't matter for what has come together.
@@ -85,18 +85,18 @@ same_rows o past (WriteDone ticket end) one other = refl
 same_rows o past (CheckDone boot a j report) one other = refl
 
 -- A refused input that drops no tag leaves what has come together.
-refused_piece : (o : Opening) (past : List FrameEntry) (q : PieceParts) (x : Option Fault) (fault : Fault) → x ≡ Some fault → (if is_some x then assembly o past else taken (assembly o past) q) ≡ assembly o past
+refused_piece : (o : Opening) (past : List FrameEntry) (q : PieceParts) (x : Option Fault) (fault : Fault) → x ≡ Some fault → (if is_some x then assembly o past else rows_after_piece (assembly o past) q) ≡ assembly o past
 refused_piece o past q None fault h = absurd cc
 refused_piece o past q (Some f) fault h = refl
 
-piece_rows : (o : Opening) (past : List FrameEntry) (q : PieceParts) (m : Meaning) (fault : Fault) → refusal_in o (packets_heard o past) (sense_of q m) ≡ Some fault → is_drop (sense_of q m) ≡ false
+piece_rows : (o : Opening) (past : List FrameEntry) (q : PieceParts) (m : Meaning) (fault : Fault) → refusal_of_sense o (packets_heard o past) (sense_of q m) ≡ Some fault → is_drop (sense_of q m) ≡ false
     → rows_by (rules o) (heard_at o past) q m ≡ assembly o past
 piece_rows o past q (Says p) fault h d = refused_piece o past q (answers.refusal o (packets_heard o past) (events.Deliver p)) fault h
 piece_rows o past q Waits fault h d = absurd cc
 piece_rows o past q Spoils fault h d = absurd cc
 piece_rows o past q Strays fault h d = refl
 
-pub refused_rows : (o : Opening) (past : List FrameEntry) (e : Input) (left : Left) (fault : Fault) → refusal_in o (packets_heard o past) (sense o past e) ≡ Some fault → is_drop (sense o past e) ≡ false → rows_after o past e left ≡ assembly o past
+pub refused_rows : (o : Opening) (past : List FrameEntry) (e : Input) (left : Left) (fault : Fault) → refusal_of_sense o (packets_heard o past) (sense o past e) ≡ Some fault → is_drop (sense o past e) ≡ false → rows_after o past e left ≡ assembly o past
 refused_rows o past (Deliver (Whole p)) left fault h d = refl
 refused_rows o past (Deliver (Piece q)) left fault h d = piece_rows o past q (meaning (rules o) (heard_at o past) (Piece q)) fault h d
 refused_rows o past (Issue j) left fault h d = refl
@@ -105,12 +105,12 @@ refused_rows o past (CheckDone boot a j report) left fault h d = refl
 
 -- ---- a piece that is for a server that is on
 
-pub piece_sense : (o : Opening) (past : List FrameEntry) (q : PieceParts) (rows : List Row) (l : Look) → is_on (packets_heard o past) ≡ true → is_piece_for o.me q ≡ true → rows ≡ assembly o past → look rows q ≡ l
+pub piece_sense : (o : Opening) (past : List FrameEntry) (q : PieceParts) (rows : List Row) (l : Look) → is_on (packets_heard o past) ≡ true → is_piece_for o.me q ≡ true → rows ≡ assembly o past → look_at_piece rows q ≡ l
     → sense o past (Deliver (Piece q)) ≡ sense_of q (said_by l)
 piece_sense o past q rows l on mine same is =
-    ap (λ (b : Bool). sense_of q (if b && is_piece_for o.me q then said_by (look (assembly o past) q) else Strays)) on
-    ∙ ap (λ (b : Bool). sense_of q (if b then said_by (look (assembly o past) q) else Strays)) mine
-    ∙ ap (λ r. sense_of q (said_by (look r q))) (sym same) ∙ ap (λ x. sense_of q (said_by x)) is
+    ap (λ (b : Bool). sense_of q (if b && is_piece_for o.me q then said_by (look_at_piece (assembly o past) q) else Strays)) on
+    ∙ ap (λ (b : Bool). sense_of q (if b then said_by (look_at_piece (assembly o past) q) else Strays)) mine
+    ∙ ap (λ r. sense_of q (said_by (look_at_piece r q))) (sym same) ∙ ap (λ x. sense_of q (said_by x)) is
 
 -- What looking answered is what a piece says.
 one_packet : (x y : PacketParts) → Some x ≡ Some y → x ≡ y
@@ -152,18 +152,18 @@ spoiled (Err f) (looks.Gives p) a is = absurd (no_memory (sym (one_fault f Frame
 spoiled (Err f) looks.NoPacket a is = refl
 
 -- A piece that fills the last place takes the tag out.
-whole_gone : (q : PieceParts) (fs : List Filled) (rows : List Row) (body : Option (List ℕ)) → (look_at q body ≡ looks.Waits → ⊥) → taken_at body q fs rows ≡ without q.tag rows
+whole_gone : (q : PieceParts) (fs : List Filled) (rows : List Row) (body : Option (List ℕ)) → (look_by_body q body ≡ looks.Waits → ⊥) → rows_after_body body q fs rows ≡ without_tag q.tag rows
 whole_gone q fs rows None ne = absurd (ne refl)
 whole_gone q fs rows (Some bytes) ne = refl
 
-pub given_gone : (rows : List Row) (q : PieceParts) (p : PacketParts) → look rows q ≡ Gives p → taken rows q ≡ without q.tag rows
-given_gone rows q p is = whole_gone q (with_piece rows q) rows (completed rows q) (λ e. waits_no (sym is ∙ e))
+pub given_gone : (rows : List Row) (q : PieceParts) (p : PacketParts) → look_at_piece rows q ≡ Gives p → rows_after_piece rows q ≡ without_tag q.tag rows
+given_gone rows q p is = whole_gone q (with_piece rows q) rows (completed_body rows q) (λ e. waits_no (sym is ∙ e))
   where
     waits_no : Gives p ≡ looks.Waits → ⊥
     waits_no e = cc
 
-pub spoiled_gone : (rows : List Row) (q : PieceParts) → look rows q ≡ looks.NoPacket → taken rows q ≡ without q.tag rows
-spoiled_gone rows q is = whole_gone q (with_piece rows q) rows (completed rows q) (λ e. waits_no (sym is ∙ e))
+pub spoiled_gone : (rows : List Row) (q : PieceParts) → look_at_piece rows q ≡ looks.NoPacket → rows_after_piece rows q ≡ without_tag q.tag rows
+spoiled_gone rows q is = whole_gone q (with_piece rows q) rows (completed_body rows q) (λ e. waits_no (sym is ∙ e))
   where
     waits_no : looks.NoPacket ≡ looks.Waits → ⊥
     waits_no e = cc

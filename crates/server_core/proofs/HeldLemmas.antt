@@ -15,15 +15,15 @@ use Rattle.fc_base.specs.Keys.{is_same_key}
 use Rattle.disk_model.specs.declared.left.Left.{Left}
 use Rattle.disk_model.specs.declared.left.Left.TheVariants.{NoSave, Saved, LostNew, LostOld}
 use Rattle.server_core.specs.History.{Opening, Entry, Met, Cut, Restart}
-use Rattle.server_core.specs.Request.{Request, ToStage, ToStart, ToTrigger, ToMark, ToStop, ToVerify, ToHold, ToPassFully, ToIssue, ToEnd, ToReport, ToNobody, asked}
+use Rattle.server_core.specs.Request.{Request, ToStage, ToStart, ToTrigger, ToMark, ToStop, ToVerify, ToHold, ToPassFully, ToIssue, ToEnd, ToReport, ToNobody, request_of}
 use Rattle.server_core.specs.Texts.{jobs_for}
 use Rattle.verify_state.specs.Misfit.{misfit, is_of_job}
 use Rattle.server_core.specs.Run.{Work, is_open, is_unended}
-use Rattle.server_core.specs.Words.{Staged, is_on, boot, recorded, last_run, work, due}
+use Rattle.server_core.specs.Words.{Staged, is_on, boot, last_run_after, last_run, work, due}
 use Rattle.server_core.proofs.KeyLemmas.{same_key}
 use Rattle.server_core.proofs.ListLemmas.{first_of}
 use Rattle.server_core.proofs.WorkLemmas.{unsaved}
-use Rattle.server_core.specs.Check.{Check, Progress, Wanting, Full, With, Refused, Done, held, passed, reported, progress_by, begun, progress_after, progress_at, progress_in, is_above, opened, opens, check_goes_on, or_opened, check_after, check, progress}
+use Rattle.server_core.specs.Check.{Check, Progress, Wanting, Full, With, Refused, Done, progress_with_state, progress_without_state, progress_with_report, progress_by, progress_at_first, progress_after, progress_at, progress_in, is_above, new_check, opens, check_goes_on, or_opened, check_after, check, progress}
 
 -- The check is of the last run, of this server and boot.
 pub record IsOf (me now_boot last : ℕ) (c : Check) : Type 0 where
@@ -35,7 +35,7 @@ abbrev pub Of : ℕ → ℕ → ℕ → Option Check → Type 0
 Of me now_boot last None = Unit {0}
 Of me now_boot last (Some c) = IsOf me now_boot last c
 
-opened_of : (me now_boot r a last : ℕ) (jobs : Result (List Job) ℕ) → r ≡ last → Of me now_boot last (opened me now_boot r a jobs)
+opened_of : (me now_boot r a last : ℕ) (jobs : Result (List Job) ℕ) → r ≡ last → Of me now_boot last (new_check me now_boot r a jobs)
 opened_of me now_boot r a last (Ok js) e = record { server = refl; boot_is = refl; run = e }
 opened_of me now_boot r a last (Err value) e = tt
 
@@ -47,7 +47,7 @@ chosen false false me now_boot last c f = tt
 
 opens_of : (on : Bool) (me now_boot last : ℕ) (now : Option Work) (old : Option Check) (x : Request) → Of me now_boot last (opens on me now_boot last now old x)
 opens_of on me now_boot last now old (ToVerify r a text) =
-    chosen ((r == last) && (is_above a old && (not (is_open now) && not (is_unended now)))) on me now_boot last (opened me now_boot r a (jobs_for Read text))
+    chosen ((r == last) && (is_above a old && (not (is_open now) && not (is_unended now)))) on me now_boot last (new_check me now_boot r a (jobs_for Read text))
     (λ t. opened_of me now_boot r a last (jobs_for Read text) (eqb-true r last (and_parts (r == last) (is_above a old && (not (is_open now) && not (is_unended now))) t).0))
 opens_of on me now_boot last now old (ToStage r text) = tt
 opens_of on me now_boot last now old (ToStart r) = tt
@@ -67,7 +67,7 @@ goes_on_of me now_boot last x None None n h = tt
 goes_on_of me now_boot last x None (Some c) n h = record { server = h.server; boot_is = h.boot_is; run = h.run }
 
 after_of : (me now_boot last : ℕ) (left : Left) (d : Option Staged) (x : Request) (new old : Option Check) → Of me now_boot last new → Of me now_boot last old
-    → Of me now_boot (recorded left d last) (check_after left d new x old)
+    → Of me now_boot (last_run_after left d last) (check_after left d new x old)
 after_of me now_boot last NoSave d x new old n h = subst (λ l. Of me now_boot l (or_opened new (check_goes_on x old))) (sym (unsaved d last)) (goes_on_of me now_boot last x new old n h)
 after_of me now_boot last Saved None x new old n h = goes_on_of me now_boot last x new old n h
 after_of me now_boot last Saved (Some s) x new old n h = tt
@@ -77,8 +77,8 @@ after_of me now_boot last LostOld d x new old n h = tt
 pub check_of : (o : Opening) (past : List Entry) → Of o.me (boot o past) (last_run o past) (check o past)
 check_of o [] = tt
 check_of o (Met e left ∷ past) =
-    after_of o.me (boot o past) (last_run o past) left (due o past e) (asked o.me e) (opens (is_on past) o.me (boot o past) (last_run o past) (work o past) (check o past) (asked o.me e)) (check o past)
-    (opens_of (is_on past) o.me (boot o past) (last_run o past) (work o past) (check o past) (asked o.me e)) (check_of o past)
+    after_of o.me (boot o past) (last_run o past) left (due o past e) (request_of o.me e) (opens (is_on past) o.me (boot o past) (last_run o past) (work o past) (check o past) (request_of o.me e)) (check o past)
+    (opens_of (is_on past) o.me (boot o past) (last_run o past) (work o past) (check o past) (request_of o.me e)) (check_of o past)
 check_of o (Cut ∷ past) = tt
 check_of o (Restart left ∷ past) = tt
 
@@ -91,7 +91,7 @@ pub record Came (c : Check) (j : ℕ) (job : Job) (since : List Request) (s : St
 later : (c : Check) (j : ℕ) (job : Job) (x : Request) (since : List Request) (s : State) → Came c j job since s → Came c j job (x ∷ since) s
 later c j job x since s k = record { attempt = k.attempt; came = Contains-append_right (x ∷ []) since (ToHold k.attempt s) k.came; fits = k.fits }
 
-held_cases : (m : Option Fault) (state s : State) (p : Progress) → held m state p ≡ With s → (p ≡ With s) ⊎ ((m ≡ None) × (state ≡ s))
+held_cases : (m : Option Fault) (state s : State) (p : Progress) → progress_with_state m state p ≡ With s → (p ≡ With s) ⊎ ((m ≡ None) × (state ≡ s))
 held_cases None state s Wanting h = inr (refl, cc)
 held_cases (Some fault) state s Wanting h = cc
 held_cases m state s Full h = cc
@@ -99,14 +99,14 @@ held_cases m state s (With t) h = inl h
 held_cases m state s (Refused value) h = cc
 held_cases m state s (Done report) h = cc
 
-passed_with : (s : State) (p : Progress) → passed p ≡ With s → p ≡ With s
+passed_with : (s : State) (p : Progress) → progress_without_state p ≡ With s → p ≡ With s
 passed_with s Wanting h = cc
 passed_with s Full h = cc
 passed_with s (With t) h = h
 passed_with s (Refused value) h = cc
 passed_with s (Done report) h = cc
 
-reported_with : (r : _) (s : State) (p : Progress) → reported r p ≡ With s → p ≡ With s
+reported_with : (r : _) (s : State) (p : Progress) → progress_with_report r p ≡ With s → p ≡ With s
 reported_with r s Wanting h = cc
 reported_with r s Full h = cc
 reported_with r s (With t) h = cc
@@ -117,7 +117,7 @@ either : (t : Bool) (new old : Progress) (s : State) → (new ≡ With s → old
 either true new old s f h = f h
 either false new old s f h = h
 
-hold_cases : (t : Bool) (m : Option Fault) (state s : State) (p : Progress) → (if t then held m state p else p) ≡ With s → (p ≡ With s) ⊎ ((m ≡ None) × (state ≡ s))
+hold_cases : (t : Bool) (m : Option Fault) (state s : State) (p : Progress) → (if t then progress_with_state m state p else p) ≡ With s → (p ≡ With s) ⊎ ((m ≡ None) × (state ≡ s))
 hold_cases true m state s p h = held_cases m state s p h
 hold_cases false m state s p h = inl h
 
@@ -132,8 +132,8 @@ step c j job (ToHold a state) since p s f h =
       | inl i ↦ later c j job (ToHold a state) since s (f i)
       | inr i ↦ here c j job a state since s i.0 i.1
     ]
-step c j job (ToPassFully a i) since p s f h = later c j job (ToPassFully a i) since s (f (either ((a == c.attempt) && (i == j)) (passed p) p s (passed_with s p) h))
-step c j job (ToReport b a i report) since p s f h = later c j job (ToReport b a i report) since s (f (either ((b == c.boot) && ((a == c.attempt) && (i == j))) (reported report p) p s (reported_with report s p) h))
+step c j job (ToPassFully a i) since p s f h = later c j job (ToPassFully a i) since s (f (either ((a == c.attempt) && (i == j)) (progress_without_state p) p s (passed_with s p) h))
+step c j job (ToReport b a i report) since p s f h = later c j job (ToReport b a i report) since s (f (either ((b == c.boot) && ((a == c.attempt) && (i == j))) (progress_with_report report p) p s (reported_with report s p) h))
 step c j job (ToStage r text) since p s f h = later c j job (ToStage r text) since s (f h)
 step c j job (ToStart r) since p s f h = later c j job (ToStart r) since s (f h)
 step c j job (ToTrigger r act) since p s f h = later c j job (ToTrigger r act) since s (f h)
@@ -144,7 +144,7 @@ step c j job (ToIssue i) since p s f h = later c j job (ToIssue i) since s (f h)
 step c j job (ToEnd ticket end) since p s f h = later c j job (ToEnd ticket end) since s (f h)
 step c j job ToNobody since p s f h = later c j job ToNobody since s (f h)
 
-not_begun : (load : Bool) (s : State) → begun load ≡ With s → ⊥
+not_begun : (load : Bool) (s : State) → progress_at_first load ≡ With s → ⊥
 not_begun true s h = cc
 not_begun false s h = cc
 

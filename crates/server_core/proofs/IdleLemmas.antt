@@ -8,7 +8,7 @@ use Rattle.fc_base.specs.Counted.{has, numbers_below}
 use Rattle.messages.specs.declared.refusal.Act.{Act}
 use Rattle.messages.specs.declared.refusal.Act.TheVariants as acts
 use Rattle.server_core.specs.Request.{Request, ToStage, ToStart, ToTrigger, ToMark, ToStop, ToVerify, ToHold, ToPassFully, ToIssue, ToEnd, ToReport, ToNobody}
-use Rattle.server_core.specs.Run.{Work, Halt, Triggered, Stopped, halted, goes_on}
+use Rattle.server_core.specs.Run.{Work, Halt, Triggered, Stopped, halt_of, goes_on}
 use Rattle.server_core.specs.Answers.{marks_by, marks, is_marked, wants_cut, act_of}
 use Rattle.server_core.specs.Kept.{Kept, end_kept, RunIs}
 use Rattle.server_core.specs.Check.{Check, check_goes_on}
@@ -52,17 +52,17 @@ not_marked (Some (Triggered act before)) run (ToStop r) e = absurd e
 not_marked (Some (Triggered act before)) run (ToIssue j) e = absurd e
 not_marked (Some (Triggered act before)) run (ToEnd ticket end) e = absurd e
 
-marks_stay : (w : Work) (x : Request) (j : ℕ) → marks_by (halted w.run w.since) w.run x ≡ [] → has (marks w.run (x ∷ w.since)) j ≡ has (marks w.run w.since) j
+marks_stay : (w : Work) (x : Request) (j : ℕ) → marks_by (halt_of w.run w.since) w.run x ≡ [] → has (marks w.run (x ∷ w.since)) j ≡ has (marks w.run w.since) j
 marks_stay w x j e = ap (λ ms. has (ms ++ marks w.run w.since) j) e
 
 pub elsewhere : (kept : Kept) (w : Work) (x : Request) → RunIs kept w → IsElsewhere x → RunIs kept (and_then w x)
-elsewhere kept w (ToStage r text) h e = idle kept w (ToStage r text) h (or_none (halted w.run w.since)) (λ j job is. refl) (λ j job is. marks_stay w (ToStage r text) j (not_marked (halted w.run w.since) w.run (ToStage r text) tt))
-elsewhere kept w (ToStart r) h e = idle kept w (ToStart r) h (or_none (halted w.run w.since)) (λ j job is. refl) (λ j job is. marks_stay w (ToStart r) j (not_marked (halted w.run w.since) w.run (ToStart r) tt))
-elsewhere kept w (ToVerify r a text) h e = idle kept w (ToVerify r a text) h (or_none (halted w.run w.since)) (λ j job is. refl) (λ j job is. marks_stay w (ToVerify r a text) j (not_marked (halted w.run w.since) w.run (ToVerify r a text) tt))
-elsewhere kept w (ToHold a state) h e = idle kept w (ToHold a state) h (or_none (halted w.run w.since)) (λ j job is. refl) (λ j job is. marks_stay w (ToHold a state) j (not_marked (halted w.run w.since) w.run (ToHold a state) tt))
-elsewhere kept w (ToPassFully a i) h e = idle kept w (ToPassFully a i) h (or_none (halted w.run w.since)) (λ j job is. refl) (λ j job is. marks_stay w (ToPassFully a i) j (not_marked (halted w.run w.since) w.run (ToPassFully a i) tt))
-elsewhere kept w (ToReport b a i report) h e = idle kept w (ToReport b a i report) h (or_none (halted w.run w.since)) (λ j job is. refl) (λ j job is. marks_stay w (ToReport b a i report) j (not_marked (halted w.run w.since) w.run (ToReport b a i report) tt))
-elsewhere kept w ToNobody h e = idle kept w ToNobody h (or_none (halted w.run w.since)) (λ j job is. refl) (λ j job is. marks_stay w ToNobody j (not_marked (halted w.run w.since) w.run ToNobody tt))
+elsewhere kept w (ToStage r text) h e = idle kept w (ToStage r text) h (or_none (halt_of w.run w.since)) (λ j job is. refl) (λ j job is. marks_stay w (ToStage r text) j (not_marked (halt_of w.run w.since) w.run (ToStage r text) tt))
+elsewhere kept w (ToStart r) h e = idle kept w (ToStart r) h (or_none (halt_of w.run w.since)) (λ j job is. refl) (λ j job is. marks_stay w (ToStart r) j (not_marked (halt_of w.run w.since) w.run (ToStart r) tt))
+elsewhere kept w (ToVerify r a text) h e = idle kept w (ToVerify r a text) h (or_none (halt_of w.run w.since)) (λ j job is. refl) (λ j job is. marks_stay w (ToVerify r a text) j (not_marked (halt_of w.run w.since) w.run (ToVerify r a text) tt))
+elsewhere kept w (ToHold a state) h e = idle kept w (ToHold a state) h (or_none (halt_of w.run w.since)) (λ j job is. refl) (λ j job is. marks_stay w (ToHold a state) j (not_marked (halt_of w.run w.since) w.run (ToHold a state) tt))
+elsewhere kept w (ToPassFully a i) h e = idle kept w (ToPassFully a i) h (or_none (halt_of w.run w.since)) (λ j job is. refl) (λ j job is. marks_stay w (ToPassFully a i) j (not_marked (halt_of w.run w.since) w.run (ToPassFully a i) tt))
+elsewhere kept w (ToReport b a i report) h e = idle kept w (ToReport b a i report) h (or_none (halt_of w.run w.since)) (λ j job is. refl) (λ j job is. marks_stay w (ToReport b a i report) j (not_marked (halt_of w.run w.since) w.run (ToReport b a i report) tt))
+elsewhere kept w ToNobody h e = idle kept w ToNobody h (or_none (halt_of w.run w.since)) (λ j job is. refl) (λ j job is. marks_stay w ToNobody j (not_marked (halt_of w.run w.since) w.run ToNobody tt))
 elsewhere kept w (ToTrigger r act) h e = absurd e
 elsewhere kept w (ToMark r j) h e = absurd e
 elsewhere kept w (ToStop r) h e = absurd e
@@ -82,18 +82,18 @@ no_mark_ends None run r act = (refl, refl)
 no_mark_ends (Some (Triggered a before)) run r act = (refl, refl)
 no_mark_ends (Some Stopped) run r act = (refl, refl)
 
-is_not : (kept : Kept) (w : Work) (r : ℕ) → RunIs kept w → ((kept.number == r) && is_none kept.end) ≡ false → ((r == w.run) && is_none (end_kept (halted w.run w.since))) ≡ false
-is_not kept w r h e = ap (λ t. t && is_none (end_kept (halted w.run w.since))) (swapped r w.run) ∙ ap (λ (k : Kept). (k.number == r) && is_none k.end) (sym h.is) ∙ e
+is_not : (kept : Kept) (w : Work) (r : ℕ) → RunIs kept w → ((kept.number == r) && is_none kept.end) ≡ false → ((r == w.run) && is_none (end_kept (halt_of w.run w.since))) ≡ false
+is_not kept w r h e = ap (λ t. t && is_none (end_kept (halt_of w.run w.since))) (swapped r w.run) ∙ ap (λ (k : Kept). (k.number == r) && is_none k.end) (sym h.is) ∙ e
 
 pub no_trigger : (kept : Kept) (w : Work) (r : ℕ) (act : Act) → RunIs kept w → ((kept.number == r) && is_none kept.end) ≡ false → RunIs kept (and_then w (ToTrigger r act))
 no_trigger kept w r act h e =
-    idle kept w (ToTrigger r act) h (halt_stays (halted w.run w.since) (r == w.run) (Triggered act w.since) (is_not kept w r h e)) (λ j job is. refl)
-    (λ j job is. marks_stay w (ToTrigger r act) j (no_mark_ends (halted w.run w.since) w.run r act).0)
+    idle kept w (ToTrigger r act) h (halt_stays (halt_of w.run w.since) (r == w.run) (Triggered act w.since) (is_not kept w r h e)) (λ j job is. refl)
+    (λ j job is. marks_stay w (ToTrigger r act) j (no_mark_ends (halt_of w.run w.since) w.run r act).0)
 
 pub no_stop : (kept : Kept) (w : Work) (r : ℕ) → RunIs kept w → ((kept.number == r) && is_none kept.end) ≡ false → RunIs kept (and_then w (ToStop r))
 no_stop kept w r h e =
-    idle kept w (ToStop r) h (halt_stays (halted w.run w.since) (r == w.run) Stopped (is_not kept w r h e)) (λ j job is. refl)
-    (λ j job is. marks_stay w (ToStop r) j (no_mark_ends (halted w.run w.since) w.run r acts.None).1)
+    idle kept w (ToStop r) h (halt_stays (halt_of w.run w.since) (r == w.run) Stopped (is_not kept w r h e)) (λ j job is. refl)
+    (λ j job is. marks_stay w (ToStop r) j (no_mark_ends (halt_of w.run w.since) w.run r acts.None).1)
 
 other_mark : (b : Option Halt) (run r j : ℕ) → (r == run) ≡ false → marks_by b run (ToMark r j) ≡ []
 other_mark None run r j e = refl
@@ -103,10 +103,10 @@ other_mark (Some (Triggered act before)) run r j e = ap (λ t. if t then j ∷ [
 pub no_mark : (kept : Kept) (w : Work) (r j : ℕ) → RunIs kept w → (kept.number == r) ≡ false → RunIs kept (and_then w (ToMark r j)) × (acts.None ≡ act_of (Some w) (ToMark r j))
 no_mark kept w r j h e =
     let other : (r == w.run) ≡ false = swapped r w.run ∙ ap (λ (k : Kept). k.number == r) (sym h.is) ∙ e in
-    let unmarked = other_mark (halted w.run w.since) w.run r j other in (
-      idle kept w (ToMark r j) h (or_none (halted w.run w.since)) (λ i job is. refl) (λ i job is. marks_stay w (ToMark r j) i unmarked),
-      sym (ap (λ ms. if wants_cut (halted w.run w.since) && (not (is_marked w) && list_all (has (ms ++ marks w.run w.since)) (numbers_below (length w.jobs))) then acts.Cut else acts.None) unmarked
-          ∙ never (wants_cut (halted w.run w.since)) (is_marked w)),
+    let unmarked = other_mark (halt_of w.run w.since) w.run r j other in (
+      idle kept w (ToMark r j) h (or_none (halt_of w.run w.since)) (λ i job is. refl) (λ i job is. marks_stay w (ToMark r j) i unmarked),
+      sym (ap (λ ms. if wants_cut (halt_of w.run w.since) && (not (is_marked w) && list_all (has (ms ++ marks w.run w.since)) (numbers_below (length w.jobs))) then acts.Cut else acts.None) unmarked
+          ∙ never (wants_cut (halt_of w.run w.since)) (is_marked w)),
     )
   where
     never : (a b : Bool) → (if a && (not b && b) then acts.Cut else acts.None) ≡ acts.None

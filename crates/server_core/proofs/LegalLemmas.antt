@@ -16,7 +16,7 @@ use Rattle.engine.specs.Laws.{WritesAreLegal, EndsAreLegal}
 use Rattle.server_core.specs.declared.event.WriteEnd.{WriteEnd}
 use Rattle.server_core.specs.declared.event.WriteEnd.TheVariants.{Done, Failed}
 use Rattle.server_core.specs.Request.{Request, ToStage, ToStart, ToTrigger, ToMark, ToStop, ToVerify, ToHold, ToPassFully, ToIssue, ToEnd, ToReport, ToNobody}
-use Rattle.server_core.specs.Run.{halted, with_issue, with_ticket, with_request, history}
+use Rattle.server_core.specs.Run.{halt_of, with_issue, with_ticket, with_request, history}
 
 answer_legal : WritesAreLegal → (origin : Origin) (stopped : Bool) (h : List window.Event) (answer : Issue) → 1 ≤ origin.job.window → IsLegal origin.job h → answer_to origin stopped h ≡ answer → IsLegal origin.job (with_issue answer h)
 answer_legal writes origin stopped h (issues.Write ticket) some legal e = (writes origin stopped h ticket some legal e).1
@@ -53,7 +53,7 @@ request_legal writes ends origin stopped ToNobody h some legal = legal
 
 pub history_legal : WritesAreLegal → EndsAreLegal → (origin : Origin) (since : List Request) → 1 ≤ origin.job.window → IsLegal origin.job (history origin since)
 history_legal writes ends origin [] some = record { by_window = tt; by_job = tt }
-history_legal writes ends origin (x ∷ since) some = request_legal writes ends origin (is_some (halted origin.key.run since)) x (history origin since) some (history_legal writes ends origin since some)
+history_legal writes ends origin (x ∷ since) some = request_legal writes ends origin (is_some (halt_of origin.key.run since)) x (history origin since) some (history_legal writes ends origin since some)
 
 pub some_window : (job : JobParts) → is_within_limits job ≡ true → 1 ≤ job.window
 some_window job h =

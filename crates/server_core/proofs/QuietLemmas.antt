@@ -10,9 +10,9 @@ use Rattle.server_core.specs.declared.event.Event.{Event}
 use Rattle.disk_model.specs.declared.left.Left.{Left}
 use Rattle.disk_model.specs.declared.left.Left.TheVariants.{NoSave, Saved, LostNew, LostOld}
 use Rattle.server_core.specs.History.{Opening, Entry, Met, Cut, Restart}
-use Rattle.server_core.specs.Request.{Request, ToStage, ToStart, ToTrigger, ToMark, ToStop, ToVerify, ToHold, ToPassFully, ToIssue, ToEnd, ToReport, ToNobody, asked}
-use Rattle.server_core.specs.Run.{Work, Halt, halts, halted, is_halted, goes_on}
-use Rattle.server_core.specs.Words.{Staged, is_on, boot, recorded, work_after, last_run, work, staged, due}
+use Rattle.server_core.specs.Request.{Request, ToStage, ToStart, ToTrigger, ToMark, ToStop, ToVerify, ToHold, ToPassFully, ToIssue, ToEnd, ToReport, ToNobody, request_of}
+use Rattle.server_core.specs.Run.{Work, Halt, halt_by, halt_of, is_halted, goes_on}
+use Rattle.server_core.specs.Words.{Staged, is_on, boot, last_run_after, work_after, last_run, work, staged_run, due}
 use Rattle.server_core.specs.Taken.{triggers, takes_now, takes, takings}
 use Rattle.server_core.specs.Answers.{issue_of_job, issue_of, issue_for, issue}
 use Rattle.server_core.specs.Laws.{gives_write}
@@ -30,10 +30,10 @@ Calm run (Some w) = (w.run ≡ run) × (is_halted w ≡ true)
 
 calm_on : (run : ℕ) (x : Request) (w : Option Work) → Calm run w → Calm run (goes_on x w)
 calm_on run x None c = c
-calm_on run x (Some w) c = (c.0, still (halted w.run w.since) (halts w.run x w.since) c.1)
+calm_on run x (Some w) c = (c.0, still (halt_of w.run w.since) (halt_by w.run x w.since) c.1)
 
 calm_after : (run last : ℕ) (left : Left) (d : Option Staged) (me now_boot : ℕ) (x : Request) (w : Option Work) → ((s : Staged) → d ≡ Some s → IsStart last x s)
-    → recorded left d last ≡ last → Calm run w → Calm run (work_after left d me now_boot x w)
+    → last_run_after left d last ≡ last → Calm run w → Calm run (work_after left d me now_boot x w)
 calm_after run last NoSave d me now_boot x w f e c = calm_on run x w c
 calm_after run last Saved None me now_boot x w f e c = calm_on run x w c
 calm_after run last Saved (Some s) me now_boot x w f e c = let above = (f s refl).above in absurd (omega arith)
@@ -42,8 +42,8 @@ calm_after run last LostOld d me now_boot x w f e c = tt
 
 calm_met : (o : Opening) (run : ℕ) (e : Entry) (past : List Entry) → last_run o (e ∷ past) ≡ last_run o past → Calm run (work o past) → Calm run (work o (e ∷ past))
 calm_met o run (Met e left) past same c =
-    calm_after run (last_run o past) left (due o past e) o.me (boot o past) (asked o.me e) (work o past)
-    (due_start (is_on past) (last_run o past) (staged o past) (work o past) (asked o.me e)) same c
+    calm_after run (last_run o past) left (due o past e) o.me (boot o past) (request_of o.me e) (work o past)
+    (due_start (is_on past) (last_run o past) (staged_run o past) (work o past) (request_of o.me e)) same c
 calm_met o run Cut past same c = tt
 calm_met o run (Restart left) past same c = tt
 
@@ -61,10 +61,10 @@ hit false t w j (Some halt) state h = cc
 
 takes_of : (run j : ℕ) (x : Request) (w : Work) (state : State) → takes run j x (Some w) ≡ Some state → Takes run j x w
 takes_of run j x w state h =
-    let p = hit (triggers run x) (w.run == run) w j (halted w.run w.since) state h in
+    let p = hit (triggers run x) (w.run == run) w j (halt_of w.run w.since) state h in
     record { hits = p.0; here = eqb-true w.run run p.1 }
 
-halt_now : (run : ℕ) (x : Request) (b : Option Halt) (since : List Request) → triggers run x ≡ true → is_some (option_or b (halts run x since)) ≡ true
+halt_now : (run : ℕ) (x : Request) (b : Option Halt) (since : List Request) → triggers run x ≡ true → is_some (option_or b (halt_by run x since)) ≡ true
 halt_now run x (Some halt) since h = refl
 halt_now run (ToTrigger r act) None since h = rw h refl
 halt_now run (ToStop r) None since h = cc
@@ -84,8 +84,8 @@ no_start run q h = cc
 
 calm_taking : (run : ℕ) (x : Request) (w : Work) (left : Left) (d : Option Staged) (last me now_boot : ℕ) → ((s : Staged) → d ≡ Some s → IsStart last x s)
     → triggers run x ≡ true → w.run ≡ run → Calm run (work_after left d me now_boot x (Some w))
-calm_taking run x w NoSave d last me now_boot f h e = (e, halt_now w.run x (halted w.run w.since) w.since (subst (λ n. triggers n x ≡ true) (sym e) h))
-calm_taking run x w Saved None last me now_boot f h e = (e, halt_now w.run x (halted w.run w.since) w.since (subst (λ n. triggers n x ≡ true) (sym e) h))
+calm_taking run x w NoSave d last me now_boot f h e = (e, halt_now w.run x (halt_of w.run w.since) w.since (subst (λ n. triggers n x ≡ true) (sym e) h))
+calm_taking run x w Saved None last me now_boot f h e = (e, halt_now w.run x (halt_of w.run w.since) w.since (subst (λ n. triggers n x ≡ true) (sym e) h))
 calm_taking run x w Saved (Some s) last me now_boot f h e =
     let i = f s refl in absurd (no_start run s.run (subst (λ y. triggers run y ≡ true) i.start h))
 calm_taking run x w LostNew d last me now_boot f h e = tt
@@ -100,19 +100,19 @@ record IsBehind (o : Opening) (run : ℕ) (list : List Entry) : Type 0 where
   pub calm : Calm run (work o list)
 
 behind_at : (o : Opening) (run j : ℕ) (e : Event) (left : Left) (past : List Entry) (x : Option Work) (state : State) → work o past ≡ x
-    → takes run j (asked o.me e) x ≡ Some state → IsBehind o run (Met e left ∷ past)
+    → takes run j (request_of o.me e) x ≡ Some state → IsBehind o run (Met e left ∷ past)
 behind_at o run j e left past None state is h = cc
 behind_at o run j e left past (Some w) state is h =
-    let t = takes_of run j (asked o.me e) w state h in
+    let t = takes_of run j (request_of o.me e) w state h in
     let k = subst (λ v. Known run j (last_run o past) (takings o run j past) v) is (known o run j past) in
     let g = last_grows o (Met e left) past in
     let in_last : w.run ≤ last_run o past = within run j (last_run o past) (takings o run j past) w k in
     let least : run ≤ last_run o past = subst (λ n. n ≤ last_run o past) t.here in_last in
     record {
       least = omega arith;
-      calm = subst (λ v. Calm run (work_after left (due o past e) o.me (boot o past) (asked o.me e) v)) (sym is)
-          (calm_taking run (asked o.me e) w left (due o past e) (last_run o past) o.me (boot o past)
-          (due_start (is_on past) (last_run o past) (staged o past) (work o past) (asked o.me e)) t.hits t.here);
+      calm = subst (λ v. Calm run (work_after left (due o past e) o.me (boot o past) (request_of o.me e) v)) (sym is)
+          (calm_taking run (request_of o.me e) w left (due o past e) (last_run o past) o.me (boot o past)
+          (due_start (is_on past) (last_run o past) (staged_run o past) (work o past) (request_of o.me e)) t.hits t.here);
     }
 
 least_on : (o : Opening) (run : ℕ) (between list : List Entry) → run ≤ last_run o list → run ≤ last_run o (between ++ list)
@@ -150,13 +150,13 @@ no_write run (ToEnd ticket end) w c = refl
 no_write run (ToReport b a i report) w c = refl
 no_write run ToNobody w c = refl
 
-pub quiet_while_last : (o : Opening) (older between : List Entry) (trigger e : Event) (was : Left) (run j : ℕ) (state : State) → takes run j (asked o.me trigger) (work o older) ≡ Some state
+pub quiet_while_last : (o : Opening) (older between : List Entry) (trigger e : Event) (was : Left) (run j : ℕ) (state : State) → takes run j (request_of o.me trigger) (work o older) ≡ Some state
     → last_run o (between ++ Met trigger was ∷ older) ≡ run → gives_write (issue o (between ++ Met trigger was ∷ older) e) ≡ false
 quiet_while_last o older between trigger e was run j state h last =
-    no_write run (asked o.me e) (work o (between ++ Met trigger was ∷ older))
+    no_write run (request_of o.me e) (work o (between ++ Met trigger was ∷ older))
     (calm_behind o run between (Met trigger was ∷ older) (behind_at o run j trigger was older (work o older) state refl h) last)
 
-pub quiet_until_check : (o : Opening) (older between newer : List Entry) (trigger e : Event) (was left : Left) (run j i : ℕ) (state with_it : State) → takes run j (asked o.me trigger) (work o older) ≡ Some state
+pub quiet_until_check : (o : Opening) (older between newer : List Entry) (trigger e : Event) (was left : Left) (run j i : ℕ) (state with_it : State) → takes run j (request_of o.me trigger) (work o older) ≡ Some state
     → progress o (newer ++ Met e left ∷ (between ++ Met trigger was ∷ older)) i ≡ Some (With with_it) → with_it.key.run ≡ run
     → gives_write (issue o (between ++ Met trigger was ∷ older) e) ≡ false
 quiet_until_check o older between newer trigger e was left run j i state with_it h p same =

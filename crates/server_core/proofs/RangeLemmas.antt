@@ -21,9 +21,9 @@ use Rattle.server_core.specs.declared.event.Event.{Event}
 use Rattle.server_core.specs.declared.event.Event.TheVariants.{Deliver, Issue, WriteDone, CheckDone}
 use Rattle.server_core.specs.History.{Opening, Entry, Met, Cut, Restart}
 use Rattle.messages.specs.Nodes.{is_client, is_server}
-use Rattle.server_core.specs.Request.{Request, ToStage, ToStart, ToTrigger, ToMark, ToStop, ToVerify, ToHold, ToPassFully, ToIssue, ToEnd, ToReport, ToNobody, asked_by, asked}
+use Rattle.server_core.specs.Request.{Request, ToStage, ToStart, ToTrigger, ToMark, ToStop, ToVerify, ToHold, ToPassFully, ToIssue, ToEnd, ToReport, ToNobody, request_in, request_of}
 use Rattle.server_core.specs.Texts.{jobs_by, jobs_for, is_phase}
-use Rattle.server_core.specs.Words.{Staged, recorded, last_run, due}
+use Rattle.server_core.specs.Words.{Staged, last_run_after, last_run, due}
 use Rattle.server_core.specs.Laws.{IsSet, TextsGiveSets}
 use Rattle.server_core.specs.Ranges.{IsInRange, CameInRange, OpensInRange}
 use Rattle.server_core.proofs.SetLemmas.{Rules, AllAsked, SomeStaged, Known, known, due_known}
@@ -137,7 +137,7 @@ RequestFits (ToIssue j) = Unit {0}
 RequestFits (ToEnd ticket end) = Unit {0}
 RequestFits ToNobody = Unit {0}
 
-body_asks : (b : Body) → is_body b ≡ true → RequestFits (asked_by b)
+body_asks : (b : Body) → is_body b ≡ true → RequestFits (request_in b)
 body_asks (bodies.Jobs run text) h = (and_parts (is_run run) (is_text text) h).0
 body_asks (bodies.Start run) h = h
 body_asks (bodies.Trigger run act) h = h
@@ -152,9 +152,9 @@ if_for_it : (b : Bool) (x : Request) → RequestFits x → RequestFits (if b the
 if_for_it true x h = h
 if_for_it false x h = tt
 
-pub asked_fits : (me : ℕ) (e : Event) → IsInRange e → RequestFits (asked me e)
+pub asked_fits : (me : ℕ) (e : Event) → IsInRange e → RequestFits (request_of me e)
 asked_fits me (Deliver p) h =
-    if_for_it (is_client p.from && is_server me p.to) (asked_by p.body) (body_asks p.body (and_parts (is_node p.from && is_node p.to) (is_body p.body) h.in_range).1)
+    if_for_it (is_client p.from && is_server me p.to) (request_in p.body) (body_asks p.body (and_parts (is_node p.from && is_node p.to) (is_body p.body) h.in_range).1)
 asked_fits me (Issue j) h = tt
 asked_fits me (WriteDone ticket end) h = tt
 asked_fits me (CheckDone boot a j report) h = h
@@ -183,7 +183,7 @@ either_below : (b : Bool) (x y : ℕ) → x < 2 ^ 64 → y < 2 ^ 64 → (if b th
 either_below true x y h k = h
 either_below false x y h k = k
 
-recorded_below : (left : Left) (d : Option Staged) (last : ℕ) → SomeStaged InRun d → last < 2 ^ 64 → recorded left d last < 2 ^ 64
+recorded_below : (left : Left) (d : Option Staged) (last : ℕ) → SomeStaged InRun d → last < 2 ^ 64 → last_run_after left d last < 2 ^ 64
 recorded_below left None last h k = k
 recorded_below left (Some s) last h k = either_below (has_new left) s.run last (run_below s.run h.run) k
 

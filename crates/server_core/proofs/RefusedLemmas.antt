@@ -12,13 +12,14 @@ use Rattle.engine.specs.Answers.{names_one_of}
 use Rattle.server_core.specs.declared.event.WriteEnd.{WriteEnd}
 use Rattle.server_core.specs.declared.machine.Machine.{Machine}
 use Rattle.server_core.specs.Request.{Request, ToStage, ToStart, ToTrigger, ToMark, ToStop, ToVerify, ToHold, ToPassFully, ToIssue, ToEnd, ToReport, ToNobody}
-use Rattle.server_core.specs.Run.{Work, goes_on, halted, with_ticket, origin_of, history}
-use Rattle.server_core.specs.Check.{Check, Progress, check_goes_on, progress_in, reported}
+use Rattle.server_core.specs.Run.{Work, goes_on, halt_of, with_ticket, origin_of, history}
+use Rattle.server_core.specs.Check.{Check, Progress, check_goes_on, progress_in, progress_with_report}
 use Rattle.server_core.specs.Replies.{Now}
-use Rattle.server_core.specs.Answers.{refusal_of, refused_by, names_open, names_open_of, is_ready, is_attempt}
+use Rattle.server_core.specs.Answers.{refusal_of, refused_by, names_open, names_open_of, is_ready, is_open_attempt}
 use Rattle.server_core.specs.Kept.{Kept, RunIs}
 use Rattle.server_core.specs.KeptCheck.{CheckKept, check_kept, job_progress, ready_in, ready_now}
-use Rattle.server_core.specs.Stands.{MachineIs, WorkIs, OpenIs, after}
+use Rattle.server_core.specs.Stands.{MachineIs, WorkIs, OpenIs}
+use Rattle.server_core.specs.WordsAfter.{words_after}
 use Rattle.server_core.proofs.RowLemmas.{and_then, or_none, idle}
 use Rattle.server_core.proofs.EndLemmas.{other_job, unmarked, end_of_other_boot, check_of_other_boot}
 use Rattle.server_core.proofs.CheckedLemmas as checks
@@ -34,7 +35,7 @@ unnamed true false end k h e = refl
 
 unnamed_run : (kept : Kept) (w : Work) (ticket : Ticket) (end : WriteEnd) → RunIs kept w → names_open_of w ticket (slice_get w.jobs ticket.key.job) ≡ false → RunIs kept (and_then w (ToEnd ticket end))
 unnamed_run kept w ticket end h e =
-    idle kept w (ToEnd ticket end) h (or_none (halted w.run w.since)) (λ j job is. each j job is (j == ticket.key.job) refl) (λ j job is. unmarked w ticket end j)
+    idle kept w (ToEnd ticket end) h (or_none (halt_of w.run w.since)) (λ j job is. each j job is (j == ticket.key.job) refl) (λ j job is. unmarked w ticket end j)
   where
     each : (j : ℕ) (job : Job) → slice_get w.jobs j ≡ Some job → (b : Bool) → (j == ticket.key.job) ≡ b → history (origin_of w j job) (ToEnd ticket end ∷ w.since) ≡ history (origin_of w j job) w.since
     each j job is false t = other_job w ticket end j job (eqb-false j ticket.key.job t)
@@ -71,7 +72,7 @@ no_report kept c b a j r is no_one =
         itself : (n : ℕ) → (n == n) ≡ true
         itself n = eq-eqb n n refl
 
-    still : (s t t' u v : Bool) (p : Progress) → (t ≡ true → t' ≡ true) → (s && (t' && v)) ≡ false → (u ≡ true → v ≡ is_ready (Some p)) → (if s && (t && u) then reported r p else p) ≡ p
+    still : (s t t' u v : Bool) (p : Progress) → (t ≡ true → t' ≡ true) → (s && (t' && v)) ≡ false → (u ≡ true → v ≡ is_ready (Some p)) → (if s && (t && u) then progress_with_report r p else p) ≡ p
     still false t t' u v p m e f = refl
     still true false t' u v p m e f = refl
     still true true t' false v p m e f = refl
@@ -95,7 +96,7 @@ not_both true true fault e = cc
 
 -- ---- any request
 
-pub refused_stays : (machine : Machine) (now : Now) (x : Request) (fault : Fault) → MachineIs machine now → refusal_of now x ≡ Some fault → MachineIs machine (after now x)
+pub refused_stays : (machine : Machine) (now : Now) (x : Request) (fault : Fault) → MachineIs machine now → refusal_of now x ≡ Some fault → MachineIs machine (words_after now x)
 refused_stays machine now ToNobody fault h e = record {
   me = h.me;
   boot_is = h.boot_is;
@@ -120,7 +121,7 @@ refused_stays machine now (ToReport b a j r) fault h e = record {
   run_is = work_elsewhere now.server now.boot machine.run now.run (ToReport b a j r) h.run_is tt;
   check_is = report_stays now.server now.boot machine.check now.check b a j r h.check_is
       (ap (λ t. (b == now.boot) && t) (ready_is now.server now.boot machine.check now.check a j h.check_is)
-      ∙ not_both (b == now.boot) (is_attempt a now.check && is_ready (progress_in now.check j)) fault e);
+      ∙ not_both (b == now.boot) (is_open_attempt a now.check && is_ready (progress_in now.check j)) fault e);
 }
 refused_stays machine now (ToStage r text) fault h e = cc
 refused_stays machine now (ToStart r) fault h e = cc

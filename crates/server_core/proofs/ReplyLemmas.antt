@@ -14,13 +14,13 @@ use Rattle.messages.specs.Ranges.{is_body}
 use Rattle.messages.specs.Laws.{IsPacket}
 use Rattle.disk_model.specs.Left.{is_lost}
 use Rattle.server_core.specs.History.{Met, Cut, Restart}
-use Rattle.server_core.specs.Request.{Request, ToStage, ToStart, ToTrigger, ToMark, ToStop, ToVerify, ToHold, ToPassFully, ToIssue, ToEnd, ToReport, ToNobody, asked}
+use Rattle.server_core.specs.Request.{Request, ToStage, ToStart, ToTrigger, ToMark, ToStop, ToVerify, ToHold, ToPassFully, ToIssue, ToEnd, ToReport, ToNobody, request_of}
 use Rattle.server_core.specs.Texts.{jobs_for}
 use Rattle.server_core.specs.Run.{is_open}
 use Rattle.server_core.specs.Words.{for_run, is_on, boot, last_run, work}
 use Rattle.server_core.specs.Check.{progress_in}
 use Rattle.server_core.specs.Replies.{Now, number_staged, present, replies}
-use Rattle.server_core.specs.Answers.{now, is_ready, is_attempt as is_attempt_of, refusal_of, refusal, to_client, sent_by}
+use Rattle.server_core.specs.Answers.{now, is_ready, is_open_attempt as is_attempt_of, refusal_of, refusal, to_client, sent_by}
 use Rattle.server_core.specs.Laws.{PacketsAreInRange}
 use Rattle.server_core.proofs.WorkLemmas as works
 use Rattle.server_core.proofs.SetLemmas.{SomeStaged, for_run_fits, staged_fits}
@@ -75,7 +75,7 @@ carried me (b ∷ bs) l h =
 pub packets_are_in_range : Below → PacketsAreInRange
 packets_are_in_range below o past (Met e left) i h =
     let k = kept_in_range below.texts o past h.1 in
-    let x = asked o.me e in
+    let x = request_of o.me e in
     carried o.me (sent_by (is_lost left) (refusal o past e) (replies (now o past) x)) i.me
     (sent_fit (is_lost left) (refusal o past e) (replies (now o past) x)
     (λ f. replies_fit below (now o past) x (while_on (is_on past) (refusal_of (now o past) x) f) (asked_fits o.me e h.0)

@@ -12,7 +12,7 @@ use Rattle.engine.specs.Running.{Running, running_of}
 use Rattle.server_core.specs.declared.job_run.JobRun.{JobRun}
 use Rattle.server_core.specs.declared.job_run.End.{End}
 use Rattle.server_core.specs.Request.{Request}
-use Rattle.server_core.specs.Run.{Work, Halt, halted, origin_of, history}
+use Rattle.server_core.specs.Run.{Work, Halt, halt_of, origin_of, history}
 use Rattle.server_core.specs.Taken.{taken_by_halt}
 use Rattle.server_core.specs.Answers.{marks}
 use Rattle.server_core.proofs.NumberedLemmas.{plus_zero, map-numbered, set_one, job_of}
@@ -35,12 +35,12 @@ or_none None = refl
 or_none (Some h) = refl
 
 pub row_by : (w : Work) (x : Request) (j : ℕ) (job : Job) (b : Option Halt) (h : List window.Event) (m : Bool) →
-    halted w.run (x ∷ w.since) ≡ b → history (origin_of w j job) (x ∷ w.since) ≡ h → has (marks w.run (x ∷ w.since)) j ≡ m → job_kept (and_then w x) j job ≡ row w j job b h m
+    halt_of w.run (x ∷ w.since) ≡ b → history (origin_of w j job) (x ∷ w.since) ≡ h → has (marks w.run (x ∷ w.since)) j ≡ m → job_kept (and_then w x) j job ≡ row w j job b h m
 row_by w x j job b h m e f g = ap (λ c. row w j job c (history (origin_of w j job) (x ∷ w.since)) (has (marks w.run (x ∷ w.since)) j)) e ∙ ap (λ i. row w j job b i (has (marks w.run (x ∷ w.since)) j)) f ∙ ap (row w j job b h) g
 
-pub same_row : (w : Work) (x : Request) (j : ℕ) (job : Job) → halted w.run (x ∷ w.since) ≡ halted w.run w.since → history (origin_of w j job) (x ∷ w.since) ≡ history (origin_of w j job) w.since
+pub same_row : (w : Work) (x : Request) (j : ℕ) (job : Job) → halt_of w.run (x ∷ w.since) ≡ halt_of w.run w.since → history (origin_of w j job) (x ∷ w.since) ≡ history (origin_of w j job) w.since
     → has (marks w.run (x ∷ w.since)) j ≡ has (marks w.run w.since) j → job_kept (and_then w x) j job ≡ job_kept w j job
-same_row w x j job e f g = row_by w x j job (halted w.run w.since) (history (origin_of w j job) w.since) (has (marks w.run w.since) j) e f g
+same_row w x j job e f g = row_by w x j job (halt_of w.run w.since) (history (origin_of w j job) w.since) (has (marks w.run w.since) j) e f g
 
 abbrev pub kept_by : ℕ → Option End → List Job → List JobRun → Kept
 kept_by n e js ks = record { number = n; end = e; jobs = js; kept = ks }
@@ -49,7 +49,7 @@ pub same_kept : (n m : ℕ) (e f : Option End) (js gs : List Job) (ks ls : List 
 same_kept n m e f js gs ks ls a b c d = cc
 
 -- A request that changes what is kept of each job alike.
-pub each_row : (kept : Kept) (w : Work) (x : Request) (f : JobRun → JobRun) (b : Option Halt) → RunIs kept w → halted w.run (x ∷ w.since) ≡ b
+pub each_row : (kept : Kept) (w : Work) (x : Request) (f : JobRun → JobRun) (b : Option Halt) → RunIs kept w → halt_of w.run (x ∷ w.since) ≡ b
     → ((j : ℕ) (job : Job) → slice_get w.jobs j ≡ Some job → job_kept (and_then w x) j job ≡ f (job_kept w j job)) → RunIs (record kept { end = end_kept b; kept = map f kept.kept }) (and_then w x)
 each_row kept w x f b h now same = record {
   is = same_kept _ _ _ _ _ _ _ _ (ap (λ (k : Kept). k.number) h.is) (sym (ap end_kept now)) (ap (λ (k : Kept). k.jobs) h.is)
@@ -60,19 +60,19 @@ each_row kept w x f b h now same = record {
 }
 
 -- A request that changes nothing of any job leaves what is kept.
-pub idle : (kept : Kept) (w : Work) (x : Request) → RunIs kept w → halted w.run (x ∷ w.since) ≡ halted w.run w.since
+pub idle : (kept : Kept) (w : Work) (x : Request) → RunIs kept w → halt_of w.run (x ∷ w.since) ≡ halt_of w.run w.since
     → ((j : ℕ) (job : Job) → slice_get w.jobs j ≡ Some job → history (origin_of w j job) (x ∷ w.since) ≡ history (origin_of w j job) w.since)
     → ((j : ℕ) (job : Job) → slice_get w.jobs j ≡ Some job → has (marks w.run (x ∷ w.since)) j ≡ has (marks w.run w.since) j) → RunIs kept (and_then w x)
 idle kept w x h b s m =
     subst (λ k. RunIs k (and_then w x)) (same_kept _ _ _ _ _ _ _ _ refl (sym (ap (λ (k : Kept). k.end) h.is)) refl (map-id kept.kept))
-    (each_row kept w x (λ k. k) (halted w.run w.since) h b (λ j job is. same_row w x j job b (s j job is) (m j job is)))
+    (each_row kept w x (λ k. k) (halt_of w.run w.since) h b (λ j job is. same_row w x j job b (s j job is) (m j job is)))
 
 pub job_here : (kept : Kept) (w : Work) (i : ℕ) (old : JobRun) → RunIs kept w → slice_get kept.kept i ≡ Some old → (job : Job) × (slice_get w.jobs i ≡ Some job) × (old ≡ job_kept w i job)
 job_here kept w i old h at =
     job_of (job_kept w) w.jobs i old (sym (ap (λ (k : Kept). slice_get k.kept i) h.is) ∙ at)
 
 -- A request that changes what is kept of one job.
-pub one_row : (kept : Kept) (w : Work) (x : Request) (i : ℕ) (new : JobRun) → RunIs kept w → halted w.run (x ∷ w.since) ≡ halted w.run w.since
+pub one_row : (kept : Kept) (w : Work) (x : Request) (i : ℕ) (new : JobRun) → RunIs kept w → halt_of w.run (x ∷ w.since) ≡ halt_of w.run w.since
     → ((j : ℕ) (job : Job) → j ≢ i → history (origin_of w j job) (x ∷ w.since) ≡ history (origin_of w j job) w.since)
     → ((j : ℕ) → j ≢ i → has (marks w.run (x ∷ w.since)) j ≡ has (marks w.run w.since) j)
     → ((job : Job) → slice_get w.jobs i ≡ Some job → new ≡ job_kept (and_then w x) i job)
@@ -92,12 +92,12 @@ pub same_job_run : (e f : Running) (s r : Bool) (t u : Option State) (m n : Bool
 same_job_run e f s r t u m n a b c d = cc
 
 -- A request that changes the engine alone.
-pub engine_row : (w : Work) (x : Request) (i : ℕ) (job : Job) (old : JobRun) (engine : Running) (h : List window.Event) → old ≡ job_kept w i job → engine ≡ running_of (origin_of w i job) (is_some (halted w.run w.since)) h
-    → halted w.run (x ∷ w.since) ≡ halted w.run w.since → history (origin_of w i job) (x ∷ w.since) ≡ h → has (marks w.run (x ∷ w.since)) i ≡ has (marks w.run w.since) i
+pub engine_row : (w : Work) (x : Request) (i : ℕ) (job : Job) (old : JobRun) (engine : Running) (h : List window.Event) → old ≡ job_kept w i job → engine ≡ running_of (origin_of w i job) (is_some (halt_of w.run w.since)) h
+    → halt_of w.run (x ∷ w.since) ≡ halt_of w.run w.since → history (origin_of w i job) (x ∷ w.since) ≡ h → has (marks w.run (x ∷ w.since)) i ≡ has (marks w.run w.since) i
     → record old { engine = engine } ≡ job_kept (and_then w x) i job
 engine_row w x i job old engine h is e b s m =
     same_job_run _ _ _ _ _ _ _ _ e (ap (λ (k : JobRun). k.save) is) (ap (λ (k : JobRun). k.taken) is) (ap (λ (k : JobRun). k.marked) is)
-    ∙ sym (row_by w x i job (halted w.run w.since) h (has (marks w.run w.since) i) b s m)
+    ∙ sym (row_by w x i job (halt_of w.run w.since) h (has (marks w.run w.since) i) b s m)
 
 -- ---- a loop over all jobs
 

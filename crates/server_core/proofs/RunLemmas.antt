@@ -20,7 +20,7 @@ use Rattle.engine.specs.Running.{Origin, Running, running_of, StandsFor}
 use Rattle.engine.specs.Answers.{answer_of, answer_to, after_answer, AddsAnswer, ended_of, has_ended}
 use Rattle.server_core.specs.declared.job_run.JobRun.{JobRun}
 use Rattle.server_core.specs.Request.{ToIssue}
-use Rattle.server_core.specs.Run.{Work, Halt, Triggered, Stopped, with_issue, halted, is_halted, origin_of, origins_from, history, has_open, have_ended}
+use Rattle.server_core.specs.Run.{Work, Halt, Triggered, Stopped, with_issue, halt_of, is_halted, origin_of, origins_from, history, has_open, have_ended}
 use Rattle.server_core.specs.Kept.{Kept, job_kept, jobs_kept, RunIs}
 
 -- ---- what is kept of each job
@@ -77,7 +77,7 @@ pub within : (w : Work) (kept : Kept) (i : ℕ) (job : Job) → RunIs kept w →
 within w kept i job h is = job_at (λ j. IsTrue (is_within_limits j.rec)) w.jobs i job h.jobs.within.within is
 
 unmarked : (w : Work) (i j : ℕ) → has (marks w.run (ToIssue i ∷ w.since)) j ≡ has (marks w.run w.since) j
-unmarked w i j = ap (λ ms. has (ms ++ marks w.run w.since) j) (no_marks (halted w.run w.since) w.run i)
+unmarked w i j = ap (λ ms. has (ms ++ marks w.run w.since) j) (no_marks (halt_of w.run w.since) w.run i)
 
 unasked : (w : Work) (i j : ℕ) (job : Job) → j ≢ i → history (origin_of w j job) (ToIssue i ∷ w.since) ≡ history (origin_of w j job) w.since
 unasked w i j job ne = let h = history (origin_of w j job) w.since in if_false (with_issue (answer_to (origin_of w j job) (is_halted w) h) h) h (not_other i j ne)
@@ -97,9 +97,9 @@ issue_step legal kept w i old new answer h at e left added =
     let asked : history origin (ToIssue i ∷ w.since) ≡ with_issue answer past =
     if_true (with_issue (answer_to origin (is_halted w) past) past) past (eq-eqb i i refl) ∙ ap (λ a. with_issue a past) (sym told) in
     let here : (other : Job) → job ≡ other → record old { engine = new } ≡ job_kept (and_then w (ToIssue i)) i other =
-    λ other same. engine_row w (ToIssue i) i job old new (with_issue answer past) p.2 now (or_none (halted w.run w.since)) asked (unmarked w i i) ∙ ap (job_kept (and_then w (ToIssue i)) i) same in (
+    λ other same. engine_row w (ToIssue i) i job old new (with_issue answer past) p.2 now (or_none (halt_of w.run w.since)) asked (unmarked w i i) ∙ ap (job_kept (and_then w (ToIssue i)) i) same in (
       told ∙ sym (ap (issue_of_job w i) p.1),
-      one_row kept w (ToIssue i) i (record old { engine = new }) h (or_none (halted w.run w.since))
+      one_row kept w (ToIssue i) i (record old { engine = new }) h (or_none (halt_of w.run w.since))
           (λ j other ne. unasked w i j other ne)
           (λ j ne. unmarked w i j)
           (λ other has_it. here other (same_some job other (sym p.1 ∙ has_it))),
@@ -115,7 +115,7 @@ pub no_issue : (kept : Kept) (w : Work) (i : ℕ) → RunIs kept w → length ke
 no_issue kept w i h past =
     let none = no_job kept w i h past in (
       sym (ap (issue_of_job w i) none),
-      idle kept w (ToIssue i) h (or_none (halted w.run w.since)) (λ j job is. unasked w i j job (other j job none is)) (λ j job is. unmarked w i j),
+      idle kept w (ToIssue i) h (or_none (halt_of w.run w.since)) (λ j job is. unasked w i j job (other j job none is)) (λ j job is. unmarked w i j),
     )
   where
     other : (j : ℕ) (job : Job) → slice_get w.jobs i ≡ None → slice_get w.jobs j ≡ Some job → j ≢ i

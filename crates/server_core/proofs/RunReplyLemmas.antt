@@ -12,7 +12,7 @@ use Rattle.messages.specs.declared.refusal.Asked.TheVariants as asks
 use Rattle.messages.specs.declared.refusal.Reason.TheVariants as reasons
 use Rattle.messages.specs.Ranges.{is_run, is_job_of}
 use Rattle.server_core.specs.Request.{Request}
-use Rattle.server_core.specs.Run.{Work, Halt, Triggered, Stopped, halted, origin_of, is_open}
+use Rattle.server_core.specs.Run.{Work, Halt, Triggered, Stopped, halt_of, origin_of, is_open}
 use Rattle.server_core.specs.Words.{Staged, for_run}
 use Rattle.server_core.specs.Taken.{job_state}
 use Rattle.server_core.specs.Replies.{Now, number_staged, reply_to_text, reply_to_new_jobs, present, reply_to_new_start, reply_to_start, state_frame, state_frames, reply_to_halt, reply_to_trigger, reply_to_stop}
@@ -79,7 +79,7 @@ halt_reply below w last (Some (Triggered act before)) k l = all_frames below w b
 halt_reply below w last (Some Stopped) k l = refuse_fits asks.Trigger reasons.Gone w.run 0 last k.run (word last l) refl refl
 
 present_reply : Below → (r : ℕ) (t : Bool) (n : Now) (w : Work) → is_run r ≡ true → RunFits w → n.last < 2 ^ 64 → Fit (reply_to_trigger n r (if t then Some w else None))
-present_reply below r true n w h k l = halt_reply below w n.last (halted w.run w.since) k l
+present_reply below r true n w h k l = halt_reply below w n.last (halt_of w.run w.since) k l
 present_reply below r false n w h k l = gone_fits asks.Trigger r n.last h l refl
 
 pub trigger_reply : Below → (n : Now) (r : ℕ) (w : Option Work) → is_run r ≡ true → SomeRun w → n.last < 2 ^ 64 → Fit (reply_to_trigger n r (present r w))

@@ -14,9 +14,9 @@ use Rattle.messages.specs.declared.refusal.Asked.{Asked}
 use Rattle.messages.specs.declared.refusal.Asked.TheVariants as asks
 use Rattle.disk_model.specs.Left.{is_lost}
 use Rattle.server_core.specs.History.{Opening, Entry, Met, Cut, Restart}
-use Rattle.server_core.specs.Request.{Request, ToStage, ToStart, ToTrigger, ToMark, ToStop, ToVerify, ToHold, ToPassFully, ToIssue, ToEnd, ToReport, ToNobody, asked}
+use Rattle.server_core.specs.Request.{Request, ToStage, ToStart, ToTrigger, ToMark, ToStop, ToVerify, ToHold, ToPassFully, ToIssue, ToEnd, ToReport, ToNobody, request_of}
 use Rattle.server_core.specs.Texts.{jobs_for}
-use Rattle.server_core.specs.Run.{Work, Halt, Triggered, Stopped, halted, origin_of, is_open, is_unended}
+use Rattle.server_core.specs.Run.{Work, Halt, Triggered, Stopped, halt_of, origin_of, is_open, is_unended}
 use Rattle.server_core.specs.Words.{Staged, for_run}
 use Rattle.server_core.specs.Taken.{job_state}
 use Rattle.server_core.specs.Check.{Check, Progress, Wanting, Full, With, Refused, Done, progress_after, progress_by}
@@ -125,7 +125,7 @@ halt_frames w last (Some Stopped) = (refl, tt)
 
 trigger_frames : (n : Now) (r : ℕ) (w : Option Work) → Each (reply_to_trigger n r w)
 trigger_frames n r None = gone_frames asks.Trigger r n.last
-trigger_frames n r (Some w) = halt_frames w n.last (halted w.run w.since)
+trigger_frames n r (Some w) = halt_frames w n.last (halt_of w.run w.since)
 
 reply_frames : (n : Now) (x : Request) → Each (replies n x)
 reply_frames n (ToStage r text) = each_if (nat_le r n.last || nat_lt r (number_staged n.staged)) _ _ (refl, tt) (new_jobs r (for_run r n.staged) (is_open n.run) (jobs_for Write text))
@@ -152,9 +152,9 @@ addressed me (b ∷ bs) h = (record { ends = refl; kind = h.0 }, addressed me bs
 
 each_packet : (o : Opening) (past : List Entry) (e : Entry) → AllByRecursion (GoesToClient o.me) (packets o past e)
 each_packet o past (Met e left) =
-    let replied = replies (now o past) (asked o.me e) in
+    let replied = replies (now o past) (request_of o.me e) in
     addressed o.me (sent_by (is_lost left) (refusal o past e) replied)
-    (unlost (is_lost left) (refusal o past e) replied (reply_frames (now o past) (asked o.me e)))
+    (unlost (is_lost left) (refusal o past e) replied (reply_frames (now o past) (request_of o.me e)))
 each_packet o past Cut = tt
 each_packet o past (Restart left) = tt
 

@@ -13,11 +13,11 @@ use Rattle.disk_model.specs.declared.left.Left.{Left}
 use Rattle.disk_model.specs.declared.left.Left.TheVariants.{NoSave, Saved, LostNew, LostOld}
 use Rattle.server_core.specs.declared.event.Event.{Event}
 use Rattle.server_core.specs.History.{Opening, Entry, Met, Cut, Restart}
-use Rattle.server_core.specs.Request.{Request, ToStage, ToStart, ToTrigger, ToMark, ToStop, ToVerify, ToHold, ToPassFully, ToIssue, ToEnd, ToReport, ToNobody, asked}
+use Rattle.server_core.specs.Request.{Request, ToStage, ToStart, ToTrigger, ToMark, ToStop, ToVerify, ToHold, ToPassFully, ToIssue, ToEnd, ToReport, ToNobody, request_of}
 use Rattle.server_core.specs.Texts.{jobs_by, jobs_for, is_phase}
 use Rattle.server_core.specs.Run.{Work, goes_on, is_open, is_unended}
-use Rattle.server_core.specs.Words.{Staged, staged_by, stages, staged_after, greater, greatest, for_run, is_due, work_after, is_on, boot, last_run, stagings, staged, work, due}
-use Rattle.server_core.specs.Check.{Check, is_above, opened, opens, check_goes_on, or_opened, check_after, check}
+use Rattle.server_core.specs.Words.{Staged, staged_by, stages, staged_after, greater, greatest, for_run, due_by, work_after, is_on, boot, last_run, stagings, staged_run, work, due}
+use Rattle.server_core.specs.Check.{Check, is_above, new_check, opens, check_goes_on, or_opened, check_after, check}
 use Rattle.server_core.specs.Laws.{IsSet, TextsGiveSets}
 
 no_fault : (fault : Option JobFault) (right : Bool) (found js : List Job) → jobs_by fault right found ≡ Ok js → (fault ≡ None) × (found ≡ js)
@@ -40,7 +40,7 @@ pub record Rules (Q : Request → Type 0) (R A : ℕ → Type 0) : Type 0 where
 -- It is known of all that came.
 abbrev pub AllAsked : (Request → Type 0) → ℕ → List Entry → Type 0
 AllAsked Q me [] = Unit {0}
-AllAsked Q me (Met e left ∷ past) = Q (asked me e) × AllAsked Q me past
+AllAsked Q me (Met e left ∷ past) = Q (request_of me e) × AllAsked Q me past
 AllAsked Q me (Cut ∷ past) = AllAsked Q me past
 AllAsked Q me (Restart left ∷ past) = AllAsked Q me past
 
@@ -119,7 +119,7 @@ pub for_run_fits : (R : ℕ → Type 0) (r : ℕ) (s : Option Staged) → SomeSt
 for_run_fits R r None h = tt
 for_run_fits R r (Some s) h = if_staged R (s.run == r) (Some s) h
 
-due_fits : (R : ℕ → Type 0) (on : Bool) (last : ℕ) (s : Option Staged) (now : Option Work) (x : Request) → SomeStaged R s → SomeStaged R (is_due on last s now x)
+due_fits : (R : ℕ → Type 0) (on : Bool) (last : ℕ) (s : Option Staged) (now : Option Work) (x : Request) → SomeStaged R s → SomeStaged R (due_by on last s now x)
 due_fits R on last s now (ToStart r) h = if_staged R (on && (nat_lt last r && not (is_open now))) (for_run r s) (for_run_fits R r s h)
 due_fits R on last s now (ToStage r text) h = tt
 due_fits R on last s now (ToTrigger r act) h = tt
@@ -148,7 +148,7 @@ work_fits R LostOld d me b x w h k = tt
 
 -- ---- the open check
 
-opened_fits : (Q : Request → Type 0) (R A : ℕ → Type 0) (me b r a : ℕ) (found : Result (List Job) ℕ) → R r → A a → ((js : List Job) → found ≡ Ok js → IsSet js) → SomeCheck Q R A (opened me b r a found)
+opened_fits : (Q : Request → Type 0) (R A : ℕ → Type 0) (me b r a : ℕ) (found : Result (List Job) ℕ) → R r → A a → ((js : List Job) → found ≡ Ok js → IsSet js) → SomeCheck Q R A (new_check me b r a found)
 opened_fits Q R A me b r a (Ok js) h k f = record { run = h; attempt = k; jobs = f js refl; since = tt }
 opened_fits Q R A me b r a (Err value) h k f = tt
 
@@ -159,7 +159,7 @@ if_opened Q R A false c h = tt
 opens_fit : (Q : Request → Type 0) (R A : ℕ → Type 0) → Rules Q R A → (on : Bool) (me b last : ℕ) (w : Option Work) (old : Option Check) (x : Request) → Q x → SomeCheck Q R A (opens on me b last w old x)
 opens_fit Q R A k on me b last w old (ToVerify r a text) q =
     let n = k.to_verify r a text q in
-    if_opened Q R A (on && ((r == last) && (is_above a old && (not (is_open w) && not (is_unended w))))) (opened me b r a (jobs_for Read text))
+    if_opened Q R A (on && ((r == last) && (is_above a old && (not (is_open w) && not (is_unended w))))) (new_check me b r a (jobs_for Read text))
     (opened_fits Q R A me b r a (jobs_for Read text) n.0 n.1 (k.texts Read text))
 opens_fit Q R A k on me b last w old (ToStage r text) q = tt
 opens_fit Q R A k on me b last w old (ToStart r) q = tt
@@ -192,17 +192,17 @@ pub record Known (Q : Request → Type 0) (R A : ℕ → Type 0) (o : Opening) (
   pub run : SomeWork R (work o past)
   pub check_is : SomeCheck Q R A (check o past)
 
-pub staged_fits : (Q : Request → Type 0) (R A : ℕ → Type 0) (o : Opening) (past : List Entry) → Known Q R A o past → SomeStaged R (staged o past)
+pub staged_fits : (Q : Request → Type 0) (R A : ℕ → Type 0) (o : Opening) (past : List Entry) → Known Q R A o past → SomeStaged R (staged_run o past)
 staged_fits Q R A o past k = greatest_fits R (last_run o past) (stagings o past) k.all_staged
 
 pub due_known : (Q : Request → Type 0) (R A : ℕ → Type 0) (o : Opening) (past : List Entry) (e : Event) → Known Q R A o past → SomeStaged R (due o past e)
-due_known Q R A o past e k = due_fits R (is_on past) (last_run o past) (staged o past) (work o past) (asked o.me e) (staged_fits Q R A o past k)
+due_known Q R A o past e k = due_fits R (is_on past) (last_run o past) (staged_run o past) (work o past) (request_of o.me e) (staged_fits Q R A o past k)
 
 pub known : (Q : Request → Type 0) (R A : ℕ → Type 0) → Rules Q R A → (o : Opening) (past : List Entry) → AllAsked Q o.me past → Known Q R A o past
 known Q R A rules o [] h = record { all_staged = tt; run = tt; check_is = tt }
 known Q R A rules o (Met e left ∷ past) h =
     let k = known Q R A rules o past h.1 in
-    let x = asked o.me e in
+    let x = request_of o.me e in
     record {
       all_staged = after_fits R left (stages (is_on past) (last_run o past) (work o past) x) (stagings o past) (stages_fit Q R A rules (is_on past) (last_run o past) (work o past) x h.0) k.all_staged;
       run = work_fits R left (due o past e) o.me (boot o past) x (work o past) (due_known Q R A o past e k) k.run;
@@ -230,7 +230,7 @@ known_sets : TextsGiveSets → (o : Opening) (past : List Entry) → Known AnyRe
 known_sets texts o past =
     known AnyRequest AnyNumber AnyNumber (record { texts = texts; to_stage = λ r text q. tt; to_verify = λ r a text q. (tt, tt) }) o past (any_asked o.me past)
 
-pub staged_set : TextsGiveSets → (o : Opening) (past : List Entry) (s : Staged) → staged o past ≡ Some s → IsSet s.jobs
+pub staged_set : TextsGiveSets → (o : Opening) (past : List Entry) (s : Staged) → staged_run o past ≡ Some s → IsSet s.jobs
 staged_set texts o past s h =
     let k : StagedFits AnyNumber s = subst (λ v. SomeStaged AnyNumber v) h (staged_fits AnyRequest AnyNumber AnyNumber o past (known_sets texts o past)) in
     k.jobs

@@ -4,7 +4,7 @@ use Rattle.std.specs.Prelude.{slice_get}
 use Rattle.std.specs.Option.{option_map}
 use Rattle.job_file.specs.declared.job.Job.{Job}
 use Rattle.server_core.specs.declared.job_run.JobRun.{JobRun}
-use Rattle.server_core.specs.Run.{Work, Halt, Triggered, Stopped, halted}
+use Rattle.server_core.specs.Run.{Work, Halt, Triggered, Stopped, halt_of}
 use Rattle.server_core.specs.Taken.{taken_by_halt, saved_state}
 use Rattle.server_core.specs.Kept.{Kept, job_kept, RunIs}
 use Rattle.server_core.specs.Check.{Check, progress_at, progress_in}
@@ -14,12 +14,12 @@ use Rattle.server_core.proofs.NumberedLemmas.{job_of, each_at}
 use Rattle.server_core.proofs.RunLemmas.{no_job}
 
 -- The state that is kept of a job is the one that was taken.
-pub taken_here : (kept : Kept) (w : Work) (i : ℕ) (k : JobRun) → RunIs kept w → slice_get kept.kept i ≡ Some k → k.taken ≡ taken_by_halt w i (halted w.run w.since)
+pub taken_here : (kept : Kept) (w : Work) (i : ℕ) (k : JobRun) → RunIs kept w → slice_get kept.kept i ≡ Some k → k.taken ≡ taken_by_halt w i (halt_of w.run w.since)
 taken_here kept w i k is at = ap (λ (j : JobRun). j.taken) (job_of (job_kept w) w.jobs i k (subst (λ (q : Kept). slice_get q.kept i ≡ Some k) is.is at)).2
 
 -- Where there is no such job, none was taken.
-pub taken_nowhere : (kept : Kept) (w : Work) (i : ℕ) → RunIs kept w → length kept.kept ≤ i → None ≡ taken_by_halt w i (halted w.run w.since)
-taken_nowhere kept w i is past = by_halt (halted w.run w.since)
+pub taken_nowhere : (kept : Kept) (w : Work) (i : ℕ) → RunIs kept w → length kept.kept ≤ i → None ≡ taken_by_halt w i (halt_of w.run w.since)
+taken_nowhere kept w i is past = by_halt (halt_of w.run w.since)
   where
     by_halt : (h : Option Halt) → None ≡ taken_by_halt w i h
     by_halt None = refl

@@ -4,11 +4,11 @@ use Rattle.server_core.specs.declared.event.Event.{Event}
 use Rattle.disk_model.specs.declared.left.Left.{Left}
 use Rattle.disk_model.specs.Left.{has_new}
 use Rattle.server_core.specs.History.{Opening, Entry, Met}
-use Rattle.server_core.specs.Request.{asked}
-use Rattle.server_core.specs.Words.{Staged, is_on, recorded, last_run, work, staged, due}
+use Rattle.server_core.specs.Request.{request_of}
+use Rattle.server_core.specs.Words.{Staged, is_on, last_run_after, last_run, work, staged_run, due}
 use Rattle.server_core.proofs.Due.{due_start, last_grows}
 
-recorded_new : (left : Left) (d : Option Staged) (s : Staged) (last : ℕ) → has_new left ≡ true → d ≡ Some s → recorded left d last ≡ s.run
+recorded_new : (left : Left) (d : Option Staged) (s : Staged) (last : ℕ) → has_new left ≡ true → d ≡ Some s → last_run_after left d last ≡ s.run
 recorded_new left None s last n h = cc
 recorded_new left (Some t) s last n h = let same : t ≡ s = cc in rw n (ap (λ (v : Staged). v.run) same)
 
@@ -22,5 +22,5 @@ starts_grow o older between e f left s t n d h =
     let list = Met e left ∷ older in
     let here : last_run o list ≡ s.run = recorded_new left (due o older e) s (last_run o older) n d in
     let g = grows_on o between list in
-    let above = (due_start (is_on (between ++ list)) (last_run o (between ++ list)) (staged o (between ++ list)) (work o (between ++ list)) (asked o.me f) t h).above in
+    let above = (due_start (is_on (between ++ list)) (last_run o (between ++ list)) (staged_run o (between ++ list)) (work o (between ++ list)) (request_of o.me f) t h).above in
     omega arith

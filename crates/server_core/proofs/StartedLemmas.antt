@@ -21,22 +21,23 @@ use Rattle.server_core.specs.declared.packet_server.PacketServer.{PacketServer}
 use Rattle.server_core.specs.History.{Opening, Entry, Met}
 use Rattle.server_core.specs.declared.note.Noted.{Noted}
 use Rattle.server_core.specs.Note.{Says, spelling}
-use Rattle.server_core.specs.Request.{ToStart, asked}
+use Rattle.server_core.specs.Request.{ToStart, request_of}
 use Rattle.server_core.specs.Run.{Work}
-use Rattle.server_core.specs.Words.{Staged, is_on, boot, last_run, noted, due, is_due, recorded, work}
+use Rattle.server_core.specs.Words.{Staged, is_on, boot, last_run, words_noted, due, due_by, last_run_after, work}
 use Rattle.server_core.specs.Replies.{replies}
-use Rattle.server_core.specs.Answers.{now, refusal, refusal_of, packets, to_client, sent_by, issue_for, act_of, looked}
-use Rattle.server_core.specs.Framed.{framed}
-use Rattle.server_core.specs.Stands.{MachineIs, EachNow, IsDueFor}
+use Rattle.server_core.specs.Answers.{now, refusal, refusal_of, packets, to_client, sent_by, issue_for, act_of, shown_entries}
+use Rattle.server_core.specs.Framed.{frames_to_client}
+use Rattle.server_core.specs.Stands.{MachineIs, EachNow}
+use Rattle.server_core.specs.WordsAfter.{IsDueFor}
 use Rattle.server_core.specs.Bounds.{AreShort}
-use Rattle.server_core.specs.Serves.{StandsFor, steps, Starts, Unstarted, answered}
+use Rattle.server_core.specs.Serves.{StandsFor, steps, Starts, Unstarted, answered_entry}
 use Rattle.server_core.proofs.Due.{rests}
 use Rattle.server_core.proofs.FollowLemmas.{starts_follow}
 use Rattle.server_core.proofs.UndueLemmas.{no_act}
 use Rattle.server_core.proofs.ServeLemmas.{keeps_now, IsSendable}
 
 -- What is due of a Start is of its run.
-due_run : (last r : ℕ) (found : Option Staged) (w : Option Work) (s : Staged) → is_due true last found w (ToStart r) ≡ Some s → s.run ≡ r
+due_run : (last r : ℕ) (found : Option Staged) (w : Option Work) (s : Staged) → due_by true last found w (ToStart r) ≡ Some s → s.run ≡ r
 due_run last r found w s e = let same : ToStart r ≡ ToStart s.run = (rests true last found w (ToStart r) s e).start in cc
 
 there : (o : Option Staged) → is_some o ≡ true → (s : Staged) × (o ≡ Some s)
@@ -46,13 +47,13 @@ there (Some s) e = (s, refl)
 -- All that is known of a Start that is due.
 record IsStart (o : Opening) (past : List Entry) (e : Event) (run : ℕ) (s : Staged) : Type 0 where
   on : is_on past ≡ true
-  asks : asked o.me e ≡ ToStart run
+  asks : request_of o.me e ≡ ToStart run
   is : due o past e ≡ Some s
-  words : is_due true (now o past).last (now o past).staged (now o past).run (ToStart run) ≡ Some s
+  words : due_by true (now o past).last (now o past).staged (now o past).run (ToStart run) ≡ Some s
   run_is : s.run ≡ run
 
 free_of : (o : Opening) (past : List Entry) (e : Event) (run : ℕ) (s : Staged) → IsStart o past e run s → refusal o past e ≡ None
-free_of o past e run s d = ap (λ b. if b then refusal_of (now o past) (asked o.me e) else Some Down) d.on ∙ ap (refusal_of (now o past)) d.asks
+free_of o past e run s d = ap (λ b. if b then refusal_of (now o past) (request_of o.me e) else Some Down) d.on ∙ ap (refusal_of (now o past)) d.asks
 
 abbrev noted_as : ℕ → ℕ → Noted
 noted_as b run = record { boot = b; last_run = run }
@@ -63,12 +64,12 @@ new_says bytes b mine last run s same fits new is = record { boot_range = s.boot
 
 -- A boot and a run that was recorded are what is noted then.
 to_note : (o : Opening) (past : List Entry) (e : Event) (run : ℕ) (s : Staged) (mine : ℕ) (left : Left) → has_new left ≡ true → mine ≡ boot o past → IsStart o past e run s
-    → noted_as mine run ≡ noted o (Met e left ∷ past)
+    → noted_as mine run ≡ words_noted o (Met e left ∷ past)
 to_note o past e run s mine left new same d =
     ap (λ b. noted_as b run) same
-    ∙ ap (noted_as (boot o past)) (sym (ap (λ x. recorded left x (last_run o past)) d.is ∙ by_left left new))
+    ∙ ap (noted_as (boot o past)) (sym (ap (λ x. last_run_after left x (last_run o past)) d.is ∙ by_left left new))
   where
-    by_left : (left : Left) → has_new left ≡ true → recorded left (Some s) (last_run o past) ≡ run
+    by_left : (left : Left) → has_new left ≡ true → last_run_after left (Some s) (last_run o past) ≡ run
     by_left Saved h = d.run_is
     by_left LostNew h = d.run_is
     by_left LostOld h = cc
@@ -79,12 +80,12 @@ begun : {T : Type 0} (note : T → Note) (old new : PacketServer T) (o : Opening
 begun note old new o past e run s outs up stands k fits d can p =
     let q = p.2 (now o past) s k d.words in
     let free = free_of o past e run s d in
-    let last : last_run o (Met e Saved ∷ past) ≡ run = ap (λ x. recorded Saved x (last_run o past)) d.is ∙ d.run_is in
+    let last : last_run o (Met e Saved ∷ past) ≡ run = ap (λ x. last_run_after Saved x (last_run o past)) d.is ∙ d.run_is in
     let bytes : (note new.notes).bytes ≡ spelling (record { boot = old.machine.boot; last_run = run }) = ap (λ (n : Note). n.bytes) p.0 in
     let says = new_says (note old.notes).bytes (boot o past) old.machine.boot (last_run o past) run stands.durable k.boot_is fits (note new.notes).bytes bytes in
-    let frames : outs.frames ≡ flat_map spelled_frames (packets o past (answered o past e)) =
-    ap (λ (x : Outs). x.frames) q.0 ∙ ap (λ x. framed o.me (replies (now o past) x)) (sym d.asks)
-    ∙ ap (λ r. flat_map spelled_frames (to_client o.me (sent_by false r (replies (now o past) (asked o.me e))))) (sym free)
+    let frames : outs.frames ≡ flat_map spelled_frames (packets o past (answered_entry o past e)) =
+    ap (λ (x : Outs). x.frames) q.0 ∙ ap (λ x. frames_to_client o.me (replies (now o past) x)) (sym d.asks)
+    ∙ ap (λ r. flat_map spelled_frames (to_client o.me (sent_by false r (replies (now o past) (request_of o.me e))))) (sym free)
     ∙ ap (λ x. flat_map spelled_frames (packets o past (Met e (saved_for x)))) (sym d.is) in
     record {
       free = free;
@@ -95,13 +96,13 @@ begun note old new o past e run s outs up stands k fits d can p =
         short = λ i h. subst AreShort (sym frames) (can.short i h);
         ranges = can.ranges;
       };
-      leaves = subst (λ x. LeavesNote x (spelling (noted o (Met e (saved_for x) ∷ past))) (note old.notes) (note new.notes)) (sym d.is)
+      leaves = subst (λ x. LeavesNote x (spelling (words_noted o (Met e (saved_for x) ∷ past))) (note old.notes) (note new.notes)) (sym d.is)
           (p.0 ∙ ap (λ n. record (note old.notes) { bytes = spelling n }) (to_note o past e run s old.machine.boot Saved refl k.boot_is d));
       stands = subst (λ x. StandsFor note new o (Met e (saved_for x) ∷ past)) (sym d.is)
           (record {
             on = p.1 ∙ up ∙ sym (ap (λ b. not (b && true)) d.on);
             durable = subst (λ n. Says (note new.notes).bytes (record { boot = boot o past; last_run = n })) (sym last) says;
-            keeps = subst (λ l. MachineIs new.machine (now o l)) (sym (ap (λ b. if b then Met e Saved ∷ past else looked past) d.on)) (subst (λ n. MachineIs new.machine n) (sym (starts_follow o past e s d.is)) q.1);
+            keeps = subst (λ l. MachineIs new.machine (now o l)) (sym (ap (λ b. if b then Met e Saved ∷ past else shown_entries past) d.on)) (subst (λ n. MachineIs new.machine n) (sym (starts_follow o past e s d.is)) q.1);
           });
     }
 
@@ -113,7 +114,7 @@ unbegun note old new o past e run s sorts.Memory fault up stands k fits d u = re
   unchanged = record {
     on = u.2 ∙ stands.on;
     durable = subst (λ (n : Note). Says n.bytes (record { boot = boot o past; last_run = last_run o past })) (sym u.1) stands.durable;
-    keeps = subst (λ m. MachineIs m (now o (looked past))) (sym u.3) stands.keeps;
+    keeps = subst (λ m. MachineIs m (now o (shown_entries past))) (sym u.3) stands.keeps;
   };
 }
 unbegun note old new o past e run s sorts.Refusal fault up stands k fits d u = absurd u
@@ -130,9 +131,9 @@ unbegun note old new o past e run s sorts.Save fault up stands k fits d u = by_b
       bytes_are = same;
       stands = record {
         on = u.2 ∙ sym (ap (λ b. not (b && false)) d.on);
-        durable = subst (λ n. Says (note new.notes).bytes (record { boot = boot o past; last_run = n })) (sym (ap (λ x. recorded LostOld x (last_run o past)) d.is))
+        durable = subst (λ n. Says (note new.notes).bytes (record { boot = boot o past; last_run = n })) (sym (ap (λ x. last_run_after LostOld x (last_run o past)) d.is))
             (subst (λ bs. Says bs (record { boot = boot o past; last_run = last_run o past })) (sym same) stands.durable);
-        keeps = subst (λ l. MachineIs new.machine (now o l)) (sym (ap (λ b. if b then past else looked past) d.on)) (subst (λ m. MachineIs m (now o past)) (sym u.3) k);
+        keeps = subst (λ l. MachineIs new.machine (now o l)) (sym (ap (λ b. if b then past else shown_entries past) d.on)) (subst (λ m. MachineIs m (now o past)) (sym u.3) k);
       };
     }
     by_bytes (inr new_bytes) = record {
@@ -145,9 +146,9 @@ unbegun note old new o past e run s sorts.Save fault up stands k fits d u = by_b
       bytes_are = new_bytes ∙ ap spelling (to_note o past e run s old.machine.boot LostNew refl k.boot_is d);
       stands = record {
         on = u.2 ∙ sym (ap (λ b. not (b && false)) d.on);
-        durable = subst (λ n. Says (note new.notes).bytes (record { boot = boot o past; last_run = n })) (sym (ap (λ x. recorded LostNew x (last_run o past)) d.is ∙ d.run_is))
+        durable = subst (λ n. Says (note new.notes).bytes (record { boot = boot o past; last_run = n })) (sym (ap (λ x. last_run_after LostNew x (last_run o past)) d.is ∙ d.run_is))
             (new_says (note old.notes).bytes (boot o past) old.machine.boot (last_run o past) run stands.durable k.boot_is fits (note new.notes).bytes new_bytes);
-        keeps = subst (λ l. MachineIs new.machine (now o l)) (sym (ap (λ b. if b then past else looked past) d.on)) (subst (λ m. MachineIs m (now o past)) (sym u.3) k);
+        keeps = subst (λ l. MachineIs new.machine (now o l)) (sym (ap (λ b. if b then past else shown_entries past) d.on)) (subst (λ m. MachineIs m (now o past)) (sym u.3) k);
       };
     }
 
@@ -157,20 +158,20 @@ ends note old new o past e run s (Ok outs) up stands k fits d can p = begun note
 ends note old new o past e run s (Err fault) up stands k fits d can u = unbegun note old new o past e run s (sort_of fault) fault up stands k fits d u
 
 pub started : {T : Type 0} (note : T → Note) (old new : PacketServer T) (o : Opening) (past : List Entry) (e : Event) (run : ℕ) (result : Result Outs Fault) → old.down ≡ false → StandsFor note old o past → is_run run ≡ true
-    → EachNow old.machine (λ words. IsDueFor words (asked old.machine.me e) (Some run)) → Starts note run old new result → IsSendable o past e → Ends (steps note o) past e old new result
+    → EachNow old.machine (λ words. IsDueFor words (request_of old.machine.me e) (Some run)) → Starts note run old new result → IsSendable o past e → Ends (steps note o) past e old new result
 started note old new o past e run result up stands range is p can =
     let k = keeps_now note old o past up stands in
     let words = now o past in
     let d = is words k.1 in
-    let asks : asked o.me e ≡ ToStart run = ap (λ n. asked n e) (sym k.1.me) ∙ d.0 in
-    let found = there (is_due true words.last words.staged words.run (asked old.machine.me e)) d.1 in
-    let told : is_due true words.last words.staged words.run (ToStart run) ≡ Some found.0 = ap (is_due true words.last words.staged words.run) (sym d.0) ∙ found.1 in
+    let asks : request_of o.me e ≡ ToStart run = ap (λ n. request_of n e) (sym k.1.me) ∙ d.0 in
+    let found = there (due_by true words.last words.staged words.run (request_of old.machine.me e)) d.1 in
+    let told : due_by true words.last words.staged words.run (ToStart run) ≡ Some found.0 = ap (due_by true words.last words.staged words.run) (sym d.0) ∙ found.1 in
     let fits = ltb-true run (2 ^ 64) (and_parts (nat_le 1 run) (is_word run) range).1 in
     ends note old new o past e run found.0 result up stands k.1 fits
     (record {
       on = k.0;
       asks = asks;
-      is = ap (λ b. is_due b words.last words.staged words.run (asked o.me e)) k.0 ∙ ap (is_due true words.last words.staged words.run) asks ∙ told;
+      is = ap (λ b. due_by b words.last words.staged words.run (request_of o.me e)) k.0 ∙ ap (due_by true words.last words.staged words.run) asks ∙ told;
       words = told;
       run_is = due_run words.last run words.staged words.run found.0 told;
     })

@@ -7,9 +7,9 @@ use Rattle.verify_state.specs.State.{State}
 use Rattle.disk_model.specs.declared.left.Left.{Left}
 use Rattle.disk_model.specs.declared.left.Left.TheVariants.{NoSave, Saved, LostNew, LostOld}
 use Rattle.server_core.specs.History.{Opening, Entry, Met, Cut, Restart}
-use Rattle.server_core.specs.Request.{Request, ToStage, ToStart, ToTrigger, ToMark, ToStop, ToVerify, ToHold, ToPassFully, ToIssue, ToEnd, ToReport, ToNobody, asked}
-use Rattle.server_core.specs.Run.{Work, Halt, Triggered, Stopped, halts, halted, goes_on}
-use Rattle.server_core.specs.Words.{Staged, is_on, boot, recorded, work_after, last_run, work, staged, due}
+use Rattle.server_core.specs.Request.{Request, ToStage, ToStart, ToTrigger, ToMark, ToStop, ToVerify, ToHold, ToPassFully, ToIssue, ToEnd, ToReport, ToNobody, request_of}
+use Rattle.server_core.specs.Run.{Work, Halt, Triggered, Stopped, halt_by, halt_of, goes_on}
+use Rattle.server_core.specs.Words.{Staged, is_on, boot, last_run_after, work_after, last_run, work, staged_run, due}
 use Rattle.server_core.specs.Taken.{state_of_job, taken_by_halt, triggers, takes_now, takes, and_those, takings}
 use Rattle.server_core.proofs.Due.{IsStart, due_start}
 
@@ -25,7 +25,7 @@ Stands false r last states now = Few r last states
 
 pub record KnownOf (r j last : ℕ) (states : List State) (w : Work) : Type 0 where
   pub within : w.run ≤ last
-  pub stands : Stands (w.run == r) r last states (taken_by_halt w j (halted w.run w.since))
+  pub stands : Stands (w.run == r) r last states (taken_by_halt w j (halt_of w.run w.since))
 
 -- What is known at a server.
 abbrev pub Known : ℕ → ℕ → ℕ → List State → Option Work → Type 0
@@ -41,7 +41,7 @@ none_both true = refl
 none_both false = refl
 
 -- What the first halt takes.
-new_taken : (w : Work) (j : ℕ) (x : Request) → taken_by_halt w j (halts w.run x w.since) ≡ (if triggers w.run x then state_of_job w j w.since else None)
+new_taken : (w : Work) (j : ℕ) (x : Request) → taken_by_halt w j (halt_by w.run x w.since) ≡ (if triggers w.run x then state_of_job w j w.since else None)
 new_taken w j (ToTrigger r act) = chosen (r == w.run) w j (Triggered act w.since) (state_of_job w j w.since) refl
 new_taken w j (ToStop r) = chosen (r == w.run) w j Stopped None refl ∙ none_both (r == w.run)
 new_taken w j (ToStage r text) = refl
@@ -71,12 +71,12 @@ and_true false = refl
 
 -- A request of the present run, or of another.
 stepped : (r j last : ℕ) (states : List State) (x : Request) (w : Work) (t : Bool) → (t ≡ true → w.run ≡ r)
-    → Stands t r last states (taken_by_halt w j (halted w.run w.since))
-    → Stands t r last (and_those (takes_now (triggers r x && t) w j (halted w.run w.since)) states) (taken_by_halt w j (option_or (halted w.run w.since) (halts w.run x w.since)))
+    → Stands t r last states (taken_by_halt w j (halt_of w.run w.since))
+    → Stands t r last (and_those (takes_now (triggers r x && t) w j (halt_of w.run w.since)) states) (taken_by_halt w j (option_or (halt_of w.run w.since) (halt_by w.run x w.since)))
 stepped r j last states x w true e s =
-    went_on (triggers r x && true) w j (halted w.run w.since) (halts w.run x w.since) states
-    (subst (λ n. taken_by_halt w j (halts w.run x w.since) ≡ (if triggers n x && true then state_of_job w j w.since else None)) (e refl) (rw (and_true (triggers w.run x)) (new_taken w j x))) s
-stepped r j last states x w false e s = rw (never (triggers r x) w j (halted w.run w.since)) s
+    went_on (triggers r x && true) w j (halt_of w.run w.since) (halt_by w.run x w.since) states
+    (subst (λ n. taken_by_halt w j (halt_by w.run x w.since) ≡ (if triggers n x && true then state_of_job w j w.since else None)) (e refl) (rw (and_true (triggers w.run x)) (new_taken w j x))) s
+stepped r j last states x w false e s = rw (never (triggers r x) w j (halt_of w.run w.since)) s
 
 kept_on : (r j last : ℕ) (states : List State) (x : Request) (w : Option Work) → Known r j last states w → Known r j last (and_those (takes r j x w) states) (goes_on x w)
 kept_on r j last states x None k = k
@@ -95,7 +95,7 @@ few_at r last states run now false e h s = s
 
 pub few : (r j last : ℕ) (states : List State) (w : Option Work) → Known r j last states w → Few r last states
 few r j last states None k = k
-few r j last states (Some w) k = few_at r last states w.run (taken_by_halt w j (halted w.run w.since)) (w.run == r) (eqb-true w.run r) k.within k.stands
+few r j last states (Some w) k = few_at r last states w.run (taken_by_halt w j (halt_of w.run w.since)) (w.run == r) (eqb-true w.run r) k.within k.stands
 
 raised : (r last n : ℕ) (states : List State) → last ≤ n → Few r last states → Few r n states
 raised r last n states h (untaken e) = untaken e
@@ -112,7 +112,7 @@ no_taking_at u w j (Some halt) = refl
 
 no_taking : (r j q : ℕ) (w : Option Work) → takes r j (ToStart q) w ≡ None
 no_taking r j q None = refl
-no_taking r j q (Some w) = no_taking_at (w.run == r) w j (halted w.run w.since)
+no_taking r j q (Some w) = no_taking_at (w.run == r) w j (halt_of w.run w.since)
 
 -- An event with nothing due.
 not_begun : (r j last : ℕ) (states : List State) (left : Left) (me now_boot : ℕ) (x : Request) (w : Option Work) → Known r j last states w
@@ -124,7 +124,7 @@ not_begun r j last states LostOld me now_boot x w k = few r j last _ (goes_on x 
 
 -- A Start that is due.
 to_begin : (r j last : ℕ) (states : List State) (left : Left) (s : Staged) (me now_boot : ℕ) (w : Option Work) → last < s.run → Known r j last states w
-    → Known r j (recorded left (Some s) last) states (work_after left (Some s) me now_boot (ToStart s.run) w)
+    → Known r j (last_run_after left (Some s) last) states (work_after left (Some s) me now_boot (ToStart s.run) w)
 to_begin r j last states NoSave s me now_boot w h k =
     subst (λ o. Known r j last (and_those o states) (goes_on (ToStart s.run) w)) (no_taking r j s.run w) (kept_on r j last states (ToStart s.run) w k)
 to_begin r j last states Saved s me now_boot w h k = record {
@@ -135,20 +135,20 @@ to_begin r j last states LostNew s me now_boot w h k = raised r last s.run state
 to_begin r j last states LostOld s me now_boot w h k = few r j last states w k
 
 met : (r j last : ℕ) (states : List State) (left : Left) (d : Option Staged) (me now_boot : ℕ) (x : Request) (w : Option Work) → ((s : Staged) → d ≡ Some s → IsStart last x s) → Known r j last states w
-    → Known r j (recorded left d last) (and_those (takes r j x w) states) (work_after left d me now_boot x w)
+    → Known r j (last_run_after left d last) (and_those (takes r j x w) states) (work_after left d me now_boot x w)
 met r j last states left None me now_boot x w f k = not_begun r j last states left me now_boot x w k
 met r j last states left (Some s) me now_boot x w f k =
     let i = f s refl in
-    subst (λ y. Known r j (recorded left (Some s) last) (and_those (takes r j y w) states) (work_after left (Some s) me now_boot y w)) (sym i.start)
-    (subst (λ o. Known r j (recorded left (Some s) last) (and_those o states) (work_after left (Some s) me now_boot (ToStart s.run) w)) (sym (no_taking r j s.run w))
+    subst (λ y. Known r j (last_run_after left (Some s) last) (and_those (takes r j y w) states) (work_after left (Some s) me now_boot y w)) (sym i.start)
+    (subst (λ o. Known r j (last_run_after left (Some s) last) (and_those o states) (work_after left (Some s) me now_boot (ToStart s.run) w)) (sym (no_taking r j s.run w))
     (to_begin r j last states left s me now_boot w i.above k))
 
 -- What is known of each run's job after each list of events.
 pub known : (o : Opening) (r j : ℕ) (past : List Entry) → Known r j (last_run o past) (takings o r j past) (work o past)
 known o r j [] = untaken refl
 known o r j (Met e left ∷ past) =
-    met r j (last_run o past) (takings o r j past) left (due o past e) o.me (boot o past) (asked o.me e) (work o past)
-    (due_start (is_on past) (last_run o past) (staged o past) (work o past) (asked o.me e)) (known o r j past)
+    met r j (last_run o past) (takings o r j past) left (due o past e) o.me (boot o past) (request_of o.me e) (work o past)
+    (due_start (is_on past) (last_run o past) (staged_run o past) (work o past) (request_of o.me e)) (known o r j past)
 known o r j (Cut ∷ past) = few r j (last_run o past) (takings o r j past) (work o past) (known o r j past)
 known o r j (Restart left ∷ past) = few r j (last_run o past) (takings o r j past) (work o past) (known o r j past)
 

@@ -15,15 +15,15 @@ use Rattle.messages.specs.Bodies.{kind_of, body_at}
 use Rattle.messages.specs.Tags.{is_tag}
 use Rattle.messages.specs.Pieces.{tag_in}
 use Rattle.messages.specs.PieceRanges.{is_long_kind, is_tag_in_range, is_piece}
-use Rattle.messages.specs.Assemblies.{Row, Gives, NoPacket, packet_of, of_tag, look_at, look, completed}
+use Rattle.messages.specs.Assemblies.{Row, Gives, NoPacket, packet_of, of_tag, look_by_body, look_at_piece, completed_body}
 use Rattle.messages.specs.Hearing.{Strays, said_by}
 use Rattle.server_core.specs.History as history
 use Rattle.server_core.specs.History.{Opening}
-use Rattle.server_core.specs.Request.{asked_by, ToNobody}
+use Rattle.server_core.specs.Request.{request_in, ToNobody}
 use Rattle.server_core.specs.Run.{Work}
-use Rattle.server_core.specs.Words.{Staged, is_on, last_run, staged, work, is_due}
+use Rattle.server_core.specs.Words.{Staged, is_on, last_run, staged_run, work, due_by}
 use Rattle.server_core.specs.Hearing.{FrameEntry, is_piece_for, packets_heard, assembly}
-use Rattle.server_core.specs.FrameAnswers.{sense_of, due_in, would_save}
+use Rattle.server_core.specs.FrameAnswers.{sense_of, due_of_sense, would_save}
 
 start_is_short : (kind : PacketKind) → is_long_kind kind ≡ true → (3 == number_of kind) ≡ false
 start_is_short kinds.Start l = cc
@@ -40,31 +40,31 @@ kinds_are : (a b : Tag) → is_tag a b ≡ true → (number_of a.whole == number
 kinds_are a b h = first_of _ _ (first_of _ _ (first_of _ _ (first_of _ _ (first_of _ _ h))))
 
 -- What a long packet asks is not due.
-undue_body : (on : Bool) (last : ℕ) (s : Option Staged) (w : Option Work) (b : Body) (kind : PacketKind) → is_long_kind kind ≡ true → (number_of (kind_of b) == number_of kind) ≡ true → is_due on last s w (asked_by b) ≡ None
+undue_body : (on : Bool) (last : ℕ) (s : Option Staged) (w : Option Work) (b : Body) (kind : PacketKind) → is_long_kind kind ≡ true → (number_of (kind_of b) == number_of kind) ≡ true → due_by on last s w (request_in b) ≡ None
 undue_body on last s w (bodies.Start run) kind l e = absurd (not_both (3 == number_of kind) (start_is_short kind l) e)
 undue_body on last s w _ kind l e = refl
 
-undue_packet : (on : Bool) (last : ℕ) (s : Option Staged) (w : Option Work) (b : Body) (mine : Bool) → is_due on last s w (asked_by b) ≡ None → is_due on last s w (if mine then asked_by b else ToNobody) ≡ None
+undue_packet : (on : Bool) (last : ℕ) (s : Option Staged) (w : Option Work) (b : Body) (mine : Bool) → due_by on last s w (request_in b) ≡ None → due_by on last s w (if mine then request_in b else ToNobody) ≡ None
 undue_packet on last s w b true h = h
 undue_packet on last s w b false h = refl
 
-undue_tag : (o : Opening) (past : List history.Entry) (q : PieceParts) (b : Body) (same : Bool) → (same ≡ true → is_due (is_on past) (last_run o past) (staged o past) (work o past) (asked_by b) ≡ None)
-    → due_in o past (sense_of q (said_by (if same then Gives (packet_of q b) else NoPacket))) ≡ None
-undue_tag o past q b true h = undue_packet (is_on past) (last_run o past) (staged o past) (work o past) b (is_client q.from && is_server o.me q.to) (h refl)
+undue_tag : (o : Opening) (past : List history.Entry) (q : PieceParts) (b : Body) (same : Bool) → (same ≡ true → due_by (is_on past) (last_run o past) (staged_run o past) (work o past) (request_in b) ≡ None)
+    → due_of_sense o past (sense_of q (said_by (if same then Gives (packet_of q b) else NoPacket))) ≡ None
+undue_tag o past q b true h = undue_packet (is_on past) (last_run o past) (staged_run o past) (work o past) b (is_client q.from && is_server o.me q.to) (h refl)
 undue_tag o past q b false h = refl
 
-undue_read : (o : Opening) (past : List history.Entry) (q : PieceParts) (b : Option Body) → is_long_kind q.tag.whole ≡ true → due_in o past (sense_of q (said_by (of_tag q b))) ≡ None
+undue_read : (o : Opening) (past : List history.Entry) (q : PieceParts) (b : Option Body) → is_long_kind q.tag.whole ≡ true → due_of_sense o past (sense_of q (said_by (of_tag q b))) ≡ None
 undue_read o past q None l = refl
 undue_read o past q (Some b) l =
     let t = tag_in b q.tag.length in
-    undue_tag o past q b (is_tag t q.tag) (λ same. undue_body (is_on past) (last_run o past) (staged o past) (work o past) b q.tag.whole l (kinds_are t q.tag same))
+    undue_tag o past q b (is_tag t q.tag) (λ same. undue_body (is_on past) (last_run o past) (staged_run o past) (work o past) b q.tag.whole l (kinds_are t q.tag same))
 
-undue_look : (o : Opening) (past : List history.Entry) (q : PieceParts) (bytes : Option (List ℕ)) → is_long_kind q.tag.whole ≡ true → due_in o past (sense_of q (said_by (look_at q bytes))) ≡ None
+undue_look : (o : Opening) (past : List history.Entry) (q : PieceParts) (bytes : Option (List ℕ)) → is_long_kind q.tag.whole ≡ true → due_of_sense o past (sense_of q (said_by (look_by_body q bytes))) ≡ None
 undue_look o past q None l = refl
 undue_look o past q (Some bytes) l = undue_read o past q (body_at q.tag.whole bytes) l
 
-undue_meaning : (o : Opening) (past : List history.Entry) (q : PieceParts) (rows : List Row) (takes : Bool) → is_long_kind q.tag.whole ≡ true → due_in o past (sense_of q (if takes then said_by (look rows q) else Strays)) ≡ None
-undue_meaning o past q rows true l = undue_look o past q (completed rows q) l
+undue_meaning : (o : Opening) (past : List history.Entry) (q : PieceParts) (rows : List Row) (takes : Bool) → is_long_kind q.tag.whole ≡ true → due_of_sense o past (sense_of q (if takes then said_by (look_at_piece rows q) else Strays)) ≡ None
+undue_meaning o past q rows true l = undue_look o past q (completed_body rows q) l
 undue_meaning o past q rows false l = refl
 
 long : (q : PieceParts) → is_piece q ≡ true → is_long_kind q.tag.whole ≡ true

@@ -9,7 +9,7 @@ use Rattle.server_core.specs.declared.event.WriteEnd.TheVariants.{Done, Failed}
 use Rattle.disk_model.specs.declared.left.Left.{Left}
 use Rattle.disk_model.specs.declared.left.Left.TheVariants.{Saved}
 use Rattle.server_core.specs.History.{Opening, Entry, Met, Cut, Restart}
-use Rattle.server_core.specs.Request.{asked}
+use Rattle.server_core.specs.Request.{request_of}
 use Rattle.server_core.specs.Words.{Staged, due, work}
 use Rattle.server_core.specs.Taken.{takes}
 use Rattle.server_core.specs.Answers.{refusal}
@@ -45,7 +45,7 @@ pub record IsTaking (o : Opening) (run j : ℕ) (list : List Entry) (state : Sta
   pub accepted : due o older start ≡ Some started
   pub run_is : started.run ≡ run
   pub pulls :
-      takes run j (asked o.me trigger) (work o (between ++ Met start Saved ∷ older)) ≡ Some state
+      takes run j (request_of o.me trigger) (work o (between ++ Met start Saved ∷ older)) ≡ Some state
   pub counts :
       (k : ℕ) → has state.counted k ≡ true
       → IsDoneIn o (Met start Saved ∷ older) between (record { run = run; server = o.me; job = j }) k

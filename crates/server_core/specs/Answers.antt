@@ -21,9 +21,9 @@ use Rattle.server_core.specs.declared.status.Stage.TheVariants as stages
 use Rattle.server_core.specs.declared.status.Status.{Status}
 use Rattle.disk_model.specs.Left.{is_lost}
 use Rattle.server_core.specs.History.{Opening, Entry, Met, Cut, Restart}
-use Rattle.server_core.specs.Request.{Request, ToMark, ToIssue, ToEnd, ToReport, ToNobody, asked}
-use Rattle.server_core.specs.Run.{Work, Halt, Triggered, Stopped, halted, is_halted, origin_of, history}
-use Rattle.server_core.specs.Words.{is_on, boot, last_run, staged, work, due}
+use Rattle.server_core.specs.Request.{Request, ToMark, ToIssue, ToEnd, ToReport, ToNobody, request_of}
+use Rattle.server_core.specs.Run.{Work, Halt, Triggered, Stopped, halt_of, is_halted, origin_of, history}
+use Rattle.server_core.specs.Words.{is_on, boot, last_run, staged_run, work, due}
 use Rattle.server_core.specs.Check.{Check, Progress, Wanting, Full, With, Refused, Done, check, progress_in}
 use Rattle.server_core.specs.Replies.{Now, number_staged, replies}
 
@@ -33,7 +33,7 @@ now o past = record {
   server = o.me;
   boot = boot o past;
   last = last_run o past;
-  staged = staged o past;
+  staged = staged_run o past;
   run = work o past;
   check = check o past;
 }
@@ -60,9 +60,9 @@ is_ready (Some (Refused value)) = false
 is_ready (Some (Done report)) = false
 
 -- The open check has this attempt.
-abbrev pub is_attempt : ℕ → Option Check → Bool
-is_attempt a None = false
-is_attempt a (Some c) = c.attempt == a
+abbrev pub is_open_attempt : ℕ → Option Check → Bool
+is_open_attempt a None = false
+is_open_attempt a (Some c) = c.attempt == a
 
 -- Something of another boot is refused first, and then what isn't there.
 abbrev pub refused_by : Bool → Bool → Option Fault
@@ -74,12 +74,12 @@ abbrev pub refusal_of : Now → Request → Option Fault
 refusal_of now ToNobody = Some Misdirected
 refusal_of now (ToEnd ticket end) = refused_by (ticket.boot == now.boot) (names_open now.run ticket)
 refusal_of now (ToReport b a j report) =
-    refused_by (b == now.boot) (is_attempt a now.check && is_ready (progress_in now.check j))
+    refused_by (b == now.boot) (is_open_attempt a now.check && is_ready (progress_in now.check j))
 refusal_of now _ = None
 
 -- Why an event is refused: the server is down, or the request is refused.
 abbrev pub refusal : Opening → List Entry → Event → Option Fault
-refusal o past e = if is_on past then refusal_of (now o past) (asked o.me e) else Some Down
+refusal o past e = if is_on past then refusal_of (now o past) (request_of o.me e) else Some Down
 
 -- The packets that carry these bodies to the client.
 abbrev pub to_client : ℕ → List Body → List PacketParts
@@ -93,7 +93,7 @@ sent_by lost (Some fault) bodies = []
 -- The packets that an entry sends.
 abbrev pub packets : Opening → List Entry → Entry → List PacketParts
 packets o past (Met e left) =
-    to_client o.me (sent_by (is_lost left) (refusal o past e) (replies (now o past) (asked o.me e)))
+    to_client o.me (sent_by (is_lost left) (refusal o past e) (replies (now o past) (request_of o.me e)))
 packets o past Cut = []
 packets o past (Restart left) = []
 
@@ -115,7 +115,7 @@ issue_for now _ = None
 
 -- What an event answers of writes.
 abbrev pub issue : Opening → List Entry → Event → Option Issue
-issue o past e = issue_for (work o past) (asked o.me e)
+issue o past e = issue_for (work o past) (request_of o.me e)
 
 -- The job that this request marks: the client tells that its state is kept, behind the Trigger of the
 -- run.
@@ -126,27 +126,27 @@ marks_by _ run _ = []
 -- The jobs that are marked, the newest first.
 abbrev pub marks : ℕ → List Request → List ℕ
 marks run [] = []
-marks run (x ∷ since) = marks_by (halted run since) run x ++ marks run since
+marks run (x ∷ since) = marks_by (halt_of run since) run x ++ marks run since
 
 -- Every job of the run is marked.
 abbrev pub is_marked : Work → Bool
 is_marked w = list_all (has (marks w.run w.since)) (numbers_below (length w.jobs))
 
 -- The act is to cut.
-abbrev pub is_cut : Act → Bool
-is_cut acts.None = false
-is_cut acts.Cut = true
+abbrev pub is_cut_act : Act → Bool
+is_cut_act acts.None = false
+is_cut_act acts.Cut = true
 
 -- The Trigger that took the run asked for a cut.
 abbrev pub wants_cut : Option Halt → Bool
-wants_cut (Some (Triggered act before)) = is_cut act
+wants_cut (Some (Triggered act before)) = is_cut_act act
 wants_cut (Some Stopped) = false
 wants_cut None = false
 
 -- The request marks the last job of a run that wants the cut.
 abbrev pub completes : Work → Request → Bool
 completes w x =
-    wants_cut (halted w.run w.since)
+    wants_cut (halt_of w.run w.since)
     && (not (is_marked w) && is_marked (record w { since = x ∷ w.since }))
 
 -- What a request makes the server ask of its caller: the mark of the last job asks for the cut.
@@ -156,19 +156,19 @@ act_of (Some w) x = if completes w x then acts.Cut else acts.None
 
 -- What an event makes the server ask of its caller.
 abbrev pub act : Opening → List Entry → Event → Act
-act o past e = act_of (work o past) (asked o.me e)
+act o past e = act_of (work o past) (request_of o.me e)
 
 -- An event makes a save where it is due to record a run.
 abbrev pub would_save : Opening → List Entry → Event → Bool
 would_save o past e = is_some (due o past e)
 
 -- What the calls that only look answer from: all that came, but for what came from a failed save on.
-abbrev pub looked : List Entry → List Entry
-looked [] = []
-looked (Met e left ∷ past) =
-    if is_on past then (if is_lost left then past else Met e left ∷ past) else looked past
-looked (Cut ∷ past) = []
-looked (Restart left ∷ past) = Restart left ∷ past
+abbrev pub shown_entries : List Entry → List Entry
+shown_entries [] = []
+shown_entries (Met e left ∷ past) =
+    if is_on past then (if is_lost left then past else Met e left ∷ past) else shown_entries past
+shown_entries (Cut ∷ past) = []
+shown_entries (Restart left ∷ past) = Restart left ∷ past
 
 -- How far a run is.
 abbrev pub stage_by : Option Halt → Stage
@@ -179,7 +179,7 @@ stage_by (Some Stopped) = stages.Stopped
 -- How far the present run is, Idle where there is none.
 abbrev pub stage_of : Option Work → Stage
 stage_of None = stages.Idle
-stage_of (Some w) = stage_by (halted w.run w.since)
+stage_of (Some w) = stage_by (halt_of w.run w.since)
 
 -- The number of a run, 0 where there is none.
 abbrev pub number_of_run : Option Work → ℕ

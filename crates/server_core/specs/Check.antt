@@ -9,7 +9,7 @@ use Rattle.verify_state.specs.State.{State}
 use Rattle.disk_model.specs.declared.left.Left.{Left}
 use Rattle.disk_model.specs.declared.left.Left.TheVariants.{NoSave, Saved, LostNew, LostOld}
 use Rattle.server_core.specs.History.{Opening, Entry, Met, Cut, Restart}
-use Rattle.server_core.specs.Request.{Request, ToVerify, ToHold, ToPassFully, ToReport, asked}
+use Rattle.server_core.specs.Request.{Request, ToVerify, ToHold, ToPassFully, ToReport, request_of}
 use Rattle.server_core.specs.Texts.{jobs_for}
 use Rattle.verify_state.specs.Misfit.{misfit}
 use Rattle.server_core.specs.Run.{Work, is_open, is_unended}
@@ -34,47 +34,47 @@ pub data Progress : Type 0 where
   Done : ReportParts → Progress  -- it was made
 
 -- A state that comes to a job that wants one is held where it fits.
-abbrev pub held : Option Fault → State → Progress → Progress
-held None state Wanting = With state
-held (Some fault) state Wanting = Refused (number_of fault)
-held fault state Full = Full
-held fault state (With s) = With s
-held fault state (Refused value) = Refused value
-held fault state (Done report) = Done report
+abbrev pub progress_with_state : Option Fault → State → Progress → Progress
+progress_with_state None state Wanting = With state
+progress_with_state (Some fault) state Wanting = Refused (number_of fault)
+progress_with_state fault state Full = Full
+progress_with_state fault state (With s) = With s
+progress_with_state fault state (Refused value) = Refused value
+progress_with_state fault state (Done report) = Done report
 
 -- A job that wants a state and gets none is a full pass.
-abbrev pub passed : Progress → Progress
-passed Wanting = Full
-passed Full = Full
-passed (With s) = With s
-passed (Refused value) = Refused value
-passed (Done report) = Done report
+abbrev pub progress_without_state : Progress → Progress
+progress_without_state Wanting = Full
+progress_without_state Full = Full
+progress_without_state (With s) = With s
+progress_without_state (Refused value) = Refused value
+progress_without_state (Done report) = Done report
 
 -- A check that is made is done.
-abbrev pub reported : ReportParts → Progress → Progress
-reported r Wanting = Wanting
-reported r Full = Done r
-reported r (With s) = Done r
-reported r (Refused value) = Refused value
-reported r (Done report) = Done report
+abbrev pub progress_with_report : ReportParts → Progress → Progress
+progress_with_report r Wanting = Wanting
+progress_with_report r Full = Done r
+progress_with_report r (With s) = Done r
+progress_with_report r (Refused value) = Refused value
+progress_with_report r (Done report) = Done report
 
 -- How far job j is behind a request, where it was so far before.
 abbrev pub progress_by : Check → ℕ → Job → Request → Progress → Progress
 progress_by c j job (ToHold a state) p =
     if (a == c.attempt) && (state.key.job == j)
-    then held (misfit state (record { run = c.run; server = c.server; job = j }) job.rec) state p else p
-progress_by c j job (ToPassFully a i) p = if (a == c.attempt) && (i == j) then passed p else p
+    then progress_with_state (misfit state (record { run = c.run; server = c.server; job = j }) job.rec) state p else p
+progress_by c j job (ToPassFully a i) p = if (a == c.attempt) && (i == j) then progress_without_state p else p
 progress_by c j job (ToReport b a i report) p =
-    if (b == c.boot) && ((a == c.attempt) && (i == j)) then reported report p else p
+    if (b == c.boot) && ((a == c.attempt) && (i == j)) then progress_with_report report p else p
 progress_by c j job _ p = p
 
 -- A job that loads its state wants it, and any other is a full pass.
-abbrev pub begun : Bool → Progress
-begun load = if load then Wanting else Full
+abbrev pub progress_at_first : Bool → Progress
+progress_at_first load = if load then Wanting else Full
 
 -- How far job j is, behind these requests.
 abbrev pub progress_after : Check → ℕ → Job → List Request → Progress
-progress_after c j job [] = begun job.load
+progress_after c j job [] = progress_at_first job.load
 progress_after c j job (x ∷ since) = progress_by c j job x (progress_after c j job since)
 
 -- How far job j of a check is, where it has that job.
@@ -93,17 +93,17 @@ is_above a None = true
 is_above a (Some c) = nat_lt c.attempt a
 
 -- A check of these jobs that was just opened.
-abbrev pub opened : ℕ → ℕ → ℕ → ℕ → Result (List Job) ℕ → Option Check
-opened me now_boot r a (Ok js) =
+abbrev pub new_check : ℕ → ℕ → ℕ → ℕ → Result (List Job) ℕ → Option Check
+new_check me now_boot r a (Ok js) =
     Some (record { server = me; boot = now_boot; run = r; attempt = a; jobs = js; since = [] })
-opened me now_boot r a (Err value) = None
+new_check me now_boot r a (Err value) = None
 
 -- The check that a request opens: a Verify of the last run in a new attempt, with a set of reading
 -- jobs, where no write is open and no job of a writing run has yet to end.
 abbrev pub opens : Bool → ℕ → ℕ → ℕ → Option Work → Option Check → Request → Option Check
 opens on me now_boot last now check (ToVerify r a text) =
     if on && ((r == last) && (is_above a check && (not (is_open now) && not (is_unended now))))
-    then opened me now_boot r a (jobs_for Read text) else None
+    then new_check me now_boot r a (jobs_for Read text) else None
 opens on me now_boot last now check _ = None
 
 -- What is asked goes on with the check.
@@ -129,8 +129,8 @@ abbrev pub check : Opening → List Entry → Option Check
 check o [] = None
 check o (Met e left ∷ past) =
     check_after left (due o past e)
-    (opens (is_on past) o.me (boot o past) (last_run o past) (work o past) (check o past) (asked o.me e))
-    (asked o.me e) (check o past)
+    (opens (is_on past) o.me (boot o past) (last_run o past) (work o past) (check o past) (request_of o.me e))
+    (request_of o.me e) (check o past)
 check o (Cut ∷ past) = None
 check o (Restart left ∷ past) = None
 

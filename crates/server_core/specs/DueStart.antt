@@ -2,9 +2,9 @@
 use Rattle.std.specs.Prelude.{◌≡◌, ℕ, ◌<◌, Bool, true, false, List, Option, Some}
 use Rattle.server_core.specs.declared.event.Event.{Event}
 use Rattle.server_core.specs.History.{Opening, Entry}
-use Rattle.server_core.specs.Request.{Request, ToStart, asked}
+use Rattle.server_core.specs.Request.{Request, ToStart, request_of}
 use Rattle.server_core.specs.Run.{Work, is_open}
-use Rattle.server_core.specs.Words.{Staged, is_on, last_run, staged, work, due}
+use Rattle.server_core.specs.Words.{Staged, is_on, last_run, staged_run, work, due}
 
 -- The server is on, a Start of the staged run is asked, the run is above the last one, and no write is
 -- open.
@@ -20,4 +20,4 @@ abbrev pub DueIsStart : Type 0
 DueIsStart =
     (o : Opening) (past : List Entry) (e : Event) (s : Staged) →
     due o past e ≡ Some s
-    → IsDueStart (is_on past) (last_run o past) (staged o past) (work o past) (asked o.me e) s
+    → IsDueStart (is_on past) (last_run o past) (staged_run o past) (work o past) (request_of o.me e) s

@@ -18,7 +18,7 @@ use Rattle.server_core.specs.declared.event.Event.TheVariants.{Deliver, Issue, W
 use Rattle.server_core.specs.declared.event.WriteEnd.TheVariants.{Done, Failed}
 use Rattle.server_core.specs.History.{Opening, Entry, Met, Cut, Restart}
 use Rattle.server_core.specs.Words.{due}
-use Rattle.server_core.specs.Taken.{taken}
+use Rattle.server_core.specs.Taken.{state_taken}
 use Rattle.server_core.specs.Answers.{refusal, packets, issue, act}
 use Rattle.server_core.specs.Replies.{refuse}
 
@@ -27,125 +27,125 @@ abbrev pub blank : Opening
 blank = record { me = 0; boot = 0; last = 0 }
 
 -- A job of two blocks of 512 bytes, with two writes in flight at most.
-abbrev pub writing : List ℕ
-writing = codes "[a]\nrw=write\nbs=512\nsize=1k\niodepth=2\n"
+abbrev pub writing_text : List ℕ
+writing_text = codes "[a]\nrw=write\nbs=512\nsize=1k\niodepth=2\n"
 
 -- The job that checks it.
-abbrev pub reading : List ℕ
-reading = codes "[a]\nrw=read\nbs=512\nsize=1k\niodepth=2\nverify_state_load=1\n"
+abbrev pub reading_text : List ℕ
+reading_text = codes "[a]\nrw=read\nbs=512\nsize=1k\niodepth=2\nverify_state_load=1\n"
 
 -- The client says this to server 0.
-abbrev pub said : Body → Event
-said b = Deliver (record { from = Client; to = Server 0; body = b })
+abbrev pub client_says : Body → Event
+client_says b = Deliver (record { from = Client; to = Server 0; body = b })
 
 -- An event that is answered: it saves where it has something to save.
-abbrev pub met : List Entry → Event → Entry
-met past e = Met e (if is_some (due blank past e) then Saved else NoSave)
+abbrev pub answered_entry : List Entry → Event → Entry
+answered_entry past e = Met e (if is_some (due blank past e) then Saved else NoSave)
 
 -- The list of these events, the newest first, behind these entries.
-abbrev pub behind : List Entry → List Event → List Entry
-behind past [] = past
-behind past (e ∷ events) = met (behind past events) e ∷ behind past events
+abbrev pub with_events : List Entry → List Event → List Entry
+with_events past [] = past
+with_events past (e ∷ events) = answered_entry (with_events past events) e ∷ with_events past events
 
 -- What is sent in answer to an event.
-abbrev pub sent : List Entry → Event → List Body
-sent past e = map (λ p. p.body) (packets blank past (met past e))
+abbrev pub sent_bodies : List Entry → Event → List Body
+sent_bodies past e = map (λ p. p.body) (packets blank past (answered_entry past e))
 
 -- The client asks to stage run 1.
 abbrev pub stage : Event
-stage = said (bodies.Jobs 1 writing)
+stage = client_says (bodies.Jobs 1 writing_text)
 
 -- It asks to start it.
 abbrev pub start : Event
-start = said (bodies.Start 1)
+start = client_says (bodies.Start 1)
 
 -- It asks to check it, in attempt 1.
 abbrev pub verify : Event
-verify = said (bodies.Verify 1 1 reading)
+verify = client_says (bodies.Verify 1 1 reading_text)
 
 -- The server was restarted, and run 1 was staged.
-abbrev pub staged : List Entry
-staged = behind (Restart Saved ∷ []) (stage ∷ [])
+abbrev pub after_stage : List Entry
+after_stage = with_events (Restart Saved ∷ []) (stage ∷ [])
 
 -- The save of its Start failed, and the server was restarted.
-abbrev pub lost : Left → List Entry
-lost left = Restart Saved ∷ (Met start left ∷ staged)
+abbrev pub after_lost_start : Left → List Entry
+after_lost_start left = Restart Saved ∷ (Met start left ∷ after_stage)
 
 -- Or it was started.
-abbrev pub started : List Entry
-started = behind staged (start ∷ [])
+abbrev pub after_start : List Entry
+after_start = with_events after_stage (start ∷ [])
 
 -- The ticket of write k of run 1, in boot 1.
 abbrev pub ticket : ℕ → Ticket
 ticket k = record { boot = 1; key = record { run = 1; server = 0; job = 0 }; seq = k; block = k }
 
 -- Both writes were issued, and the first is done.
-abbrev pub written : List Entry
-written = behind started (WriteDone (ticket 0) Done ∷ Issue 0 ∷ Issue 0 ∷ [])
+abbrev pub after_writes : List Entry
+after_writes = with_events after_start (WriteDone (ticket 0) Done ∷ Issue 0 ∷ Issue 0 ∷ [])
 
 -- The server was then cut off and restarted.
-abbrev pub cut_off : List Entry
-cut_off = Restart Saved ∷ (Cut ∷ written)
+abbrev pub after_cut : List Entry
+after_cut = Restart Saved ∷ (Cut ∷ after_writes)
 
 -- A Trigger that asks for the cut.
 abbrev pub trigger : Event
-trigger = said (bodies.Trigger 1 acts.Cut)
+trigger = client_says (bodies.Trigger 1 acts.Cut)
 
 -- The client tells that the state is kept.
-abbrev pub kept : Event
-kept = said (bodies.StateAck 1 0)
+abbrev pub mark : Event
+mark = client_says (bodies.StateAck 1 0)
 
 -- Run 1 is staged and started, and its writes are issued in turn.
 pub record StartsAndIssues : Type 0 where
-  pub stages : sent (Restart Saved ∷ []) stage ≡ bodies.JobsOk 1 1 ∷ []
-  pub starts : sent staged start ≡ bodies.Started 1 ∷ []
-  pub again : sent started start ≡ bodies.Started 1 ∷ []
-  pub write : issue blank started (Issue 0) ≡ Some (issues.Write (ticket 0))
-  pub done : issue blank written (Issue 0) ≡ Some issues.Finished
+  pub stages : sent_bodies (Restart Saved ∷ []) stage ≡ bodies.JobsOk 1 1 ∷ []
+  pub starts : sent_bodies after_stage start ≡ bodies.Started 1 ∷ []
+  pub again : sent_bodies after_start start ≡ bodies.Started 1 ∷ []
+  pub write : issue blank after_start (Issue 0) ≡ Some (issues.Write (ticket 0))
+  pub done : issue blank after_writes (Issue 0) ≡ Some issues.Finished
 
 -- The state that is taken counts the write that is done. Once it is taken it stays, though the other
 -- write completes; the client's mark asks for the cut, and a second one doesn't.
 pub record TakesOnce : Type 0 where
   pub counts :
-      option_map (λ (s : SavedState). s.counted) (taken blank (behind written (trigger ∷ [])) 0)
+      option_map (λ (s : SavedState). s.counted) (state_taken blank (with_events after_writes (trigger ∷ [])) 0)
       ≡ Some (0 ∷ [])
   pub stays :
-      sent (behind written (WriteDone (ticket 1) Done ∷ trigger ∷ [])) trigger ≡ sent written trigger
-  pub cut : act blank (behind written (trigger ∷ [])) kept ≡ acts.Cut
-  pub once : act blank (behind written (kept ∷ trigger ∷ [])) kept ≡ acts.None
+      sent_bodies (with_events after_writes (WriteDone (ticket 1) Done ∷ trigger ∷ [])) trigger ≡ sent_bodies after_writes trigger
+  pub cut : act blank (with_events after_writes (trigger ∷ [])) mark ≡ acts.Cut
+  pub once : act blank (with_events after_writes (mark ∷ trigger ∷ [])) mark ≡ acts.None
 
 -- Behind a cut and a restart the run is gone, its Start is old, and its tickets are of an older boot.
 pub record ForgetsByACut : Type 0 where
-  pub trigger_gone : sent cut_off trigger ≡ refuse asks.Trigger reasons.Gone 1 0 1
-  pub start_old : sent cut_off start ≡ refuse asks.Start reasons.Old 1 0 1
-  pub ticket_old : refusal blank cut_off (WriteDone (ticket 1) Done) ≡ Some OldBoot
+  pub trigger_gone : sent_bodies after_cut trigger ≡ refuse asks.Trigger reasons.Gone 1 0 1
+  pub start_old : sent_bodies after_cut start ≡ refuse asks.Start reasons.Old 1 0 1
+  pub ticket_old : refusal blank after_cut (WriteDone (ticket 1) Done) ≡ Some OldBoot
 
 -- A Start whose save failed may begin again, with its jobs sent again, where the note has the old
 -- bytes; where it has the new ones, it is old.
 pub record SavesBeforeItStarts : Type 0 where
-  pub unsaved : sent (lost LostOld) start ≡ refuse asks.Start reasons.NoJobs 1 0 0
-  pub staged_again : sent (behind (lost LostOld) (stage ∷ [])) start ≡ bodies.Started 1 ∷ []
-  pub saved : sent (lost LostNew) start ≡ refuse asks.Start reasons.Old 1 0 1
+  pub unsaved : sent_bodies (after_lost_start LostOld) start ≡ refuse asks.Start reasons.NoJobs 1 0 0
+  pub staged_again : sent_bodies (with_events (after_lost_start LostOld) (stage ∷ [])) start ≡ bodies.Started 1 ∷ []
+  pub saved : sent_bodies (after_lost_start LostNew) start ≡ refuse asks.Start reasons.Old 1 0 1
 
 -- A stopped run isn't taken.
 pub record StopsForGood : Type 0 where
-  pub stopped : sent started (said (bodies.Stop 1)) ≡ bodies.Stopped 1 ∷ []
+  pub stopped : sent_bodies after_start (client_says (bodies.Stop 1)) ≡ bodies.Stopped 1 ∷ []
   pub gone :
-      sent (behind started (said (bodies.Stop 1) ∷ [])) trigger ≡ refuse asks.Trigger reasons.Gone 1 0 1
+      sent_bodies (with_events after_start (client_says (bodies.Stop 1) ∷ [])) trigger ≡ refuse asks.Trigger reasons.Gone 1 0 1
   pub issues_none :
-      issue blank (behind started (said (bodies.Stop 1) ∷ [])) (Issue 0) ≡ Some issues.Stopped
+      issue blank (with_events after_start (client_says (bodies.Stop 1) ∷ [])) (Issue 0) ≡ Some issues.Stopped
 
 -- A Verify waits for the open writes, of which a failed one is none; it wants a state where the job
 -- loads one; a run above the last is unknown; writing jobs are of the wrong phase.
 pub record ChecksTheLastRun : Type 0 where
-  pub busy : sent (behind started (Issue 0 ∷ [])) verify ≡ refuse asks.Verify reasons.Busy 1 1 0
+  pub busy : sent_bodies (with_events after_start (Issue 0 ∷ [])) verify ≡ refuse asks.Verify reasons.Busy 1 1 0
   pub wants :
-      sent (behind started (WriteDone (ticket 0) Failed ∷ Issue 0 ∷ [])) verify
+      sent_bodies (with_events after_start (WriteDone (ticket 0) Failed ∷ Issue 0 ∷ [])) verify
       ≡ bodies.WantState 1 1 0 ∷ []
   pub unknown :
-      sent started (said (bodies.Verify 2 1 reading)) ≡ refuse asks.Verify reasons.Unknown 2 1 1
+      sent_bodies after_start (client_says (bodies.Verify 2 1 reading_text)) ≡ refuse asks.Verify reasons.Unknown 2 1 1
   pub wrong :
-      sent cut_off (said (bodies.Verify 1 1 writing))
+      sent_bodies after_cut (client_says (bodies.Verify 1 1 writing_text))
       ≡ refuse asks.Verify reasons.BadJobs 1 1 13
 
 -- A job that reads other blocks than were written.
@@ -153,22 +153,22 @@ abbrev pub other : List ℕ
 other = codes "[a]\nrw=read\nbs=1k\nsize=1k\nverify_state_load=1\n"
 
 -- Run 1 was taken, the server was cut and restarted, and a check by these jobs is open.
-abbrev pub checking : List ℕ → List Entry
-checking text =
-    behind (Restart Saved ∷ (Cut ∷ behind written (trigger ∷ []))) (said (bodies.Verify 1 1 text) ∷ [])
+abbrev pub after_verify : List ℕ → List Entry
+after_verify text =
+    with_events (Restart Saved ∷ (Cut ∷ with_events after_writes (trigger ∷ []))) (client_says (bodies.Verify 1 1 text) ∷ [])
 
 -- The state that was taken.
 abbrev pub taken_state : Option SavedState
-taken_state = taken blank (behind written (trigger ∷ [])) 0
+taken_state = state_taken blank (with_events after_writes (trigger ∷ [])) 0
 
 -- The client sends a state for attempt 1.
-abbrev pub saved : SavedState → Event
-saved state = said (bodies.Saved 1 state)
+abbrev pub sent_state : SavedState → Event
+sent_state state = client_says (bodies.Saved 1 state)
 
 -- A state of another job's blocks is refused, with the misfit's number.
 pub record RefusesAMisfit : Type 0 where
   pub refused :
-      option_map (λ s. sent (checking other) (saved s)) taken_state
+      option_map (λ s. sent_bodies (after_verify other) (sent_state s)) taken_state
       ≡ Some (bodies.Refused (record {
         asked = asks.Verify;
         reason = reasons.Misfit;
@@ -180,4 +180,4 @@ pub record RefusesAMisfit : Type 0 where
       })
       ∷ [])
   pub once :
-      option_map (λ s. sent (behind (checking other) (saved s ∷ [])) (saved s)) taken_state ≡ Some []
+      option_map (λ s. sent_bodies (with_events (after_verify other) (sent_state s ∷ [])) (sent_state s)) taken_state ≡ Some []

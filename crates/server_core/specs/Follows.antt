@@ -3,17 +3,17 @@ use Rattle.std.specs.Prelude.{◌≡◌, true, List, ◌∷◌, Some, None}
 use Rattle.disk_model.specs.declared.left.Left.TheVariants.{NoSave, Saved}
 use Rattle.server_core.specs.declared.event.Event.{Event}
 use Rattle.server_core.specs.History.{Opening, Entry, Met}
-use Rattle.server_core.specs.Request.{asked}
+use Rattle.server_core.specs.Request.{request_of}
 use Rattle.server_core.specs.Words.{Staged, is_on, due}
 use Rattle.server_core.specs.Answers.{now}
-use Rattle.server_core.specs.Stands.{after, begun_by}
+use Rattle.server_core.specs.WordsAfter.{words_after, begun_by}
 
 -- The words behind an event that records no run are read from the words before it.
 abbrev pub WordsFollow : Type 0
 WordsFollow =
     (o : Opening) (past : List Entry) (e : Event) →
     is_on past ≡ true → due o past e ≡ None
-    → now o (Met e NoSave ∷ past) ≡ after (now o past) (asked o.me e)
+    → now o (Met e NoSave ∷ past) ≡ words_after (now o past) (request_of o.me e)
 
 -- So are the words behind a Start whose run was saved.
 abbrev pub StartsFollow : Type 0

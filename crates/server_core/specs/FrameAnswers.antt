@@ -21,7 +21,7 @@ use Rattle.server_core.specs.History.{Opening}
 use Rattle.server_core.specs.Words as words
 use Rattle.server_core.specs.Words.{Staged}
 use Rattle.server_core.specs.Answers as answers
-use Rattle.server_core.specs.Hearing.{FrameEntry, Met, rules, coming, heard_at, packets_heard}
+use Rattle.server_core.specs.Hearing.{FrameEntry, Met, rules, coming_of, heard_at, packets_heard}
 
 -- What comes is, to a server that hears packets: an event; a piece that is kept, and gives nothing
 -- yet; one whose tag is dropped, since the bytes aren't its packet; or a piece that isn't for it.
@@ -48,60 +48,60 @@ sense o past (CheckDone boot a j report) = Hears (events.CheckDone boot a j repo
 
 -- A piece that isn't for this server is misdirected, unless the server is down; where the bytes aren't
 -- their tag's packet a field is bad; and what is heard is refused as the event is.
-abbrev pub refusal_in : Opening → List history.Entry → Sense → Option Fault
-refusal_in o past (Hears e) = answers.refusal o past e
-refusal_in o past (Keeps q) = None
-refusal_in o past (Drops q) = Some FrameBadField
-refusal_in o past Misses = if words.is_on past then Some Misdirected else Some Down
+abbrev pub refusal_of_sense : Opening → List history.Entry → Sense → Option Fault
+refusal_of_sense o past (Hears e) = answers.refusal o past e
+refusal_of_sense o past (Keeps q) = None
+refusal_of_sense o past (Drops q) = Some FrameBadField
+refusal_of_sense o past Misses = if words.is_on past then Some Misdirected else Some Down
 
 -- Why what comes is refused, if it is.
 abbrev pub refusal : Opening → List FrameEntry → Input → Option Fault
-refusal o past e = refusal_in o (packets_heard o past) (sense o past e)
+refusal o past e = refusal_of_sense o (packets_heard o past) (sense o past e)
 
 -- Only what is heard is due to record a run.
-abbrev pub due_in : Opening → List history.Entry → Sense → Option Staged
-due_in o past (Hears e) = words.due o past e
-due_in o past (Keeps q) = None
-due_in o past (Drops q) = None
-due_in o past Misses = None
+abbrev pub due_of_sense : Opening → List history.Entry → Sense → Option Staged
+due_of_sense o past (Hears e) = words.due o past e
+due_of_sense o past (Keeps q) = None
+due_of_sense o past (Drops q) = None
+due_of_sense o past Misses = None
 
 -- The run that what comes is due to record.
 abbrev pub due : Opening → List FrameEntry → Input → Option Staged
-due o past e = due_in o (packets_heard o past) (sense o past e)
+due o past e = due_of_sense o (packets_heard o past) (sense o past e)
 
 -- The delivery of a frame makes a save where it is due to record a run.
 abbrev pub would_save : Opening → List FrameEntry → Frame → Bool
 would_save o past f = is_some (due o past (Deliver f))
 
 -- Only what is heard is answered of writes.
-abbrev pub issue_in : Opening → List history.Entry → Sense → Option Answer
-issue_in o past (Hears e) = answers.issue o past e
-issue_in o past (Keeps q) = None
-issue_in o past (Drops q) = None
-issue_in o past Misses = None
+abbrev pub issue_of_sense : Opening → List history.Entry → Sense → Option Answer
+issue_of_sense o past (Hears e) = answers.issue o past e
+issue_of_sense o past (Keeps q) = None
+issue_of_sense o past (Drops q) = None
+issue_of_sense o past Misses = None
 
 -- What is answered of writes.
 abbrev pub issue : Opening → List FrameEntry → Input → Option Answer
-issue o past e = issue_in o (packets_heard o past) (sense o past e)
+issue o past e = issue_of_sense o (packets_heard o past) (sense o past e)
 
 -- Only what is heard asks anything of the caller.
-abbrev pub act_in : Opening → List history.Entry → Sense → Act
-act_in o past (Hears e) = answers.act o past e
-act_in o past (Keeps q) = acts.None
-act_in o past (Drops q) = acts.None
-act_in o past Misses = acts.None
+abbrev pub act_of_sense : Opening → List history.Entry → Sense → Act
+act_of_sense o past (Hears e) = answers.act o past e
+act_of_sense o past (Keeps q) = acts.None
+act_of_sense o past (Drops q) = acts.None
+act_of_sense o past Misses = acts.None
 
 -- What the caller is asked to do.
 abbrev pub act : Opening → List FrameEntry → Input → Act
-act o past e = act_in o (packets_heard o past) (sense o past e)
+act o past e = act_of_sense o (packets_heard o past) (sense o past e)
 
 -- What an answered input leaves in the list: a Start that is due was saved.
-abbrev pub answered : Opening → List FrameEntry → Input → FrameEntry
-answered o past e = Met e (saved_for (due o past e))
+abbrev pub answered_entry : Opening → List FrameEntry → Input → FrameEntry
+answered_entry o past e = Met e (saved_for (due o past e))
 
 -- The entry that is heard of what happens.
 abbrev pub entry_heard : Opening → List FrameEntry → FrameEntry → Option history.Entry
-entry_heard o past e = entry_of (rules o) (heard_at o past) (coming e)
+entry_heard o past e = entry_of (rules o) (heard_at o past) (coming_of e)
 
 -- The frames of the packets that an entry sends; none where nothing is heard.
 abbrev pub frames_by : Opening → List history.Entry → Option history.Entry → List Frame

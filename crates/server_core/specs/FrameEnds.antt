@@ -17,7 +17,7 @@ use Rattle.server_core.specs.Bounds.{AreShort}
 use Rattle.server_core.specs.Ranges.{OpensInRange, CameInRange}
 use Rattle.server_core.specs.Serves as whole
 use Rattle.server_core.specs.Hearing.{FrameEntry, Met, Restart, packets_heard, assembly}
-use Rattle.server_core.specs.FrameAnswers.{Sense, Hears, Keeps, Drops, Misses, sense, frames, refusal, due, issue, act, answered}
+use Rattle.server_core.specs.FrameAnswers.{Sense, Hears, Keeps, Drops, Misses, sense, frames, refusal, due, issue, act, answered_entry}
 
 -- A server stands for a list of frames where its core stands for the packets that are heard in it, and,
 -- while it is on, keeps what has come together of pieces.
@@ -28,7 +28,7 @@ pub record StandsFor {T : Type 0} (note : T → Note) (server : Server T) (o : O
 -- What is answered and sent is what the list says; and where the packets that were heard keep their
 -- ranges, the frames are few and short.
 pub record Sends (o : Opening) (past : List FrameEntry) (e : Input) (outs : Outs) : Type 0 where
-  pub frames_are : outs.frames ≡ map frame_spelling (frames o past (answered o past e))
+  pub frames_are : outs.frames ≡ map frame_spelling (frames o past (answered_entry o past e))
   pub issue_is : outs.issue ≡ issue o past e
   pub act_is : outs.act ≡ act o past e
   pub short : OpensInRange o → CameInRange (packets_heard o past) → AreShort outs.frames
@@ -50,7 +50,7 @@ steps note o = record {
   refusal = refusal o;
   due = due o;
   met = Met;
-  spelled = λ past. spelling (words.noted o (packets_heard o past));
+  spelled = λ past. spelling (words.words_noted o (packets_heard o past));
   Sends = Sends o;
   Stays = λ past e server. is_drop (sense o past e) ≡ false → StandsFor note server o past;
 }
@@ -63,7 +63,7 @@ pub record Restarts {T : Type 0} (note : T → Note) (me : ℕ) (notes : T) (ser
   pub leaves : note server.core.notes ≡ record (note notes) { bytes = spelling (record said { boot = said.boot + 1 }) }
   pub stands :
       (o : Opening) (past : List FrameEntry) → o.me ≡ me
-      → Says (note notes).bytes (words.noted o (packets_heard o past))
+      → Says (note notes).bytes (words.words_noted o (packets_heard o past))
       → StandsFor note server o (Restart Saved ∷ past)
 
 -- How a restart ends.

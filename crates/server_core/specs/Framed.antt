@@ -6,10 +6,10 @@ use Rattle.messages.specs.FramesOf.{spelled_frames}
 use Rattle.server_core.specs.Answers.{to_client}
 
 -- The bytes of the frames that carry these bodies to the client, in their order.
-abbrev pub framed : ℕ → List Body → List (List ℕ)
-framed me bodies = flat_map spelled_frames (to_client me bodies)
+abbrev pub frames_to_client : ℕ → List Body → List (List ℕ)
+frames_to_client me bodies = flat_map spelled_frames (to_client me bodies)
 
 -- The list of one body, or of none.
-abbrev pub listed : Option Body → List Body
-listed None = []
-listed (Some body) = body ∷ []
+abbrev pub one_or_none : Option Body → List Body
+one_or_none None = []
+one_or_none (Some body) = body ∷ []

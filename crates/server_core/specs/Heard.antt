@@ -8,7 +8,7 @@ use Rattle.server_core.specs.declared.event.Event.{Event}
 use Rattle.server_core.specs.declared.event.Event.TheVariants.{Deliver, Issue, WriteDone, CheckDone}
 use Rattle.server_core.specs.History.{Opening, Entry, Met, Cut, Restart}
 use Rattle.server_core.specs.Words.{last_run, work}
-use Rattle.server_core.specs.Run.{Work, halted}
+use Rattle.server_core.specs.Run.{Work, halt_of}
 use Rattle.server_core.specs.Answers.{wants_cut, check_job}
 use Rattle.job_file.specs.declared.job.Job.{Job}
 use Rattle.verify_state.specs.Misfit.{misfit}
@@ -21,11 +21,11 @@ heard_with (WriteDone ticket end) older = older
 heard_with (CheckDone boot a j report) older = older
 
 -- The packets that came to a server since its last cut or restart, the newest first.
-abbrev pub heard : List Entry → List PacketParts
-heard [] = []
-heard (Met e left ∷ past) = heard_with e (heard past)
-heard (Cut ∷ past) = []
-heard (Restart left ∷ past) = []
+abbrev pub heard_packets : List Entry → List PacketParts
+heard_packets [] = []
+heard_packets (Met e left ∷ past) = heard_with e (heard_packets past)
+heard_packets (Cut ∷ past) = []
+heard_packets (Restart left ∷ past) = []
 
 -- A state of the last run, of this server and job, which fits the job and which the client sent in
 -- this life.
@@ -36,15 +36,15 @@ pub record IsHeard (o : Opening) (past : List Entry) (j : ℕ) (state : State) :
   pub fits : misfit state state.key job.rec ≡ None
   pub attempt : ℕ
   pub sent :
-      Contains (heard past) (record { from = Client; to = Server o.me; body = Saved attempt state })
+      Contains (heard_packets past) (record { from = Client; to = Server o.me; body = Saved attempt state })
 
 -- The present run was taken by a Trigger that asks for the cut, and with this event the client has told
 -- of each of its jobs that its state is kept, or needn't be.
-pub record IsKept (o : Opening) (past : List Entry) (e : Event) : Type 0 where
+pub record AreStatesKept (o : Opening) (past : List Entry) (e : Event) : Type 0 where
   pub now : Work
   pub works : work o past ≡ Some now
-  pub wants : wants_cut (halted now.run now.since) ≡ true
+  pub wants : wants_cut (halt_of now.run now.since) ≡ true
   pub kept :
       (j : ℕ) → j < length now.jobs
-      → Contains (heard_with e (heard past))
+      → Contains (heard_with e (heard_packets past))
       (record { from = Client; to = Server o.me; body = StateAck now.run j })

@@ -40,18 +40,18 @@ rules o = record {
 }
 
 -- What happens to a server, in the terms of hearing.
-abbrev pub coming : FrameEntry → Coming history.Entry Left
-coming (Met (Deliver f) left) = Comes f left
-coming (Met (Issue j) left) = Happens (history.Met (events.Issue j) left)
-coming (Met (WriteDone ticket end) left) = Happens (history.Met (events.WriteDone ticket end) left)
-coming (Met (CheckDone boot a j report) left) =
+abbrev pub coming_of : FrameEntry → Coming history.Entry Left
+coming_of (Met (Deliver f) left) = Comes f left
+coming_of (Met (Issue j) left) = Happens (history.Met (events.Issue j) left)
+coming_of (Met (WriteDone ticket end) left) = Happens (history.Met (events.WriteDone ticket end) left)
+coming_of (Met (CheckDone boot a j report) left) =
     Happens (history.Met (events.CheckDone boot a j report) left)
-coming Cut = Happens history.Cut
-coming (Restart left) = Happens (history.Restart left)
+coming_of Cut = Happens history.Cut
+coming_of (Restart left) = Happens (history.Restart left)
 
 -- What a server has heard.
 abbrev pub heard_at : Opening → List FrameEntry → Heard history.Entry
-heard_at o past = heard (rules o) (map coming past)
+heard_at o past = heard (rules o) (map coming_of past)
 
 -- The list of packets that a list of frames says.
 abbrev pub packets_heard : Opening → List FrameEntry → List history.Entry

@@ -16,7 +16,7 @@ use Rattle.server_core.specs.declared.job_run.JobRun.{JobRun}
 use Rattle.server_core.specs.declared.job_run.End.{End}
 use Rattle.server_core.specs.declared.job_run.End.TheVariants as ends
 use Rattle.server_core.specs.Request.{Request}
-use Rattle.server_core.specs.Run.{Work, Halt, Triggered, Stopped, halted, is_halted, origin_of, history}
+use Rattle.server_core.specs.Run.{Work, Halt, Triggered, Stopped, halt_of, is_halted, origin_of, history}
 use Rattle.server_core.specs.Words.{Staged}
 use Rattle.server_core.specs.Taken.{taken_by_halt}
 use Rattle.server_core.specs.Answers.{marks}
@@ -43,24 +43,24 @@ job_kept w j job =
     record {
       engine = running_of origin (is_halted w) (history origin w.since);
       save = job.save;
-      taken = taken_by_halt w j (halted w.run w.since);
+      taken = taken_by_halt w j (halt_of w.run w.since);
       marked = has (marks w.run w.since) j;
     }
 
 -- What f gives for jobs, numbered on from j.
-abbrev pub numbered : {A : Type 0} → (ℕ → Job → A) → ℕ → List Job → List A
-numbered f j [] = []
-numbered f j (job ∷ jobs) = f j job ∷ numbered f (j + 1) jobs
+abbrev pub map_numbered : {A : Type 0} → (ℕ → Job → A) → ℕ → List Job → List A
+map_numbered f j [] = []
+map_numbered f j (job ∷ jobs) = f j job ∷ map_numbered f (j + 1) jobs
 
 -- What is kept of jobs, numbered on from j.
 abbrev pub jobs_kept : Work → ℕ → List Job → List JobRun
-jobs_kept w j jobs = numbered (job_kept w) j jobs
+jobs_kept w j jobs = map_numbered (job_kept w) j jobs
 
 -- All that is kept of a run.
 abbrev pub kept_of : Work → Kept
 kept_of w = record {
   number = w.run;
-  end = end_kept (halted w.run w.since);
+  end = end_kept (halt_of w.run w.since);
   jobs = w.jobs;
   kept = jobs_kept w 0 w.jobs;
 }
@@ -102,14 +102,14 @@ abbrev pub open_answer : Bool → Result (Unit {0}) Fault
 open_answer names = if names then Ok tt else Err NotInFlight
 
 -- The act of the Trigger that has taken the run, if one has.
-abbrev pub act_in : Option End → Option Act
-act_in (Some (ends.Taken act)) = Some act
-act_in (Some ends.Stopped) = None
-act_in None = None
+abbrev pub act_of_end : Option End → Option Act
+act_of_end (Some (ends.Taken act)) = Some act
+act_of_end (Some ends.Stopped) = None
+act_of_end None = None
 
 -- The run that begins with a staged set.
-abbrev pub started : ℕ → ℕ → Staged → Work
-started me now_boot s = record {
+abbrev pub new_work : ℕ → ℕ → Staged → Work
+new_work me now_boot s = record {
   server = me;
   boot = now_boot;
   run = s.run;
@@ -144,9 +144,9 @@ before_halt None since = since
 
 -- What was asked of a run before its states were taken; all, where they were not.
 abbrev pub asked_before : Work → List Request
-asked_before w = before_halt (halted w.run w.since) w.since
+asked_before w = before_halt (halt_of w.run w.since) w.since
 
 -- What is said of a job: its state, or that it has none.
-abbrev pub said : ℕ → ℕ → ℕ → Option State → Body
-said run jobs j (Some state) = bodies.State jobs state
-said run jobs j None = bodies.NoState run j jobs
+abbrev pub state_body : ℕ → ℕ → ℕ → Option State → Body
+state_body run jobs j (Some state) = bodies.State jobs state
+state_body run jobs j None = bodies.NoState run j jobs

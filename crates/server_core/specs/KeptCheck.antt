@@ -10,9 +10,9 @@ use Rattle.verify_state.specs.Misfit.{misfit}
 use Rattle.server_core.specs.declared.progress.Progress as kept
 use Rattle.server_core.specs.declared.progress.Progress.TheVariants as kept_as
 use Rattle.server_core.specs.Request.{Request}
-use Rattle.server_core.specs.Check.{Check, Progress, Wanting, Full, With, Refused, Done, held, begun, progress_after}
+use Rattle.server_core.specs.Check.{Check, Progress, Wanting, Full, With, Refused, Done, progress_with_state, progress_at_first, progress_after}
 use Rattle.server_core.specs.Answers.{is_ready}
-use Rattle.server_core.specs.Kept.{numbered}
+use Rattle.server_core.specs.Kept.{map_numbered}
 
 -- How far the check of a job is, by what is kept of it.
 abbrev pub progress_of : kept.Progress → Progress
@@ -24,7 +24,7 @@ progress_of (kept_as.Done report) = Done report
 
 -- How far the check of a job is at first.
 abbrev pub progress_begun : Job → Progress
-progress_begun job = begun job.load
+progress_begun job = progress_at_first job.load
 
 -- The job waits for its state.
 abbrev pub is_wanting : Option Progress → Bool
@@ -48,7 +48,7 @@ check_kept c = record {
   run = c.run;
   attempt = c.attempt;
   jobs = c.jobs;
-  progress = numbered (job_progress c) 0 c.jobs;
+  progress = map_numbered (job_progress c) 0 c.jobs;
 }
 
 -- P holds of each check of which this is kept.
@@ -73,15 +73,15 @@ ready_now None attempt job = false
 ready_now (Some kept) attempt job = ready_in kept attempt job
 
 -- What a state makes of its job, which waits for one: it is held where it fits, and else refused.
-abbrev pub judged_of : ℕ → ℕ → State → Option Job → Option Progress
-judged_of me run state None = None
-judged_of me run state (Some job) =
-    Some (held (misfit state (record { run = run; server = me; job = state.key.job }) job.rec) state Wanting)
+abbrev pub judgement_of_job : ℕ → ℕ → State → Option Job → Option Progress
+judgement_of_job me run state None = None
+judgement_of_job me run state (Some job) =
+    Some (progress_with_state (misfit state (record { run = run; server = me; job = state.key.job }) job.rec) state Wanting)
 
 -- What a state that comes in an attempt makes of its job, where that waits for one.
-abbrev pub judged : ℕ → CheckKept → ℕ → State → Option Progress
-judged me kept attempt state =
-    if wants_in kept attempt state.key.job then judged_of me kept.run state (slice_get kept.jobs state.key.job) else None
+abbrev pub judgement : ℕ → CheckKept → ℕ → State → Option Progress
+judgement me kept attempt state =
+    if wants_in kept attempt state.key.job then judgement_of_job me kept.run state (slice_get kept.jobs state.key.job) else None
 
 -- The refusal of a state that doesn't fit job j, with the number of why.
 abbrev pub misfit_of : CheckKept → ℕ → ℕ → Refusal
@@ -96,9 +96,9 @@ misfit_of kept j value = record {
 }
 
 -- The same of the open check, if there is one.
-abbrev pub judged_now : ℕ → Option CheckKept → ℕ → State → Option Progress
-judged_now me None attempt state = None
-judged_now me (Some kept) attempt state = judged me kept attempt state
+abbrev pub judgement_now : ℕ → Option CheckKept → ℕ → State → Option Progress
+judgement_now me None attempt state = None
+judgement_now me (Some kept) attempt state = judgement me kept attempt state
 
 -- The open check has a job with this number.
 abbrev pub has_job : Option CheckKept → ℕ → Bool

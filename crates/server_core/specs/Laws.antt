@@ -19,15 +19,15 @@ use Rattle.messages.specs.Laws.{IsPacket}
 use Rattle.messages.specs.declared.refusal.Act.TheVariants as acts
 use Rattle.server_core.specs.declared.event.Event.{Event}
 use Rattle.server_core.specs.History.{Opening, Entry, Met}
-use Rattle.server_core.specs.Request.{Request, asked}
+use Rattle.server_core.specs.Request.{Request, request_of}
 use Rattle.server_core.specs.Texts.{jobs_for}
 use Rattle.server_core.specs.Run.{Work, is_halted, history}
-use Rattle.server_core.specs.Words.{Staged, is_on, boot, last_run, staged, work, due}
-use Rattle.server_core.specs.Taken.{taken, takes, takings}
+use Rattle.server_core.specs.Words.{Staged, is_on, boot, last_run, staged_run, work, due}
+use Rattle.server_core.specs.Taken.{state_taken, takes, takings}
 use Rattle.server_core.specs.Check.{Check, With, check, progress}
-use Rattle.server_core.specs.Answers.{packets, issue, act, looked}
+use Rattle.server_core.specs.Answers.{packets, issue, act, shown_entries}
 use Rattle.server_core.specs.Accepted.{IsTaking}
-use Rattle.server_core.specs.Heard.{IsHeard, IsKept}
+use Rattle.server_core.specs.Heard.{IsHeard, AreStatesKept}
 use Rattle.server_core.specs.Ranges.{CameInRange, OpensInRange}
 
 -- The last run and the boot never fall.
@@ -61,7 +61,7 @@ TakenAtMostOnce = (o : Opening) (run j : ℕ) (past : List Entry) → length (ta
 
 -- A server that is on shows all that came to it.
 abbrev pub LooksAtAll : Type 0
-LooksAtAll = (past : List Entry) → is_on past ≡ true → looked past ≡ past
+LooksAtAll = (past : List Entry) → is_on past ≡ true → shown_entries past ≡ past
 
 -- A taken state has the key of the last run, and is the one that was ever taken of it.
 pub record IsTheTaken (o : Opening) (past : List Entry) (j : ℕ) (state : State) : Type 0 where
@@ -72,7 +72,7 @@ pub record IsTheTaken (o : Opening) (past : List Entry) (j : ℕ) (state : State
 abbrev pub HoldsTheTaken : Type 0
 HoldsTheTaken =
     (o : Opening) (past : List Entry) (j : ℕ) (state : State) →
-    taken o past j ≡ Some state → IsTheTaken o past j state
+    state_taken o past j ≡ Some state → IsTheTaken o past j state
 
 -- Each state that a server sends is the one that was taken.
 abbrev pub SendsTheTaken : Type 0
@@ -135,7 +135,7 @@ TextsGiveSets =
 -- So are the jobs that are staged.
 abbrev pub StagingsHaveSets : Type 0
 StagingsHaveSets =
-    (o : Opening) (past : List Entry) (s : Staged) → staged o past ≡ Some s → IsSet s.jobs
+    (o : Opening) (past : List Entry) (s : Staged) → staged_run o past ≡ Some s → IsSet s.jobs
 
 -- So are the jobs of the present run.
 abbrev pub RunsHaveSets : Type 0
@@ -169,7 +169,7 @@ abbrev pub QuietWhileLast : Type 0
 QuietWhileLast =
     (o : Opening) (older between : List Entry) (trigger e : Event) (was : Left) (run j : ℕ)
     (state : State) →
-    takes run j (asked o.me trigger) (work o older) ≡ Some state
+    takes run j (request_of o.me trigger) (work o older) ≡ Some state
     → last_run o (between ++ Met trigger was ∷ older) ≡ run
     → gives_write (issue o (between ++ Met trigger was ∷ older) e) ≡ false
 
@@ -179,7 +179,7 @@ abbrev pub QuietUntilChecked : Type 0
 QuietUntilChecked =
     (o : Opening) (older between newer : List Entry) (trigger e : Event) (was left : Left)
     (run j i : ℕ) (state with_it : State) →
-    takes run j (asked o.me trigger) (work o older) ≡ Some state
+    takes run j (request_of o.me trigger) (work o older) ≡ Some state
     → progress o (newer ++ Met e left ∷ (between ++ Met trigger was ∷ older)) i ≡ Some (With with_it)
     → with_it.key.run ≡ run
     → gives_write (issue o (between ++ Met trigger was ∷ older) e) ≡ false
@@ -194,7 +194,7 @@ WithWasHeard =
 -- A server asks for the cut only once the client has told of each job of the run that its state is
 -- kept.
 abbrev pub CutsWhenKept : Type 0
-CutsWhenKept = (o : Opening) (past : List Entry) (e : Event) → act o past e ≡ acts.Cut → IsKept o past e
+CutsWhenKept = (o : Opening) (past : List Entry) (e : Event) → act o past e ≡ acts.Cut → AreStatesKept o past e
 
 -- A server sends at most 16 packets in answer to one event.
 abbrev pub PacketsAreFew : Type 0

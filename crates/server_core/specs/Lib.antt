@@ -1,34 +1,43 @@
-pub mod Accepted
-pub mod Answers
-pub mod Check
-pub mod DueStart
-pub mod Examples
-pub mod Heard
+-- What came, and what it asks.
 pub mod History
-pub mod Laws
-pub mod Note
-pub mod Ranges
-pub mod Replies
 pub mod Request
+pub mod Texts
+-- The words of a server.
+pub mod Words
 pub mod Run
 pub mod Taken
-pub mod Texts
-pub mod Words
-pub mod Kept
-pub mod Inside
-pub mod Framed
-pub mod KeptCheck
-pub mod InsideCheck
-pub mod Stands
-pub mod Handles
-pub mod Follows
-pub mod Serves
+pub mod Check
+-- What a server answers.
+pub mod Replies
+pub mod Answers
+pub mod OpenWrites
 pub mod Hearing
 pub mod FrameAnswers
-pub mod FrameEnds
+pub mod Handles
+pub mod Note
+-- What holds of every list.
+pub mod Laws
+pub mod DueStart
+pub mod OpenCheck
+pub mod Accepted
+pub mod Heard
+pub mod HeardRange
+pub mod Ranges
 pub mod Bounds
 pub mod Sent
-pub mod OpenCheck
 pub mod Memory
-pub mod OpenWrites
-pub mod HeardRange
+-- How a server stands for a list, and how its steps end.
+pub mod Serves
+pub mod FrameEnds
+-- Calls inside a server, and what it keeps: no public contract cites these.
+pub mod Kept
+pub mod Inside
+pub mod KeptCheck
+pub mod InsideCheck
+pub mod Framed
+pub mod Stands
+pub mod WordsAfter
+pub mod InnerCalls
+pub mod Follows
+-- Examples.
+pub mod Examples

@@ -12,11 +12,11 @@ use Rattle.messages.specs.declared.refusal.Reason.{Reason}
 use Rattle.messages.specs.declared.refusal.Reason.TheVariants.{Old, Busy, NoJobs, Gone, Overwritten, Unknown, BadJobs, Misfit}
 use Rattle.server_core.specs.Request.{Request, ToStage, ToStart, ToTrigger, ToMark, ToStop, ToVerify, ToHold, ToPassFully, ToIssue, ToEnd, ToReport, ToNobody}
 use Rattle.server_core.specs.Texts.{jobs_for}
-use Rattle.server_core.specs.Run.{Work, Halt, Triggered, halted, origin_of, is_open, is_unended}
+use Rattle.server_core.specs.Run.{Work, Halt, Triggered, halt_of, origin_of, is_open, is_unended}
 use Rattle.server_core.specs.Run as runs
 use Rattle.server_core.specs.Taken.{job_state}
 use Rattle.server_core.specs.Words.{Staged, for_run}
-use Rattle.server_core.specs.Check.{Check, Progress, Wanting, Full, With, progress_after, progress_at, progress_in, progress_by, begun, opened, is_above}
+use Rattle.server_core.specs.Check.{Check, Progress, Wanting, Full, With, progress_after, progress_at, progress_in, progress_by, progress_at_first, new_check, is_above}
 use Rattle.server_core.specs.Check as checks
 
 -- The words of a server that a reply is read from.
@@ -106,7 +106,7 @@ reply_to_halt w last (Some runs.Stopped) = refuse Trigger Gone w.run 0 last
 
 -- A Trigger of another run: it is gone, or unknown.
 abbrev pub reply_to_trigger : Now → ℕ → Option Work → List Body
-reply_to_trigger now r (Some w) = reply_to_halt w now.last (halted w.run w.since)
+reply_to_trigger now r (Some w) = reply_to_halt w now.last (halt_of w.run w.since)
 reply_to_trigger now r None = gone_or_unknown Trigger r now.last
 
 -- A Stop of the present run is answered; another run is gone, or unknown.

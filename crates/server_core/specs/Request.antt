@@ -27,21 +27,21 @@ pub data Request : Type 0 where
   ToNobody : Request  -- it is not for this server
 
 -- What a packet of the client asks. The kinds that servers send, and those for a mirror, ask nothing of one.
-abbrev pub asked_by : Body → Request
-asked_by (bodies.Jobs run text) = ToStage run text
-asked_by (bodies.Start run) = ToStart run
-asked_by (bodies.Trigger run act) = ToTrigger run act
-asked_by (bodies.StateAck run job) = ToMark run job
-asked_by (bodies.Stop run) = ToStop run
-asked_by (bodies.Verify run attempt text) = ToVerify run attempt text
-asked_by (bodies.Saved attempt state) = ToHold attempt state
-asked_by (bodies.NoSaved run attempt job) = ToPassFully attempt job
-asked_by _ = ToNobody
+abbrev pub request_in : Body → Request
+request_in (bodies.Jobs run text) = ToStage run text
+request_in (bodies.Start run) = ToStart run
+request_in (bodies.Trigger run act) = ToTrigger run act
+request_in (bodies.StateAck run job) = ToMark run job
+request_in (bodies.Stop run) = ToStop run
+request_in (bodies.Verify run attempt text) = ToVerify run attempt text
+request_in (bodies.Saved attempt state) = ToHold attempt state
+request_in (bodies.NoSaved run attempt job) = ToPassFully attempt job
+request_in _ = ToNobody
 
 -- What an event asks of the server with this number. A packet that isn't for it, or isn't from the
 -- client, asks nothing.
-abbrev pub asked : ℕ → Event → Request
-asked me (Deliver p) = if is_client p.from && is_server me p.to then asked_by p.body else ToNobody
-asked me (Issue job) = ToIssue job
-asked me (WriteDone ticket end) = ToEnd ticket end
-asked me (CheckDone boot attempt job report) = ToReport boot attempt job report
+abbrev pub request_of : ℕ → Event → Request
+request_of me (Deliver p) = if is_client p.from && is_server me p.to then request_in p.body else ToNobody
+request_of me (Issue job) = ToIssue job
+request_of me (WriteDone ticket end) = ToEnd ticket end
+request_of me (CheckDone boot attempt job report) = ToReport boot attempt job report

@@ -29,15 +29,15 @@ pub data Halt : Type 0 where
   Stopped : Halt
 
 -- How this request, which came behind these, ends the writing of a run, if it does.
-abbrev pub halts : ℕ → Request → List Request → Option Halt
-halts run (ToTrigger r act) before = if r == run then Some (Triggered act before) else None
-halts run (ToStop r) before = if r == run then Some Stopped else None
-halts run _ before = None
+abbrev pub halt_by : ℕ → Request → List Request → Option Halt
+halt_by run (ToTrigger r act) before = if r == run then Some (Triggered act before) else None
+halt_by run (ToStop r) before = if r == run then Some Stopped else None
+halt_by run _ before = None
 
 -- The first Trigger or Stop of the run, if one came.
-abbrev pub halted : ℕ → List Request → Option Halt
-halted run [] = None
-halted run (x ∷ since) = option_or (halted run since) (halts run x since)
+abbrev pub halt_of : ℕ → List Request → Option Halt
+halt_of run [] = None
+halt_of run (x ∷ since) = option_or (halt_of run since) (halt_by run x since)
 
 -- Where the writes of job j come from.
 abbrev pub origin_of : Work → ℕ → Job → Origin
@@ -75,7 +75,7 @@ with_request origin stopped _ h = h
 abbrev pub history : Origin → List Request → List window.Event
 history origin [] = []
 history origin (x ∷ since) =
-    with_request origin (is_some (halted origin.key.run since)) x (history origin since)
+    with_request origin (is_some (halt_of origin.key.run since)) x (history origin since)
 
 -- The origins of jobs, numbered on from j.
 abbrev pub origins_from : Work → ℕ → List Job → List Origin
@@ -88,7 +88,7 @@ origins w = origins_from w 0 w.jobs
 
 -- The run is stopped: a Trigger or Stop came.
 abbrev pub is_halted : Work → Bool
-is_halted w = is_some (halted w.run w.since)
+is_halted w = is_some (halt_of w.run w.since)
 
 -- Some write of the run is open.
 unfoldable pub has_open : Work → Bool

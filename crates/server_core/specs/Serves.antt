@@ -20,21 +20,22 @@ use Rattle.server_core.specs.History.{Opening, Entry, Met, Restart}
 use Rattle.server_core.specs.declared.note.Noted.{Noted}
 use Rattle.server_core.specs.Note.{Says, spelling}
 use Rattle.server_core.specs.Request.{ToStart}
-use Rattle.server_core.specs.Words.{Staged, is_on, noted, due, is_due}
+use Rattle.server_core.specs.Words.{Staged, is_on, words_noted, due, due_by}
 use Rattle.server_core.specs.Replies.{Now, replies}
-use Rattle.server_core.specs.Answers.{now, refusal, packets, issue, act, looked}
+use Rattle.server_core.specs.Answers.{now, refusal, packets, issue, act, shown_entries}
 use Rattle.server_core.specs.Bounds.{AreShort}
 use Rattle.server_core.specs.Ranges.{OpensInRange, CameInRange}
-use Rattle.server_core.specs.Framed.{framed}
+use Rattle.server_core.specs.Framed.{frames_to_client}
 use Rattle.server_core.specs.Handles.{sent_alone}
-use Rattle.server_core.specs.Stands.{MachineIs, begun_by}
+use Rattle.server_core.specs.Stands.{MachineIs}
+use Rattle.server_core.specs.WordsAfter.{begun_by}
 
 -- A server stands for a list where it is on or down as the list says, where the durable bytes say what
 -- the list says, and where it keeps what the list said before the first failed save.
 pub record StandsFor {T : Type 0} (note : T → Note) (server : PacketServer T) (o : Opening) (past : List Entry) : Type 0 where
   pub on : server.down ≡ not (is_on past)
-  pub durable : Says (note server.notes).bytes (noted o past)
-  pub keeps : MachineIs server.machine (now o (looked past))
+  pub durable : Says (note server.notes).bytes (words_noted o past)
+  pub keeps : MachineIs server.machine (now o (shown_entries past))
 
 -- A Start that is due isn't answered: memory ran out, and nothing changes; or the device failed, and the
 -- durable bytes are the new or the old, and the server is down.
@@ -54,23 +55,23 @@ Starts note run old new (Ok outs) =
     (note new.notes ≡ record (note old.notes) { bytes = spelling (record { boot = old.machine.boot; last_run = run }) })
     × (new.down ≡ old.down)
     × ((words : Now) (s : Staged) → MachineIs old.machine words
-    → is_due true words.last words.staged words.run (ToStart run) ≡ Some s
-    → (outs ≡ sent_alone (framed words.server (replies words (ToStart run))))
+    → due_by true words.last words.staged words.run (ToStart run) ≡ Some s
+    → (outs ≡ sent_alone (frames_to_client words.server (replies words (ToStart run))))
     × MachineIs new.machine (begun_by words s))
 Starts note run old new (Err fault) = Unstarted note run (sort_of fault) fault old new
 
 -- What an answered event leaves in the list: a Start that is due was saved.
-abbrev pub answered : Opening → List Entry → Event → Entry
-answered o past e = Met e (saved_for (due o past e))
+abbrev pub answered_entry : Opening → List Entry → Event → Entry
+answered_entry o past e = Met e (saved_for (due o past e))
 
 -- What is answered and sent is what the list says; and where what came before keeps its ranges, the
 -- packets that are sent keep theirs, and their frames are few and short.
 pub record Sends (o : Opening) (past : List Entry) (e : Event) (outs : Outs) : Type 0 where
-  pub frames_are : outs.frames ≡ flat_map spelled_frames (packets o past (answered o past e))
+  pub frames_are : outs.frames ≡ flat_map spelled_frames (packets o past (answered_entry o past e))
   pub issue_is : outs.issue ≡ issue o past e
   pub act_is : outs.act ≡ act o past e
   pub short : OpensInRange o → CameInRange past → AreShort outs.frames
-  pub ranges : OpensInRange o → CameInRange past → AllByRecursion IsPacket (packets o past (answered o past e))
+  pub ranges : OpensInRange o → CameInRange past → AllByRecursion IsPacket (packets o past (answered_entry o past e))
 
 -- The steps of a server that takes packets: its note, what its list says of an event, and what is
 -- answered and sent. A refused event leaves it as it was.
@@ -82,7 +83,7 @@ steps note o = record {
   refusal = refusal o;
   due = due o;
   met = Met;
-  spelled = λ past. spelling (noted o past);
+  spelled = λ past. spelling (words_noted o past);
   Sends = Sends o;
   Stays = λ past e server. StandsFor note server o past;
 }
@@ -95,7 +96,7 @@ pub record Restarts {T : Type 0} (note : T → Note) (me : ℕ) (notes : T) (ser
   pub leaves : note server.notes ≡ record (note notes) { bytes = spelling (record said { boot = said.boot + 1 }) }
   pub stands :
       (o : Opening) (past : List Entry) → o.me ≡ me
-      → Says (note notes).bytes (noted o past)
+      → Says (note notes).bytes (words_noted o past)
       → StandsFor note server o (Restart Saved ∷ past)
 
 -- The bytes said something that left a boot, and they are still there, or those of the next boot are.

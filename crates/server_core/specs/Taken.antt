@@ -5,8 +5,8 @@ use Rattle.verify_state.specs.State.{State}
 use Rattle.engine.specs.Running.{Origin}
 use Rattle.engine.specs.Taken.{state_after}
 use Rattle.server_core.specs.History.{Opening, Entry, Met, Cut, Restart}
-use Rattle.server_core.specs.Request.{Request, ToTrigger, asked}
-use Rattle.server_core.specs.Run.{Work, Halt, Triggered, Stopped, halted, origin_of, history}
+use Rattle.server_core.specs.Request.{Request, ToTrigger, request_of}
+use Rattle.server_core.specs.Run.{Work, Halt, Triggered, Stopped, halt_of, origin_of, history}
 use Rattle.server_core.specs.Words.{work}
 
 -- The state of a job behind these requests.
@@ -32,11 +32,11 @@ taken_by_halt w j (Some Stopped) = None
 -- The state of job j that the trigger of the present run took.
 abbrev pub taken_in : Option Work → ℕ → Option State
 taken_in None j = None
-taken_in (Some w) j = taken_by_halt w j (halted w.run w.since)
+taken_in (Some w) j = taken_by_halt w j (halt_of w.run w.since)
 
 -- The state of job j that was taken in the present run.
-abbrev pub taken : Opening → List Entry → ℕ → Option State
-taken o past j = taken_in (work o past) j
+abbrev pub state_taken : Opening → List Entry → ℕ → Option State
+state_taken o past j = taken_in (work o past) j
 
 -- The run that a request triggers.
 abbrev pub triggers : ℕ → Request → Bool
@@ -52,7 +52,7 @@ takes_now hits w j None = if hits then state_of_job w j w.since else None
 abbrev pub takes : ℕ → ℕ → Request → Option Work → Option State
 takes run j x None = None
 takes run j x (Some w) =
-    takes_now (triggers run x && (w.run == run)) w j (halted w.run w.since)
+    takes_now (triggers run x && (w.run == run)) w j (halt_of w.run w.since)
 
 -- A state that is taken, before those that were.
 abbrev pub and_those : Option State → List State → List State
@@ -63,6 +63,6 @@ and_those (Some state) states = state ∷ states
 abbrev pub takings : Opening → ℕ → ℕ → List Entry → List State
 takings o run j [] = []
 takings o run j (Met e left ∷ past) =
-    and_those (takes run j (asked o.me e) (work o past)) (takings o run j past)
+    and_those (takes run j (request_of o.me e) (work o past)) (takings o run j past)
 takings o run j (Cut ∷ past) = takings o run j past
 takings o run j (Restart left ∷ past) = takings o run j past

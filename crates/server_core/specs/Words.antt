@@ -9,7 +9,7 @@ use Rattle.disk_model.specs.declared.left.Left.{Left}
 use Rattle.disk_model.specs.declared.left.Left.TheVariants.{NoSave, Saved, LostNew, LostOld}
 use Rattle.disk_model.specs.Left.{has_new, is_lost, is_saved}
 use Rattle.server_core.specs.History.{Opening, Entry, Met, Cut, Restart}
-use Rattle.server_core.specs.Request.{Request, ToStage, ToStart, asked}
+use Rattle.server_core.specs.Request.{Request, ToStage, ToStart, request_of}
 use Rattle.server_core.specs.Texts.{jobs_for}
 use Rattle.server_core.specs.Run.{Work, goes_on, is_open}
 
@@ -70,15 +70,15 @@ for_run r (Some s) = if s.run == r then Some s else None
 
 -- What a request is due to record: a Start of the staged run, above the last run, where no write is
 -- open.
-abbrev pub is_due : Bool → ℕ → Option Staged → Option Work → Request → Option Staged
-is_due on last staged now (ToStart r) =
+abbrev pub due_by : Bool → ℕ → Option Staged → Option Work → Request → Option Staged
+due_by on last staged now (ToStart r) =
     if on && (nat_lt last r && not (is_open now)) then for_run r staged else None
-is_due on last staged now _ = None
+due_by on last staged now _ = None
 
 -- The last run, where what was due is recorded once the save left the new bytes.
-abbrev pub recorded : Left → Option Staged → ℕ → ℕ
-recorded left None last = last
-recorded left (Some s) last = if has_new left then s.run else last
+abbrev pub last_run_after : Left → Option Staged → ℕ → ℕ
+last_run_after left None last = last
+last_run_after left (Some s) last = if has_new left then s.run else last
 
 -- The present run behind a request: one begins where what was due was saved; a failed save ends the
 -- life; else the run goes on.
@@ -95,9 +95,9 @@ abbrev mutual
   pub last_run : Opening → List Entry → ℕ
   last_run o [] = o.last
   last_run o (Met e left ∷ past) =
-      recorded left
-      (is_due (is_on past) (last_run o past) (greatest (last_run o past) (stagings o past)) (work o past)
-      (asked o.me e))
+      last_run_after left
+      (due_by (is_on past) (last_run o past) (greatest (last_run o past) (stagings o past)) (work o past)
+      (request_of o.me e))
       (last_run o past)
   last_run o (Cut ∷ past) = last_run o past
   last_run o (Restart left ∷ past) = last_run o past
@@ -106,7 +106,7 @@ abbrev mutual
   pub stagings : Opening → List Entry → List Staged
   stagings o [] = []
   stagings o (Met e left ∷ past) =
-      staged_after left (stages (is_on past) (last_run o past) (work o past) (asked o.me e))
+      staged_after left (stages (is_on past) (last_run o past) (work o past) (request_of o.me e))
       (stagings o past)
   stagings o (Cut ∷ past) = []
   stagings o (Restart left ∷ past) = []
@@ -116,20 +116,20 @@ abbrev mutual
   work o [] = None
   work o (Met e left ∷ past) =
       work_after left
-      (is_due (is_on past) (last_run o past) (greatest (last_run o past) (stagings o past)) (work o past)
-      (asked o.me e))
-      o.me (boot o past) (asked o.me e) (work o past)
+      (due_by (is_on past) (last_run o past) (greatest (last_run o past) (stagings o past)) (work o past)
+      (request_of o.me e))
+      o.me (boot o past) (request_of o.me e) (work o past)
   work o (Cut ∷ past) = None
   work o (Restart left ∷ past) = None
 
 -- What the note says: the boot and the last run.
-abbrev pub noted : Opening → List Entry → Noted
-noted o past = record { boot = boot o past; last_run = last_run o past }
+abbrev pub words_noted : Opening → List Entry → Noted
+words_noted o past = record { boot = boot o past; last_run = last_run o past }
 
 -- The staged run: the greatest above the last run.
-abbrev pub staged : Opening → List Entry → Option Staged
-staged o past = greatest (last_run o past) (stagings o past)
+abbrev pub staged_run : Opening → List Entry → Option Staged
+staged_run o past = greatest (last_run o past) (stagings o past)
 
 -- The run that an event is due to record.
 abbrev pub due : Opening → List Entry → Event → Option Staged
-due o past e = is_due (is_on past) (last_run o past) (staged o past) (work o past) (asked o.me e)
+due o past e = due_by (is_on past) (last_run o past) (staged_run o past) (work o past) (request_of o.me e)

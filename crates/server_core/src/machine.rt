@@ -41,8 +41,10 @@ impl Machine {
     ghost use Rattle.server_core.specs.Request.{ToIssue, ToEnd, ToTrigger, ToMark, ToStop};
     ghost use Rattle.server_core.specs.Answers.{issue_of, act_of, refusal_of};
     ghost use Rattle.server_core.specs.Replies.{replies, refuse, gone_or_unknown};
-    ghost use Rattle.server_core.specs.Framed.{framed};
-    ghost use Rattle.server_core.specs.Stands.{MachineIs, EachNow, after, blank, unless, IsOfRun, IsOfText};
+    ghost use Rattle.server_core.specs.Framed.{frames_to_client};
+    ghost use Rattle.server_core.specs.Stands.{MachineIs, EachNow, blank};
+    ghost use Rattle.server_core.specs.WordsAfter.{words_after};
+    ghost use Rattle.server_core.specs.InnerCalls.{unless_refused, IsOfRun, IsOfText};
     ghost use Rattle.server_core.specs.Memory.{TakesNone};
     ghost use Rattle.messages.specs.declared.refusal.Act.{Act};
 
@@ -65,7 +67,8 @@ impl Machine {
     /// Issues the next write of a job, or says why none is issued.
     pub(crate) fn issue(&mut self, job: JobNo) -> Issue
         ensures answer { EachNow self.old (λ now. result ≡ issue_of job now.run) }
-        ensures left { EachNow self.old (λ now. MachineIs self.new (after now (ToIssue job))) }
+        ensures left { EachNow self.old
+            (λ now. MachineIs self.new (words_after now (ToIssue job))) }
     {
         work::issue(&mut self.run, job)
     }
@@ -74,8 +77,9 @@ impl Machine {
     /// write.
     pub(crate) fn end_write(&mut self, ticket: Ticket, end: WriteEnd) -> Result<(), Fault>
         ensures answer { EachNow self.old
-            (λ now. result ≡ unless (refusal_of now (ToEnd ticket end))) }
-        ensures left { EachNow self.old (λ now. MachineIs self.new (after now (ToEnd ticket end))) }
+            (λ now. result ≡ unless_refused (refusal_of now (ToEnd ticket end))) }
+        ensures left { EachNow self.old
+            (λ now. MachineIs self.new (words_after now (ToEnd ticket end))) }
         ensures same { OnErr result (self.new ≡ self.old) }
         ensures memory { TakesNone result }
     {
@@ -93,9 +97,10 @@ impl Machine {
     pub(crate) fn trigger(&mut self, run: RunNo, act: Act) -> Result<Frames, AllocError>
         requires { IsTrue (is_run run) }
         ensures sent { EachNow self.old (λ now. IfOk result
-            (λ frames. frames ≡ framed now.server (replies now (ToTrigger run act)))) }
+            (λ frames. frames ≡ frames_to_client now.server (replies now (ToTrigger run act)))) }
         ensures left { EachNow self.old
-            (λ now. IfOk result (λ frames. MachineIs self.new (after now (ToTrigger run act)))) }
+            (λ now. IfOk result (λ frames. MachineIs self.new
+            (words_after now (ToTrigger run act)))) }
         ensures same { OnErr result (self.new ≡ self.old) }
     {
         let frames = self.trigger_frames(run)?;
@@ -107,9 +112,9 @@ impl Machine {
     pub(crate) fn stop(&mut self, run: RunNo) -> Result<Frames, AllocError>
         requires { IsTrue (is_run run) }
         ensures sent { EachNow self.old (λ now. IfOk result
-            (λ frames. frames ≡ framed now.server (replies now (ToStop run)))) }
+            (λ frames. frames ≡ frames_to_client now.server (replies now (ToStop run)))) }
         ensures left { EachNow self.old
-            (λ now. IfOk result (λ frames. MachineIs self.new (after now (ToStop run)))) }
+            (λ now. IfOk result (λ frames. MachineIs self.new (words_after now (ToStop run)))) }
         ensures same { OnErr result (self.new ≡ self.old) }
     {
         let frames = match &self.run {
@@ -124,7 +129,8 @@ impl Machine {
     /// asks for the cut, where the Trigger did.
     pub(crate) fn mark(&mut self, run: RunNo, job: JobNo) -> Act
         ensures answer { EachNow self.old (λ now. result ≡ act_of now.run (ToMark run job)) }
-        ensures left { EachNow self.old (λ now. MachineIs self.new (after now (ToMark run job))) }
+        ensures left { EachNow self.old
+            (λ now. MachineIs self.new (words_after now (ToMark run job))) }
     {
         work::mark(&mut self.run, run, job)
     }
@@ -133,7 +139,7 @@ impl Machine {
     fn trigger_frames(&self, run: RunNo) -> Result<Frames, AllocError>
         requires { IsTrue (is_run run) }
         ensures { EachNow self.now (λ now. (act : Act) → IfOk result
-            (λ frames. frames ≡ framed now.server (replies now (ToTrigger run act)))) }
+            (λ frames. frames ≡ frames_to_client now.server (replies now (ToTrigger run act)))) }
     {
         match &self.run {
             Some(now) if now.is(run) => match now.end() {
@@ -154,7 +160,8 @@ impl Machine {
         requires run { IsTrue (is_run run) }
         requires asked { IsOfRun asked }
         ensures { IfOk result
-            (λ frames. frames ≡ framed self.now.me (gone_or_unknown asked run self.now.last_run)) }
+            (λ frames. frames ≡ frames_to_client self.now.me
+            (gone_or_unknown asked run self.now.last_run)) }
     {
         let reason = if run <= self.last_run {
             Reason::Gone
@@ -176,7 +183,7 @@ impl Machine {
         requires asked { IsOfRun asked }
         requires reason { IsOfText reason }
         ensures { IfOk result
-            (λ frames. frames ≡ framed self.now.me (refuse asked reason run 0 value)) }
+            (λ frames. frames ≡ frames_to_client self.now.me (refuse asked reason run 0 value)) }
     {
         let refusal = Refusal {
             asked,

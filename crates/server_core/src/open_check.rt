@@ -40,7 +40,7 @@ impl Model for OpenCheck {
 
 impl OpenCheck {
     ghost use Rattle.server_core.specs.Request.{ToPassFully};
-    ghost use Rattle.server_core.specs.KeptCheck.{CheckKept, GoesOn, judged, ready_in, wants_in};
+    ghost use Rattle.server_core.specs.KeptCheck.{CheckKept, GoesOn, judgement, ready_in, wants_in};
 
     /// A check that is opened.
     pub(crate) fn new(
@@ -112,7 +112,7 @@ impl OpenCheck {
         attempt: Attempt,
         state: &VerifyState,
     ) -> Option<Progress>
-        ensures { option_map progress_of result ≡ judged me self.now attempt state.now }
+        ensures { option_map progress_of result ≡ judgement me self.now attempt state.now }
     {
         let job = state.key().job;
         if !self.wants(attempt, job) {
@@ -152,7 +152,8 @@ impl OpenCheck {
 
 /// How far the check of each of these jobs is at first: those that load their state wait for it.
 pub(crate) fn progress_of_jobs(alloc: Global, jobs: &[Job]) -> Result<Vec<Progress>, AllocError>
-    ensures { IfOk result (λ progress. map progress_of progress.items ≡ map progress_begun jobs.now) }
+    ensures { IfOk result
+        (λ progress. map progress_of progress.items ≡ map progress_begun jobs.now) }
 {
     let mut progress = Vec::with_capacity(alloc, jobs.len())?;
     for job in jobs {

@@ -1,7 +1,7 @@
 //! What a step hands out.
 
 ghost use Rattle.std.specs.Prelude.{◌≡◌};
-ghost use Rattle.server_core.specs.Handles.{sent_alone, issued, ended};
+ghost use Rattle.server_core.specs.Handles.{sent_alone, outs_of_issue, outs_of_end};
 
 use engine::Issue;
 use fc_base::Fault;
@@ -33,7 +33,7 @@ impl Outs {
     /// What a request for a write is answered, and nothing else.
     #[inline(always)]
     pub(crate) fn issued(alloc: Global, answer: Result<Issue, Fault>) -> Result<Outs, Fault>
-        ensures { result ≡ issued answer }
+        ensures { result ≡ outs_of_issue answer }
     {
         let issue = answer?;
         Ok(Outs {
@@ -46,7 +46,7 @@ impl Outs {
     /// That the end of a write was heard, and nothing else.
     #[inline(always)]
     pub(crate) fn ended(alloc: Global, answer: Result<(), Fault>) -> Result<Outs, Fault>
-        ensures { result ≡ ended answer }
+        ensures { result ≡ outs_of_end answer }
     {
         answer?;
         Ok(Outs::sent(Frames::new(alloc)))

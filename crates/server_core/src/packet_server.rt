@@ -33,14 +33,14 @@ pub(crate) struct PacketServer<N> {
 impl<N: Notes> PacketServer<N> {
     ghost use Rattle.server_core.specs.History.{Opening, Entry};
     ghost use Rattle.server_core.specs.Note.{Says};
-    ghost use Rattle.server_core.specs.Words.{is_on, noted, due};
-    ghost use Rattle.server_core.specs.Answers.{looked, status, run_job, check_job};
+    ghost use Rattle.server_core.specs.Words.{is_on, words_noted, due};
+    ghost use Rattle.server_core.specs.Answers.{shown_entries, status, run_job, check_job};
     ghost use Rattle.server_core.specs.Check.{progress};
     ghost use Rattle.server_core.specs.KeptCheck.{progress_of};
-    ghost use Rattle.server_core.specs.Taken.{taken};
+    ghost use Rattle.server_core.specs.Taken.{state_taken};
     ghost use Rattle.server_core.specs.OpenWrites.{open_write};
     ghost use Rattle.server_core.specs.Memory.{TakesNone};
-    ghost use Rattle.server_core.specs.Handles.{issued, ended};
+    ghost use Rattle.server_core.specs.Handles.{outs_of_issue, outs_of_end};
     ghost use Rattle.disk_model.specs.Steps.{Ends};
     ghost use Rattle.server_core.specs.Serves.{StandsFor, steps, Starts, Opens};
 
@@ -81,7 +81,7 @@ impl<N: Notes> PacketServer<N> {
     pub(crate) fn off(self) -> N
         ensures note { N.note result ≡ N.note self.notes }
         ensures says { (o : Opening) (past : List Entry) → StandsFor N.note self o past →
-            Says (N.note result).bytes (noted o past) }
+            Says (N.note result).bytes (words_noted o past) }
     {
         let PacketServer {
             notes,
@@ -110,7 +110,7 @@ impl<N: Notes> PacketServer<N> {
     /// How far it is: up to a failed save, where one has failed.
     pub(crate) fn status(&self) -> Status
         ensures { (o : Opening) (past : List Entry) → StandsFor N.note self.now o past →
-            result ≡ status o (looked past) }
+            result ≡ status o (shown_entries past) }
     {
         self.machine.status()
     }
@@ -118,7 +118,7 @@ impl<N: Notes> PacketServer<N> {
     /// A job of the present run: of that up to a failed save, where one has failed.
     pub(crate) fn run_job(&self, job: JobNo) -> Option<&Job>
         ensures { (o : Opening) (past : List Entry) → StandsFor N.note self.now o past →
-            option_copied result ≡ run_job o (looked past) job }
+            option_copied result ≡ run_job o (shown_entries past) job }
     {
         self.machine.run_job(job)
     }
@@ -126,7 +126,7 @@ impl<N: Notes> PacketServer<N> {
     /// The state that was taken of a job of the present run: up to a failed save, where one has failed.
     pub(crate) fn taken(&self, job: JobNo) -> Option<&VerifyState>
         ensures { (o : Opening) (past : List Entry) → StandsFor N.note self.now o past →
-            option_copied result ≡ taken o (looked past) job }
+            option_copied result ≡ state_taken o (shown_entries past) job }
     {
         self.machine.taken(job)
     }
@@ -135,7 +135,7 @@ impl<N: Notes> PacketServer<N> {
     /// one has failed.
     pub(crate) fn open_write(&self, job: JobNo, write: Seq) -> Option<Ticket>
         ensures { (o : Opening) (past : List Entry) → StandsFor N.note self.now o past →
-            result ≡ open_write o (looked past) job write }
+            result ≡ open_write o (shown_entries past) job write }
     {
         self.machine.open_write(job, write)
     }
@@ -143,7 +143,7 @@ impl<N: Notes> PacketServer<N> {
     /// A job of the open check: of that up to a failed save, where one has failed.
     pub(crate) fn check_job(&self, job: JobNo) -> Option<&Job>
         ensures { (o : Opening) (past : List Entry) → StandsFor N.note self.now o past →
-            option_copied result ≡ check_job o (looked past) job }
+            option_copied result ≡ check_job o (shown_entries past) job }
     {
         self.machine.check_job(job)
     }
@@ -151,7 +151,7 @@ impl<N: Notes> PacketServer<N> {
     /// How far the check of a job is: of that of the open check, up to a failed save, where one has failed.
     pub(crate) fn check_progress(&self, job: JobNo) -> Option<&Progress>
         ensures { (o : Opening) (past : List Entry) → StandsFor N.note self.now o past →
-            option_map progress_of (option_copied result) ≡ progress o (looked past) job }
+            option_map progress_of (option_copied result) ≡ progress o (shown_entries past) job }
     {
         self.machine.check_progress(job)
     }
@@ -189,7 +189,7 @@ impl<N: Notes> PacketServer<N> {
     #[inline(always)]
     pub(crate) fn issue(&mut self, job: JobNo) -> Result<Issue, Fault>
         ensures ends { (o : Opening) (past : List Entry) → StandsFor N.note self.old o past →
-            Ends (steps N.note o) past (ToIssue job) self.old self.new (issued result) }
+            Ends (steps N.note o) past (ToIssue job) self.old self.new (outs_of_issue result) }
         ensures memory { TakesNone result }
     {
         if self.down {
@@ -204,7 +204,7 @@ impl<N: Notes> PacketServer<N> {
     #[inline(always)]
     pub(crate) fn end_write(&mut self, ticket: Ticket, end: WriteEnd) -> Result<(), Fault>
         ensures ends { (o : Opening) (past : List Entry) → StandsFor N.note self.old o past →
-            Ends (steps N.note o) past (ToEnd ticket end) self.old self.new (ended result) }
+            Ends (steps N.note o) past (ToEnd ticket end) self.old self.new (outs_of_end result) }
         ensures memory { TakesNone result }
     {
         if self.down {

@@ -6,7 +6,7 @@ ghost use Rattle.std.specs.List.{list_all, list_any};
 ghost use Rattle.std.specs.Option.{option_copied};
 ghost use Rattle.engine.specs.Answers.{ended_of};
 ghost use Rattle.server_core.specs.declared.job_run.JobRun.{JobRun};
-ghost use Rattle.server_core.specs.Kept.{taken_kept, stopped_kept, act_in};
+ghost use Rattle.server_core.specs.Kept.{taken_kept, stopped_kept, act_of_end};
 
 mod replies;
 
@@ -41,7 +41,7 @@ impl Model for Run {
 }
 
 impl Run {
-    ghost use Rattle.server_core.specs.Run.{Work, has_open, have_ended, is_halted, halted};
+    ghost use Rattle.server_core.specs.Run.{Work, has_open, have_ended, is_halted, halt_of};
     ghost use Rattle.server_core.specs.Taken.{taken_by_halt};
     ghost use Rattle.server_core.specs.Answers.{issue_of_job, names_open_of, act_of};
     ghost use Rattle.server_core.specs.OpenWrites.{open_ticket};
@@ -85,7 +85,7 @@ impl Run {
     /// The state that was taken of a job.
     pub(crate) fn taken(&self, job: JobNo) -> Option<&VerifyState>
         ensures { EachRun self.now
-            (λ w. option_copied result ≡ taken_by_halt w job (halted w.run w.since)) }
+            (λ w. option_copied result ≡ taken_by_halt w job (halt_of w.run w.since)) }
     {
         let index = index_of(job);
         if index < self.kept.as_slice().len() {
@@ -137,7 +137,8 @@ impl Run {
 
     /// Issues the next write of a job, or says why none is issued.
     pub(crate) fn issue(&mut self, job: JobNo) -> Issue
-        ensures answer { EachRun self.old (λ w. result ≡ issue_of_job w job (slice_get w.jobs job)) }
+        ensures answer { EachRun self.old
+            (λ w. result ≡ issue_of_job w job (slice_get w.jobs job)) }
         ensures left { GoesOn self.old self.new (ToIssue job) }
     {
         crate::law::legal_histories();
@@ -203,7 +204,7 @@ impl Run {
 
     /// Marks the job at an index of a run that was taken, where there is one.
     fn set_mark(&mut self, index: usize)
-        requires { is_some (act_in self.old.end) ≡ true }
+        requires { is_some (act_of_end self.old.end) ≡ true }
         ensures left { EachRun self.old
             (λ w. RunIs self.new (record w { since = ToMark w.run index ∷ w.since })) }
         ensures end { self.new.end ≡ self.old.end }
@@ -216,7 +217,7 @@ impl Run {
 
 /// The act of the Trigger that took a run, if one did.
 fn act_in(end: Option<End>) -> Option<Act>
-    ensures { result ≡ act_in end }
+    ensures { result ≡ act_of_end end }
 {
     match end {
         Some(End::Taken(act)) => Some(act),
@@ -258,7 +259,8 @@ fn all_marked(jobs: &[JobRun]) -> bool
 
 /// Whether some write of these jobs is open.
 fn any_open(jobs: &[JobRun]) -> bool
-    ensures { result ≡ list_any (λ (k : JobRun). nat_lt 0 (length k.engine.kept.open_writes)) jobs.now }
+    ensures { result ≡ list_any
+        (λ (k : JobRun). nat_lt 0 (length k.engine.kept.open_writes)) jobs.now }
 {
     jobs.iter().any(|job| job.engine.open_writes() > 0)
 }

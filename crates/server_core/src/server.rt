@@ -32,18 +32,18 @@ pub struct Server<N> {
 impl<N: Notes> Server<N> {
     ghost use Rattle.server_core.specs.History.{Opening};
     ghost use Rattle.server_core.specs.Note.{Says};
-    ghost use Rattle.server_core.specs.Words.{is_on, noted};
-    ghost use Rattle.server_core.specs.Answers.{looked, status, run_job, check_job};
+    ghost use Rattle.server_core.specs.Words.{is_on, words_noted};
+    ghost use Rattle.server_core.specs.Answers.{shown_entries, status, run_job, check_job};
     ghost use Rattle.server_core.specs.Check.{progress};
     ghost use Rattle.server_core.specs.KeptCheck.{progress_of};
-    ghost use Rattle.server_core.specs.Taken.{taken};
+    ghost use Rattle.server_core.specs.Taken.{state_taken};
     ghost use Rattle.server_core.specs.OpenWrites.{open_write};
     ghost use Rattle.server_core.specs.Hearing.{FrameEntry, packets_heard};
     ghost use Rattle.server_core.specs.FrameAnswers.{would_save};
     ghost use Rattle.disk_model.specs.Steps.{Ends};
     ghost use Rattle.server_core.specs.FrameEnds.{StandsFor, steps, Opens};
     ghost use Rattle.server_core.specs.Memory.{TakesNone, WritesTakeNone};
-    ghost use Rattle.server_core.specs.Handles.{issued, ended};
+    ghost use Rattle.server_core.specs.Handles.{outs_of_issue, outs_of_end};
     ghost use Rattle.server_core.specs.HeardRange.{HearsInRange};
 
     /// Opens the server with this number over its note, where it saves the next boot before it answers;
@@ -68,7 +68,7 @@ impl<N: Notes> Server<N> {
     pub fn off(self) -> N
         ensures note { N.note result ≡ N.note self.core.notes }
         ensures says { (o : Opening) (past : List FrameEntry) → StandsFor N.note self o past →
-            Says (N.note result).bytes (noted o (packets_heard o past)) }
+            Says (N.note result).bytes (words_noted o (packets_heard o past)) }
     {
         let Server {
             alloc: _,
@@ -98,7 +98,7 @@ impl<N: Notes> Server<N> {
     /// the note.
     pub fn status(&self) -> Status
         ensures { (o : Opening) (past : List FrameEntry) → StandsFor N.note self.now o past →
-            result ≡ status o (looked (packets_heard o past)) }
+            result ≡ status o (shown_entries (packets_heard o past)) }
     {
         self.core.status()
     }
@@ -106,7 +106,7 @@ impl<N: Notes> Server<N> {
     /// A job of the present run: of that up to a failed save, where one has failed.
     pub fn run_job(&self, job: JobNo) -> Option<&Job>
         ensures { (o : Opening) (past : List FrameEntry) → StandsFor N.note self.now o past →
-            option_copied result ≡ run_job o (looked (packets_heard o past)) job }
+            option_copied result ≡ run_job o (shown_entries (packets_heard o past)) job }
     {
         self.core.run_job(job)
     }
@@ -114,7 +114,7 @@ impl<N: Notes> Server<N> {
     /// The state that was taken of a job of the present run: up to a failed save, where one has failed.
     pub fn taken(&self, job: JobNo) -> Option<&VerifyState>
         ensures { (o : Opening) (past : List FrameEntry) → StandsFor N.note self.now o past →
-            option_copied result ≡ taken o (looked (packets_heard o past)) job }
+            option_copied result ≡ state_taken o (shown_entries (packets_heard o past)) job }
     {
         self.core.taken(job)
     }
@@ -123,7 +123,7 @@ impl<N: Notes> Server<N> {
     /// failed: up to a failed save, where one has failed.
     pub fn open_write(&self, job: JobNo, write: Seq) -> Option<Ticket>
         ensures { (o : Opening) (past : List FrameEntry) → StandsFor N.note self.now o past →
-            result ≡ open_write o (looked (packets_heard o past)) job write }
+            result ≡ open_write o (shown_entries (packets_heard o past)) job write }
     {
         self.core.open_write(job, write)
     }
@@ -131,7 +131,7 @@ impl<N: Notes> Server<N> {
     /// A job of the open check: of that up to a failed save, where one has failed.
     pub fn check_job(&self, job: JobNo) -> Option<&Job>
         ensures { (o : Opening) (past : List FrameEntry) → StandsFor N.note self.now o past →
-            option_copied result ≡ check_job o (looked (packets_heard o past)) job }
+            option_copied result ≡ check_job o (shown_entries (packets_heard o past)) job }
     {
         self.core.check_job(job)
     }
@@ -141,7 +141,7 @@ impl<N: Notes> Server<N> {
     pub fn check_progress(&self, job: JobNo) -> Option<&Progress>
         ensures { (o : Opening) (past : List FrameEntry) → StandsFor N.note self.now o past →
             option_map progress_of (option_copied result)
-            ≡ progress o (looked (packets_heard o past)) job }
+            ≡ progress o (shown_entries (packets_heard o past)) job }
     {
         self.core.check_progress(job)
     }
@@ -188,9 +188,9 @@ impl<N: Notes> Server<N> {
     #[inline(always)]
     pub fn issue(&mut self, job: JobNo) -> Result<Issue, Fault>
         ensures ends { (o : Opening) (past : List FrameEntry) → StandsFor N.note self.old o past →
-            Ends (steps N.note o) past (ToIssue job) self.old self.new (issued result) }
+            Ends (steps N.note o) past (ToIssue job) self.old self.new (outs_of_issue result) }
         ensures ranges { (o : Opening) (past : List FrameEntry) → StandsFor N.note self.old o past →
-            HearsInRange o past (ToIssue job) (issued result) }
+            HearsInRange o past (ToIssue job) (outs_of_issue result) }
         ensures memory { TakesNone result }
     {
         self.core.issue(job)
@@ -200,9 +200,9 @@ impl<N: Notes> Server<N> {
     #[inline(always)]
     pub fn end_write(&mut self, ticket: Ticket, end: WriteEnd) -> Result<(), Fault>
         ensures ends { (o : Opening) (past : List FrameEntry) → StandsFor N.note self.old o past →
-            Ends (steps N.note o) past (ToEnd ticket end) self.old self.new (ended result) }
+            Ends (steps N.note o) past (ToEnd ticket end) self.old self.new (outs_of_end result) }
         ensures ranges { (o : Opening) (past : List FrameEntry) → StandsFor N.note self.old o past →
-            HearsInRange o past (ToEnd ticket end) (ended result) }
+            HearsInRange o past (ToEnd ticket end) (outs_of_end result) }
         ensures memory { TakesNone result }
     {
         self.core.end_write(ticket, end)

@@ -4,7 +4,7 @@ ghost use Rattle.std.specs.Prelude.{◌≡◌, ◌<◌, ◌≤◌, length, IfOk,
 ghost use Rattle.fc_base.specs.declared.limits.TheConstants.{MAX_JOBS, MAX_SERVERS};
 ghost use Rattle.messages.specs.Ranges.{is_run};
 ghost use Rattle.server_core.specs.Laws.{IsSet};
-ghost use Rattle.server_core.specs.Kept.{started, jobs_kept, RunIs};
+ghost use Rattle.server_core.specs.Kept.{new_work, jobs_kept, RunIs};
 
 use crate::job_run::JobRun;
 use crate::run::Run;
@@ -71,7 +71,7 @@ impl StagedSet {
     ) -> Result<Vec<JobRun>, AllocError>
         requires { me < MAX_SERVERS }
         ensures { IfOk result (λ kept. kept.items
-            ≡ jobs_kept (started me boot self.now) 0 self.now.jobs) }
+            ≡ jobs_kept (new_work me boot self.now) 0 self.now.jobs) }
     {
         let jobs = self.jobs.as_slice();
         let mut kept = Vec::with_capacity(alloc, jobs.len())?;
@@ -92,8 +92,8 @@ impl StagedSet {
     /// The run, which begins with these engines. The jobs are moved.
     pub(crate) fn start(self, me: ServerNo, boot: u64, kept: Vec<JobRun>) -> Run
         requires me { me < MAX_SERVERS }
-        requires kept { kept.items ≡ jobs_kept (started me boot self) 0 self.jobs }
-        ensures { RunIs result (started me boot self) }
+        requires kept { kept.items ≡ jobs_kept (new_work me boot self) 0 self.jobs }
+        ensures { RunIs result (new_work me boot self) }
     {
         let StagedSet { run, jobs } = self;
         Run::new(run, jobs, kept)

@@ -1,7 +1,8 @@
 //! The jobs that a text gives to a phase.
 
 ghost use Rattle.std.specs.Prelude.{◌≡◌, IfOk, OnErr};
-ghost use Rattle.server_core.specs.Stands.{GivesJobs, LacksJobs, told};
+ghost use Rattle.server_core.specs.WordsAfter.{GivesJobs};
+ghost use Rattle.server_core.specs.InnerCalls.{LacksJobs, fault_of_text};
 ghost use Rattle.server_core.specs.Texts.{is_phase};
 
 use fc_base::Fault;
@@ -24,7 +25,7 @@ pub(crate) fn jobs_for(alloc: Global, phase: Phase, text: &[u8]) -> Result<Jobs,
 
 /// What is wrong with a text, as a server tells it: its own want of memory is `NoMemory`.
 fn told(fault: JobFault) -> Fault
-    ensures { result ≡ told fault }
+    ensures { result ≡ fault_of_text fault }
 {
     match fault {
         JobFault::NoMemory => Fault::NoMemory,

@@ -18,7 +18,9 @@ const STATE_LENGTH: u32 = 136;
 
 /// Adds the bytes of states, in their order. Where memory runs out, some of them may be there.
 pub fn put_states(out: &mut Vec<u8>, states: &[VerifyState]) -> Result<(), AllocError>
-    ensures { OnOk result (out.new.items ≡ out.old.items ++ flat_map (λ s. counted_bytes (state_bytes s)) states.now) }
+    ensures { OnOk result
+        (out.new.items ≡ out.old.items ++ flat_map
+        (λ s. counted_bytes (state_bytes s)) states.now) }
 {
     for state in states {
         put_state(out, state)?;

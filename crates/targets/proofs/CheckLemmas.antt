@@ -7,7 +7,7 @@ use Rattle.std.proofs.lemmas.List.{take_at, drop_at}
 use Rattle.fc_base.specs.declared.report.ReportParts.{ReportParts}
 use Rattle.fc_base.specs.declared.report.ReportEnd.TheVariants.{AtFault, ReadFault, Whole}
 use Rattle.recheck.specs.Expected.{Expected}
-use Rattle.recheck.specs.Report.{looked_at, report_of, tally, told}
+use Rattle.recheck.specs.Report.{looked_at, report_of, tally, report_with}
 use Rattle.recheck.specs.Check.{Check, has_ended, HasSeen}
 use Rattle.recheck.specs.Laws.{FaultsEndChecks}
 use Rattle.targets.specs.Checks.{block_in, report_on, IsCut, IsWhole}
@@ -80,7 +80,7 @@ report_seen e fatal check count whole same_e same_fatal seen =
 -- The bytes end in a block.
 pub is_cut : (e : Expected) (fatal : Bool) (check : Check) (count : ℕ) (whole part : List ℕ) (old now : Option (List ℕ)) (r : ReportParts)
     → HasRead e check count (Some whole) old → check.expected ≡ e → check.fatal ≡ fatal → has_ended check ≡ false → count < e.job.blocks
-    → Consumes old now part → length part < e.job.bs → IsAtEnd now → r ≡ told check.found (ReadFault count)
+    → Consumes old now part → length part < e.job.bs → IsAtEnd now → r ≡ report_with check.found (ReadFault count)
     → IsCut e fatal whole r count
 is_cut e fatal check count whole part old now r so_far same_e same_fatal open_check within read short end is =
     let known = known_rest whole (Some whole) now (so_far.bytes ++ part) refl (Consumes-trans (Some whole) old now so_far.bytes part so_far.read read) in

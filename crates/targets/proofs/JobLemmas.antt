@@ -11,7 +11,7 @@ use Rattle.job_file.specs.declared.job.Phase.TheVariants.{Read, Write}
 use Rattle.job_file.specs.JobSet.{phase_in}
 use Rattle.verify_state.specs.State.{State}
 use Rattle.engine.specs.Running.{Origin}
-use Rattle.printed.specs.declared.refusal.Refusal.{Refusal}
+use Rattle.printed.specs.declared.refusal.PrintedRefusal.{PrintedRefusal}
 use Rattle.printed.specs.Refusals.{plain}
 use Rattle.targets.specs.declared.asked.Asked.{Asked}
 use Rattle.targets.specs.declared.writing.RunEnd.{RunEnd}
@@ -87,7 +87,7 @@ wrong_phase run number (Some input) rest asked (Ok status) old new reads other r
     inr (plain WrongPhase, inr (reads.text, rest, reads.is_text, reads.is_asked.is_job.sound, λ writes. other (reads.is_asked.phase ∙ writes), refl), refuses)
 
 -- Nor one that isn't there.
-pub no_job : {E : Type 0} (run number : ℕ) (first : Option (List ℕ)) (refusal : Refusal) (r : Result ℕ E) (old new : Option (List ℕ)) → GivesNoJob first number refusal
+pub no_job : {E : Type 0} (run number : ℕ) (first : Option (List ℕ)) (refusal : PrintedRefusal) (r : Result ℕ E) (old new : Option (List ℕ)) → GivesNoJob first number refusal
     → IfOk r (Refuses refusal old new) → IfSome first (λ input. IfOk r (WritesJob run number input old new))
 no_job run number None refusal r old new none refuses = tt
 no_job run number (Some input) refusal (Err e) old new none refuses = tt
@@ -122,7 +122,7 @@ checked run number (Some input) rest target asked state key answer reads is same
     }
 
 -- A state that isn't there.
-pub no_state : (run number : ℕ) (first rest : Option (List ℕ)) (asked : Asked) (fault : Fault) (refusal : Refusal) → ReadsJob number first rest asked → HasNoState rest fault → refusal ≡ plain fault
+pub no_state : (run number : ℕ) (first rest : Option (List ℕ)) (asked : Asked) (fault : Fault) (refusal : PrintedRefusal) → ReadsJob number first rest asked → HasNoState rest fault → refusal ≡ plain fault
     → IfSome first (λ input. CannotCheck run number input refusal)
 no_state run number None rest asked fault refusal reads none is = tt
 no_state run number (Some input) rest asked fault refusal reads none is =
@@ -130,7 +130,7 @@ no_state run number (Some input) rest asked fault refusal reads none is =
     inr (inl (at.job, at.behind, fault, at.begins, subst (λ r. HasNoState r fault) at.leaves none, is))
 
 -- A check that is refused.
-pub not_checked : (run number : ℕ) (first : Option (List ℕ)) (fault : Fault) (refusal : Refusal) → IfSome first (λ input. ChecksInput run number input (Err fault)) → refusal ≡ plain fault
+pub not_checked : (run number : ℕ) (first : Option (List ℕ)) (fault : Fault) (refusal : PrintedRefusal) → IfSome first (λ input. ChecksInput run number input (Err fault)) → refusal ≡ plain fault
     → IfSome first (λ input. CannotCheck run number input refusal)
 not_checked run number None fault refusal checks is = tt
 not_checked run number (Some input) fault refusal checks is = inr (inr (fault, checks, is))

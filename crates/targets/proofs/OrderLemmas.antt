@@ -19,7 +19,7 @@ use Rattle.targets.specs.Orders.{order_bytes, orders}
 use Rattle.targets.specs.declared.notice.Notice.{Notice}
 use Rattle.targets.specs.declared.writing.RunEnd.{RunEnd}
 use Rattle.targets.specs.Runs.{Follows, IsHistory, Issues, Runs}
-use Rattle.targets.specs.Writing.{Ends, GoesOn, OrdersSome, OrdersAll, RunsOn, SoFar, left}
+use Rattle.targets.specs.Writing.{Ends, GoesOn, OrdersSome, OrdersAll, RunsOn, SoFar, steps_left}
 use Rattle.targets.proofs.RunLemmas.{orders_more}
 
 -- None is ordered yet.
@@ -67,9 +67,9 @@ write_is origin stopped failed next writes ticket is = by (stopped || failed) (n
     by false false false false false left is = let same : ticket ≡ ticket_of origin next = cc in (same, grind (arith, nat_tests))
 
 -- What is left once a write is issued.
-pub left_by_write : (running new : Running) (ticket : Ticket) → new ≡ after_answer running (Write ticket) → running.kept.issued < running.origin.job.total → left new ≤ left running
+pub left_by_write : (running new : Running) (ticket : Ticket) → new ≡ after_answer running (Write ticket) → running.kept.issued < running.origin.job.total → steps_left new ≤ steps_left running
 left_by_write running new ticket is some =
-    subst (λ r. left r ≤ left running) (sym is) (omega (arith, some, length_push running.kept.open_writes running.kept.issued))
+    subst (λ r. steps_left r ≤ steps_left running) (sym is) (omega (arith, some, length_push running.kept.open_writes running.kept.issued))
 
 -- An answer that is no write.
 pub not_write : (answer : Issue) → ((t : Ticket) → answer ≡ Write t → ⊥) → is_write answer ≡ false

@@ -27,7 +27,7 @@ use Rattle.targets.specs.declared.writing.RunEnd.TheVariants.{Taken, Refused}
 use Rattle.targets.specs.Notices.{notice_bytes, told_bytes}
 use Rattle.targets.specs.Orders.{order_bytes, orders}
 use Rattle.targets.specs.Runs.{IsHistory, HasRun, TakesNext, EndsNone, IsNoNotice, Runs}
-use Rattle.targets.specs.Writing.{ReadsNotice, EndsNothing, GoesOn, FollowsBy, Steps, SoFar, left}
+use Rattle.targets.specs.Writing.{ReadsNotice, EndsNothing, GoesOn, FollowsBy, Steps, SoFar, steps_left}
 
 -- What holds where there is an answer.
 pub on_ok : {T E P Q : Type 0} (r : Result T E) → (P → Q) → OnOk r P → OnOk r Q
@@ -214,13 +214,13 @@ open_is origin writes k ticket h = by (has writes k) refl h
 
 -- Less is left once a write has ended.
 pub less_by_done : (running new : Running) (k seq : ℕ) (ok : Bool) → ok ≡ true → new ≡ (if ok then after_done running seq else running) → seq ≡ k → has running.kept.open_writes k ≡ true
-    → left new < left running
+    → steps_left new < steps_left running
 less_by_done running new k seq ok is new_is same h =
     let done_is : new ≡ after_done running k = new_is ∙ ap (λ b. if b then after_done running seq else running) is ∙ ap (after_done running) same in
-    subst (λ r. left r < left running) (sym done_is) (omega (arith, without_less k running.kept.open_writes h))
+    subst (λ r. steps_left r < steps_left running) (sym done_is) (omega (arith, without_less k running.kept.open_writes h))
 
 pub less_by_fail : (running new : Running) (k seq : ℕ) (ok : Bool) → ok ≡ true → new ≡ (if ok then after_fail running seq else running) → seq ≡ k → has running.kept.open_writes k ≡ true
-    → left new < left running
+    → steps_left new < steps_left running
 less_by_fail running new k seq ok is new_is same h =
     let fail_is : new ≡ after_fail running k = new_is ∙ ap (λ b. if b then after_fail running seq else running) is ∙ ap (after_fail running) same in
-    subst (λ r. left r < left running) (sym fail_is) (omega (arith, without_less k running.kept.open_writes h))
+    subst (λ r. steps_left r < steps_left running) (sym fail_is) (omega (arith, without_less k running.kept.open_writes h))

@@ -9,8 +9,8 @@ use Rattle.job_file.specs.declared.job.Phase.TheVariants.{Write}
 use Rattle.job_file.specs.JobSet.{refusal_of, jobs_of, phase_in}
 use Rattle.verify_state.specs.Spelling.{spelling}
 use Rattle.engine.specs.Running.{Origin}
-use Rattle.printed.specs.declared.refusal.Refusal.{Refusal}
-use Rattle.printed.specs.Words.{ended, Finishes}
+use Rattle.printed.specs.declared.refusal.PrintedRefusal.{PrintedRefusal}
+use Rattle.printed.specs.Words.{with_line_feed, Finishes}
 use Rattle.printed.specs.Refusals.{plain, refusal_line, RefusesText}
 use Rattle.targets.specs.declared.asked.Asked.{Asked}
 use Rattle.targets.specs.declared.writing.RunEnd.{RunEnd}
@@ -28,14 +28,14 @@ pub record IsJobOf (text : List ℕ) (number : ℕ) (job : Job) : Type 0 where
   pub is : slice_get (jobs_of text) number ≡ Some job
 
 -- Why a text gives no job of this number: its first fault; it has no such job; or there is no memory for it.
-abbrev pub HasNoJob : List ℕ → ℕ → Refusal → Type 0
+abbrev pub HasNoJob : List ℕ → ℕ → PrintedRefusal → Type 0
 HasNoJob text number refusal =
     RefusesText refusal text
     ⊎ (((refusal_of text ≡ None) × (slice_get (jobs_of text) number ≡ None) × (refusal ≡ plain NoJob))
     ⊎ (refusal ≡ plain JobNoMemory))
 
 -- Why an input gives no job: it gives no text, or its text gives none.
-abbrev pub GivesNoJob : Option (List ℕ) → ℕ → Refusal → Type 0
+abbrev pub GivesNoJob : Option (List ℕ) → ℕ → PrintedRefusal → Type 0
 GivesNoJob input number refusal =
     ((fault : Fault) × HasNoText MAX_TEXT input fault × (refusal ≡ plain fault))
     ⊎ ((text : List ℕ) × (rest : Option (List ℕ)) × IsText MAX_TEXT input rest text × HasNoJob text number refusal)
@@ -55,8 +55,8 @@ pub record ReadsJob (number : ℕ) (old new : Option (List ℕ)) (asked : Asked)
   pub is_asked : IsAsked text number asked
 
 -- The one line of a refusal is written, and the status is 2.
-abbrev pub Refuses : Refusal → Option (List ℕ) → Option (List ℕ) → ℕ → Type 0
-Refuses refusal old new status = Finishes (ended (refusal_line refusal)) 2 old new status
+abbrev pub Refuses : PrintedRefusal → Option (List ℕ) → Option (List ℕ) → ℕ → Type 0
+Refuses refusal old new status = Finishes (with_line_feed (refusal_line refusal)) 2 old new status
 
 -- Behind the orders of a run stands its state, and the status is 0; or why there is none, want of memory at last, and
 -- it is 2.
@@ -85,7 +85,7 @@ pub record RunsJob (run number : ℕ) (input : List ℕ) (old new : Option (List
   pub runs : RunsRest (record { boot = 0; key = key_of run number; job = job.rec }) behind old new status
 
 -- The job of an input isn't run: there is none, or it doesn't write.
-abbrev pub CannotRun : List ℕ → ℕ → Refusal → Type 0
+abbrev pub CannotRun : List ℕ → ℕ → PrintedRefusal → Type 0
 CannotRun input number refusal =
     GivesNoJob (Some input) number refusal
     ⊎ ((text : List ℕ) × (rest : Option (List ℕ)) × IsText MAX_TEXT (Some input) rest text × (refusal_of text ≡ None)
@@ -95,4 +95,4 @@ CannotRun input number refusal =
 abbrev pub WritesJob : ℕ → ℕ → List ℕ → Option (List ℕ) → Option (List ℕ) → ℕ → Type 0
 WritesJob run number input old new status =
     RunsJob run number input old new status
-    ⊎ ((refusal : Refusal) × CannotRun input number refusal × Refuses refusal old new status)
+    ⊎ ((refusal : PrintedRefusal) × CannotRun input number refusal × Refuses refusal old new status)

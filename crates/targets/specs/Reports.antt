@@ -8,8 +8,8 @@ use Rattle.fc_base.specs.declared.report.ReportParts.{ReportParts}
 use Rattle.job_file.specs.declared.job.Job.{Job}
 use Rattle.verify_state.specs.State.{State}
 use Rattle.verify_state.specs.Reading.{Answers}
-use Rattle.printed.specs.declared.refusal.Refusal.{Refusal}
-use Rattle.printed.specs.Words.{spaced, ended, Finishes}
+use Rattle.printed.specs.declared.refusal.PrintedRefusal.{PrintedRefusal}
+use Rattle.printed.specs.Words.{with_blanks_between, with_line_feed, Finishes}
 use Rattle.printed.specs.Refusals.{plain}
 use Rattle.printed.specs.Reports.{report_words}
 use Rattle.targets.specs.declared.drive_check.TheConstants.{MAX_STATE}
@@ -19,7 +19,7 @@ use Rattle.targets.specs.Checks.{Checks}
 
 -- The line of a report.
 abbrev pub report_line : ReportParts → List ℕ
-report_line r = spaced (codes "report" ∷ report_words r)
+report_line r = with_blanks_between (codes "report" ∷ report_words r)
 
 -- The status of a report: 2 where the bytes of the target ended early, else 1 where there are faults, else 0.
 abbrev pub report_status : ReportParts → ℕ
@@ -52,7 +52,7 @@ pub record ChecksInput (run number : ℕ) (input : List ℕ) (answer : Result Re
   pub checks : Checks (key_of run number) job.rec state job.fatal target answer
 
 -- Why an input isn't checked: it gives no job, or no state behind it, or its check is refused.
-abbrev pub CannotCheck : ℕ → ℕ → List ℕ → Refusal → Type 0
+abbrev pub CannotCheck : ℕ → ℕ → List ℕ → PrintedRefusal → Type 0
 CannotCheck run number input refusal =
     GivesNoJob (Some input) number refusal
     ⊎ (((job : Job) × (behind : List ℕ) × (fault : Fault) × BeginsWithJob number input behind job × HasNoState (Some behind) fault × (refusal ≡ plain fault))
@@ -62,10 +62,10 @@ CannotCheck run number input refusal =
 pub record WritesReport (run number : ℕ) (input : List ℕ) (old new : Option (List ℕ)) (status : ℕ) : Type 0 where
   pub report : ReportParts
   pub checks : ChecksInput run number input (Ok report)
-  pub finishes : Finishes (ended (report_line report)) (report_status report) old new status
+  pub finishes : Finishes (with_line_feed (report_line report)) (report_status report) old new status
 
 -- What is answered where a target is to be checked.
 abbrev pub ChecksJob : ℕ → ℕ → List ℕ → Option (List ℕ) → Option (List ℕ) → ℕ → Type 0
 ChecksJob run number input old new status =
     WritesReport run number input old new status
-    ⊎ ((refusal : Refusal) × CannotCheck run number input refusal × Refuses refusal old new status)
+    ⊎ ((refusal : PrintedRefusal) × CannotCheck run number input refusal × Refuses refusal old new status)

@@ -40,8 +40,8 @@ OrdersAll origin before running old new =
     (some : OrdersSome origin before running old new) × (is_write (answer_to origin false some.history) ≡ false)
 
 -- What is left of a job: two for each write that is still to be issued, and one for each open write.
-abbrev pub left : Running → ℕ
-left running = 2 * (running.origin.job.total - running.kept.issued) + length running.kept.open_writes
+abbrev pub steps_left : Running → ℕ
+steps_left running = 2 * (running.origin.job.total - running.kept.issued) + length running.kept.open_writes
 
 -- A write has ended by this event, if it was open.
 abbrev pub Ends : Event → ℕ → List Event → Running → Bool → Type 0

@@ -6,7 +6,7 @@ ghost use Rattle.targets.specs.Jobs.{key_of, GivesNoJob, HasNoJob, IsAsked, Read
 use crate::texts::read_text;
 use fc_base::{Fault, JobNo, JobRecord, Key, MAX_TEXT, RunNo, ServerNo};
 use job_file::{Phase, parse};
-use printed::Refusal;
+use printed::PrintedRefusal;
 use std::alloc::Global;
 use std::io::Read;
 
@@ -34,18 +34,18 @@ pub(crate) fn read_job<R: Read>(
     alloc: Global,
     reader: &mut R,
     number: JobNo,
-) -> Result<Asked, Refusal>
+) -> Result<Asked, PrintedRefusal>
     ensures job { IfOk result (ReadsJob number (R.remaining reader.old) (R.remaining reader.new)) }
     ensures none { IfErr result (GivesNoJob (R.remaining reader.old) number) }
 {
     match read_text(alloc, reader, MAX_TEXT) {
         Ok(text) => job_in(alloc, &text, number),
-        Err(fault) => Err(Refusal::from(fault)),
+        Err(fault) => Err(PrintedRefusal::from(fault)),
     }
 }
 
 /// The job of this number of a text.
-fn job_in(alloc: Global, text: &[u8], number: JobNo) -> Result<Asked, Refusal>
+fn job_in(alloc: Global, text: &[u8], number: JobNo) -> Result<Asked, PrintedRefusal>
     ensures job { IfOk result (IsAsked text.now number) }
     ensures none { IfErr result (HasNoJob text.now number) }
 {
@@ -57,6 +57,6 @@ fn job_in(alloc: Global, text: &[u8], number: JobNo) -> Result<Asked, Refusal>
             fatal: job.fatal,
             phase,
         }),
-        None => Err(Refusal::from(Fault::NoJob)),
+        None => Err(PrintedRefusal::from(Fault::NoJob)),
     }
 }

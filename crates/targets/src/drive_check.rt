@@ -2,7 +2,7 @@
 
 ghost use Rattle.std.specs.Prelude.{◌≡◌, IfOk, IfErr, IfSome, OnOk, Ok};
 ghost use Rattle.std.specs.Io.KnownBytes.{Appends};
-ghost use Rattle.printed.specs.Words.{ended};
+ghost use Rattle.printed.specs.Words.{with_line_feed};
 ghost use Rattle.targets.specs.Reports.{CannotCheck, ChecksInput, ChecksJob, HasNoState, IsStateIn, report_line, report_status};
 
 use crate::asked::{key_of, read_job};
@@ -10,7 +10,7 @@ use crate::checking::check_blocks;
 use crate::drive_write::refuse;
 use crate::texts::read_text;
 use fc_base::{CheckReport, Fault, JobNo, ReportEnd, RunNo};
-use printed::{Refusal, write_report_words};
+use printed::{PrintedRefusal, write_report_words};
 use std::alloc::Global;
 use std::io;
 use std::io::{Read, Write};
@@ -59,9 +59,11 @@ fn report_of<R: Read>(
     run: RunNo,
     job: JobNo,
     reader: &mut R,
-) -> Result<CheckReport, Refusal>
-    ensures report { IfSome (R.remaining reader.old) (λ input. IfOk result (λ report. ChecksInput run job input (Ok report))) }
-    ensures none { IfSome (R.remaining reader.old) (λ input. IfErr result (CannotCheck run job input)) }
+) -> Result<CheckReport, PrintedRefusal>
+    ensures report { IfSome (R.remaining reader.old)
+        (λ input. IfOk result (λ report. ChecksInput run job input (Ok report))) }
+    ensures none { IfSome (R.remaining reader.old)
+        (λ input. IfErr result (CannotCheck run job input)) }
 {
     let asked = read_job(alloc, reader, job)?;
     let state = read_state(alloc, reader)?;
@@ -88,7 +90,9 @@ fn read_state<R: Read>(alloc: Global, reader: &mut R) -> Result<Option<VerifySta
 
 /// Writes the line of a report.
 fn write_report<W: Write>(writer: &mut W, report: &CheckReport) -> io::Result<u8>
-    ensures line { OnOk result (Appends (W.contents writer.old) (W.contents writer.new) (ended (report_line report.now))) }
+    ensures line { OnOk result
+        (Appends (W.contents writer.old) (W.contents writer.new)
+        (with_line_feed (report_line report.now))) }
     ensures status { IfOk result (λ status. status ≡ report_status report.now) }
 {
     write!(writer, "report ")?;

@@ -10,7 +10,7 @@ use crate::asked::{key_of, read_job};
 use crate::writing::{RunEnd, write_blocks};
 use fc_base::{Fault, JobNo, JobRecord, Key, RunNo};
 use job_file::Phase;
-use printed::{REFUSED, Refusal, write_refusal};
+use printed::{PrintedRefusal, REFUSED, write_refusal};
 use std::alloc::Global;
 use std::io;
 use std::io::{BufReader, Read, Write};
@@ -44,7 +44,7 @@ pub fn write_job<R: Read, W: Write>(
     match read_job(alloc, reader, job) {
         Ok(asked) => match asked.phase {
             Phase::Write => run_job(alloc, key_of(run, job), &asked.rec, reader, writer),
-            Phase::Read => refuse(writer, Refusal::from(Fault::WrongPhase)),
+            Phase::Read => refuse(writer, PrintedRefusal::from(Fault::WrongPhase)),
         },
         Err(refusal) => refuse(writer, refusal),
     }
@@ -64,21 +64,22 @@ fn run_job<R: Read, W: Write>(
         (RunsRest origin rest (W.contents writer.old) (W.contents writer.new))) }
 {
     let Ok(bytes) = Vec::with_capacity(alloc, STATE) else {
-        return refuse(writer, Refusal::from(Fault::NoMemory));
+        return refuse(writer, PrintedRefusal::from(Fault::NoMemory));
     };
     match write_blocks(alloc, key, rec, reader, writer)? {
         RunEnd::Taken(state) => write_state(writer, &state, bytes),
-        RunEnd::Refused(fault) => refuse(writer, Refusal::from(fault)),
+        RunEnd::Refused(fault) => refuse(writer, PrintedRefusal::from(fault)),
     }
 }
 
 /// Writes a state, by way of these bytes, which are empty and have room for it.
 fn write_state<W: Write>(writer: &mut W, state: &VerifyState, mut bytes: Vec<u8>) -> io::Result<u8>
     requires { bytes.items ≡ [] }
-    ensures { IfOk result (FinishesRun (RunEnd.Taken state.now) (W.contents writer.old) (W.contents writer.new)) }
+    ensures { IfOk result
+        (FinishesRun (RunEnd.Taken state.now) (W.contents writer.old) (W.contents writer.new)) }
 {
     if state.push_to(&mut bytes).is_err() {
-        return refuse(writer, Refusal::from(Fault::NoMemory));
+        return refuse(writer, PrintedRefusal::from(Fault::NoMemory));
     }
     writer.write_all(&bytes)?;
     writer.flush()?;
@@ -86,7 +87,7 @@ fn write_state<W: Write>(writer: &mut W, state: &VerifyState, mut bytes: Vec<u8>
 }
 
 /// Writes the line of a refusal, and answers its exit status.
-pub fn refuse<W: Write>(writer: &mut W, refusal: Refusal) -> io::Result<u8>
+pub fn refuse<W: Write>(writer: &mut W, refusal: PrintedRefusal) -> io::Result<u8>
     ensures { IfOk result (Refuses refusal (W.contents writer.old) (W.contents writer.new)) }
 {
     write_refusal(writer, refusal)?;

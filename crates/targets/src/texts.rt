@@ -24,7 +24,8 @@ pub(crate) fn read_text<R: Read>(
     most: usize,
 ) -> Result<Vec<u8>, Fault>
     requires { most < usize.MAX }
-    ensures text { IfOk result (λ text. IsText most (R.remaining reader.old) (R.remaining reader.new) text.items) }
+    ensures text { IfOk result
+        (λ text. IsText most (R.remaining reader.old) (R.remaining reader.new) text.items) }
     ensures none { IfErr result (HasNoText most (R.remaining reader.old)) }
 {
     let mut told = [0; 4];

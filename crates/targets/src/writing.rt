@@ -7,7 +7,7 @@ ghost use Rattle.fc_base.specs.Keys.{is_key};
 ghost use Rattle.window.specs.History.{Event, done, fail};
 ghost use Rattle.engine.specs.Running.{Origin, StandsFor};
 ghost use Rattle.targets.specs.Runs.{Runs};
-ghost use Rattle.targets.specs.Writing.{ReadsNotice, OrdersAll, left, Ends, FollowsBy, Steps, RunsOn};
+ghost use Rattle.targets.specs.Writing.{ReadsNotice, OrdersAll, steps_left, Ends, FollowsBy, Steps, RunsOn};
 
 use crate::notice::{NOTICE, Notice, notice_in};
 use crate::order::put_order;
@@ -93,9 +93,10 @@ impl Writes {
     /// Orders writes until none can be.
     fn order_all<W: Write>(&mut self, writer: &mut W) -> io::Result<()>
         ensures orders { (h : List Event) → StandsFor self.old.engine h → OnOk result
-            (OrdersAll self.old.engine.origin h self.new.engine (W.contents writer.old) (W.contents writer.new)) }
+            (OrdersAll self.old.engine.origin h self.new.engine (W.contents writer.old)
+            (W.contents writer.new)) }
         ensures origin { self.new.engine.origin ≡ self.old.engine.origin }
-        ensures left { left self.new.engine ≤ left self.old.engine }
+        ensures left { steps_left self.new.engine ≤ steps_left self.old.engine }
     {
         while let Issue::Write(ticket) = self.engine.issue() {
             put_order(writer, &self.rec, ticket, &mut self.block)?;
@@ -130,7 +131,8 @@ impl Writes {
             (reader_remaining R.remaining reader.old) (reader_remaining R.remaining reader.new)
             (W.contents writer.old) (W.contents writer.new)) }
         ensures origin { self.new.engine.origin ≡ self.old.engine.origin }
-        ensures less { IfOk result (λ end. end ≡ None → left self.new.engine < left self.old.engine) }
+        ensures less { IfOk result
+            (λ end. end ≡ None → steps_left self.new.engine < steps_left self.old.engine) }
     {
         if reader.buffer().len() < NOTICE {
             writer.flush()?;
@@ -144,9 +146,11 @@ impl Writes {
     /// Does what a notice says, and orders the writes that can be ordered then.
     fn follow<W: Write>(&mut self, notice: Notice, writer: &mut W) -> io::Result<Option<RunEnd>>
         ensures step { (h : List Event) → StandsFor self.old.engine h → IfOk result
-            (FollowsBy notice h self.old.engine self.new.engine (W.contents writer.old) (W.contents writer.new)) }
+            (FollowsBy notice h self.old.engine self.new.engine (W.contents writer.old)
+            (W.contents writer.new)) }
         ensures origin { self.new.engine.origin ≡ self.old.engine.origin }
-        ensures less { IfOk result (λ end. end ≡ None → left self.new.engine < left self.old.engine) }
+        ensures less { IfOk result
+            (λ end. end ≡ None → steps_left self.new.engine < steps_left self.old.engine) }
     {
         let is_open = match notice {
             Notice::Done(seq) => self.done(seq),
@@ -162,9 +166,10 @@ impl Writes {
 
     /// Ends a write that is done, if it was open.
     fn done(&mut self, seq: Seq) -> bool
-        ensures ends { (h : List Event) → StandsFor self.old.engine h → Ends (done seq) seq h self.new.engine result }
+        ensures ends { (h : List Event) → StandsFor self.old.engine h →
+            Ends (done seq) seq h self.new.engine result }
         ensures origin { self.new.engine.origin ≡ self.old.engine.origin }
-        ensures less { result ≡ true → left self.new.engine < left self.old.engine }
+        ensures less { result ≡ true → steps_left self.new.engine < steps_left self.old.engine }
     {
         match self.engine.open_write(seq) {
             Some(ticket) => self.engine.done(ticket).is_ok(),
@@ -174,9 +179,10 @@ impl Writes {
 
     /// Ends a write that has failed, if it was open.
     fn failed(&mut self, seq: Seq) -> bool
-        ensures ends { (h : List Event) → StandsFor self.old.engine h → Ends (fail seq) seq h self.new.engine result }
+        ensures ends { (h : List Event) → StandsFor self.old.engine h →
+            Ends (fail seq) seq h self.new.engine result }
         ensures origin { self.new.engine.origin ≡ self.old.engine.origin }
-        ensures less { result ≡ true → left self.new.engine < left self.old.engine }
+        ensures less { result ≡ true → steps_left self.new.engine < steps_left self.old.engine }
     {
         match self.engine.open_write(seq) {
             Some(ticket) => self.engine.failed(ticket).is_ok(),

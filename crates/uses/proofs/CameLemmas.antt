@@ -4,9 +4,9 @@ use Rattle.std.specs.Prelude.{slice_get}
 use Rattle.std.proofs.lemmas.List.Elements.{Contains-append_cases, Contains-append_left, Contains-append_right, Contains-push, Contains-push_cases}
 use Rattle.messages.specs.declared.frame.Frame.{Frame}
 use Rattle.messages.specs.declared.packet.PacketParts.{PacketParts}
-use Rattle.messages.specs.Assemblies.{Row, Waits, Gives, given, LookAnswers}
+use Rattle.messages.specs.Assemblies.{Row, Waits, Gives, look_at_frame, LookAnswers}
 use Rattle.messages.specs.FrameBytes.{frame_at}
-use Rattle.messages.specs.PieceLaws.{together, left_by, AreFramesOf, ArePackets, OneBodyOfEachTag, OnlySentIsGiven}
+use Rattle.messages.specs.PieceLaws.{rows_of_frames, left_by, AreFramesOf, ArePackets, OneBodyOfEachTag, OnlySentIsGiven}
 
 -- What bytes say came, where they stand among the bytes that came.
 pub came_at : (frames : List (List ℕ)) (came : List Frame) (i : ℕ) (bytes : List ℕ) (f : Frame) → map frame_at frames ≡ map Some came
@@ -23,7 +23,7 @@ came_at (x ∷ xs) (c ∷ cs) (suc i) bytes f all at says =
 -- What has come together is that of frames that came.
 pub record SoFar (came : List Frame) (rows : List Row) : Type 0 where
   pub frames : List Frame
-  pub rows_are : rows ≡ together frames
+  pub rows_are : rows ≡ rows_of_frames frames
   pub are_of : (f : Frame) → Contains frames f → Contains came f
 
 -- Nothing came at first.
@@ -51,9 +51,9 @@ one_more came rows new f so_far here is = record {
 -- What a frame gives was sent.
 pub given_was_sent : (sent : List PacketParts) (came : List Frame) (rows : List Row) (f : Frame) (p : PacketParts) → OnlySentIsGiven → ArePackets sent
     → OneBodyOfEachTag sent → AreFramesOf sent came
-    → SoFar came rows → Contains came f → LookAnswers (Ok (Some p)) (given rows f) → Contains sent p
+    → SoFar came rows → Contains came f → LookAnswers (Ok (Some p)) (look_at_frame rows f) → Contains sent p
 given_was_sent sent came rows f p law packets tags frames so_far here gives =
-    let same : given rows f ≡ given (together so_far.frames) f = ap (λ r. given r f) so_far.rows_are in
+    let same : look_at_frame rows f ≡ look_at_frame (rows_of_frames so_far.frames) f = ap (λ r. look_at_frame r f) so_far.rows_are in
     elim (law sent packets tags f so_far.frames (λ x is. frames x (one_of came so_far.frames f here so_far.are_of x is))) [
       | inl waits ↦ let none : LookAnswers (Ok (Some p)) Waits = subst (LookAnswers (Ok (Some p))) (same ∙ waits) gives in absurd cc
       | inr one ↦ let some : LookAnswers (Ok (Some p)) (Gives one.packet) = subst (LookAnswers (Ok (Some p))) (same ∙ one.gives) gives in

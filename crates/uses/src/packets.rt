@@ -3,7 +3,7 @@
 ghost use Rattle.std.specs.Prelude.{◌≡◌, List, Ok, Some, Contains, IfOk, IfSome, IfNone, map};
 ghost use Rattle.messages.specs.declared.frame.Frame.{Frame};
 ghost use Rattle.messages.specs.declared.packet.PacketParts.{PacketParts};
-ghost use Rattle.messages.specs.Assemblies.{given, LookAnswers};
+ghost use Rattle.messages.specs.Assemblies.{look_at_frame, LookAnswers};
 ghost use Rattle.messages.specs.FrameBytes.{frame_at};
 ghost use Rattle.messages.specs.PieceLaws.{left_by, ArePackets, AreFramesOf, OneBodyOfEachTag};
 
@@ -35,7 +35,8 @@ pub fn first_packet(alloc: Global, frames: &Frames) -> Result<Option<Packet>, Fa
 
 /// Takes a frame: the packet that it gives, or what has come together with it.
 fn take_frame(assembly: &mut Assembly, frame: Frame) -> Result<Option<Packet>, Fault>
-    ensures given { IfOk result (λ packet. LookAnswers (Ok packet) (given assembly.old frame)) }
+    ensures given { IfOk result
+        (λ packet. LookAnswers (Ok packet) (look_at_frame assembly.old frame)) }
     ensures left { IfOk result (λ packet.
         IfNone packet (assembly.new ≡ left_by assembly.old frame)) }
 {

@@ -5,11 +5,11 @@ ghost use Rattle.disk_model.specs.MemNotes.{note_of};
 ghost use Rattle.disk_model.specs.declared.left.Left.TheVariants.{Saved};
 ghost use Rattle.fc_base.specs.declared.limits.TheConstants.{MAX_SERVERS};
 ghost use Rattle.messages.specs.FrameBytes.{frame_spelling};
-ghost use Rattle.server_core.specs.FrameAnswers.{answered, frames, refusal};
+ghost use Rattle.server_core.specs.FrameAnswers.{answered_entry, frames, refusal};
 ghost use Rattle.server_core.specs.Hearing.{Restart, packets_heard};
 ghost use Rattle.server_core.specs.History.{Opening};
 ghost use Rattle.server_core.specs.Note.{Says};
-ghost use Rattle.server_core.specs.Words.{noted};
+ghost use Rattle.server_core.specs.Words.{words_noted};
 ghost use Rattle.server_core.specs.declared.input.Input.TheVariants.{Deliver};
 
 use disk_model::MemNotes;
@@ -27,11 +27,11 @@ pub fn first_answer(alloc: Global, me: ServerNo, frame: Frame) -> Result<(Frames
     ensures frames { let o : Opening = record { me = me; boot = 0; last = 0 } in
         let past = Restart Saved ∷ [] in
         IfOk result (λ left. left.0
-        ≡ map frame_spelling (frames o past (answered o past (Deliver frame)))) }
+        ≡ map frame_spelling (frames o past (answered_entry o past (Deliver frame)))) }
     ensures note { let o : Opening = record { me = me; boot = 0; last = 0 } in
         let past = Restart Saved ∷ [] in
         IfOk result (λ left. Says (note_of left.1).bytes
-        (noted o (packets_heard o (answered o past (Deliver frame) ∷ past)))) }
+        (words_noted o (packets_heard o (answered_entry o past (Deliver frame) ∷ past)))) }
 {
     let blank = MemNotes::new(Vec::new(alloc));
     let mut server = match Server::restart(alloc, me, blank) {

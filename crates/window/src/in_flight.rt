@@ -45,7 +45,8 @@ impl InFlight {
     pub(crate) fn new(window: u64) -> Self
         requires least { 1 ≤ window }
         requires most { window ≤ MAX_WINDOW }
-        ensures { result ≡ record { window = window; issued = 0; in_flight = []; open_writes = [] } }
+        ensures { result
+            ≡ record { window = window; issued = 0; in_flight = []; open_writes = [] } }
     {
         InFlight {
             window,

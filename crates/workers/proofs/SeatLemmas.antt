@@ -3,7 +3,7 @@ use Rattle.std.proofs.Common.{◌≡◌, refl, sym, ◌∙◌, ap, arith, ◌+�
 use Rattle.fc_base.specs.declared.fault.Fault.{Fault}
 use Rattle.fc_base.specs.declared.fault.Fault.TheVariants.{NoMemory, WrongSeat}
 use Rattle.node_history.specs.declared.answer.Said.{Said}
-use Rattle.node_history.specs.declared.answer.Told.{Told}
+use Rattle.node_history.specs.declared.answer.CallerAnswer.{CallerAnswer}
 use Rattle.server_cell.specs.Seated.{Seated}
 use Rattle.server_cell.specs.declared.task.Task.{Task}
 use Rattle.server_cell.specs.Cells.{ServerLog}
@@ -23,7 +23,7 @@ seat_worked false a b h = h
 -- ---- an answer of the server
 
 -- What is told ends a worker.
-abbrev pub ends_by : Result Told Fault → Bool
+abbrev pub ends_by : Result CallerAnswer Fault → Bool
 ends_by (Ok told) = says_final told.answer
 ends_by (Err fault) = is_off fault
 
@@ -45,11 +45,11 @@ worked_by true seat after answer over h = record {
   ended = rw h (sym over);
 }
 
-left_as_it_was : (seat after : Seated) (result : Result Told Fault) (fault : Fault) → result ≡ Err fault → is_off fault ≡ false → after ≡ seat → WorkedIf (ends_by result) seat after
+left_as_it_was : (seat after : Seated) (result : Result CallerAnswer Fault) (fault : Fault) → result ≡ Err fault → is_off fault ≡ false → after ≡ seat → WorkedIf (ends_by result) seat after
 left_as_it_was seat after result fault told on h = rw (ap ends_by told ∙ on) (unmoved seat after h)
 
 -- A call leaves the same seat, which has worked where the answer ends a worker.
-pub applied : (old : ServerLog) (seat : Seated) (task : Task) (new : ServerLog) (after : Seated) (result : Result Told Fault) → Applies old seat task new after result → WorkedIf (ends_by result) seat after
+pub applied : (old : ServerLog) (seat : Seated) (task : Task) (new : ServerLog) (after : Seated) (result : Result CallerAnswer Fault) → Applies old seat task new after result → WorkedIf (ends_by result) seat after
 applied old seat task new after result h = by_seat (is_right old seat) h
   where
     by_answer : (lacks : Bool) (answer : Result Said Fault) → result ≡ told_by answer → Enters lacks old seat task new after answer → WorkedIf (ends_by result) seat after

@@ -7,8 +7,8 @@ use Rattle.node_history.specs.declared.answer.Answer.TheVariants.{Issued}
 use Rattle.server_cell.specs.Seated.{Seated}
 use Rattle.workers.specs.declared.server.Asked.{Asked}
 use Rattle.workers.specs.declared.server.Asked.TheVariants as asks
-use Rattle.workers.specs.declared.turn.Turn.{Turn}
-use Rattle.workers.specs.declared.turn.Turn.TheVariants as turns
+use Rattle.workers.specs.declared.turn.TurnEnd.{TurnEnd}
+use Rattle.workers.specs.declared.turn.TurnEnd.TheVariants as turns
 use Rattle.workers.specs.declared.worker.Round.{Round}
 use Rattle.workers.specs.declared.worker.Round.TheVariants as rounds
 use Rattle.workers.specs.Seats.{IsSeatOf, HasWorked}
@@ -41,13 +41,13 @@ HasTold seat back (Ok false) = HasWorked seat back
 HasTold seat back (Err fault) = IsSeatOf seat back
 
 -- So it is with a job's turn.
-abbrev pub is_last_turn : Turn → Bool
+abbrev pub is_last_turn : TurnEnd → Bool
 is_last_turn turns.Never = true
 is_last_turn turns.Off = true
 is_last_turn _ = false
 
 -- How a job's turn leaves it.
-abbrev pub HasTaken : Seated → Seated → Result Turn Fault → Type 0
+abbrev pub HasTaken : Seated → Seated → Result TurnEnd Fault → Type 0
 HasTaken seat back (Ok turn) = WorkedIf (is_last_turn turn) seat back
 HasTaken seat back (Err fault) = IsSeatOf seat back
 

@@ -41,7 +41,8 @@ pub(crate) fn carry_out<R: Wait, D: Disk>(
 /// Writes the block of a write, which was filled with its bytes.
 fn land<D: Disk>(disk: &mut D, ticket: &Ticket, rec: &JobRecord, bytes: &[u8]) -> WriteEnd
     requires block { IsBlock ticket.now.block (length bytes.now) }
-    requires filled { bytes.now ≡ written_bytes ticket.now.key rec.now ticket.now.seq ticket.now.block }
+    requires filled { bytes.now
+        ≡ written_bytes ticket.now.key rec.now ticket.now.seq ticket.now.block }
     ensures { Lands (D.file disk.old) (D.file disk.new) ticket.now rec.now result }
 {
     match disk.write(ticket.boot, ticket.block, bytes) {

@@ -2,7 +2,7 @@
 
 ghost use Rattle.std.specs.Prelude.{◌≡◌, Result};
 ghost use Rattle.fc_base.specs.declared.fault.Fault.{Fault};
-ghost use Rattle.node_history.specs.declared.answer.Told.{Told};
+ghost use Rattle.node_history.specs.declared.answer.CallerAnswer.{CallerAnswer};
 ghost use Rattle.server_cell.specs.declared.task.Task.TheVariants.{Issue as IssueTask, WriteDone};
 ghost use Rattle.server_cell.specs.Calls.{Applies};
 ghost use Rattle.workers.specs.Seats.{says_final};
@@ -12,7 +12,7 @@ use crate::gate::TURNS;
 use disk_model::Notes;
 use engine::{Issue, Ticket};
 use fc_base::{Fault, JobNo, JobRecord};
-use node_history::{Answer, Told};
+use node_history::{Answer, CallerAnswer};
 use server_cell::{Seat, ServerCell, Task};
 use server_core::WriteEnd;
 use std::hint::spin_loop;
@@ -102,7 +102,8 @@ fn end_and_issue<N: Notes + Drop>(
 
 /// Asks a server for the next write of a job.
 fn issue<N: Notes + Drop>(server: &mut ServerCell<N>, seat: &mut Seat, job: JobNo) -> Asked
-    ensures asks { (answer : Result Told Fault) × Applies server.old seat.old (IssueTask job) server.new seat.new answer }
+    ensures asks { (answer : Result CallerAnswer Fault)
+        × Applies server.old seat.old (IssueTask job) server.new seat.new answer }
     ensures seat { WorkedIf (is_last_asked result) seat.old seat.new }
 {
     match server.apply(seat, Task::Issue(job)) {
@@ -113,7 +114,7 @@ fn issue<N: Notes + Drop>(server: &mut ServerCell<N>, seat: &mut Seat, job: JobN
 }
 
 /// What the answer says.
-fn said<N: Notes + Drop>(told: Told, server: &ServerCell<N>, job: JobNo) -> Asked
+fn said<N: Notes + Drop>(told: CallerAnswer, server: &ServerCell<N>, job: JobNo) -> Asked
     ensures issued { IsIssued result told.answer }
     ensures last { is_last_asked result ≡ says_final told.answer }
 {
@@ -159,7 +160,9 @@ fn end_write<N: Notes + Drop>(
     seat: &mut Seat,
     ended: &Ended,
 ) -> Result<bool, Fault>
-    ensures tells { (answer : Result Told Fault) × Applies server.old seat.old (WriteDone ended.now.ticket ended.now.end) server.new seat.new answer }
+    ensures tells { (answer : Result CallerAnswer Fault)
+        × Applies server.old seat.old
+        (WriteDone ended.now.ticket ended.now.end) server.new seat.new answer }
     ensures seat { HasTold seat.old seat.new result }
 {
     match server.apply(seat, Task::WriteDone(ended.ticket, ended.end)) {

@@ -25,7 +25,7 @@ pub(crate) struct Desk {
 
 /// What came of a job's turn.
 #[derive(Clone, Copy, Debug, PartialEq, Eq)]
-pub(crate) enum Turn {
+pub(crate) enum TurnEnd {
     /// A write was carried out, or has failed.
     Wrote,
     /// There is none yet.
@@ -55,7 +55,7 @@ pub(crate) fn take<R: Wait, N: Notes + Drop, D: Disk, G: Gate>(
     file: &Mutex<D>,
     gate: &G,
     desk: &mut Desk,
-) -> Result<Turn, Fault>
+) -> Result<TurnEnd, Fault>
     ensures { HasTaken seat.old seat.new result }
 {
     let asked = tell_and_ask(rt, cell, seat, desk.last, job)?;
@@ -64,9 +64,9 @@ pub(crate) fn take<R: Wait, N: Notes + Drop, D: Disk, G: Gate>(
     }
     let (ticket, rec) = match asked {
         Asked::Write(ticket, rec) => (ticket, rec),
-        Asked::Later => return Ok(Turn::Later),
-        Asked::Never => return Ok(Turn::Never),
-        Asked::Off => return Ok(Turn::Off),
+        Asked::Later => return Ok(TurnEnd::Later),
+        Asked::Never => return Ok(TurnEnd::Never),
+        Asked::Off => return Ok(TurnEnd::Off),
         Asked::Refused(fault) => return Err(fault),
     };
     if !lets_through(gate, &ticket) {
@@ -76,5 +76,5 @@ pub(crate) fn take<R: Wait, N: Notes + Drop, D: Disk, G: Gate>(
     }
     let end = carry_out(rt, file, &ticket, rec, &mut desk.memory);
     desk.last = Some(Ended { ticket, end });
-    Ok(Turn::Wrote)
+    Ok(TurnEnd::Wrote)
 }

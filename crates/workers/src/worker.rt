@@ -5,7 +5,7 @@ ghost use Rattle.workers.specs.Seats.{HasWorked, IsSeatOf};
 ghost use Rattle.workers.specs.Turns.{is_over, HasGone, HasTaken};
 
 use crate::gate::Gate;
-use crate::turn::{Desk, Turn, take};
+use crate::turn::{Desk, TurnEnd, take};
 use disk_model::{Disk, Notes};
 use fc_base::{Fault, JobNo};
 use server_cell::{Seat, ServerCell};
@@ -98,10 +98,10 @@ fn go_round<R: Wait, N: Notes + Drop, D: Disk, G: Gate>(
     for step in 0..files.len() {
         let place = (first + step) % files.len();
         match stay(rt, cell, seat, job_at(place), &files[place], gate, desk)? {
-            Turn::Wrote => round = Round::Busy,
-            Turn::Later => round = round.or_idle(),
-            Turn::Never => {}
-            Turn::Off => return Ok(Round::Over),
+            TurnEnd::Wrote => round = Round::Busy,
+            TurnEnd::Later => round = round.or_idle(),
+            TurnEnd::Never => {}
+            TurnEnd::Off => return Ok(Round::Over),
         }
     }
     Ok(round)
@@ -116,17 +116,17 @@ fn stay<R: Wait, N: Notes + Drop, D: Disk, G: Gate>(
     file: &Mutex<D>,
     gate: &G,
     desk: &mut Desk,
-) -> Result<Turn, Fault>
+) -> Result<TurnEnd, Fault>
     ensures { HasTaken seat.old seat.new result }
 {
     for turn in 0..STAY {
         match take(rt, cell, seat, job, file, gate, desk)? {
-            Turn::Wrote => {}
-            Turn::Later if turn > 0 => return Ok(Turn::Wrote),
+            TurnEnd::Wrote => {}
+            TurnEnd::Later if turn > 0 => return Ok(TurnEnd::Wrote),
             other => return Ok(other),
         }
     }
-    Ok(Turn::Wrote)
+    Ok(TurnEnd::Wrote)
 }
 
 impl Round {

@@ -4,12 +4,12 @@ use crate::trouble::Trouble;
 use engine::Issue;
 use fc_base::{Fault, JobNo, RunNo, Seq, ServerNo};
 use messages::Act;
-use net_world::{Answer, Event, PlainEvent, Told, World};
+use net_world::{PlainEvent, Told, World, WorldAnswer, WorldEvent};
 use std::alloc::Global;
 
 /// Something happens.
 fn happen(world: &mut World, event: PlainEvent) -> Result<Told, Fault> {
-    world.apply(&Event::Plain(event))
+    world.apply(&WorldEvent::Plain(event))
 }
 
 /// Something happens that isn't refused.
@@ -96,9 +96,9 @@ fn land(world: &mut World, server: ServerNo, job: JobNo, write: Seq) -> Result<(
 }
 
 /// The number of a write that was issued.
-fn number_of(answer: &Answer) -> Result<Seq, Trouble> {
+fn number_of(answer: &WorldAnswer) -> Result<Seq, Trouble> {
     match answer {
-        Answer::Issued(Issue::Write(ticket)) => Ok(ticket.seq),
+        WorldAnswer::Issued(Issue::Write(ticket)) => Ok(ticket.seq),
         _ => Err(Trouble::NoWrite),
     }
 }

@@ -7,11 +7,11 @@ ghost use Rattle.client_cell.specs.Calls.{logged_by, Applies};
 
 use super::ClientCell;
 use crate::power::perform;
-use crate::task::Task;
+use crate::task::ClientTask;
 use disk_model::Notes;
 use fc_base::Fault;
 use messages::Frames;
-use node_history::{Came, Logged, Said, Told, lacks_memory, told_at};
+use node_history::{CallerAnswer, Came, Logged, Said, lacks_memory, told_at};
 use std::alloc::Global;
 
 impl<N: Notes + Drop> ClientCell<N> {
@@ -20,7 +20,7 @@ impl<N: Notes + Drop> ClientCell<N> {
     ///
     /// `NodeOff`: a cut of a client that isn't on. `NodeOn`: a restart of one that is. `LoadFault`: a
     /// restart whose note wasn't loaded.
-    pub fn apply(&mut self, task: Task) -> Result<Told, Fault>
+    pub fn apply(&mut self, task: ClientTask) -> Result<CallerAnswer, Fault>
         ensures ends { Applies self.old task self.new result }
         ensures replay { (past : List FrameEntry) × IsReplay self.new past }
     {

@@ -6,7 +6,7 @@ ghost use Rattle.client_core.specs.declared.input.Input.TheVariants.{Deliver, Ti
 ghost use Rattle.client_core.specs.Hearing.{FrameEntry};
 ghost use Rattle.node_history.specs.Rules.{Meets};
 ghost use Rattle.node_history.specs.declared.came.Came.TheVariants as kinds;
-ghost use Rattle.node_history.specs.ClientRules.{asked, rules};
+ghost use Rattle.node_history.specs.ClientRules.{ask_of, rules};
 ghost use Rattle.node_history.specs.AtHub.{Posts};
 ghost use Rattle.node_history.specs.Calls.{HasWhy};
 ghost use Rattle.node_history.specs.Failures.{Counts};
@@ -16,13 +16,13 @@ ghost use Rattle.client_cell.specs.Tasks.{came_of, input_of};
 use super::ClientCell;
 use super::sent::{bytes_of, outcome};
 use crate::power::{deliver, take, tick};
-use crate::request::Request;
+use crate::request::ClientRequest;
 use client_core::packets_are_in_range;
 use disk_model::Notes;
 use fc_base::{Fault, MAX_SERVERS};
 use hub::{Hub, frames_are_spelled};
 use messages::{Frame, MAX_FRAMED, MAX_FRAMES, Node};
-use node_history::{Came, Told, enter, make_room};
+use node_history::{CallerAnswer, Came, enter, make_room};
 
 /// The most frames that the client sends at once, but for a tick: those of a packet to each server; and the
 /// most bytes that they have together.
@@ -38,13 +38,15 @@ impl<N: Notes + Drop> ClientCell<N> {
         came: Came,
         position: u64,
         frame: Frame,
-    ) -> Result<Told, Fault>
+    ) -> Result<CallerAnswer, Fault>
         requires taken { position < length hub.old.net.frames }
-        requires asks { asked came ≡ Meets (Deliver frame) }
+        requires asks { ask_of came ≡ Meets (Deliver frame) }
         ensures opening { self.new.opening ≡ self.old.opening }
         ensures failures { Counts false self.old.failures self.new.failures result }
-        ensures why { IfErr result (HasWhy (rules self.old.opening) self.old.history (Meets (Deliver frame))) }
-        ensures ends { Posts Client came (Some position) hub.old.net hub.new.net self.old.history self.new.history result }
+        ensures why { IfErr result
+            (HasWhy (rules self.old.opening) self.old.history (Meets (Deliver frame))) }
+        ensures ends { Posts Client came
+            (Some position) hub.old.net hub.new.net self.old.history self.new.history result }
         ensures replay { (past : List FrameEntry) × IsReplay self.new past }
     {
         packets_are_in_range();
@@ -70,11 +72,17 @@ impl<N: Notes + Drop> ClientCell<N> {
     ///
     /// `NodeOff`, it isn't on; the client's own. A save that fails is entered in the history, as what is
     /// answered is; any other refusal, and `NoMemory`, changes nothing.
-    pub(super) fn ask(&mut self, hub: &mut Hub, request: Request) -> Result<Told, Fault>
+    pub(super) fn ask(
+        &mut self,
+        hub: &mut Hub,
+        request: ClientRequest,
+    ) -> Result<CallerAnswer, Fault>
         ensures opening { self.new.opening ≡ self.old.opening }
         ensures failures { Counts false self.old.failures self.new.failures result }
-        ensures why { IfErr result (HasWhy (rules self.old.opening) self.old.history (Meets (input_of request))) }
-        ensures ends { Posts Client (came_of request) None hub.old.net hub.new.net self.old.history self.new.history result }
+        ensures why { IfErr result
+            (HasWhy (rules self.old.opening) self.old.history (Meets (input_of request))) }
+        ensures ends { Posts Client
+            (came_of request) None hub.old.net hub.new.net self.old.history self.new.history result }
         ensures replay { (past : List FrameEntry) × IsReplay self.new past }
     {
         packets_are_in_range();
@@ -99,7 +107,7 @@ impl<N: Notes + Drop> ClientCell<N> {
     /// Has the client ask again for all that isn't answered.
     ///
     /// `NodeOff`, it isn't on; `NoMemory`: nothing changes.
-    pub(super) fn tick(&mut self, hub: &mut Hub) -> Result<Told, Fault>
+    pub(super) fn tick(&mut self, hub: &mut Hub) -> Result<CallerAnswer, Fault>
         ensures opening { self.new.opening ≡ self.old.opening }
         ensures failures { Counts false self.old.failures self.new.failures result }
         ensures why { IfErr result (HasWhy (rules self.old.opening) self.old.history (Meets Tick)) }

@@ -8,15 +8,15 @@ ghost use Rattle.node_history.specs.ClientRules.{rules as client_rules};
 ghost use Rattle.client_cell.specs.Asks.{asks_of};
 
 use super::ClientCell;
-use crate::command::Command;
+use crate::command::ClientCommand;
 use disk_model::Notes;
 use fc_base::Fault;
 use hub::Hub;
 use messages::Node as NodeName;
-use node_history::{History, Node, Told, frame_came};
+use node_history::{CallerAnswer, History, Node, frame_came};
 
 impl<N: Notes + Drop> Node for ClientCell<N> {
-    type Command = Command;
+    type Command = ClientCommand;
 
     ghost Opening = { ClientOpening };
 
@@ -44,7 +44,7 @@ impl<N: Notes + Drop> Node for ClientCell<N> {
         ClientCell::history(self)
     }
 
-    fn deliver(&mut self, hub: &mut Hub, position: u64) -> Result<Told, Fault> {
+    fn deliver(&mut self, hub: &mut Hub, position: u64) -> Result<CallerAnswer, Fault> {
         if self.client().is_none() {
             return Err(Fault::NodeOff);
         }
@@ -54,10 +54,10 @@ impl<N: Notes + Drop> Node for ClientCell<N> {
         }
     }
 
-    fn post(&mut self, hub: &mut Hub, command: Command) -> Result<Told, Fault> {
+    fn post(&mut self, hub: &mut Hub, command: ClientCommand) -> Result<CallerAnswer, Fault> {
         match command {
-            Command::Request(request) => self.ask(hub, request),
-            Command::Tick => self.tick(hub),
+            ClientCommand::Request(request) => self.ask(hub, request),
+            ClientCommand::Tick => self.tick(hub),
         }
     }
 }

@@ -2,7 +2,7 @@
 
 ghost use Rattle.std.specs.Prelude.{◌≡◌, length, sum_by, IfSome};
 ghost use Rattle.node_history.specs.Moves.{outcome_of};
-ghost use Rattle.client_cell.specs.Stands.{given};
+ghost use Rattle.client_cell.specs.Stands.{reply_and_frames};
 
 use crate::outs::Outs;
 use fc_base::Fault;
@@ -12,7 +12,7 @@ use std::alloc::Global;
 
 /// What a step is answered, and the frames that it sends.
 pub(super) fn outcome(alloc: Global, step: Result<Outs, Fault>) -> (Result<Said, Fault>, Frames)
-    ensures { result ≡ outcome_of (given step) }
+    ensures { result ≡ outcome_of (reply_and_frames step) }
 {
     match step {
         Ok(Outs { answer, frames }) => {

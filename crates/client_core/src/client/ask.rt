@@ -4,7 +4,7 @@ ghost use Rattle.std.specs.Prelude.{◌≡◌, List, is_some};
 ghost use Rattle.disk_model.specs.Steps.{Ends, Gives};
 ghost use Rattle.client_core.specs.declared.input.Input.TheVariants as inputs;
 ghost use Rattle.client_core.specs.History.{Opening};
-ghost use Rattle.client_core.specs.Words.{noted};
+ghost use Rattle.client_core.specs.Words.{words_noted};
 ghost use Rattle.client_core.specs.Hearing.{FrameEntry, packets_heard};
 ghost use Rattle.client_core.specs.FrameAnswers.{due};
 ghost use Rattle.client_core.specs.FrameEnds.{StandsFor, steps};
@@ -23,7 +23,7 @@ impl<N: Notes> Client<N> {
     pub fn begin(&mut self, text: &[u8]) -> Result<(RunNo, Frames), Fault>
         ensures { (o : Opening) (past : List FrameEntry) → StandsFor N.note self.old o past →
             Gives (steps N.note o) past (inputs.Begin text.now)
-            (noted o (packets_heard o past)).runs self.old self.new result }
+            (words_noted o (packets_heard o past)).runs self.old self.new result }
     {
         frames_are_short();
         self.core.begin(text)
@@ -67,7 +67,7 @@ impl<N: Notes> Client<N> {
     pub fn verify(&mut self, run: RunNo, text: &[u8]) -> Result<(Attempt, Frames), Fault>
         ensures { (o : Opening) (past : List FrameEntry) → StandsFor N.note self.old o past →
             Gives (steps N.note o) past (inputs.Verify run text.now)
-            (noted o (packets_heard o past)).attempts self.old self.new result }
+            (words_noted o (packets_heard o past)).attempts self.old self.new result }
     {
         frames_are_short();
         self.core.verify(run, text)

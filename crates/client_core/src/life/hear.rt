@@ -73,7 +73,8 @@ impl Life {
 
     /// The mirror keeps the state of this key.
     fn add_copied(&mut self, key: Key) -> Result<(), AllocError>
-        ensures copied { OnOk result (Updates is_same_key self.old.copied self.new.copied key true) }
+        ensures copied { OnOk result
+            (Updates is_same_key self.old.copied self.new.copied key true) }
         ensures same { OnErr result (IsUnchanged self.old.copied self.new.copied) }
         ensures runs { self.new.runs ≡ self.old.runs }
         ensures attempts { self.new.attempts ≡ self.old.attempts }

@@ -53,7 +53,8 @@ impl Life {
     /// How the trigger of a run stands at a server.
     pub fn trigger_outcome(&self, run: RunNo, server: u32) -> Outcome
         requires { server < MAX_SERVERS }
-        ensures { EachLife self.now (λ deeds. result ≡ request_outcome (trigger_at run server deeds)) }
+        ensures { EachLife self.now
+            (λ deeds. result ≡ request_outcome (trigger_at run server deeds)) }
     {
         match self.runs.get(&run.0) {
             Some(asked) => asked.trigger_at(server),
@@ -75,7 +76,8 @@ impl Life {
     /// How an attempt to verify stands at a server.
     fn verify_outcome(&self, attempt: Attempt, server: u32) -> Outcome
         requires { server < MAX_SERVERS }
-        ensures { EachLife self.now (λ deeds. result ≡ request_outcome (verify_at attempt server deeds)) }
+        ensures { EachLife self.now
+            (λ deeds. result ≡ request_outcome (verify_at attempt server deeds)) }
     {
         match self.attempts.get(&attempt.0) {
             Some(Some(asked)) => asked.verify_at(server),

@@ -7,12 +7,12 @@ ghost use Rattle.client_core.specs.declared.call.Call.TheVariants.{Begin};
 ghost use Rattle.client_core.specs.Ends.{steps};
 ghost use Rattle.messages.specs.Ranges.{is_run, is_text};
 ghost use Rattle.messages.specs.declared.body.Body.TheVariants.{Jobs};
-ghost use Rattle.client_core.specs.Framed.{framed};
+ghost use Rattle.client_core.specs.Framed.{frame_bytes};
 ghost use Rattle.client_core.specs.Packets.{to_all};
 ghost use Rattle.client_core.specs.History.{Opening, Entry};
 ghost use Rattle.client_core.specs.Refusals.{refusal_by};
 ghost use Rattle.client_core.specs.Stands.{StandsFor};
-ghost use Rattle.client_core.specs.Words.{noted, would_save};
+ghost use Rattle.client_core.specs.Words.{words_noted, would_save};
 
 use super::PacketClient;
 use crate::frames::to_all;
@@ -30,7 +30,7 @@ impl<N: Notes> PacketClient<N> {
     /// and the client is down.
     pub(crate) fn begin(&mut self, text: &[u8]) -> Result<(RunNo, Frames), Fault>
         ensures { (o : Opening) (past : List Entry) → StandsFor N.note self.old o past →
-            Gives (steps N.note o) past (Begin text.now) (noted o past).runs
+            Gives (steps N.note o) past (Begin text.now) (words_noted o past).runs
             self.old self.new result }
     {
         notes_are_read_back();
@@ -60,7 +60,8 @@ impl<N: Notes> PacketClient<N> {
 
     /// Why a run with this job file isn't begun.
     fn begin_refusal(&self, text: &[u8]) -> Option<Fault>
-        ensures { result ≡ refusal_by (not self.now.down) self.now.peers self.now.noted (Begin text.now) }
+        ensures { result
+            ≡ refusal_by (not self.now.down) self.now.peers self.now.noted (Begin text.now) }
     {
         if self.down {
             return Some(Fault::Down);
@@ -85,7 +86,7 @@ fn begin_frames(
     requires few { servers ≤ MAX_SERVERS }
     requires run { IsTrue (is_run run) }
     requires text { IsTrue (is_text text.now) }
-    ensures frames { IfOk result (λ b. b.0 ≡ framed (to_all servers (Jobs run text.now))) }
+    ensures frames { IfOk result (λ b. b.0 ≡ frame_bytes (to_all servers (Jobs run text.now))) }
     ensures text { IfOk result (λ b. b.1 ≡ text.now) }
 {
     let sent = Text::copied(alloc, text)?;

@@ -3,10 +3,10 @@
 ghost use Rattle.std.specs.Prelude.{◌≡◌, List};
 ghost use Rattle.client_core.specs.History.{Opening, Entry};
 ghost use Rattle.client_core.specs.Life.{life};
-ghost use Rattle.client_core.specs.Outcomes.{outcome, settled};
+ghost use Rattle.client_core.specs.Outcomes.{outcome, is_settled};
 ghost use Rattle.client_core.specs.Reports.{reports};
 ghost use Rattle.client_core.specs.Stands.{StandsFor};
-ghost use Rattle.client_core.specs.Words.{looked};
+ghost use Rattle.client_core.specs.Words.{shown_entries};
 
 use super::PacketClient;
 use crate::outcome::{Outcome, RequestKind};
@@ -19,7 +19,7 @@ impl<N: Notes> PacketClient<N> {
     /// counted. Where a save has failed, those up to it.
     pub(crate) fn reports(&self) -> &[Received]
         ensures { (o : Opening) (past : List Entry) → StandsFor N.note self.now o past →
-            result.now ≡ reports (life o (looked past)) }
+            result.now ≡ reports (life o (shown_entries past)) }
     {
         &self.life.reports
     }
@@ -28,7 +28,7 @@ impl<N: Notes> PacketClient<N> {
     /// has failed, up to it.
     pub(crate) fn outcome(&self, kind: RequestKind, number: u64, server: ServerNo) -> Outcome
         ensures { (o : Opening) (past : List Entry) → StandsFor N.note self.now o past →
-            result ≡ outcome o (looked past) kind number server }
+            result ≡ outcome o (shown_entries past) kind number server }
     {
         let servers = self.peers.servers.count();
         if server.0 < servers {
@@ -41,7 +41,7 @@ impl<N: Notes> PacketClient<N> {
     /// Whether the trigger of a run has ended at every server. Where a save has failed, up to it.
     pub(crate) fn settled(&self, run: RunNo) -> bool
         ensures { (o : Opening) (past : List Entry) → StandsFor N.note self.now o past →
-            result ≡ settled o (looked past) run }
+            result ≡ is_settled o (shown_entries past) run }
     {
         self.life.settled(run, self.peers.servers.count())
     }

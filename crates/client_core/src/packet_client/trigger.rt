@@ -63,7 +63,8 @@ impl<N: Notes> PacketClient<N> {
 
     /// Why a run isn't triggered or stopped.
     fn run_refusal(&self, run: RunNo) -> Option<Fault>
-        ensures why { result ≡ refusal_by (not self.now.down) self.now.peers self.now.noted (Stop run) }
+        ensures why { result
+            ≡ refusal_by (not self.now.down) self.now.peers self.now.noted (Stop run) }
         ensures range { result ≡ None → IsTrue (is_run run) }
     {
         if self.down {

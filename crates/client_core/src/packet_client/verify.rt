@@ -7,14 +7,14 @@ ghost use Rattle.client_core.specs.declared.call.Call.TheVariants.{Verify as Ver
 ghost use Rattle.client_core.specs.Ends.{steps};
 ghost use Rattle.messages.specs.Ranges.{is_attempt, is_run, is_text};
 ghost use Rattle.messages.specs.declared.body.Body.TheVariants.{Verify};
-ghost use Rattle.client_core.specs.Framed.{framed};
+ghost use Rattle.client_core.specs.Framed.{frame_bytes};
 ghost use Rattle.client_core.specs.Life.{Deed, Verifies};
 ghost use Rattle.client_core.specs.Lives.{AttemptIs};
 ghost use Rattle.client_core.specs.Packets.{to_all};
 ghost use Rattle.client_core.specs.History.{Opening, Entry};
 ghost use Rattle.client_core.specs.Refusals.{refusal_by};
 ghost use Rattle.client_core.specs.Stands.{StandsFor};
-ghost use Rattle.client_core.specs.Words.{noted, would_save};
+ghost use Rattle.client_core.specs.Words.{words_noted, would_save};
 
 use super::PacketClient;
 use crate::attempt_asked::AttemptAsked;
@@ -34,7 +34,7 @@ impl<N: Notes> PacketClient<N> {
     /// `SaveFault`, and the client is down.
     pub(crate) fn verify(&mut self, run: RunNo, text: &[u8]) -> Result<(Attempt, Frames), Fault>
         ensures { (o : Opening) (past : List Entry) → StandsFor N.note self.old o past →
-            Gives (steps N.note o) past (Verifying run text.now) (noted o past).attempts
+            Gives (steps N.note o) past (Verifying run text.now) (words_noted o past).attempts
             self.old self.new result }
     {
         notes_are_read_back();
@@ -65,7 +65,8 @@ impl<N: Notes> PacketClient<N> {
     /// Why a run isn't verified by this job file.
     fn verify_refusal(&self, run: RunNo, text: &[u8]) -> Option<Fault>
         ensures why { result
-            ≡ refusal_by (not self.now.down) self.now.peers self.now.noted (Verifying run text.now) }
+            ≡ refusal_by (not self.now.down) self.now.peers self.now.noted
+            (Verifying run text.now) }
         ensures range { result ≡ None → IsTrue (is_run run) }
     {
         if self.down {
@@ -96,7 +97,8 @@ fn verify_frames(
     requires run { IsTrue (is_run run) }
     requires attempt { IsTrue (is_attempt attempt) }
     requires text { IsTrue (is_text text.now) }
-    ensures frames { IfOk result (λ b. b.0 ≡ framed (to_all servers (Verify run attempt text.now))) }
+    ensures frames { IfOk result
+        (λ b. b.0 ≡ frame_bytes (to_all servers (Verify run attempt text.now))) }
     ensures asked { IfOk result (λ b. (deeds : List Deed) →
         AttemptIs attempt (Verifies run attempt text.now ∷ deeds) b.1) }
     ensures run_is { IfOk result (λ b. b.1.run ≡ run) }

@@ -11,7 +11,7 @@ use fc_base::{
     Verify,
 };
 use meeting::Meeting;
-use parallel_checks::{Task, check_jobs};
+use parallel_checks::{CheckTask, check_jobs};
 use std::alloc::Global;
 use std::process::Abort;
 use std::thread::Threads;
@@ -126,8 +126,8 @@ fn completed(alloc: Global) -> Result<VerifyState, Fault> {
 }
 
 /// The check of this disk by the state of four completed writes.
-fn task<D: Drop>(alloc: Global, fatal: bool, disk: D) -> Result<Task<D>, Fault> {
-    Ok(Task {
+fn task<D: Drop>(alloc: Global, fatal: bool, disk: D) -> Result<CheckTask<D>, Fault> {
+    Ok(CheckTask {
         rec: job()?,
         key: KEY,
         state: Some(completed(alloc)?),
@@ -137,7 +137,7 @@ fn task<D: Drop>(alloc: Global, fatal: bool, disk: D) -> Result<Task<D>, Fault> 
 }
 
 /// The tasks of the rows, in their order.
-fn tasks(alloc: Global) -> Result<Vec<Task<FaultDisk>>, Fault> {
+fn tasks(alloc: Global) -> Result<Vec<CheckTask<FaultDisk>>, Fault> {
     let mut tasks = Vec::new(alloc);
     for row in ROWS {
         let disk = FaultDisk::new(rotted(alloc, row.rotted)?, row.failing);
@@ -182,7 +182,7 @@ fn reports_stand_in_the_order_of_the_tasks(rt: HostRuntime) {
 }
 
 /// A check of each of two disks whose first reads wait for each other.
-fn meetings(alloc: Global) -> Result<Vec<Task<Meeting>>, Fault> {
+fn meetings(alloc: Global) -> Result<Vec<CheckTask<Meeting>>, Fault> {
     let (one, other) = Meeting::pair(alloc, landed(alloc)?, landed(alloc)?)?;
     let (one, other) = (task(alloc, false, one)?, task(alloc, false, other)?);
     let mut tasks = Vec::new(alloc);

@@ -1,11 +1,11 @@
 //! What no clause shows: that each call answers where memory is there, and what it refuses.
 
-use client_cell::{ClientCell, Command, Request, Task};
+use client_cell::{ClientCell, ClientCommand, ClientRequest, ClientTask};
 use disk_model::{FaultNotes, MemNotes};
 use fc_base::{Fault, RunNo};
 use hub::Hub;
 use messages::{Act, Text};
-use node_history::{Answer, Came, History, Logged, Node, Told};
+use node_history::{Answer, CallerAnswer, Came, History, Logged, Node};
 use std::alloc::{AllocGlobal, Global};
 use std::test::Fail;
 
@@ -21,7 +21,7 @@ enum Step {
     /// The frame at this place is delivered.
     Deliver(u64),
     /// It is cut off, or started again.
-    Apply(Task),
+    Apply(ClientTask),
 }
 
 /// What is told of it.
@@ -52,9 +52,9 @@ struct Story {
     frames: usize,
 }
 
-const CUT: Step = Step::Apply(Task::Cut);
+const CUT: Step = Step::Apply(ClientTask::Cut);
 
-const RESTART: Step = Step::Apply(Task::Restart);
+const RESTART: Step = Step::Apply(ClientTask::Restart);
 
 static POWER: [Row; 6] = [
     (RESTART, Said::Refused(Fault::NodeOn), true),
@@ -108,14 +108,14 @@ const LOST: Story = Story {
 
 impl Said {
     /// It in the cell's own words, where this is the run.
-    fn told(self, run: u64) -> Result<Told, Fault> {
+    fn told(self, run: u64) -> Result<CallerAnswer, Fault> {
         let (answer, first, sent) = match self {
             Said::Done => (Answer::Plain, 0, 0),
             Said::Sent(first) => (Answer::Plain, first, 2),
             Said::Begun => (Answer::Run(RunNo(run)), 0, 2),
             Said::Refused(fault) => return Err(fault),
         };
-        Ok(Told {
+        Ok(CallerAnswer {
             answer,
             first,
             sent,
@@ -191,7 +191,7 @@ impl Site {
     }
 
     /// Whether it answers this step so, and enters it, if it is a task; or memory ran out.
-    fn answers(&mut self, step: Step, wanted: Result<Told, Fault>) -> Result<bool, Fault> {
+    fn answers(&mut self, step: Step, wanted: Result<CallerAnswer, Fault>) -> Result<bool, Fault> {
         let entries = self.cell.history().len();
         match self.step(step) {
             Err(Fault::NoMemory) => Err(Fault::NoMemory),
@@ -200,21 +200,21 @@ impl Site {
     }
 
     /// What is told of this step.
-    fn step(&mut self, step: Step) -> Result<Told, Fault> {
+    fn step(&mut self, step: Step) -> Result<CallerAnswer, Fault> {
         let command = match step {
             Step::Apply(task) => return self.cell.apply(task),
             Step::Deliver(position) => return self.cell.deliver(&mut self.hub, position),
-            Step::Begin => Command::Request(begin(self.alloc)?),
-            Step::Stop => Command::Request(Request::Stop(RunNo(1))),
-            Step::Tick => Command::Tick,
+            Step::Begin => ClientCommand::Request(begin(self.alloc)?),
+            Step::Stop => ClientCommand::Request(ClientRequest::Stop(RunNo(1))),
+            Step::Tick => ClientCommand::Tick,
         };
         self.cell.post(&mut self.hub, command)
     }
 }
 
-fn begin(alloc: Global) -> Result<Request, Fault> {
+fn begin(alloc: Global) -> Result<ClientRequest, Fault> {
     match Text::copied(alloc, b"[a]") {
-        Ok(text) => Ok(Request::Begin(text)),
+        Ok(text) => Ok(ClientRequest::Begin(text)),
         Err(_) => Err(Fault::NoMemory),
     }
 }
@@ -231,10 +231,10 @@ fn is_entered(step: Step, history: &History, entries: usize) -> bool {
 }
 
 /// The entry is of this task, which no seat asked and which sent nothing.
-fn is_of(entry: &Logged, task: Task) -> bool {
+fn is_of(entry: &Logged, task: ClientTask) -> bool {
     let came = match task {
-        Task::Cut => matches!(entry.came, Came::Cut),
-        Task::Restart => matches!(entry.came, Came::Restart),
+        ClientTask::Cut => matches!(entry.came, Came::Cut),
+        ClientTask::Restart => matches!(entry.came, Came::Restart),
     };
     came && entry.by.is_none() && entry.sent.len() == 0
 }

@@ -6,7 +6,7 @@ mod replay;
 mod story;
 
 use fc_base::Fault;
-use fleet::{FleetFault, Left, OpenGate, run_and_leave};
+use fleet::{FleetFault, FleetLeft, OpenGate, run_and_leave};
 use gates::{Always, Write};
 use replay::sends_the_same;
 use std::alloc::Global;
@@ -149,14 +149,14 @@ enum Claim {
 }
 
 /// Whether this holds of what is left.
-fn holds(alloc: Global, left: &Left, claim: Claim) -> Result<bool, Fault> {
+fn holds(alloc: Global, left: &FleetLeft, claim: Claim) -> Result<bool, Fault> {
     match claim {
         Claim::Counts => Ok(has_counts(left)),
         Claim::World => sends_the_same(alloc, left),
     }
 }
 
-fn has_counts(left: &Left) -> bool {
+fn has_counts(left: &FleetLeft) -> bool {
     let turns = turns(left);
     left.hub.len() == 22
         && left.servers.len() == 2
@@ -166,7 +166,7 @@ fn has_counts(left: &Left) -> bool {
 }
 
 /// How many events of the servers' histories came from seats.
-fn turns(left: &Left) -> u64 {
+fn turns(left: &FleetLeft) -> u64 {
     let mut turns: u64 = 0;
     for server in &left.servers {
         let history = server.history();
@@ -180,7 +180,7 @@ fn turns(left: &Left) -> u64 {
 }
 
 /// How many events the seats have applied.
-fn applied(left: &Left) -> u64 {
+fn applied(left: &FleetLeft) -> u64 {
     let mut applied: u64 = 0;
     for seat in &left.seats {
         applied = applied.saturating_add(seat.applied());

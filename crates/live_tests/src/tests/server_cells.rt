@@ -3,7 +3,7 @@
 use disk_model::{FaultNotes, MemNotes, Notes};
 use engine::Issue;
 use fc_base::{Fault, JobNo, ServerNo};
-use node_history::{Answer, History, Logged, Told};
+use node_history::{Answer, CallerAnswer, History, Logged};
 use server_cell::{Seat, ServerCell, Task};
 use std::alloc::Global;
 
@@ -39,7 +39,7 @@ const LOST: [Row; 6] = [
 ];
 
 /// The answer, or the number of the fault, of what sends nothing.
-fn said(told: Result<Told, Fault>) -> Result<Answer, u8> {
+fn said(told: Result<CallerAnswer, Fault>) -> Result<Answer, u8> {
     match told {
         Ok(told) => Ok(told.answer),
         Err(fault) => Err(fault.number()),

@@ -34,7 +34,9 @@ pub fn look_at(bytes: &[u8]) -> Option<FrameLook>
 
 /// What these numbers say, where each is known.
 fn looked(fields: HeaderFields) -> Option<FrameLook>
-    ensures { result ≡ look_by (node_numbered fields.from) (node_numbered fields.to) (sort_numbered fields.kind) }
+    ensures { result
+        ≡ look_by (node_numbered fields.from) (node_numbered fields.to)
+        (sort_numbered fields.kind) }
 {
     let from = Node::numbered(fields.from)?;
     let to = Node::numbered(fields.to)?;

@@ -53,7 +53,9 @@ pub(crate) fn put_piece(
     bytes: &[u8],
 ) -> Result<(), AllocError>
     requires { length bytes.now ≤ CHUNK_LIMIT }
-    ensures { OnOk result (out.new.items ≡ out.old.items ++ piece_spelling (record { from = from; to = to; tag = tag; at = at; bytes = bytes.now })) }
+    ensures { OnOk result
+        (out.new.items ≡ out.old.items ++ piece_spelling
+        (record { from = from; to = to; tag = tag; at = at; bytes = bytes.now })) }
 {
     put_head(out, from, to, NUMBERS + bytes.len() as u32)?;
     put_tag(out, tag, at)?;
@@ -62,7 +64,9 @@ pub(crate) fn put_piece(
 
 /// Appends the header of a piece.
 fn put_head(out: &mut Vec<u8>, from: Node, to: Node, len: u32) -> Result<(), AllocError>
-    ensures { OnOk result (out.new.items ≡ out.old.items ++ spelled header (70 ∷ 67 ∷ 1 ∷ 17 ∷ node_number from ∷ node_number to ∷ len ∷ [])) }
+    ensures { OnOk result
+        (out.new.items ≡ out.old.items ++ spelled header
+        (70 ∷ 67 ∷ 1 ∷ 17 ∷ node_number from ∷ node_number to ∷ len ∷ [])) }
 {
     put_u8(out, b'F')?;
     put_u8(out, b'C')?;
@@ -75,7 +79,9 @@ fn put_head(out: &mut Vec<u8>, from: Node, to: Node, len: u32) -> Result<(), All
 
 /// Appends the numbers of a piece.
 fn put_tag(out: &mut Vec<u8>, tag: Tag, at: u32) -> Result<(), AllocError>
-    ensures { OnOk result (out.new.items ≡ out.old.items ++ spelled piece_layout (number_of tag.whole ∷ tag.run ∷ tag.number ∷ tag.server ∷ tag.job ∷ tag.length ∷ at ∷ [])) }
+    ensures { OnOk result
+        (out.new.items ≡ out.old.items ++ spelled piece_layout
+        (number_of tag.whole ∷ tag.run ∷ tag.number ∷ tag.server ∷ tag.job ∷ tag.length ∷ at ∷ [])) }
 {
     put_u8(out, tag.whole.number())?;
     put_u64(out, tag.run.0)?;
@@ -84,7 +90,9 @@ fn put_tag(out: &mut Vec<u8>, tag: Tag, at: u32) -> Result<(), AllocError>
 }
 
 fn put_place(out: &mut Vec<u8>, tag: Tag, at: u32) -> Result<(), AllocError>
-    ensures { OnOk result (out.new.items ≡ out.old.items ++ spelled (w32 ∷ w32 ∷ w32 ∷ w32 ∷ []) (tag.server ∷ tag.job ∷ tag.length ∷ at ∷ [])) }
+    ensures { OnOk result
+        (out.new.items ≡ out.old.items ++ spelled (w32 ∷ w32 ∷ w32 ∷ w32 ∷ [])
+        (tag.server ∷ tag.job ∷ tag.length ∷ at ∷ [])) }
 {
     put_u32(out, tag.server.0)?;
     put_u32(out, tag.job.0)?;

@@ -44,7 +44,8 @@ impl<N: Notes> Mirror<N> {
     fn copy(&mut self, state: &VerifyState) -> Result<Frames, Fault>
         requires up { self.old.down ≡ false }
         requires free { faults_of_request self.old.noted (Copy state.now) ≡ [] }
-        ensures { (o : Opening) (past : List Entry) (f : SaidFrame) → request_in f ≡ Some (Copy state.now) →
+        ensures { (o : Opening) (past : List Entry) (f : SaidFrame) →
+            request_in f ≡ Some (Copy state.now) →
             StandsFor N.note self.old o past →
             Ends (steps N.note o) past f self.old self.new result }
     {
@@ -66,7 +67,8 @@ impl<N: Notes> Mirror<N> {
         requires range { IsTrue (is_generation generation) }
         requires up { self.old.down ≡ false }
         requires free { faults_of_request self.old.noted (Fetch generation) ≡ [] }
-        ensures { (o : Opening) (past : List Entry) (f : SaidFrame) → request_in f ≡ Some (Fetch generation) →
+        ensures { (o : Opening) (past : List Entry) (f : SaidFrame) →
+            request_in f ≡ Some (Fetch generation) →
             StandsFor N.note self.old o past →
             Ends (steps N.note o) past f self.old self.new result }
     {

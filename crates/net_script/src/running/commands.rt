@@ -11,7 +11,7 @@ ghost use Rattle.net_world.specs.Happenings.{Happening};
 ghost use Rattle.net_world.specs.World.{world as changes};
 ghost use Rattle.net_world.specs.Stands.{StandsFor};
 ghost use Rattle.net_world.specs.Ends.{Ends};
-ghost use Rattle.printed.specs.Words.{ended};
+ghost use Rattle.printed.specs.Words.{with_line_feed};
 ghost use Rattle.net_script.specs.Orders.{Opens};
 ghost use Rattle.net_script.specs.Commands.{happens};
 ghost use Rattle.net_script.specs.Printed.{addressee, refusal_line};
@@ -29,7 +29,7 @@ use crate::told::{has_faults, write_told};
 use fc_base::{Fault, FaultSort};
 use messages::{Node, look_at};
 use net_world::{Told, World, sent_are_frames};
-use printed::{REFUSED, Refusal};
+use printed::{PrintedRefusal, REFUSED};
 use std::alloc::Global;
 use std::io;
 use std::io::Write;
@@ -52,7 +52,8 @@ pub(crate) fn run_opened<W: Write>(
 ) -> io::Result<u8>
     requires { orders.old.number + length orders.old.rest.now ≤ u64.MAX }
     ensures { (setup : Setup) → StandsFor setup [] world.old → (line : ℕ) →
-        IfOk result (RunOrders lines_of_orders reads_well status_of_orders (Opens line setup ∷ orders_left orders.old)
+        IfOk result (RunOrders lines_of_orders reads_well status_of_orders
+        (Opens line setup ∷ orders_left orders.old)
         (W.contents writer.old) (W.contents writer.new)) }
 {
     writeln!(writer, "ok")?;
@@ -67,8 +68,10 @@ fn run_commands<W: Write>(
     writer: &mut W,
 ) -> io::Result<u8>
     requires { orders.old.number + length orders.old.rest.now ≤ u64.MAX }
-    ensures { (setup : Setup) (before : List Happening) → StandsFor setup (changes setup before) world.old →
-        IfOk result (RunOrders (lines_in setup before) are_commands (status_in setup before) (orders_left orders.old) (W.contents writer.old) (W.contents writer.new)) }
+    ensures { (setup : Setup) (before : List Happening) →
+        StandsFor setup (changes setup before) world.old →
+        IfOk result (RunOrders (lines_in setup before) are_commands (status_in setup before)
+        (orders_left orders.old) (W.contents writer.old) (W.contents writer.new)) }
 {
     let mut faults = false;
     while let Some(order) = orders.next() {
@@ -95,8 +98,10 @@ fn run_command<W: Write>(
     text: &[u8],
     writer: &mut W,
 ) -> io::Result<Ran>
-    ensures { (setup : Setup) (before : List Happening) → StandsFor setup (changes setup before) world.old →
-        IfOk result (HasCome setup before (happens command.now text.now) world.new (W.contents writer.old) (W.contents writer.new)) }
+    ensures { (setup : Setup) (before : List Happening) →
+        StandsFor setup (changes setup before) world.old →
+        IfOk result (HasCome setup before (happens command.now text.now) world.new
+        (W.contents writer.old) (W.contents writer.new)) }
 {
     sent_are_frames();
     let addressee = addressee_of(world, command, text);
@@ -113,10 +118,12 @@ fn run_command<W: Write>(
 
 /// Answers a command that is refused.
 fn refuse<W: Write>(writer: &mut W, fault: Fault) -> io::Result<Ran>
-    ensures text { OnOk result (Appends (W.contents writer.old) (W.contents writer.new) (ended (refusal_line fault))) }
+    ensures text { OnOk result
+        (Appends (W.contents writer.old) (W.contents writer.new)
+        (with_line_feed (refusal_line fault))) }
     ensures ran { IfOk result (λ ran. ran ≡ refused_by (sort_of fault)) }
 {
-    writeln!(writer, "{}", Refusal::from(fault))?;
+    writeln!(writer, "{}", PrintedRefusal::from(fault))?;
     Ok(match fault.sort() {
         FaultSort::Memory => Ran::Lacked,
         _ => Ran::Answered { faults: false },
@@ -125,7 +132,8 @@ fn refuse<W: Write>(writer: &mut W, fault: Fault) -> io::Result<Ran>
 
 /// Makes happen what a command asks for.
 fn apply(alloc: Global, world: &mut World, command: &Command, text: &[u8]) -> Result<Told, Fault>
-    ensures { (setup : Setup) (before : List Happening) → StandsFor setup (changes setup before) world.old →
+    ensures { (setup : Setup) (before : List Happening) →
+        StandsFor setup (changes setup before) world.old →
         Ends setup (changes setup before) (happens command.now text.now) world.new result }
 {
     match event_of(alloc, command, text) {
@@ -136,7 +144,8 @@ fn apply(alloc: Global, world: &mut World, command: &Command, text: &[u8]) -> Re
 
 /// The node to which the frame comes that is delivered.
 fn addressee_of(world: &World, command: &Command, text: &[u8]) -> Option<Node>
-    ensures { (setup : Setup) (before : List Happening) → StandsFor setup (changes setup before) world.now →
+    ensures { (setup : Setup) (before : List Happening) →
+        StandsFor setup (changes setup before) world.now →
         result ≡ addressee setup (changes setup before) (happens command.now text.now) }
 {
     match command {
@@ -147,8 +156,10 @@ fn addressee_of(world: &World, command: &Command, text: &[u8]) -> Option<Node>
 
 /// The node that a frame is for.
 fn receiver(world: &World, frame: u64) -> Option<Node>
-    ensures { (setup : Setup) (before : List Happening) → StandsFor setup (changes setup before) world.now →
-        result ≡ option_map to_of (slice_get (frames_sent setup (steps (changes setup before))) frame) }
+    ensures { (setup : Setup) (before : List Happening) →
+        StandsFor setup (changes setup before) world.now →
+        result ≡ option_map to_of
+        (slice_get (frames_sent setup (steps (changes setup before))) frame) }
 {
     sent_are_frames();
     let bytes = world.frames().get(frame as usize)?;

@@ -3,15 +3,15 @@
 ghost use Rattle.std.specs.Prelude.{◌≡◌};
 ghost use Rattle.net_script.specs.declared.command.Saving.TheVariants.{Begin, Verify, Deliver, Restart, Renew};
 ghost use Rattle.net_script.specs.declared.command.Command.TheVariants.{Saves, CutShort, Cut, LoseNote};
-ghost use Rattle.net_script.specs.declared.line.Line.TheVariants.{Asks};
+ghost use Rattle.net_script.specs.declared.line.ScriptLine.TheVariants.{Asks};
 ghost use Rattle.net_script.specs.Words.{words_of};
 ghost use Rattle.net_script.specs.Arguments.{alone, numbers, one, node};
-ghost use Rattle.net_script.specs.Table.{named, by_table, saving, cuts};
-ghost use Rattle.net_script.specs.Asked.{asked};
+ghost use Rattle.net_script.specs.Table.{read_by_row, by_table, saving_rows, cut_rows};
+ghost use Rattle.net_script.specs.Asked.{saving_command};
 
 use crate::arguments::{alone, one_node, one_number};
 use crate::command::{Command, Saving};
-use crate::line::Line;
+use crate::line::ScriptLine;
 use crate::words::{is_word, split_word};
 use fc_base::{Generation, RunNo};
 
@@ -23,10 +23,10 @@ enum Asked {
 }
 
 impl Asked {
-    fn line(self, command: Saving) -> Line
-        ensures { result ≡ Asks (asked self command) }
+    fn line(self, command: Saving) -> ScriptLine
+        ensures { result ≡ Asks (saving_command self command) }
     {
-        Line::Asks(match self {
+        ScriptLine::Asks(match self {
             Asked::AsItIs => Command::Saves(command),
             Asked::CutShort { landed } => Command::CutShort { landed, command },
         })
@@ -34,15 +34,16 @@ impl Asked {
 }
 
 /// The line of a command with this word in which a node may save, if it is one of these.
-pub(crate) fn saving(word: &[u8], words: &[u8]) -> Option<Line>
-    ensures { result ≡ named (saving Saves) word.now (words_of words.now) }
+pub(crate) fn saving(word: &[u8], words: &[u8]) -> Option<ScriptLine>
+    ensures { result ≡ read_by_row (saving_rows Saves) word.now (words_of words.now) }
 {
     saving_asked(Asked::AsItIs, word, words)
 }
 
 /// The same, asked in this way.
-fn saving_asked(how: Asked, word: &[u8], words: &[u8]) -> Option<Line>
-    ensures { result ≡ named (saving (asked how)) word.now (words_of words.now) }
+fn saving_asked(how: Asked, word: &[u8], words: &[u8]) -> Option<ScriptLine>
+    ensures { result
+        ≡ read_by_row (saving_rows (saving_command how)) word.now (words_of words.now) }
 {
     if is_word(word, b"begin") {
         Some(begin(how, words))
@@ -60,55 +61,58 @@ fn saving_asked(how: Asked, word: &[u8], words: &[u8]) -> Option<Line>
 }
 
 /// `begin`.
-fn begin(how: Asked, words: &[u8]) -> Line
-    ensures { result ≡ alone (Asks (asked how Begin)) (words_of words.now) }
+fn begin(how: Asked, words: &[u8]) -> ScriptLine
+    ensures { result ≡ alone (Asks (saving_command how Begin)) (words_of words.now) }
 {
     alone(how.line(Saving::Begin), words)
 }
 
 /// `verify R`.
-fn verify(how: Asked, words: &[u8]) -> Line
-    ensures { result ≡ numbers (one (λ r. Asks (asked how (Verify r)))) (words_of words.now) }
+fn verify(how: Asked, words: &[u8]) -> ScriptLine
+    ensures { result
+        ≡ numbers (one (λ r. Asks (saving_command how (Verify r)))) (words_of words.now) }
 {
     match one_number(words) {
         Some(run) => how.line(Saving::Verify(RunNo(run))),
-        None => Line::Unread,
+        None => ScriptLine::Unread,
     }
 }
 
 /// `deliver I`.
-fn deliver(how: Asked, words: &[u8]) -> Line
-    ensures { result ≡ numbers (one (λ i. Asks (asked how (Deliver i)))) (words_of words.now) }
+fn deliver(how: Asked, words: &[u8]) -> ScriptLine
+    ensures { result
+        ≡ numbers (one (λ i. Asks (saving_command how (Deliver i)))) (words_of words.now) }
 {
     match one_number(words) {
         Some(frame) => how.line(Saving::Deliver(frame)),
-        None => Line::Unread,
+        None => ScriptLine::Unread,
     }
 }
 
 /// `restart NODE`.
-fn restart(how: Asked, words: &[u8]) -> Line
-    ensures { result ≡ node (λ n. Asks (asked how (Restart n))) (words_of words.now) }
+fn restart(how: Asked, words: &[u8]) -> ScriptLine
+    ensures { result ≡ node (λ n. Asks (saving_command how (Restart n))) (words_of words.now) }
 {
     match one_node(words) {
         Some(node) => how.line(Saving::Restart(node)),
-        None => Line::Unread,
+        None => ScriptLine::Unread,
     }
 }
 
 /// `renew G`.
-fn renew(how: Asked, words: &[u8]) -> Line
-    ensures { result ≡ numbers (one (λ g. Asks (asked how (Renew g)))) (words_of words.now) }
+fn renew(how: Asked, words: &[u8]) -> ScriptLine
+    ensures { result
+        ≡ numbers (one (λ g. Asks (saving_command how (Renew g)))) (words_of words.now) }
 {
     match one_number(words) {
         Some(generation) => how.line(Saving::Renew(Generation(generation))),
-        None => Line::Unread,
+        None => ScriptLine::Unread,
     }
 }
 
 /// The line of a command with this word that cuts the power or loses a note, if it is one of these.
-pub(crate) fn cuts(word: &[u8], words: &[u8]) -> Option<Line>
-    ensures { result ≡ named cuts word.now (words_of words.now) }
+pub(crate) fn cuts(word: &[u8], words: &[u8]) -> Option<ScriptLine>
+    ensures { result ≡ read_by_row cut_rows word.now (words_of words.now) }
 {
     if is_word(word, b"cut") {
         Some(cut(words))
@@ -124,34 +128,34 @@ pub(crate) fn cuts(word: &[u8], words: &[u8]) -> Option<Line>
 }
 
 /// `cut NODE`.
-fn cut(words: &[u8]) -> Line
+fn cut(words: &[u8]) -> ScriptLine
     ensures { result ≡ node (λ n. Asks (Cut n)) (words_of words.now) }
 {
     match one_node(words) {
-        Some(node) => Line::Asks(Command::Cut(node)),
-        None => Line::Unread,
+        Some(node) => ScriptLine::Asks(Command::Cut(node)),
+        None => ScriptLine::Unread,
     }
 }
 
 /// `losenote`.
-fn lose_note(words: &[u8]) -> Line
+fn lose_note(words: &[u8]) -> ScriptLine
     ensures { result ≡ alone (Asks LoseNote) (words_of words.now) }
 {
-    alone(Line::Asks(Command::LoseNote), words)
+    alone(ScriptLine::Asks(Command::LoseNote), words)
 }
 
 /// `cutold COMMAND`, `cutnew COMMAND`.
-fn cut_short(landed: bool, words: &[u8]) -> Line
-    ensures { result ≡ by_table (saving (CutShort landed)) (words_of words.now) }
+fn cut_short(landed: bool, words: &[u8]) -> ScriptLine
+    ensures { result ≡ by_table (saving_rows (CutShort landed)) (words_of words.now) }
 {
     match split_word(words) {
         Some((word, rest)) => {
             let how = Asked::CutShort { landed };
             match saving_asked(how, word, rest) {
                 Some(line) => line,
-                None => Line::Unread,
+                None => ScriptLine::Unread,
             }
         }
-        None => Line::Unread,
+        None => ScriptLine::Unread,
     }
 }

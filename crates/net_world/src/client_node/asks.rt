@@ -9,7 +9,7 @@ ghost use Rattle.net_world.specs.ClientNodes.{Stands, Asks};
 use super::ClientNode;
 use crate::ask::Ask;
 use crate::asked::Asked;
-use crate::told::Answer;
+use crate::told::WorldAnswer;
 use fc_base::Fault;
 
 impl ClientNode {
@@ -25,16 +25,16 @@ impl ClientNode {
         match ask {
             Ask::Begin(text) => {
                 let (run, frames) = client.begin(text)?;
-                Ok(Asked::of(Answer::Run(run), frames))
+                Ok(Asked::of(WorldAnswer::Run(run), frames))
             }
             Ask::Verify(run, text) => {
                 let (attempt, frames) = client.verify(run, text)?;
-                Ok(Asked::of(Answer::Attempt(attempt), frames))
+                Ok(Asked::of(WorldAnswer::Attempt(attempt), frames))
             }
-            Ask::Trigger(run, act) => Ok(Asked::of(Answer::Plain, client.trigger(run, act)?)),
-            Ask::Stop(run) => Ok(Asked::of(Answer::Plain, client.stop(run)?)),
-            Ask::Tick => Ok(Asked::of(Answer::Plain, client.tick()?)),
-            Ask::Deliver(frame) => Ok(Asked::of(Answer::Plain, client.deliver(frame)?)),
+            Ask::Trigger(run, act) => Ok(Asked::of(WorldAnswer::Plain, client.trigger(run, act)?)),
+            Ask::Stop(run) => Ok(Asked::of(WorldAnswer::Plain, client.stop(run)?)),
+            Ask::Tick => Ok(Asked::of(WorldAnswer::Plain, client.tick()?)),
+            Ask::Deliver(frame) => Ok(Asked::of(WorldAnswer::Plain, client.deliver(frame)?)),
         }
     }
 }

@@ -84,9 +84,12 @@ impl ClientNode {
 
     /// Whether it would make a save of a frame: `NodeOff`, `NoSave`, `NoMemory` where it wouldn't.
     fn try_delivery(&self, frame: &Frame) -> Result<(), Fault>
-        ensures saves { OnOk result ((o : Opening) (past : List FrameEntry) → Stands o past self.now →
+        ensures saves { OnOk result
+            ((o : Opening) (past : List FrameEntry) → Stands o past self.now →
             is_some (due o past (inputs.Deliver frame.now)) ≡ true) }
-        ensures fails { IfErr result (λ fault. (o : Opening) (past : List FrameEntry) → Stands o past self.now → (landed : Bool) →
+        ensures fails { IfErr result
+            (λ fault. (o : Opening) (past : List FrameEntry) → Stands o past self.now →
+            (landed : Bool) →
             CutsIn o past landed (inputs.Deliver frame.now) self.now (Err fault)) }
     {
         let Some(client) = self.client() else {

@@ -21,7 +21,8 @@ impl ClientNode {
     pub(crate) fn open_renewed(alloc: Global, servers: u32) -> Result<ClientNode, AllocError>
         requires some { 1 ≤ servers }
         requires few { servers ≤ MAX_SERVERS }
-        ensures { IfOk result (Stands (record { servers = servers; noted = blank }) (Renew 1 Saved ∷ [])) }
+        ensures { IfOk result
+            (Stands (record { servers = servers; noted = blank }) (Renew 1 Saved ∷ [])) }
     {
         let notes = MemNotes::new(Vec::new(alloc));
         match Client::renew(alloc, servers, notes, Generation(1)) {
@@ -34,7 +35,8 @@ impl ClientNode {
     ///
     /// `NodeOn`: it runs, and nothing changes.
     pub(crate) fn lose(&mut self, alloc: Global) -> Result<(), Fault>
-        ensures { (o : Opening) (past : List FrameEntry) → Stands o past self.old → Loses o past self.new result }
+        ensures { (o : Opening) (past : List FrameEntry) → Stands o past self.old →
+            Loses o past self.new result }
     {
         match self {
             ClientNode::On(_) => Err(Fault::NodeOn),
@@ -57,7 +59,8 @@ impl ClientNode {
         requires some { 1 ≤ servers }
         requires few { servers ≤ MAX_SERVERS }
         requires fits { IsTrue (is_generation generation) }
-        ensures { (o : Opening) (past : List FrameEntry) → o.servers ≡ servers → Stands o past self.old →
+        ensures { (o : Opening) (past : List FrameEntry) → o.servers ≡ servers →
+            Stands o past self.old →
             Renews o past generation self.new result }
     {
         client_core::one_note();
@@ -91,7 +94,8 @@ impl ClientNode {
         requires some { 1 ≤ servers }
         requires few { servers ≤ MAX_SERVERS }
         requires fits { IsTrue (is_generation generation) }
-        ensures { (o : Opening) (past : List FrameEntry) → o.servers ≡ servers → Stands o past self.old →
+        ensures { (o : Opening) (past : List FrameEntry) → o.servers ≡ servers →
+            Stands o past self.old →
             CutsInRenewal o past landed generation self.new result }
     {
         if let Err(fault) = self.renew(alloc, servers, generation) {

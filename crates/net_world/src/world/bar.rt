@@ -7,7 +7,7 @@ ghost use Rattle.fc_base.specs.Fault.{sort_of};
 ghost use Rattle.messages.specs.Ranges.{is_generation};
 ghost use Rattle.messages.specs.declared.node.Node.TheVariants.{Server as OfServer, Client as OfClient, Mirror as OfMirror};
 ghost use Rattle.net_world.specs.Setup.{Setup};
-ghost use Rattle.net_world.specs.Barred.{off, on, unopen, no_file, unlosable, unfit};
+ghost use Rattle.net_world.specs.Barred.{unless_on, unless_off, unless_open, no_file, unless_losable, unless_unused};
 ghost use Rattle.std.specs.Option.{option_or};
 ghost use Rattle.net_world.specs.Changes.{Change, trace};
 ghost use Rattle.net_world.specs.Stands.{StandsFor};
@@ -20,7 +20,7 @@ impl World {
     /// The client has to be on.
     pub(super) fn client_off(&self) -> Option<Fault>
         ensures why { (w : Setup) (past : List Change) → StandsFor w past self.now →
-            result ≡ off w (trace w past) OfClient }
+            result ≡ unless_on w (trace w past) OfClient }
         ensures sort { IfSome result (λ fault. sort_of fault ≡ Refusal) }
     {
         if self.client.on() {
@@ -33,7 +33,7 @@ impl World {
     /// The server has to be there and on.
     pub(super) fn server_off(&self, server: ServerNo) -> Option<Fault>
         ensures why { (w : Setup) (past : List Change) → StandsFor w past self.now →
-            result ≡ off w (trace w past) (OfServer server) }
+            result ≡ unless_on w (trace w past) (OfServer server) }
         ensures sort { IfSome result (λ fault. sort_of fault ≡ Refusal) }
     {
         if !self.has_server(server) {
@@ -49,7 +49,7 @@ impl World {
     /// The mirror has to be there and on.
     pub(super) fn mirror_off(&self) -> Option<Fault>
         ensures why { (w : Setup) (past : List Change) → StandsFor w past self.now →
-            result ≡ off w (trace w past) OfMirror }
+            result ≡ unless_on w (trace w past) OfMirror }
         ensures sort { IfSome result (λ fault. sort_of fault ≡ Refusal) }
     {
         let Some(node) = &self.mirror.node else {
@@ -65,7 +65,7 @@ impl World {
     /// The mirror has to be there and off.
     pub(super) fn mirror_on(&self) -> Option<Fault>
         ensures why { (w : Setup) (past : List Change) → StandsFor w past self.now →
-            result ≡ on w (trace w past) OfMirror }
+            result ≡ unless_off w (trace w past) OfMirror }
         ensures sort { IfSome result (λ fault. sort_of fault ≡ Refusal) }
     {
         let Some(node) = &self.mirror.node else {
@@ -77,7 +77,7 @@ impl World {
     /// There has to be a mirror, and the client to be off.
     pub(super) fn unlosable(&self) -> Option<Fault>
         ensures why { (w : Setup) (past : List Change) → StandsFor w past self.now →
-            result ≡ unlosable w (trace w past) }
+            result ≡ unless_losable w (trace w past) }
         ensures sort { IfSome result (λ fault. sort_of fault ≡ Refusal) }
     {
         if self.mirror.node.is_none() {
@@ -94,7 +94,8 @@ impl World {
     /// not used.
     pub(super) fn unrenewable(&self, generation: Generation) -> Option<Fault>
         ensures why { (w : Setup) (past : List Change) → StandsFor w past self.now →
-            result ≡ option_or (unlosable w (trace w past)) (unfit w (trace w past) generation) }
+            result ≡ option_or (unless_losable w (trace w past))
+            (unless_unused w (trace w past) generation) }
         ensures sort { IfSome result (λ fault. sort_of fault ≡ Refusal) }
         ensures fits { result ≡ None → IsTrue (is_generation generation) }
     {
@@ -114,7 +115,7 @@ impl World {
     /// The write has to be open.
     pub(super) fn write_unopen(&self, server: ServerNo, job: JobNo, write: Seq) -> Option<Fault>
         ensures why { (w : Setup) (past : List Change) → StandsFor w past self.now →
-            result ≡ unopen w (trace w past) server job write }
+            result ≡ unless_open w (trace w past) server job write }
         ensures sort { (w : Setup) (past : List Change) → StandsFor w past self.now →
             IfSome result (λ fault. sort_of fault ≡ Refusal) }
     {

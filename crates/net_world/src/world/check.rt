@@ -8,7 +8,7 @@ ghost use Rattle.net_world.specs.Happenings.{Check};
 ghost use Rattle.net_world.specs.Stands.{StandsFor};
 
 use super::{World, place_of};
-use crate::told::{Answer, BoxedReport, Told};
+use crate::told::{BoxedReport, Told, WorldAnswer};
 use fc_base::{Fault, JobNo, ServerNo};
 use recheck::check_disk;
 use server_core::Input;
@@ -46,7 +46,7 @@ impl World {
             report,
         };
         match self.serve(server, done) {
-            Ok(served) => Ok(served.told(Answer::Checked(told))),
+            Ok(served) => Ok(served.told(WorldAnswer::Checked(told))),
             Err(fault) => Err(fault),
         }
     }

@@ -6,7 +6,7 @@ ghost use Rattle.net_world.specs.Setup.{Setup};
 ghost use Rattle.net_world.specs.Changes.{Change, steps};
 ghost use Rattle.net_world.specs.Ends.{Ends};
 ghost use Rattle.net_world.specs.Frames.{to_of, frames_sent};
-ghost use Rattle.net_world.specs.Events.{plainly};
+ghost use Rattle.net_world.specs.Events.{plain_happening};
 ghost use Rattle.net_world.specs.Happenings.{Happening, Deliver, Cut, Restart, CutIn};
 ghost use Rattle.net_world.specs.Stands.{StandsFor};
 ghost use Rattle.net_world.specs.World.{world};
@@ -25,7 +25,7 @@ impl World {
     /// `NoSave`: it would make none.
     pub(super) fn cut_in(&mut self, landed: bool, event: &PlainEvent) -> Result<Told, Fault>
         ensures { (w : Setup) (events : List Happening) → StandsFor w (world w events) self.old →
-            Ends w (world w events) (CutIn landed (plainly event.now)) self.new result }
+            Ends w (world w events) (CutIn landed (plain_happening event.now)) self.new result }
     {
         match event {
             PlainEvent::Begin { text } => self.cut_in_begin(landed, text),
@@ -113,7 +113,8 @@ impl World {
         frame: Frame,
     ) -> Result<Told, Fault>
         ensures { (w : Setup) (past : List Change) (number : ℕ) → StandsFor w past self.old →
-            slice_get (frames_sent w (steps past)) number ≡ Some frame → to_of frame ≡ OfServer server →
+            slice_get (frames_sent w (steps past)) number ≡ Some frame →
+            to_of frame ≡ OfServer server →
             Ends w past (CutIn landed (Deliver number)) self.new result }
     {
         if !self.has_server(server) {

@@ -13,7 +13,7 @@ ghost use Rattle.net_world.specs.World.{world};
 
 use super::World;
 use crate::ask::Ask;
-use crate::told::{Answer, Told};
+use crate::told::{Told, WorldAnswer};
 use crate::world_law::sent_frames_are_read;
 use fc_base::{Fault, ServerNo};
 use messages::{Frame, Node, decode_frame};
@@ -36,11 +36,12 @@ impl World {
     /// A frame comes to a server.
     fn deliver_to_server(&mut self, server: ServerNo, frame: Frame) -> Result<Told, Fault>
         ensures { (w : Setup) (past : List Change) (number : ℕ) → StandsFor w past self.old →
-            slice_get (frames_sent w (steps past)) number ≡ Some frame → to_of frame ≡ OfServer server →
+            slice_get (frames_sent w (steps past)) number ≡ Some frame →
+            to_of frame ≡ OfServer server →
             Ends w past (Deliver number) self.new result }
     {
         match self.serve(server, Input::Deliver(frame)) {
-            Ok(served) => Ok(served.told(Answer::Plain)),
+            Ok(served) => Ok(served.told(WorldAnswer::Plain)),
             Err(fault) => Err(fault),
         }
     }

@@ -11,7 +11,7 @@ ghost use Rattle.net_world.specs.Stands.{StandsFor};
 
 use super::World;
 use crate::asked::Asked;
-use crate::told::{Answer, Told};
+use crate::told::{Told, WorldAnswer};
 use fc_base::Fault;
 use messages::Frame;
 
@@ -20,7 +20,8 @@ impl World {
     /// A frame comes to it.
     pub(super) fn deliver_to_mirror(&mut self, frame: &Frame) -> Result<Told, Fault>
         ensures { (w : Setup) (past : List Change) (number : ℕ) → StandsFor w past self.old →
-            slice_get (frames_sent w (steps past)) number ≡ Some frame.now → to_of frame.now ≡ OfMirror →
+            slice_get (frames_sent w (steps past)) number ≡ Some frame.now →
+            to_of frame.now ≡ OfMirror →
             Ends w past (Deliver number) self.new result }
     {
         let Ok(first) = self.sent.settle() else {
@@ -30,7 +31,7 @@ impl World {
             return Err(Fault::NoMirror);
         };
         let frames = node.deliver(frame)?;
-        let answer = Answer::Plain;
+        let answer = WorldAnswer::Plain;
         Ok(self.send(first, Asked { answer, frames }))
     }
 
@@ -74,7 +75,8 @@ impl World {
         frame: &Frame,
     ) -> Result<Told, Fault>
         ensures { (w : Setup) (past : List Change) (number : ℕ) → StandsFor w past self.old →
-            slice_get (frames_sent w (steps past)) number ≡ Some frame.now → to_of frame.now ≡ OfMirror →
+            slice_get (frames_sent w (steps past)) number ≡ Some frame.now →
+            to_of frame.now ≡ OfMirror →
             Ends w past (CutIn landed (Deliver number)) self.new result }
     {
         let Ok(first) = self.sent.settle() else {

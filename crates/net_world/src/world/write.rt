@@ -6,11 +6,11 @@ ghost use Rattle.net_world.specs.Setup.{Setup};
 ghost use Rattle.net_world.specs.Changes.{Change};
 ghost use Rattle.net_world.specs.Ends.{Ends};
 ghost use Rattle.net_world.specs.Happenings.{Issue as Issues, Land, Rot};
-ghost use Rattle.net_world.specs.Events.{ending};
+ghost use Rattle.net_world.specs.Events.{happening_of_end};
 ghost use Rattle.net_world.specs.Stands.{StandsFor};
 
 use super::{World, place_of};
-use crate::told::{Answer, Told};
+use crate::told::{Told, WorldAnswer};
 use fc_base::{Fault, JobNo, JobRecord, Key, MAX_BLOCKS, Seq, ServerNo};
 use server_core::{Input, WriteEnd};
 use std::alloc::AllocError;
@@ -38,11 +38,11 @@ impl World {
         end: WriteEnd,
     ) -> Result<Told, Fault>
         ensures { (w : Setup) (past : List Change) → StandsFor w past self.old →
-            Ends w past (ending end server job write) self.new result }
+            Ends w past (happening_of_end end server job write) self.new result }
     {
         let found = self.open_write(server, job, write)?;
         match self.serve(server, Input::WriteDone(found.0, end)) {
-            Ok(served) => Ok(served.told(Answer::Plain)),
+            Ok(served) => Ok(served.told(WorldAnswer::Plain)),
             Err(fault) => Err(fault),
         }
     }

@@ -5,26 +5,26 @@ use super::trouble::Trouble;
 use super::words::{first_word, job, mask, node, number, run, write};
 use fc_base::Generation;
 use messages::Act;
-use net_world::{Event, PlainEvent};
+use net_world::{PlainEvent, WorldEvent};
 use std::alloc::Global;
 use std::str::SplitWhitespace;
 
 /// What a command makes happen.
-pub fn event_in(alloc: Global, command: &str) -> Result<Event, Trouble> {
+pub fn event_in(alloc: Global, command: &str) -> Result<WorldEvent, Trouble> {
     match first_word(command) {
         ("cutold", rest) => cut_in(alloc, false, rest),
         ("cutnew", rest) => cut_in(alloc, true, rest),
-        _ => Ok(Event::Plain(plain_in(alloc, command)?)),
+        _ => Ok(WorldEvent::Plain(plain_in(alloc, command)?)),
     }
 }
 
-fn cut_in(alloc: Global, landed: bool, command: &str) -> Result<Event, Trouble> {
+fn cut_in(alloc: Global, landed: bool, command: &str) -> Result<WorldEvent, Trouble> {
     let (word, _) = first_word(command);
     if word == "cutold" || word == "cutnew" {
-        return Ok(Event::CutInCut);
+        return Ok(WorldEvent::CutInCut);
     }
     let event = plain_in(alloc, command)?;
-    Ok(Event::CutIn { landed, event })
+    Ok(WorldEvent::CutIn { landed, event })
 }
 
 fn plain_in(alloc: Global, command: &str) -> Result<PlainEvent, Trouble> {

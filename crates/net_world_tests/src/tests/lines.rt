@@ -4,7 +4,7 @@ use super::trouble::Trouble;
 use engine::Issue;
 use fc_base::{CheckReport, Fault, ReportEnd};
 use messages::{Act, Node, look_at};
-use net_world::{Answer, Told, World};
+use net_world::{Told, World, WorldAnswer};
 use std::alloc::AllocError;
 use std::fmt;
 
@@ -40,13 +40,13 @@ fn put(outcome: Result<(), AllocError>) -> Result<(), Trouble> {
     }
 }
 
-fn put_answer(lines: &mut String, answer: &Answer) -> Result<(), Trouble> {
+fn put_answer(lines: &mut String, answer: &WorldAnswer) -> Result<(), Trouble> {
     match answer {
-        Answer::Plain => put(write!(lines, "ok")),
-        Answer::Run(run) => put(write!(lines, "ok run {}", run.0)),
-        Answer::Attempt(attempt) => put(write!(lines, "ok attempt {}", attempt.0)),
-        Answer::Issued(issue) => put_issue(lines, *issue),
-        Answer::Checked(report) => put_report(lines, report),
+        WorldAnswer::Plain => put(write!(lines, "ok")),
+        WorldAnswer::Run(run) => put(write!(lines, "ok run {}", run.0)),
+        WorldAnswer::Attempt(attempt) => put(write!(lines, "ok attempt {}", attempt.0)),
+        WorldAnswer::Issued(issue) => put_issue(lines, *issue),
+        WorldAnswer::Checked(report) => put_report(lines, report),
     }
 }
 

@@ -7,7 +7,7 @@ use super::teller::{Teller, config_in};
 use super::trouble::Trouble;
 use super::words::first_word;
 use messages::{Node, look_at};
-use net_world::{Config, Event, World, play, with_cut, with_stop};
+use net_world::{Config, World, WorldEvent, play, with_cut, with_stop};
 use std::alloc::Global;
 
 /// What is put into a story before the command with this number: a node loses its power, or does so within
@@ -134,7 +134,7 @@ fn played_once(alloc: Global, story: &str, change: &Option<Change>) -> Result<Wo
 fn played_with(
     alloc: Global,
     config: Option<Config>,
-    events: &[Event],
+    events: &[WorldEvent],
     change: &Option<Change>,
 ) -> Result<World, Trouble> {
     let Some(change) = change else {
@@ -147,7 +147,11 @@ fn played_with(
 }
 
 /// The events with a change put in.
-fn changed(alloc: Global, events: &[Event], change: &Change) -> Result<Vec<Event>, Trouble> {
+fn changed(
+    alloc: Global,
+    events: &[WorldEvent],
+    change: &Change,
+) -> Result<Vec<WorldEvent>, Trouble> {
     let events = match change {
         Change::Cut { at, node } if *at <= events.len() => with_cut(alloc, events, *at, *node),
         Change::Stop { at, landed, node } if *at < events.len() => {
@@ -161,7 +165,11 @@ fn changed(alloc: Global, events: &[Event], change: &Change) -> Result<Vec<Event
     }
 }
 
-fn played_by(alloc: Global, config: Option<Config>, events: &[Event]) -> Result<World, Trouble> {
+fn played_by(
+    alloc: Global,
+    config: Option<Config>,
+    events: &[WorldEvent],
+) -> Result<World, Trouble> {
     let Some(config) = config else {
         return Err(Trouble::BadRow);
     };
@@ -175,7 +183,7 @@ fn played_by(alloc: Global, config: Option<Config>, events: &[Event]) -> Result<
 }
 
 /// The events of a story's commands.
-fn events_of(alloc: Global, story: &str) -> Result<Vec<Event>, Trouble> {
+fn events_of(alloc: Global, story: &str) -> Result<Vec<WorldEvent>, Trouble> {
     let mut events = Vec::new(alloc);
     for row in story.lines() {
         let Some(command) = command_in(row) else {
@@ -196,7 +204,7 @@ fn command_in(row: &str) -> Option<&str> {
     Some(command.trim())
 }
 
-fn put(events: &mut Vec<Event>, event: Result<Event, Trouble>) -> Result<(), Trouble> {
+fn put(events: &mut Vec<WorldEvent>, event: Result<WorldEvent, Trouble>) -> Result<(), Trouble> {
     match event {
         Ok(event) => pushed(events.push(event)),
         Err(trouble) => Err(trouble),

@@ -7,7 +7,7 @@ use super::same::{Shown, shown_by};
 use super::trouble::Trouble;
 use super::words::first_word;
 use fc_base::Fault;
-use net_world::{Config, Event, Told, World};
+use net_world::{Config, Told, World, WorldEvent};
 use std::alloc::Global;
 
 /// A world, and the lines of the last command.
@@ -104,7 +104,7 @@ impl Teller {
     }
 
     /// Takes an event. The world has to show what it showed before, where it refuses.
-    fn take_event(&mut self, event: &Event, server: &Option<u32>) -> Result<(), Trouble> {
+    fn take_event(&mut self, event: &WorldEvent, server: &Option<u32>) -> Result<(), Trouble> {
         let before = shown_by(&self.world);
         match self.world.apply(event) {
             Ok(told) => self.put(&told, server),

@@ -11,7 +11,7 @@ use crate::seat::Seat;
 use crate::task::Task;
 use disk_model::Notes;
 use fc_base::Fault;
-use node_history::{History, Said, Told, Turn, lacks_memory, told_at};
+use node_history::{CallerAnswer, History, Said, Turn, lacks_memory, told_at};
 
 impl<N: Notes + Drop> ServerCell<N> {
     /// Does what is asked from a seat. Each answer but two is entered in the history, as this seat's next.
@@ -22,7 +22,7 @@ impl<N: Notes + Drop> ServerCell<N> {
     /// of a restart `NumbersSpent`, `LoadFault` and `SaveFault`.
     // Inlined, so that a caller that asks for one thing alone makes no room for the others.
     #[inline(always)]
-    pub fn apply(&mut self, seat: &mut Seat, task: Task) -> Result<Told, Fault>
+    pub fn apply(&mut self, seat: &mut Seat, task: Task) -> Result<CallerAnswer, Fault>
         ensures ends { Applies self.old seat.old task self.new seat.new result }
         ensures replay { (past : List FrameEntry) × IsReplay self.new past }
     {
@@ -56,7 +56,8 @@ impl<N: Notes + Drop> ServerCell<N> {
 #[inline(always)]
 fn enter(history: &mut History, seat: &Seat, task: &Task, answer: &Result<Said, Fault>)
     requires { 1 ≤ history.old.room }
-    ensures items { history.new.items ≡ history.old.items ++ entry_of seat.now task.now answer.now ∷ [] }
+    ensures items { history.new.items
+        ≡ history.old.items ++ entry_of seat.now task.now answer.now ∷ [] }
     ensures few { length history.new.items < 2 ^ 64 }
 {
     let by = Turn {

@@ -5,13 +5,13 @@ ghost use Rattle.std.specs.Option.{ForSome};
 ghost use Rattle.messages.specs.declared.node.Node.TheVariants.{Server as ServerNode};
 ghost use Rattle.server_core.specs.Hearing.{FrameEntry};
 ghost use Rattle.node_history.specs.Rules.{Meets};
-ghost use Rattle.node_history.specs.ServerRules.{asked, is_up, rules};
+ghost use Rattle.node_history.specs.ServerRules.{ask_of, is_up, rules};
 ghost use Rattle.node_history.specs.AtHub.{Posts};
 ghost use Rattle.node_history.specs.Calls.{HasWhy};
 ghost use Rattle.node_history.specs.Failures.{Counts};
 ghost use Rattle.node_history.specs.Moves.{outcome_of};
 ghost use Rattle.server_cell.specs.Cells.{IsReplay};
-ghost use Rattle.server_cell.specs.Stands.{given};
+ghost use Rattle.server_cell.specs.Stands.{reply_and_frames};
 
 use super::ServerCell;
 use crate::power::step;
@@ -19,7 +19,7 @@ use disk_model::Notes;
 use fc_base::{Fault, MAX_JOBS};
 use hub::{Hub, frames_are_spelled};
 use messages::{Frames, MAX_FRAME, Node};
-use node_history::{Came, Said, Told, enter, make_room};
+use node_history::{CallerAnswer, Came, Said, enter, make_room};
 use server_core::{Input, Outs, packets_are_in_range};
 use std::alloc::Global;
 
@@ -29,7 +29,8 @@ const FRAMES: usize = MAX_JOBS as usize;
 impl<N: Notes + Drop> ServerCell<N> {
     /// Whether the server is on: not off, and not down.
     pub(super) fn is_on(&self) -> bool
-        ensures { (past : List FrameEntry) × IsReplay self.now past × (is_up self.now.opening past ≡ result) }
+        ensures { (past : List FrameEntry) × IsReplay self.now past
+            × (is_up self.now.opening past ≡ result) }
     {
         self.server().is_some()
     }
@@ -41,13 +42,15 @@ impl<N: Notes + Drop> ServerCell<N> {
         came: Came,
         taken: Option<u64>,
         input: Input,
-    ) -> Result<Told, Fault>
+    ) -> Result<CallerAnswer, Fault>
         requires taken { ForSome taken (λ i. i < length hub.old.net.frames) }
-        requires asks { asked came ≡ Meets input }
+        requires asks { ask_of came ≡ Meets input }
         ensures opening { self.new.opening ≡ self.old.opening }
         ensures failures { Counts false self.old.failures self.new.failures result }
-        ensures ends { Posts (ServerNode self.old.opening.me) came taken hub.old.net hub.new.net self.old.history self.new.history result }
-        ensures why { IfErr result (HasWhy (rules self.old.opening) self.old.history (Meets input)) }
+        ensures ends { Posts
+            (ServerNode self.old.opening.me) came taken hub.old.net hub.new.net self.old.history self.new.history result }
+        ensures why { IfErr result
+            (HasWhy (rules self.old.opening) self.old.history (Meets input)) }
         ensures replay { (past : List FrameEntry) × IsReplay self.new past }
     {
         packets_are_in_range();
@@ -66,7 +69,7 @@ impl<N: Notes + Drop> ServerCell<N> {
 
 /// What a step is answered, and the frames that it sends.
 fn outcome(alloc: Global, step: Result<Outs, Fault>) -> (Result<Said, Fault>, Frames)
-    ensures { result ≡ outcome_of (given step) }
+    ensures { result ≡ outcome_of (reply_and_frames step) }
 {
     match step {
         Ok(outs) => (Ok(Said::of(outs.issue, outs.act)), outs.frames),

@@ -15,7 +15,7 @@ use disk_model::Notes;
 use fc_base::Fault;
 use hub::Hub;
 use messages::Node as NodeName;
-use node_history::{Came, History, Node, Told, frame_came};
+use node_history::{CallerAnswer, Came, History, Node, frame_came};
 use server_core::Input;
 
 impl<N: Notes + Drop> Node for ServerCell<N> {
@@ -47,7 +47,7 @@ impl<N: Notes + Drop> Node for ServerCell<N> {
         ServerCell::history(self)
     }
 
-    fn deliver(&mut self, hub: &mut Hub, position: u64) -> Result<Told, Fault> {
+    fn deliver(&mut self, hub: &mut Hub, position: u64) -> Result<CallerAnswer, Fault> {
         if !self.is_on() {
             return Err(Fault::NodeOff);
         }
@@ -58,7 +58,7 @@ impl<N: Notes + Drop> Node for ServerCell<N> {
     }
 
     /// Takes the report of a job's check, and sends it to the client.
-    fn post(&mut self, hub: &mut Hub, command: Report) -> Result<Told, Fault> {
+    fn post(&mut self, hub: &mut Hub, command: Report) -> Result<CallerAnswer, Fault> {
         if !self.is_on() {
             return Err(Fault::NodeOff);
         }

@@ -5,9 +5,11 @@ ghost use Rattle.fc_base.specs.declared.fault.Fault.TheVariants.{NoMemory};
 ghost use Rattle.server_core.specs.Request.{ToHold, ToPassFully, ToReport};
 ghost use Rattle.server_core.specs.Replies.{replies};
 ghost use Rattle.std.specs.Option.{option_map};
-ghost use Rattle.server_core.specs.KeptCheck.{progress_of, has_job, judged_now, ready_now, with_progress};
-ghost use Rattle.server_core.specs.Framed.{framed};
-ghost use Rattle.server_core.specs.Stands.{MachineIs, EachNow, EachOpen, IsAnswer, OpenIs, after, frame_now};
+ghost use Rattle.server_core.specs.KeptCheck.{progress_of, has_job, judgement_now, ready_now, with_progress};
+ghost use Rattle.server_core.specs.Framed.{frames_to_client};
+ghost use Rattle.server_core.specs.Stands.{MachineIs, EachNow, EachOpen, OpenIs};
+ghost use Rattle.server_core.specs.WordsAfter.{words_after};
+ghost use Rattle.server_core.specs.InnerCalls.{IsAnswer, frame_now};
 ghost use Rattle.server_core.specs.Check.{check_goes_on};
 
 use super::Machine;
@@ -32,9 +34,10 @@ impl Machine {
         ensures answer { EachNow self.old
             (λ now. IsAnswer now (ToReport boot attempt job report) result) }
         ensures sent { EachNow self.old (λ now. IfOk result
-            (λ frames. frames ≡ framed now.server (replies now (ToReport boot attempt job report)))) }
+            (λ frames. frames ≡ frames_to_client now.server
+            (replies now (ToReport boot attempt job report)))) }
         ensures left { EachNow self.old (λ now. IfOk result
-            (λ frames. MachineIs self.new (after now (ToReport boot attempt job report)))) }
+            (λ frames. MachineIs self.new (words_after now (ToReport boot attempt job report)))) }
         ensures same { OnErr result (self.new ≡ self.old) }
     {
         if boot != self.boot {
@@ -53,7 +56,8 @@ impl Machine {
     fn frames_of(&self, job: JobNo, progress: &Progress) -> Result<Frames, Fault>
         requires { has_job self.now.check job ≡ true }
         ensures sent { EachNow self.now (λ now. IfOk result (λ frames.
-            frames ≡ framed now.server (frame_now job (progress_of progress.now) now.check))) }
+            frames ≡ frames_to_client now.server
+            (frame_now job (progress_of progress.now) now.check))) }
         ensures memory { OnErr result (result ≡ Err NoMemory) }
     {
         let mut frames = Frames::new(self.alloc);
@@ -70,9 +74,10 @@ impl Machine {
     /// doesn't fit, the client is told. Where memory runs out nothing changes.
     pub(crate) fn hold(&mut self, attempt: Attempt, state: &VerifyState) -> Result<Frames, Fault>
         ensures sent { EachNow self.old (λ now. IfOk result
-            (λ frames. frames ≡ framed now.server (replies now (ToHold attempt state.now)))) }
+            (λ frames. frames ≡ frames_to_client now.server
+            (replies now (ToHold attempt state.now)))) }
         ensures left { EachNow self.old (λ now. IfOk result
-            (λ frames. MachineIs self.new (after now (ToHold attempt state.now)))) }
+            (λ frames. MachineIs self.new (words_after now (ToHold attempt state.now)))) }
         ensures same { OnErr result (self.new ≡ self.old) }
         ensures memory { OnErr result (result ≡ Err NoMemory) }
     {
@@ -88,7 +93,7 @@ impl Machine {
     /// Makes the check of a job a full pass, where it waits for its state in this attempt.
     pub(crate) fn pass(&mut self, attempt: Attempt, job: JobNo)
         ensures { EachNow self.old
-            (λ now. MachineIs self.new (after now (ToPassFully attempt job))) }
+            (λ now. MachineIs self.new (words_after now (ToPassFully attempt job))) }
     {
         pass(&mut self.check, attempt, job);
     }
@@ -97,7 +102,8 @@ impl Machine {
 /// Makes the check of a job a full pass, where it waits for its state in this attempt.
 fn pass(check: &mut Option<OpenCheck>, attempt: Attempt, job: JobNo)
     ensures { EachOpen check.old
-        (λ me now_boot c. OpenIs me now_boot check.new (check_goes_on (ToPassFully attempt job) c)) }
+        (λ me now_boot c. OpenIs me now_boot check.new
+        (check_goes_on (ToPassFully attempt job) c)) }
 {
     if let Some(check) = check {
         check.pass(attempt, job);
@@ -122,7 +128,7 @@ fn judge(
     attempt: Attempt,
     state: &VerifyState,
 ) -> Option<Progress>
-    ensures value { option_map progress_of result ≡ judged_now me check.now attempt state.now }
+    ensures value { option_map progress_of result ≡ judgement_now me check.now attempt state.now }
     ensures there { MatchOption result (Unit {0})
         (λ progress. has_job check.now state.now.key.job ≡ true) }
 {

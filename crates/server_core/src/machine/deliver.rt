@@ -3,7 +3,7 @@
 ghost use Rattle.std.specs.Prelude.{◌≡◌, true};
 ghost use Rattle.messages.specs.Ranges.{is_body};
 ghost use Rattle.server_core.specs.declared.event.Event.TheVariants.{Deliver};
-ghost use Rattle.server_core.specs.Request.{asked, asked_by};
+ghost use Rattle.server_core.specs.Request.{request_of, request_in};
 ghost use Rattle.server_core.specs.Handles.{Handled, EachUndue};
 
 use super::Machine;
@@ -15,8 +15,8 @@ use messages::{Body, Packet, PacketParts};
 impl Machine {
     /// Takes one event. A Start has to be one that isn't due to record a run.
     pub(crate) fn take(&mut self, event: Event) -> Result<Outs, Fault>
-        ensures { EachUndue self.old (asked self.old.me event)
-            (λ now. Handled now (asked self.old.me event) self.old self.new result) }
+        ensures { EachUndue self.old (request_of self.old.me event)
+            (λ now. Handled now (request_of self.old.me event) self.old self.new result) }
     {
         match event {
             Event::Deliver(packet) => self.deliver(packet),
@@ -33,8 +33,9 @@ impl Machine {
 
     /// Takes a packet, where it is for this server and from the client.
     fn deliver(&mut self, packet: Packet) -> Result<Outs, Fault>
-        ensures { EachUndue self.old (asked self.old.me (Deliver packet))
-            (λ now. Handled now (asked self.old.me (Deliver packet)) self.old self.new result) }
+        ensures { EachUndue self.old (request_of self.old.me (Deliver packet))
+            (λ now. Handled now (request_of self.old.me
+            (Deliver packet)) self.old self.new result) }
     {
         let PacketParts { from, to, body } = packet.into_parts();
         if !from.is_client() || !to.is_server(self.me) {
@@ -46,8 +47,8 @@ impl Machine {
     /// Takes what the client says.
     fn serve(&mut self, body: Body) -> Result<Outs, Fault>
         requires { is_body body ≡ true }
-        ensures { EachUndue self.old (asked_by body)
-            (λ now. Handled now (asked_by body) self.old self.new result) }
+        ensures { EachUndue self.old (request_in body)
+            (λ now. Handled now (request_in body) self.old self.new result) }
     {
         match body {
             Body::Jobs { run, text } => self.handle_jobs(run, &text),

@@ -8,8 +8,10 @@ ghost use Rattle.messages.specs.Ranges.{is_run, is_jobs};
 ghost use Rattle.server_core.specs.Words.{Staged, for_run};
 ghost use Rattle.server_core.specs.Replies.{replies, number_staged};
 ghost use Rattle.server_core.specs.Request.{ToStage};
-ghost use Rattle.server_core.specs.Framed.{framed};
-ghost use Rattle.server_core.specs.Stands.{MachineIs, EachNow, after, unstaged};
+ghost use Rattle.server_core.specs.Framed.{frames_to_client};
+ghost use Rattle.server_core.specs.Stands.{MachineIs, EachNow};
+ghost use Rattle.server_core.specs.WordsAfter.{words_after};
+ghost use Rattle.server_core.specs.InnerCalls.{frames_without_staging};
 ghost use Rattle.messages.specs.declared.body.Body.TheVariants.{JobsOk};
 
 use super::Machine;
@@ -28,9 +30,10 @@ impl Machine {
     pub(crate) fn stage(&mut self, run: RunNo, text: &[u8]) -> Result<Frames, Fault>
         requires { IsTrue (is_run run) }
         ensures sent { EachNow self.old (λ now. IfOk result
-            (λ frames. frames ≡ framed now.server (replies now (ToStage run text.now)))) }
+            (λ frames. frames ≡ frames_to_client now.server (replies now (ToStage run text.now)))) }
         ensures left { EachNow self.old
-            (λ now. IfOk result (λ frames. MachineIs self.new (after now (ToStage run text.now)))) }
+            (λ now. IfOk result (λ frames. MachineIs self.new
+            (words_after now (ToStage run text.now)))) }
         ensures same { OnErr result (self.new ≡ self.old) }
         ensures memory { OnErr result (result ≡ Err NoMemory) }
     {
@@ -43,9 +46,9 @@ impl Machine {
     fn staging(&self, run: RunNo, text: &[u8]) -> Result<Staging, Fault>
         requires { IsTrue (is_run run) }
         ensures sent { EachNow self.now (λ now. IfOk result
-            (λ s. s.frames ≡ framed now.server (replies now (ToStage run text.now)))) }
+            (λ s. s.frames ≡ frames_to_client now.server (replies now (ToStage run text.now)))) }
         ensures staged { EachNow self.now (λ now. IfOk result
-            (λ s. option_or s.new now.staged ≡ (after now (ToStage run text.now)).staged)) }
+            (λ s. option_or s.new now.staged ≡ (words_after now (ToStage run text.now)).staged)) }
         ensures memory { OnErr result (result ≡ Err NoMemory) }
     {
         if run <= self.last_run || run < self.staged_run() {
@@ -85,7 +88,8 @@ impl Machine {
 
     /// How many jobs are staged for this run, if it is the staged one.
     pub(super) fn staged_jobs(&self, run: RunNo) -> Option<u32>
-        ensures value { result ≡ option_map (λ (s : Staged). length s.jobs) (for_run run self.now.staged) }
+        ensures value { result ≡ option_map
+            (λ (s : Staged). length s.jobs) (for_run run self.now.staged) }
         ensures range { MatchOption result (Unit {0}) (λ jobs. IsTrue (is_jobs jobs)) }
     {
         match &self.staged {
@@ -113,7 +117,7 @@ fn keep(slot: &mut Option<StagedSet>, new: Option<StagedSet>)
 
 /// These frames, and nothing is staged.
 fn unstaged(frames: Result<Frames, AllocError>) -> Result<Staging, Fault>
-    ensures { result ≡ unstaged frames }
+    ensures { result ≡ frames_without_staging frames }
 {
     match frames {
         Ok(frames) => Ok(Staging { frames, new: None }),
@@ -125,7 +129,8 @@ fn unstaged(frames: Result<Frames, AllocError>) -> Result<Staging, Fault>
 fn staged(alloc: Global, me: ServerNo, set: StagedSet) -> Result<Staging, Fault>
     requires { me < MAX_SERVERS }
     ensures ok { IfOk result (λ s.
-        (s.frames ≡ framed me (JobsOk set.run (length set.jobs) ∷ [])) × (s.new ≡ Some set)) }
+        (s.frames ≡ frames_to_client me (JobsOk set.run (length set.jobs) ∷ []))
+        × (s.new ≡ Some set)) }
     ensures memory { OnErr result (result ≡ Err NoMemory) }
 {
     let body = Body::JobsOk {

@@ -4,12 +4,14 @@ ghost use Rattle.std.specs.Prelude.{◌≡◌, IsTrue, IfOk, OnErr, MatchOption,
 ghost use Rattle.fc_base.specs.declared.fault.Fault.TheVariants.{NoMemory};
 ghost use Rattle.messages.specs.Ranges.{is_run};
 ghost use Rattle.server_core.specs.declared.event.Event.TheVariants.{Deliver};
-ghost use Rattle.server_core.specs.Request.{ToStart, asked};
-ghost use Rattle.server_core.specs.Words.{Staged, is_due};
+ghost use Rattle.server_core.specs.Request.{ToStart, request_of};
+ghost use Rattle.server_core.specs.Words.{Staged, due_by};
 ghost use Rattle.server_core.specs.Replies.{present, replies};
-ghost use Rattle.server_core.specs.Framed.{framed};
-ghost use Rattle.server_core.specs.Kept.{jobs_kept, started};
-ghost use Rattle.server_core.specs.Stands.{MachineIs, EachNow, IsDueFor, begun_by, lacks};
+ghost use Rattle.server_core.specs.Framed.{frames_to_client};
+ghost use Rattle.server_core.specs.Kept.{jobs_kept, new_work};
+ghost use Rattle.server_core.specs.Stands.{MachineIs, EachNow};
+ghost use Rattle.server_core.specs.WordsAfter.{IsDueFor, begun_by};
+ghost use Rattle.server_core.specs.InnerCalls.{lacks};
 
 use super::Machine;
 use crate::event::Event;
@@ -24,7 +26,7 @@ impl Machine {
     /// The run that an event is due to record, if there is one.
     pub(crate) fn due(&self, event: &Event) -> Option<RunNo>
         ensures due { EachNow self.now
-            (λ now. IsDueFor now (asked self.now.me event.now) result) }
+            (λ now. IsDueFor now (request_of self.now.me event.now) result) }
         ensures range { MatchOption result (Unit {0}) (λ run. IsTrue (is_run run)) }
     {
         match event {
@@ -36,7 +38,7 @@ impl Machine {
     /// The run that a packet is due to record, if there is one.
     pub(crate) fn due_by(&self, packet: &Packet) -> Option<RunNo>
         ensures due { EachNow self.now
-            (λ now. IsDueFor now (asked self.now.me (Deliver packet.now)) result) }
+            (λ now. IsDueFor now (request_of self.now.me (Deliver packet.now)) result) }
         ensures range { MatchOption result (Unit {0}) (λ run. IsTrue (is_run run)) }
     {
         packet.keeps_its_ranges();
@@ -53,7 +55,7 @@ impl Machine {
     /// write is open.
     pub(crate) fn is_due(&self, run: RunNo) -> bool
         ensures { EachNow self.now
-            (λ now. result ≡ is_some (is_due true now.last now.staged now.run (ToStart run))) }
+            (λ now. result ≡ is_some (due_by true now.last now.staged now.run (ToStart run))) }
     {
         run > self.last_run && !work::is_open(&self.run) && self.staged_jobs(run).is_some()
     }
@@ -62,7 +64,7 @@ impl Machine {
     pub(crate) fn start_frames(&self, run: RunNo) -> Result<Frames, Fault>
         requires { IsTrue (is_run run) }
         ensures sent { EachNow self.now (λ now. IfOk result
-            (λ frames. frames ≡ framed now.server (replies now (ToStart run)))) }
+            (λ frames. frames ≡ frames_to_client now.server (replies now (ToStart run)))) }
         ensures memory { OnErr result (result ≡ Err NoMemory) }
     {
         if self.is_present(run) {
@@ -83,7 +85,8 @@ impl Machine {
     /// The engines of the staged run, for which all its memory is taken.
     pub(crate) fn engines(&self) -> Result<Vec<JobRun>, Fault>
         ensures engines { IfOk result (λ kept. MatchOption self.now.staged (Unit {0})
-            (λ (s : Staged). kept.items ≡ jobs_kept (started self.now.me self.now.boot s) 0 s.jobs)) }
+            (λ (s : Staged). kept.items
+            ≡ jobs_kept (new_work self.now.me self.now.boot s) 0 s.jobs)) }
         ensures memory { OnErr result (result ≡ Err NoMemory) }
     {
         let engines = match &self.staged {
@@ -99,7 +102,7 @@ impl Machine {
     /// The staged run begins with these engines. Any check is closed.
     pub(crate) fn begin(&mut self, engines: Vec<JobRun>)
         requires { MatchOption self.old.staged (Unit {0}) (λ (s : Staged).
-            engines.items ≡ jobs_kept (started self.old.me self.old.boot s) 0 s.jobs) }
+            engines.items ≡ jobs_kept (new_work self.old.me self.old.boot s) 0 s.jobs) }
         ensures { EachNow self.old (λ now. (s : Staged) → now.staged ≡ Some s →
             MachineIs self.new (begun_by now s)) }
     {

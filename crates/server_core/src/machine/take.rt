@@ -3,7 +3,7 @@
 ghost use Rattle.std.specs.Prelude.{◌≡◌, IsTrue, Ok};
 ghost use Rattle.messages.specs.Ranges.{is_attempt as in_range, is_run};
 ghost use Rattle.server_core.specs.Request.{ToStage, ToStart, ToTrigger, ToMark, ToStop, ToVerify, ToHold, ToPassFully, ToIssue, ToEnd, ToReport};
-ghost use Rattle.server_core.specs.Handles.{Handled, EachUndue, issued, ended};
+ghost use Rattle.server_core.specs.Handles.{Handled, EachUndue, outs_of_issue, outs_of_end};
 ghost use Rattle.server_core.specs.Memory.{TakesNone};
 
 use super::Machine;
@@ -111,7 +111,7 @@ impl Machine {
     #[inline(always)]
     pub(crate) fn hand_out(&mut self, job: JobNo) -> Issue
         ensures { EachUndue self.old (ToIssue job)
-            (λ now. Handled now (ToIssue job) self.old self.new (issued (Ok result))) }
+            (λ now. Handled now (ToIssue job) self.old self.new (outs_of_issue (Ok result))) }
     {
         self.issue(job)
     }
@@ -120,7 +120,7 @@ impl Machine {
     #[inline(always)]
     pub(crate) fn hear_end(&mut self, ticket: Ticket, end: WriteEnd) -> Result<(), Fault>
         ensures handled { EachUndue self.old (ToEnd ticket end)
-            (λ now. Handled now (ToEnd ticket end) self.old self.new (ended result)) }
+            (λ now. Handled now (ToEnd ticket end) self.old self.new (outs_of_end result)) }
         ensures memory { TakesNone result }
     {
         self.end_write(ticket, end)?;

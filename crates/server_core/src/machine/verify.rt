@@ -10,8 +10,10 @@ ghost use Rattle.server_core.specs.Check.{opens};
 ghost use Rattle.server_core.specs.KeptCheck.{CheckKept};
 ghost use Rattle.server_core.specs.Replies.{refuse, replies, reply_to_new_check};
 ghost use Rattle.server_core.specs.Laws.{IsSet};
-ghost use Rattle.server_core.specs.Framed.{framed};
-ghost use Rattle.server_core.specs.Stands.{MachineIs, EachNow, IsOfText, OpenIs, after, checked_again, opened_anew, Opened, unopened};
+ghost use Rattle.server_core.specs.Framed.{frames_to_client};
+ghost use Rattle.server_core.specs.Stands.{MachineIs, EachNow, OpenIs};
+ghost use Rattle.server_core.specs.WordsAfter.{words_after, opened_anew};
+ghost use Rattle.server_core.specs.InnerCalls.{IsOfText, checked_again, Opened, frames_without_check};
 
 use super::Machine;
 use crate::open_check::{OpenCheck, progress_of_jobs};
@@ -35,9 +37,10 @@ impl Machine {
         requires run { IsTrue (is_run run) }
         requires attempt { IsTrue (in_range attempt) }
         ensures sent { EachNow self.old (λ now. IfOk result
-            (λ frames. frames ≡ framed now.server (replies now (ToVerify run attempt text.now)))) }
+            (λ frames. frames ≡ frames_to_client now.server
+            (replies now (ToVerify run attempt text.now)))) }
         ensures left { EachNow self.old (λ now. IfOk result
-            (λ frames. MachineIs self.new (after now (ToVerify run attempt text.now)))) }
+            (λ frames. MachineIs self.new (words_after now (ToVerify run attempt text.now)))) }
         ensures same { OnErr result (self.new ≡ self.old) }
         ensures memory { OnErr result (result ≡ Err NoMemory) }
     {
@@ -51,10 +54,12 @@ impl Machine {
         requires run { IsTrue (is_run run) }
         requires attempt { IsTrue (in_range attempt) }
         ensures sent { EachNow self.now (λ now. IfOk result
-            (λ v. v.frames ≡ framed now.server (replies now (ToVerify run attempt text.now)))) }
+            (λ v. v.frames ≡ frames_to_client now.server
+            (replies now (ToVerify run attempt text.now)))) }
         ensures opened { EachNow self.now (λ now. IfOk result
             (λ v. OpenIs now.server now.boot v.new
-            (opens true now.server now.boot now.last now.run now.check (ToVerify run attempt text.now)))) }
+            (opens true now.server now.boot now.last now.run now.check
+            (ToVerify run attempt text.now)))) }
         ensures memory { OnErr result (result ≡ Err NoMemory) }
     {
         if run > self.last_run {
@@ -77,7 +82,8 @@ impl Machine {
         requires run { IsTrue (is_run run) }
         requires attempt { IsTrue (in_range attempt) }
         ensures sent { EachNow self.now (λ now. IfOk result
-            (λ v. v.frames ≡ framed now.server (reply_to_new_check now run attempt text.now))) }
+            (λ v. v.frames ≡ frames_to_client now.server
+            (reply_to_new_check now run attempt text.now))) }
         ensures opened { EachNow self.now (λ now. IfOk result
             (λ v. OpenIs now.server now.boot v.new
             (opened_anew now.server now.boot now.run run attempt text.now))) }
@@ -130,7 +136,7 @@ impl Machine {
     /// The open check is told again.
     fn check_again(&self) -> Result<Verifying, Fault>
         ensures sent { EachNow self.now (λ now. IfOk result
-            (λ v. v.frames ≡ framed now.server (checked_again now.check))) }
+            (λ v. v.frames ≡ frames_to_client now.server (checked_again now.check))) }
         ensures opened { IfOk result (λ v. v.new ≡ None) }
         ensures memory { OnErr result (result ≡ Err NoMemory) }
     {
@@ -152,7 +158,8 @@ impl Machine {
         requires attempt { IsTrue (in_range attempt) }
         requires reason { IsOfText reason }
         ensures sent { IfOk result
-            (λ v. v.frames ≡ framed self.now.me (refuse Verify reason run attempt value)) }
+            (λ v. v.frames ≡ frames_to_client self.now.me
+            (refuse Verify reason run attempt value)) }
         ensures opened { IfOk result (λ v. v.new ≡ None) }
         ensures memory { OnErr result (result ≡ Err NoMemory) }
     {
@@ -178,7 +185,7 @@ struct Verifying {
 
 /// These frames, and no check is opened.
 fn unopened(frames: Result<Frames, AllocError>) -> Result<Verifying, Fault>
-    ensures { result ≡ unopened frames }
+    ensures { result ≡ frames_without_check frames }
 {
     match frames {
         Ok(frames) => Ok(Verifying { frames, new: None }),

@@ -3,7 +3,7 @@
 ghost use Rattle.std.specs.Prelude.{◌≡◌, ◌<◌, IsTrue, IfOk, length, MatchOption};
 ghost use Rattle.fc_base.specs.declared.limits.TheConstants.{MAX_SERVERS};
 ghost use Rattle.messages.specs.Ranges.{is_body};
-ghost use Rattle.server_core.specs.Framed.{framed, listed};
+ghost use Rattle.server_core.specs.Framed.{frames_to_client, one_or_none};
 ghost use Rattle.server_core.specs.Replies.{progress_frame, check_frames};
 ghost use Rattle.server_core.specs.KeptCheck.{EachCheck, progress_of, misfit_of};
 ghost use Rattle.fc_base.specs.Fault.{number_of};
@@ -20,7 +20,7 @@ impl OpenCheck {
     pub(crate) fn frames(&self, alloc: Global, me: ServerNo) -> Result<Frames, AllocError>
         requires { me < MAX_SERVERS }
         ensures { EachCheck self.now (λ c. IfOk result
-            (λ frames. frames ≡ framed me (check_frames c))) }
+            (λ frames. frames ≡ frames_to_client me (check_frames c))) }
     {
         let mut frames = Frames::new(alloc);
         let mut index = 0;
@@ -36,7 +36,7 @@ impl OpenCheck {
     pub(crate) fn body_of(&self, job: JobNo, progress: &Progress) -> Option<Body>
         requires { job < length self.now.progress }
         ensures value { EachCheck self.now (λ c.
-            listed result ≡ progress_frame c job (progress_of progress.now)) }
+            one_or_none result ≡ progress_frame c job (progress_of progress.now)) }
         ensures range { MatchOption result (Unit {0}) (λ body. IsTrue (is_body body)) }
     {
         match progress {

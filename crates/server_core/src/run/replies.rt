@@ -4,8 +4,8 @@ ghost use Rattle.std.specs.Prelude.{◌≡◌, ◌<◌, ◌≤◌, IsTrue, IfOk,
 ghost use Rattle.fc_base.specs.declared.limits.TheConstants.{MAX_JOBS, MAX_SERVERS};
 ghost use Rattle.job_file.specs.declared.job.Job.{Job};
 ghost use Rattle.messages.specs.Ranges.{is_body};
-ghost use Rattle.server_core.specs.Kept.{EachRun, said};
-ghost use Rattle.server_core.specs.Framed.{framed};
+ghost use Rattle.server_core.specs.Kept.{EachRun, state_body};
+ghost use Rattle.server_core.specs.Framed.{frames_to_client};
 ghost use Rattle.server_core.specs.Replies.{state_frame, state_frames};
 ghost use Rattle.server_core.specs.Kept.{asked_before};
 
@@ -21,7 +21,7 @@ impl Run {
     pub(crate) fn state_frames(&self, alloc: Global, me: ServerNo) -> Result<Frames, AllocError>
         requires { me < MAX_SERVERS }
         ensures { EachRun self.now (λ w. IfOk result
-            (λ frames. frames ≡ framed me (state_frames w (asked_before w) 0 w.jobs))) }
+            (λ frames. frames ≡ frames_to_client me (state_frames w (asked_before w) 0 w.jobs))) }
     {
         let mut frames = Frames::new(alloc);
         let mut index = 0;
@@ -61,7 +61,7 @@ impl Run {
 
 /// A job's state, or that it has none.
 fn body_of(run: RunNo, jobs: u32, job: JobNo, state: Option<VerifyState>) -> Body
-    ensures { result ≡ said run jobs job state }
+    ensures { result ≡ state_body run jobs job state }
 {
     match state {
         Some(state) => Body::State { jobs, state },

@@ -3,9 +3,9 @@ use Rattle.std.specs.Prelude.{reverse}
 use Rattle.std.proofs.lemmas.List.{reverse-reverse}
 use Rattle.std.proofs.lemmas.Result.{err_from_is_err_and}
 use Rattle.node_traces.specs.declared.place.Place.{Place}
-use Rattle.node_traces.specs.Orders.{merged}
+use Rattle.node_traces.specs.Orders.{merged_order}
 use Rattle.node_traces.specs.Names.{IsOrder}
-use Rattle.assembly.specs.Ran.{ran, history_of}
+use Rattle.assembly.specs.Ran.{ran_of, history_of}
 use Rattle.assembly.proofs.WhyLemmas.{differs_why}
 use Rattle.assembly.proofs.list.assemble.Goals as goal
 
@@ -15,7 +15,7 @@ returns-in-Some-clause-why g c = (λ agrees. c.in-Some.ensures.some agrees.opene
 pub returns-in_err-order-clause-why : goal.returns-in_err-order-clause-why
 returns-in_err-order-clause-why g c =
     let p = err_from_is_err_and c.from_residual.result c.from_residual.ensures.1 in
-    rw (p.1, p.2) (differs_why (ran c.args.client.now c.args.servers.now) c.args.hub.now.net c.args.seats.now c.in_err-order.field-0.0 c.in_err-order.ensures.differs)
+    rw (p.1, p.2) (differs_why (ran_of c.args.client.now c.args.servers.now) c.args.hub.now.net c.args.seats.now c.in_err-order.field-0.0 c.in_err-order.ensures.differs)
 
 pub returns-clause-agrees : goal.returns-clause-agrees
 returns-clause-agrees g c = λ node. record {
@@ -26,9 +26,9 @@ returns-clause-agrees g c = λ node. record {
 
 pub returns-clause-trace : goal.returns-clause-trace
 returns-clause-trace g c =
-    let order = ap (λ (ps : List Place). reverse ps) c.in_ok-order.ensures.merged ∙ reverse-reverse (merged (length c.args.servers.now) (history_of (ran c.args.client.now c.args.servers.now)) c.args.hub.now.net.journal) in
-    subst (λ (ps : List Place). IsOrder (length c.args.servers.now) c.args.hub.now.net (history_of (ran c.args.client.now c.args.servers.now)) ps) (sym order)
-    (c.agreeing_nodes_are_a_trace.ensures (length c.args.servers.now) c.args.hub.now.net (history_of (ran c.args.client.now c.args.servers.now)) c.in_ok-order.ensures.agree)
+    let order = ap (λ (ps : List Place). reverse ps) c.in_ok-order.ensures.merged ∙ reverse-reverse (merged_order (length c.args.servers.now) (history_of (ran_of c.args.client.now c.args.servers.now)) c.args.hub.now.net.journal) in
+    subst (λ (ps : List Place). IsOrder (length c.args.servers.now) c.args.hub.now.net (history_of (ran_of c.args.client.now c.args.servers.now)) ps) (sym order)
+    (c.agreeing_nodes_are_a_trace.ensures (length c.args.servers.now) c.args.hub.now.net (history_of (ran_of c.args.client.now c.args.servers.now)) c.in_ok-order.ensures.agree)
 
 pub returns-clause-state : goal.returns-clause-state
 returns-clause-state g c = λ lists trace is.

@@ -3,7 +3,7 @@ use Rattle.client_core.specs.declared.input.Input.TheVariants as inputs
 use Rattle.node_history.specs.declared.power.Power.TheVariants.{On}
 use Rattle.client_cell.specs.Tasks.{input_of}
 use Rattle.node_history.specs.Moves.{StepEnds}
-use Rattle.client_cell.specs.Stands.{given, ways}
+use Rattle.client_cell.specs.Stands.{reply_and_frames, ways}
 use Rattle.client_cell.proofs.PowerLemmas.{begin_ends, verify_ends, plain_ends, run_counts, attempt_counts, sent_counts}
 use Rattle.client_cell.proofs.power.ask.Goals as goal
 
@@ -11,9 +11,9 @@ pub returns-in-Begin-clause-ends : goal.returns-in-Begin-clause-ends
 returns-in-Begin-clause-ends g c o past on s =
     let note = g.N.Notes.note in
     let new = c.begin.new.self in
-    subst (λ request. StepEnds (ways note o) past (input_of request) (On new) (given c.begun.result)) (sym c.in-Begin.is)
-    (subst (λ text. StepEnds (ways note o) past (inputs.Begin text) (On new) (given c.begun.result)) c.as_slice.ensures.value
-    (subst (λ result. StepEnds (ways note o) past (inputs.Begin c.as_slice.result.now) (On new) (given result)) (sym c.begun.ensures)
+    subst (λ request. StepEnds (ways note o) past (input_of request) (On new) (reply_and_frames c.begun.result)) (sym c.in-Begin.is)
+    (subst (λ text. StepEnds (ways note o) past (inputs.Begin text) (On new) (reply_and_frames c.begun.result)) c.as_slice.ensures.value
+    (subst (λ result. StepEnds (ways note o) past (inputs.Begin c.as_slice.result.now) (On new) (reply_and_frames result)) (sym c.begun.ensures)
     (begin_ends note o past c.as_slice.result.now c.args.client.now new c.begin.result on (c.begin.ensures o past s))))
 
 pub returns-in-Verify-clause-ends : goal.returns-in-Verify-clause-ends
@@ -22,9 +22,9 @@ returns-in-Verify-clause-ends g c o past on s =
     let new = c.verify.new.self in
     let run = c.in-Verify.run' in
     let read = c.as_slice-in-Verify in
-    subst (λ request. StepEnds (ways note o) past (input_of request) (On new) (given c.tried.result)) (sym c.in-Verify.is)
-    (subst (λ text. StepEnds (ways note o) past (inputs.Verify run text) (On new) (given c.tried.result)) read.ensures.value
-    (subst (λ result. StepEnds (ways note o) past (inputs.Verify run read.result.now) (On new) (given result)) (sym c.tried.ensures)
+    subst (λ request. StepEnds (ways note o) past (input_of request) (On new) (reply_and_frames c.tried.result)) (sym c.in-Verify.is)
+    (subst (λ text. StepEnds (ways note o) past (inputs.Verify run text) (On new) (reply_and_frames c.tried.result)) read.ensures.value
+    (subst (λ result. StepEnds (ways note o) past (inputs.Verify run read.result.now) (On new) (reply_and_frames result)) (sym c.tried.ensures)
     (verify_ends note o past run read.result.now c.args.client.now new c.verify.result on (c.verify.ensures o past s))))
 
 pub returns-in-Trigger-clause-ends : goal.returns-in-Trigger-clause-ends
@@ -32,8 +32,8 @@ returns-in-Trigger-clause-ends g c o past on s =
     let note = g.N.Notes.note in
     let new = c.trigger.new.self in
     let input = inputs.Trigger c.in-Trigger.run' c.in-Trigger.act in
-    subst (λ request. StepEnds (ways note o) past (input_of request) (On new) (given c.plainly.result)) (sym c.in-Trigger.is)
-    (subst (λ result. StepEnds (ways note o) past input (On new) (given result)) (sym c.plainly.ensures)
+    subst (λ request. StepEnds (ways note o) past (input_of request) (On new) (reply_and_frames c.plainly.result)) (sym c.in-Trigger.is)
+    (subst (λ result. StepEnds (ways note o) past input (On new) (reply_and_frames result)) (sym c.plainly.ensures)
     (plain_ends note o past input c.args.client.now new c.trigger.result on tt refl (c.trigger.ensures o past s)))
 
 pub returns-in-Stop-clause-ends : goal.returns-in-Stop-clause-ends
@@ -41,8 +41,8 @@ returns-in-Stop-clause-ends g c o past on s =
     let note = g.N.Notes.note in
     let new = c.stop.new.self in
     let input = inputs.Stop c.in-Stop.run' in
-    subst (λ request. StepEnds (ways note o) past (input_of request) (On new) (given c.plainly-in-Stop.result)) (sym c.in-Stop.is)
-    (subst (λ result. StepEnds (ways note o) past input (On new) (given result)) (sym c.plainly-in-Stop.ensures)
+    subst (λ request. StepEnds (ways note o) past (input_of request) (On new) (reply_and_frames c.plainly-in-Stop.result)) (sym c.in-Stop.is)
+    (subst (λ result. StepEnds (ways note o) past input (On new) (reply_and_frames result)) (sym c.plainly-in-Stop.ensures)
     (plain_ends note o past input c.args.client.now new c.stop.result on tt refl (c.stop.ensures o past s)))
 
 pub returns-in-Begin-clause-count : goal.returns-in-Begin-clause-count

@@ -2,7 +2,7 @@ use Rattle.std.proofs.Common.{refl, sym, subst, ◌∙◌}
 use Rattle.client_core.specs.declared.input.Input.TheVariants as inputs
 use Rattle.node_history.specs.declared.power.Power.TheVariants.{On}
 use Rattle.node_history.specs.Moves.{StepEnds}
-use Rattle.client_cell.specs.Stands.{given, ways}
+use Rattle.client_cell.specs.Stands.{reply_and_frames, ways}
 use Rattle.client_cell.proofs.PowerLemmas.{plain_ends, off_ends, sent_counts}
 use Rattle.client_cell.proofs.power.tick.Goals as goal
 
@@ -12,7 +12,7 @@ returns-then-on-clause-ends g c o past s =
     let stands = rw c.in-On.is at s in
     let client = c.in-On.client in
     rw c.in-On.is
-    (subst (λ result. StepEnds (ways note o) past inputs.Tick (On client) (given result)) (sym c.plainly.ensures)
+    (subst (λ result. StepEnds (ways note o) past inputs.Tick (On client) (reply_and_frames result)) (sym c.plainly.ensures)
     (plain_ends note o past inputs.Tick client client c.tick.result (sym (c.on.ensures o past stands) ∙ c.if-on.true) tt refl (c.tick.ensures o past stands)))
 
 pub returns-else-on-clause-ends : goal.returns-else-on-clause-ends

@@ -7,7 +7,7 @@ ghost use Rattle.messages.specs.Ranges.{is_job_of};
 ghost use Rattle.messages.specs.declared.body.Body.TheVariants.{Report};
 ghost use Rattle.client_core.specs.Life.{Deed, Hears};
 ghost use Rattle.client_core.specs.Lives.{LifeIs, EachLife, AttemptsAre, AttemptFor};
-ghost use Rattle.client_core.specs.Reports.{has_report, report_counts, reports_heard, said};
+ghost use Rattle.client_core.specs.Reports.{has_report, report_counts, reports_heard, report_body};
 
 use crate::attempt_asked::AttemptAsked;
 use crate::life::Life;
@@ -22,7 +22,8 @@ impl Life {
         requires server { received.server < MAX_SERVERS }
         requires job { IsTrue (is_job_of received.job jobs) }
         ensures left { OnOk result (EachLife self.old
-            (λ deeds. LifeIs self.new (Hears received.server (said received jobs) ∷ deeds))) }
+            (λ deeds. LifeIs self.new
+            (Hears received.server (report_body received jobs) ∷ deeds))) }
         ensures same { OnErr result (EachLife self.old (LifeIs self.new)) }
     {
         let (run, attempt) = (received.run, received.attempt);
@@ -37,7 +38,8 @@ impl Life {
         requires { received.server < MAX_SERVERS }
         ensures kept { OnOk result ((deeds : List Deed) → AttemptsAre self.old deeds →
             self.new.reports.items
-            ≡ reports_heard deeds received.server (said received jobs) self.old.reports.items) }
+            ≡ reports_heard deeds received.server
+            (report_body received jobs) self.old.reports.items) }
         ensures same { OnErr result (self.new.reports.items ≡ self.old.reports.items) }
         ensures runs { self.new.runs ≡ self.old.runs }
         ensures attempts { self.new.attempts ≡ self.old.attempts }
@@ -93,7 +95,8 @@ fn report_at(place: &mut Option<AttemptAsked>, run: RunNo, server: u32, job: u32
     requires job { IsTrue (is_job_of job jobs) }
     ensures { (attempt : _) (deeds : List Deed) (report : ReportParts) →
         AttemptFor attempt deeds (Some place.old) →
-        AttemptFor attempt (Hears server (Report run attempt job jobs report) ∷ deeds) (Some place.new) }
+        AttemptFor attempt (Hears server (Report run attempt job jobs report) ∷ deeds)
+        (Some place.new) }
 {
     if let Some(asked) = place {
         asked.hear_report(run, server, job, jobs);

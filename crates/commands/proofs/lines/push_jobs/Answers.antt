@@ -1,13 +1,13 @@
 use Rattle.std.proofs.Common.{◌≡◌, ℕ, List, ◌++◌, rules, ap, ◌∙◌, string_bytes}
 use Rattle.job_file.specs.declared.job.Job.{Job}
-use Rattle.printed.specs.Words.{ended}
+use Rattle.printed.specs.Words.{with_line_feed}
 use Rattle.commands.specs.Lines.{job_line}
 use Rattle.commands.proofs.Numbered.{texts_more, texts_all}
 use Rattle.commands.proofs.lines.push_jobs.Goals as goal
 
 -- The line of a job, with its line feed.
 abbrev text : ℕ × Job → List ℕ
-text (number, job) = ended (job_line number job)
+text (number, job) = with_line_feed (job_line number job)
 
 pub loop-number-preserved : goal.loop-number-preserved
 loop-number-preserved c =

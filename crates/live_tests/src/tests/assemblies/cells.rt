@@ -4,7 +4,7 @@ use super::play::Play;
 use client_cell::ClientCell;
 use disk_model::{FaultNotes, MemNotes};
 use fc_base::{Fault, ServerNo};
-use node_history::Told;
+use node_history::CallerAnswer;
 use server_cell::{Seat, ServerCell, Task as ServerTask};
 use server_core::Server as Core;
 use std::alloc::Global;
@@ -75,7 +75,7 @@ impl Cells {
     }
 
     /// What a server is asked from its seat.
-    pub fn apply(&mut self, number: u32, task: ServerTask) -> Result<Told, Fault> {
+    pub fn apply(&mut self, number: u32, task: ServerTask) -> Result<CallerAnswer, Fault> {
         let place = number as usize;
         let Some(server) = self.servers.get_mut(place) else {
             return Err(Fault::NoServer);

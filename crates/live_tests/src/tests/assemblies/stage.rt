@@ -3,12 +3,12 @@
 use super::cells::{Cells, Clients, TWINS, two_clients};
 use super::play::{Handed, Play, Step};
 use assembly::{AssembleFault, Assembled, assemble};
-use client_cell::{Command, Request, Task as ClientTask};
+use client_cell::{ClientCommand, ClientRequest, ClientTask};
 use engine::Ticket;
 use fc_base::{Fault, JobNo, Key, MAX_TEXT, RunNo, Seq, ServerNo};
 use hub::Hub;
 use messages::{Frames, Node as Name, Text};
-use node_history::{Node, Told};
+use node_history::{CallerAnswer, Node};
 use server_cell::Task as ServerTask;
 use server_core::WriteEnd;
 use std::alloc::Global;
@@ -117,7 +117,7 @@ impl Stage {
     fn take_step(&mut self, step: Step) -> Result<(), Fault> {
         let answer = match step {
             Step::Begin => self.begin(),
-            Step::Tick => self.clients.client.post(&mut self.hub, Command::Tick),
+            Step::Tick => self.clients.client.post(&mut self.hub, ClientCommand::Tick),
             Step::ToClient => self.to_client(),
             Step::ToServer(number) => self.to_server(number),
             Step::CutClient => self.clients.client.apply(ClientTask::Cut),
@@ -136,9 +136,12 @@ impl Stage {
     }
 
     /// One step at the hub elsewhere.
-    fn take_elsewhere(&mut self, step: Step) -> Result<Told, Fault> {
+    fn take_elsewhere(&mut self, step: Step) -> Result<CallerAnswer, Fault> {
         match step {
-            Step::TickElsewhere => self.clients.client.post(&mut self.elsewhere, Command::Tick),
+            Step::TickElsewhere => self
+                .clients
+                .client
+                .post(&mut self.elsewhere, ClientCommand::Tick),
             Step::RivalBegins => self.rival_begins(LONGER),
             Step::RivalBeginsAlike => self.rival_begins(WRITING),
             Step::ToTwinElsewhere => self.to_twin_elsewhere(),
@@ -149,24 +152,24 @@ impl Stage {
         }
     }
 
-    fn begin(&mut self) -> Result<Told, Fault> {
+    fn begin(&mut self) -> Result<CallerAnswer, Fault> {
         let request = begin(self.alloc, WRITING)?;
         self.clients.client.post(&mut self.hub, request)
     }
 
-    fn rival_begins(&mut self, text: &[u8]) -> Result<Told, Fault> {
+    fn rival_begins(&mut self, text: &[u8]) -> Result<CallerAnswer, Fault> {
         let request = begin(self.alloc, text)?;
         self.clients.rival.post(&mut self.elsewhere, request)
     }
 
-    fn to_client(&mut self) -> Result<Told, Fault> {
+    fn to_client(&mut self) -> Result<CallerAnswer, Fault> {
         match self.hub.pick(Name::Client, 0) {
             Some(position) => self.clients.client.deliver(&mut self.hub, position),
             None => Err(Fault::NoFrame),
         }
     }
 
-    fn to_server(&mut self, number: u32) -> Result<Told, Fault> {
+    fn to_server(&mut self, number: u32) -> Result<CallerAnswer, Fault> {
         let Some(server) = self.cells.servers.get_mut(number as usize) else {
             return Err(Fault::NoServer);
         };
@@ -176,14 +179,14 @@ impl Stage {
         }
     }
 
-    fn to_twin_elsewhere(&mut self) -> Result<Told, Fault> {
+    fn to_twin_elsewhere(&mut self) -> Result<CallerAnswer, Fault> {
         match self.cells.servers.get_mut(TWINS) {
             Some(server) => server.deliver(&mut self.elsewhere, 0),
             None => Err(Fault::NoServer),
         }
     }
 
-    fn ask(&mut self, number: u32, task: ServerTask) -> Result<Told, Fault> {
+    fn ask(&mut self, number: u32, task: ServerTask) -> Result<CallerAnswer, Fault> {
         self.cells.apply(number, task)
     }
 
@@ -254,12 +257,12 @@ fn order_of(assembled: &Assembled, order: &[(u32, u64)]) -> Shown {
     }
 }
 
-fn begin(alloc: Global, bytes: &[u8]) -> Result<Command, Fault> {
+fn begin(alloc: Global, bytes: &[u8]) -> Result<ClientCommand, Fault> {
     if bytes.len() > MAX_TEXT {
         return Err(Fault::OutOfLimits);
     }
     match Text::copied(alloc, bytes) {
-        Ok(text) => Ok(Command::Request(Request::Begin(text))),
+        Ok(text) => Ok(ClientCommand::Request(ClientRequest::Begin(text))),
         Err(_) => Err(Fault::NoMemory),
     }
 }

@@ -6,12 +6,12 @@ use super::gates::{Holding, Lets};
 use super::hands::{Ended, Hand};
 use super::step::{Taken, taken_of};
 use assembly::assemble;
-use client_cell::{ClientCell, Command, Request};
+use client_cell::{ClientCell, ClientCommand, ClientRequest};
 use disk_model::{FaultDisk, MemDisk, MemNotes};
 use fc_base::{Fault, JobNo, MAX_TEXT, RunNo, ServerNo};
 use hub::Hub;
 use messages::{Act, Text};
-use node_history::{Came, History, Logged, Node, Told};
+use node_history::{CallerAnswer, Came, History, Logged, Node};
 use server_cell::{Seat, ServerCell, Task};
 use server_core::WriteEnd;
 use std::alloc::Global;
@@ -89,29 +89,31 @@ impl Site {
     }
 
     /// The client is asked for a run of these jobs.
-    pub fn begin(&mut self, jobs: &[u8]) -> Result<Told, Fault> {
-        let request = Request::Begin(text(self.alloc, jobs)?);
-        self.client.post(&mut self.hub, Command::Request(request))
+    pub fn begin(&mut self, jobs: &[u8]) -> Result<CallerAnswer, Fault> {
+        let request = ClientRequest::Begin(text(self.alloc, jobs)?);
+        self.client
+            .post(&mut self.hub, ClientCommand::Request(request))
     }
 
     /// The client is asked for the trigger of run 1.
-    pub fn trigger(&mut self) -> Result<Told, Fault> {
-        let request = Request::Trigger(RunNo(1), Act::None);
-        self.client.post(&mut self.hub, Command::Request(request))
+    pub fn trigger(&mut self) -> Result<CallerAnswer, Fault> {
+        let request = ClientRequest::Trigger(RunNo(1), Act::None);
+        self.client
+            .post(&mut self.hub, ClientCommand::Request(request))
     }
 
     /// A frame comes to the client.
-    pub fn hear(&mut self, frame: u64) -> Result<Told, Fault> {
+    pub fn hear(&mut self, frame: u64) -> Result<CallerAnswer, Fault> {
         self.client.deliver(&mut self.hub, frame)
     }
 
     /// A frame comes to the server.
-    pub fn serve<R: Wait>(&mut self, rt: &R, frame: u64) -> Result<Told, Fault> {
+    pub fn serve<R: Wait>(&mut self, rt: &R, frame: u64) -> Result<CallerAnswer, Fault> {
         self.cell.lock(rt).deliver(&mut self.hub, frame)
     }
 
     /// The server loses its power.
-    pub fn cut<R: Wait>(&mut self, rt: &R) -> Result<Told, Fault> {
+    pub fn cut<R: Wait>(&mut self, rt: &R) -> Result<CallerAnswer, Fault> {
         match self.seats.first_mut() {
             Some(seat) => self.cell.lock(rt).apply(seat, Task::Cut),
             None => Err(Fault::WrongSeat),

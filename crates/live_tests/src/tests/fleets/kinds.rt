@@ -3,7 +3,7 @@
 use super::gates::Always;
 use engine::Ticket;
 use fc_base::ReportEnd;
-use fleet::{End, FleetFault, Gate, OpenGate, Trigger, run_fleet};
+use fleet::{CheckEnd, FleetFault, Gate, OpenGate, Trigger, run_fleet};
 use std::alloc::Global;
 use std::sync::Wait;
 use std::sync::atomic::{AtomicBool, Ordering};
@@ -35,7 +35,7 @@ pub fn end_by_kind<R: Threads + Wait + Sync>(rt: &R, alloc: Global) -> Result<bo
     Ok(ends.len() == 6 && all)
 }
 
-fn is_kind(end: &End, kind: &(u32, &[u32], ReportEnd)) -> bool {
+fn is_kind(end: &CheckEnd, kind: &(u32, &[u32], ReportEnd)) -> bool {
     match &end.report {
         Some(report) => {
             report.checked() == kind.0 && report.first() == kind.1 && report.end() == kind.2

@@ -1,17 +1,17 @@
 //! The events of a fleet that has ended, which happen once more in a world, one after the other.
 
 use fc_base::{Fault, ServerNo};
-use fleet::{Left, Place};
+use fleet::{FleetLeft, Place};
 use hub::Hub;
 use messages::{Node, Text};
-use net_world::{Config, Event, PlainEvent, World};
+use net_world::{Config, PlainEvent, World, WorldEvent};
 use node_history::{Came, Lent};
 use server_core::WriteEnd;
 use std::alloc::Global;
 
 /// Whether a world in which the events happen, in the order in which they were put, sends the same frames.
 /// The sector of each write lands before the write is done.
-pub fn sends_the_same(alloc: Global, left: &Left) -> Result<bool, Fault> {
+pub fn sends_the_same(alloc: Global, left: &FleetLeft) -> Result<bool, Fault> {
     let servers = left.client.servers();
     if servers == 0 || servers > 8 {
         return Err(Fault::NoServer);
@@ -29,14 +29,19 @@ pub fn sends_the_same(alloc: Global, left: &Left) -> Result<bool, Fault> {
     Ok(has_frames(&world, &left.hub))
 }
 
-fn happen_all(alloc: Global, world: &mut World, left: &Left) -> Result<(), Fault> {
+fn happen_all(alloc: Global, world: &mut World, left: &FleetLeft) -> Result<(), Fault> {
     for place in &left.order {
         happen_at(alloc, world, left, place)?;
     }
     Ok(())
 }
 
-fn happen_at(alloc: Global, world: &mut World, left: &Left, place: &Place) -> Result<(), Fault> {
+fn happen_at(
+    alloc: Global,
+    world: &mut World,
+    left: &FleetLeft,
+    place: &Place,
+) -> Result<(), Fault> {
     let Some(entry) = entry(left, place) else {
         return Err(Fault::NoFrame);
     };
@@ -55,14 +60,14 @@ fn happen_at(alloc: Global, world: &mut World, left: &Left, place: &Place) -> Re
 }
 
 fn happen(world: &mut World, event: PlainEvent) -> Result<(), Fault> {
-    match world.apply(&Event::Plain(event)) {
+    match world.apply(&WorldEvent::Plain(event)) {
         Ok(_) => Ok(()),
         Err(fault) => Err(fault),
     }
 }
 
 /// The entry of the node's history at its place.
-fn entry<'a>(left: &'a Left, place: &Place) -> Option<Lent<'a>> {
+fn entry<'a>(left: &'a FleetLeft, place: &Place) -> Option<Lent<'a>> {
     let history = if place.node == Node::Client {
         left.client.history()
     } else {

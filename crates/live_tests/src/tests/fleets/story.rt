@@ -2,7 +2,7 @@
 
 use super::gates::{Always, Behind, Write};
 use fc_base::{CheckReport, Fault, ReportEnd};
-use fleet::{End, FleetFault, run_fleet};
+use fleet::{CheckEnd, FleetFault, run_fleet};
 use std::alloc::Global;
 use std::sync::Wait;
 use std::thread::Threads;
@@ -69,7 +69,7 @@ fn tell<R: Threads + Wait + Sync>(
     rt: &R,
     alloc: Global,
     story: &Story,
-) -> Result<Vec<End>, FleetFault> {
+) -> Result<Vec<CheckEnd>, FleetFault> {
     let (write, read) = story.texts;
     run_fleet(
         rt,
@@ -93,7 +93,7 @@ fn checked(report: &CheckReport) -> Option<u32> {
 }
 
 /// No more than two blocks were checked, and none was faulty.
-fn is_sound(end: &End) -> bool {
+fn is_sound(end: &CheckEnd) -> bool {
     match &end.report {
         Some(report) => checked(report).is_some_and(|blocks| blocks <= 2),
         None => false,
@@ -101,11 +101,11 @@ fn is_sound(end: &End) -> bool {
 }
 
 /// Whether the ends are these.
-fn are_rows(ends: &[End], rows: &[Row]) -> bool {
+fn are_rows(ends: &[CheckEnd], rows: &[Row]) -> bool {
     ends.len() == rows.len() && ends.iter().zip(rows).all(|(end, row)| is_row(end, row))
 }
 
-fn is_row(end: &End, row: &Row) -> bool {
+fn is_row(end: &CheckEnd, row: &Row) -> bool {
     let (server, job, wanted) = *row;
     let sound = match (&end.report, wanted) {
         (Some(report), Some(blocks)) => checked(report) == Some(blocks),

@@ -10,8 +10,8 @@ use fc_base::{
 };
 use messages::{Act, Text};
 use node_threads::{
-    ClientCell, ClientCommand, ClientTask, Hub, Node, Report, Request, Seat, ServerCell,
-    ServerTask, Told, Turn, deliver, post,
+    CallerAnswer, ClientCell, ClientCommand, ClientRequest, ClientTask, Hub, Node, Report, Seat,
+    ServerCell, ServerTask, Turn, deliver, post,
 };
 use server_core::WriteEnd;
 use std::alloc::Global;
@@ -122,12 +122,15 @@ impl<'a> Stage<'a> {
         None
     }
 
-    fn take(&mut self, step: Step) -> Result<Told, Fault> {
+    fn take(&mut self, step: Step) -> Result<CallerAnswer, Fault> {
         match step {
-            Step::Begin => self.request(Request::Begin(text(self.alloc, WRITING)?)),
-            Step::Verify => self.request(Request::Verify(RunNo(1), text(self.alloc, READING)?)),
-            Step::Trigger => self.request(Request::Trigger(RunNo(1), Act::Cut)),
-            Step::Stop(run) => self.request(Request::Stop(RunNo(run))),
+            Step::Begin => self.request(ClientRequest::Begin(text(self.alloc, WRITING)?)),
+            Step::Verify => self.request(ClientRequest::Verify(
+                RunNo(1),
+                text(self.alloc, READING)?,
+            )),
+            Step::Trigger => self.request(ClientRequest::Trigger(RunNo(1), Act::Cut)),
+            Step::Stop(run) => self.request(ClientRequest::Stop(RunNo(run))),
             Step::Tick => post(self.hub, self.client, ClientCommand::Tick),
             Step::ToClient(position) => deliver(self.hub, self.client, position),
             Step::ToServer(position) => deliver(self.hub, self.server, position),
@@ -141,12 +144,12 @@ impl<'a> Stage<'a> {
         }
     }
 
-    fn request(&mut self, request: Request) -> Result<Told, Fault> {
+    fn request(&mut self, request: ClientRequest) -> Result<CallerAnswer, Fault> {
         post(self.hub, self.client, ClientCommand::Request(request))
     }
 
     /// The check of the one job in this boot found nothing in its one block.
-    fn checked(&mut self, boot: u64) -> Result<Told, Fault> {
+    fn checked(&mut self, boot: u64) -> Result<CallerAnswer, Fault> {
         let parts = ReportParts {
             checked: 1,
             faults: 0,
@@ -165,7 +168,7 @@ impl<'a> Stage<'a> {
         post(self.hub, self.server, report)
     }
 
-    fn ask(&mut self, seat: usize, task: ServerTask) -> Result<Told, Fault> {
+    fn ask(&mut self, seat: usize, task: ServerTask) -> Result<CallerAnswer, Fault> {
         match self.seats.get_mut(seat) {
             Some(seat) => self.server.apply(seat, task),
             None => Err(Fault::WrongSeat),
@@ -214,7 +217,7 @@ fn turns_of<C: Node>(node: &C, seat: u32) -> u64 {
     turns
 }
 
-fn said(told: Result<Told, Fault>) -> Said {
+fn said(told: Result<CallerAnswer, Fault>) -> Said {
     match told {
         Ok(told) => Ok((told.answer, told.act, told.first, told.sent)),
         Err(fault) => Err(fault.number()),

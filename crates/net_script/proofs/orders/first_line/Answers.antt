@@ -1,7 +1,7 @@
 use Rattle.std.proofs.Common.{◌+◌, ◌∷◌, ◌++◌, inl, inr, take, refl, sym, ◌∙◌, ap}
 use Rattle.std.proofs.lemmas.List.{take_rest}
 use Rattle.net_script.specs.Words.{lines_of}
-use Rattle.printed.specs.Words.{ended}
+use Rattle.printed.specs.Words.{with_line_feed}
 use Rattle.net_script.proofs.LineLemmas.{first_of_lines, line_whole, first_bytes}
 use Rattle.net_script.proofs.orders.first_line.Goals as goal
 
@@ -17,7 +17,7 @@ returns-then-len-script-clause-bytes c =
     let script = c.args.script.now in
     let len = c.line_len-len.result in
     inl (first_bytes script len c.line_len-len.ensures.value c.if-len-script.true
-    ∙ ap (λ l. ended (take len script) ++ l) (sym (take_rest script (len + 1))))
+    ∙ ap (λ l. with_line_feed (take len script) ++ l) (sym (take_rest script (len + 1))))
 
 pub returns-else-len-script-clause-lines : goal.returns-else-len-script-clause-lines
 returns-else-len-script-clause-lines c =

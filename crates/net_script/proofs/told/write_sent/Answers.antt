@@ -4,7 +4,7 @@ use Rattle.std.specs.Io.KnownBytes.{Appends}
 use Rattle.std.proofs.KnownBytes.{Appends-trans}
 use Rattle.std.proofs.lemmas.List.{take_all}
 use Rattle.net_world.specs.Sending.{sent_in}
-use Rattle.printed.specs.Words.{ended}
+use Rattle.printed.specs.Words.{with_line_feed}
 use Rattle.net_script.specs.Printed.{sent_lines}
 use Rattle.net_script.proofs.LinesLemmas.{sent_more}
 use Rattle.net_script.proofs.told.write_sent.Goals as goal
@@ -20,5 +20,5 @@ loop-offset-preserved g c sent are =
 pub returns : goal.returns
 returns g c sent are =
     subst (Appends (g.W.Write.contents c.args.writer.now) (g.W.Write.contents c.loop-offset.writer))
-    (ap (λ l. flat_map ended (sent_lines c.args.first l)) (take_all c.loop-offset.offset sent (omega (arith, are.number, c.loop-offset-test.false))))
+    (ap (λ l. flat_map with_line_feed (sent_lines c.args.first l)) (take_all c.loop-offset.offset sent (omega (arith, are.number, c.loop-offset-test.false))))
     (c.loop-offset.invariant sent are)

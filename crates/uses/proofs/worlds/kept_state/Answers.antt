@@ -1,5 +1,5 @@
 use Rattle.std.proofs.Common.{[], refl, sym, ◌∙◌}
-use Rattle.net_world.specs.Claims.{happened, played}
+use Rattle.net_world.specs.Claims.{happenings_of, world_of}
 use Rattle.net_world.specs.Setup.{setup_of}
 use Rattle.uses.proofs.WorldLemmas.{if_some, shown_is_held}
 use Rattle.uses.proofs.worlds.kept_state.Goals as goal
@@ -7,8 +7,8 @@ use Rattle.uses.proofs.worlds.kept_state.Goals as goal
 pub returns : goal.returns
 returns c =
     let w = setup_of c.args.config in
-    let past = played c.args.config c.args.events.now in
-    let now = happened c.args.events.now in
+    let past = world_of c.args.config c.args.events.now in
+    let now = happenings_of c.args.events.now in
     let key = c.args.key in
     let shown = c.copied.ensures ∙ c.saved.ensures w past c.in_ok-world.ensures.stands in
     record {

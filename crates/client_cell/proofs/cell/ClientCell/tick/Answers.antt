@@ -10,7 +10,7 @@ use Rattle.messages.specs.declared.node.Node.TheVariants.{Client}
 use Rattle.node_history.proofs.CallLemmas.{left_out_posts}
 use Rattle.node_history.proofs.HubLemmas.{lacking, hear_counts}
 use Rattle.client_cell.specs.Cells.{ClientLog, opening_of}
-use Rattle.client_cell.specs.Stands.{failures_of, given}
+use Rattle.client_cell.specs.Stands.{failures_of, reply_and_frames}
 use Rattle.node_history.specs.ClientKind.{client_kind}
 use Rattle.node_history.proofs.PowerLemmas.{hidden, there}
 use Rattle.client_cell.proofs.HearLemmas.{lacks_why, off_why, sent_spelled, heard_cell, told_why, replayed}
@@ -79,4 +79,4 @@ pub returns-clause-failures : goal.returns-clause-failures
 returns-clause-failures g c =
     let cell = c.self.invariant.0 in
     let o = opening_of c.self.inside.servers c.self.inside.opened.value in
-    hear_counts c.args.self.now.failures (failures_of g.N.Notes.note c.self.inside.power) (failures_of g.N.Notes.note c.self.inside.power) _ _ (given c.tick.result) c.enter.result (ap (λ (log : ClientLog). log.failures) c.self.view_is) (rw c.outcome-done.ensures at c.enter.ensures.told) (c.tick.ensures.count o cell.kept.past cell.kept.stands)
+    hear_counts c.args.self.now.failures (failures_of g.N.Notes.note c.self.inside.power) (failures_of g.N.Notes.note c.self.inside.power) _ _ (reply_and_frames c.tick.result) c.enter.result (ap (λ (log : ClientLog). log.failures) c.self.view_is) (rw c.outcome-done.ensures at c.enter.ensures.told) (c.tick.ensures.count o cell.kept.past cell.kept.stands)

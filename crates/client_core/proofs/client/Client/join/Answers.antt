@@ -3,7 +3,7 @@ use Rattle.std.proofs.Common.{sym, ap, subst, ◌∙◌, Ok, Err}
 use Rattle.fc_base.specs.declared.fault.Fault.TheVariants.{FrameBadField}
 use Rattle.disk_model.specs.Steps.{Ends}
 use Rattle.messages.specs.declared.frame.Frame.TheVariants.{Piece}
-use Rattle.messages.specs.Assemblies.{without, taken}
+use Rattle.messages.specs.Assemblies.{without_tag, rows_after_piece}
 use Rattle.client_core.specs.declared.input.Input.TheVariants.{Deliver}
 use Rattle.client_core.specs.Hearing.{packets_heard}
 use Rattle.client_core.specs.FrameEnds.{steps}
@@ -21,7 +21,7 @@ returns-then-is_ok-clause-ends g c o past s =
     let q = c.args.piece.now in
     let p = c.in-Ok-Some.packet in
     let is = subst (IsSensed o past q) (c.in-Ok-Some.is ∙ ap Ok c.in-Ok-Some.field-0-is) (c.look.ensures o past s) in
-    subst (λ rows. Ends (steps note o) past (Deliver (Piece q)) old (record { alloc = old.alloc; core = c.deliver-sent.new.self; pieces = rows }) c.deliver-sent.result) (sym (c.drop.ensures ∙ ap (λ t. without t old.pieces) c.tag.ensures))
+    subst (λ rows. Ends (steps note o) past (Deliver (Piece q)) old (record { alloc = old.alloc; core = c.deliver-sent.new.self; pieces = rows }) c.deliver-sent.result) (sym (c.drop.ensures ∙ ap (λ t. without_tag t old.pieces) c.tag.ensures))
     (given_answers note old c.deliver-sent.new.self o past q p c.deliver-sent.result c.frames_are_short.ensures c.keeps_its_ranges.ensures s is (c.deliver-sent.ensures o (packets_heard o past) s.core) (sym c.is_ok.ensures.value ∙ c.if-is_ok.true))
 
 pub returns-else-is_ok-clause-ends : goal.returns-else-is_ok-clause-ends
@@ -38,7 +38,7 @@ returns-in-Ok-clause-ends g c o past s =
     let q = c.args.piece.now in
     let is = subst (IsSensed o past q) (c.in-Ok-None.is ∙ ap Ok c.in-Ok-None.field-0-is) (c.look.ensures o past s) in
     subst (λ rows. Ends (steps note o) past (Deliver (Piece q)) old (record old { pieces = rows }) (Ok c.new.result)) (sym c.in-Ok.ensures.taken)
-    (subst (λ sent. Ends (steps note o) past (Deliver (Piece q)) old (record old { pieces = taken old.pieces q }) (Ok sent)) (sym c.new.ensures) (kept_ends note o past q old is s))
+    (subst (λ sent. Ends (steps note o) past (Deliver (Piece q)) old (record old { pieces = rows_after_piece old.pieces q }) (Ok sent)) (sym c.new.ensures) (kept_ends note o past q old is s))
 
 pub returns-in-Err-FrameBadField-clause-ends : goal.returns-in-Err-FrameBadField-clause-ends
 returns-in-Err-FrameBadField-clause-ends g c o past s =
@@ -47,7 +47,7 @@ returns-in-Err-FrameBadField-clause-ends g c o past s =
     let q = c.args.piece.now in
     let is = subst (IsSensed o past q) (c.in-Err-FrameBadField.is ∙ ap Err c.in-Err-FrameBadField.field-0-is) (c.look.ensures o past s) in
     subst (λ rows. Ends (steps note o) past (Deliver (Piece q)) old (record old { pieces = rows }) (Err FrameBadField))
-    (sym (c.drop-in-Err-FrameBadField.ensures ∙ ap (λ t. without t old.pieces) c.tag-in-Err-FrameBadField.ensures)) (dropped_ends note o past q old is s)
+    (sym (c.drop-in-Err-FrameBadField.ensures ∙ ap (λ t. without_tag t old.pieces) c.tag-in-Err-FrameBadField.ensures)) (dropped_ends note o past q old is s)
 
 pub returns-in-Err-Down-clause-ends : goal.returns-in-Err-Down-clause-ends
 returns-in-Err-Down-clause-ends g c o past s =

@@ -7,7 +7,7 @@ use Rattle.fc_base.specs.Keys.{is_same_key}
 use Rattle.std.specs.HashSet.{HashSet, contains}
 use Rattle.client_core.specs.Life.{Hears}
 use Rattle.client_core.specs.Lives.{RunFor, AttemptFor}
-use Rattle.client_core.specs.Reports.{reports_heard, said}
+use Rattle.client_core.specs.Reports.{reports_heard, report_body}
 use Rattle.client_core.proofs.DeedLemmas.{run_stays, hears_report}
 use Rattle.client_core.proofs.MirrorLifeLemmas.{server_keeps_none}
 use Rattle.client_core.proofs.life.Life.hear_report.Goals as goal
@@ -15,7 +15,7 @@ use Rattle.client_core.proofs.life.Life.hear_report.Goals as goal
 pub returns-clause-left : goal.returns-clause-left
 returns-clause-left c deeds h =
     let r = c.args.received in
-    let body = said r c.args.jobs in
+    let body = report_body r c.args.jobs in
     let deed = Hears r.server body in
     record {
       runs = subst (λ m. (q : ℕ) → RunFor q (deed ∷ deeds) (get nat_cmp m q)) (sym (c.tell_report.ensures.runs ∙ c.keep_report.ensures.runs))

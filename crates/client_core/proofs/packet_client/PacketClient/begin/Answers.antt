@@ -4,7 +4,7 @@ use Rattle.client_core.specs.declared.call.Call.TheVariants.{Begin}
 use Rattle.client_core.specs.declared.packet_client.PacketClient.{PacketClient}
 use Rattle.client_core.specs.declared.noted.Noted.{Noted}
 use Rattle.messages.specs.declared.body.Body.TheVariants.{Jobs}
-use Rattle.client_core.specs.Framed.{framed}
+use Rattle.client_core.specs.Framed.{frame_bytes}
 use Rattle.client_core.specs.Packets.{to_all}
 use Rattle.client_core.specs.Life.{Begins}
 use Rattle.client_core.specs.Lives.{LifeIs}
@@ -51,6 +51,6 @@ returns g c = λ o past s.
       ap (λ (n : Noted). n.runs + 1) (sym (free_now g.N.Notes.note old o past call f.0 s free).1),
       answers_stored g.N.Notes.note old c.use_run.new.self c.make_room_for_run.new.self c.begin.new.self NextRun o past call c.in-Ok.frames c.notes_are_read_back.ensures f.0 free refl
           (one_run true old.noted (next_left old.peers old.noted.generation old.noted.runs f.2)) c.in_ok-use_run.field-0 stored
-          (λ deeds h. c.in-Ok.ensures.frames ∙ ap (λ n. framed (to_all n (Jobs (old.noted.runs + 1) c.args.text.now))) c.count.ensures.count)
+          (λ deeds h. c.in-Ok.ensures.frames ∙ ap (λ n. frame_bytes (to_all n (Jobs (old.noted.runs + 1) c.args.text.now))) c.count.ensures.count)
           (λ deeds h. subst (λ t. LifeIs c.begin.new.self (Begins (old.noted.runs + 1) t ∷ deeds)) c.in-Ok.ensures.text (c.begin.ensures deeds (subst (λ l. LifeIs l deeds) (sym (ap (λ (m : PacketClient _). m.life) stored.1)) (c.make_room_for_run.ensures.same deeds h)))) refl s,
     )

@@ -3,7 +3,7 @@ use Rattle.messages.specs.Nodes.{node_number}
 use Rattle.client_core.specs.declared.call.Call.TheVariants.{Deliver}
 use Rattle.client_core.specs.declared.packet_client.PacketClient.{PacketClient}
 use Rattle.client_core.specs.Ends.{Stores}
-use Rattle.client_core.specs.Framed.{framed}
+use Rattle.client_core.specs.Framed.{frame_bytes}
 use Rattle.client_core.specs.Life.{Hears}
 use Rattle.client_core.specs.Lives.{LifeIs}
 use Rattle.client_core.specs.Note.{IsNoted}
@@ -40,7 +40,7 @@ returns-in-Ok-keep g c o past p e f r s =
     answers_stored note old c.keep.new.self old.life c.hear.new.self (Keep c.in-Some.state) o past (Deliver p) c.in-Ok.frames c.notes_are_read_back.ensures c.requires.up r
     (ap (addition_by old.noted) e ∙ c.in-Some.ensures)
     (λ n. subst IsNoted (ap (λ d. noted_after true d old.noted) c.in-Some.ensures) (body_step c.found_after_a_push.ensures.apart true old.noted c.args.body c.requires.free c.requires.state n)) _ stored
-    (λ deeds h. c.in-Ok.ensures deeds h ∙ ap framed (replied_to old.peers.mirror old.noted deeds p c.args.server c.args.body e f))
+    (λ deeds h. c.in-Ok.ensures deeds h ∙ ap frame_bytes (replied_to old.peers.mirror old.noted deeds p c.args.server c.args.body e f))
     (λ deeds h. subst (λ b. LifeIs c.hear.new.self (Hears (node_number p.from) b ∷ deeds)) (sym e) (subst (λ n. LifeIs c.hear.new.self (Hears n c.args.body ∷ deeds)) (sym f)
     (c.hear.ensures deeds (subst (λ l. LifeIs l deeds) (sym (ap (λ (m : PacketClient _). m.life) stored.1)) h)))) (from_server_grants_none p (no_mirror p.from c.args.server f c.requires.server)) s
 
@@ -48,6 +48,6 @@ pub returns-in-Ok-hear_any : goal.returns-in-Ok-hear_any
 returns-in-Ok-hear_any g c o past p e f r s =
     let old = c.args.self.now in
     answers_plain g.N.Notes.note old c.hear_any.new.self o past (Deliver p) c.in-Ok.frames c.requires.up r (ap (addition_by old.noted) e ∙ c.in-None.ensures)
-    (λ deeds h. c.in-Ok.ensures deeds h ∙ ap framed (replied_to old.peers.mirror old.noted deeds p c.args.server c.args.body e f))
+    (λ deeds h. c.in-Ok.ensures deeds h ∙ ap frame_bytes (replied_to old.peers.mirror old.noted deeds p c.args.server c.args.body e f))
     (λ deeds h. subst (λ b. LifeIs c.hear_any.new.self (Hears (node_number p.from) b ∷ deeds)) (sym e) (subst (λ n. LifeIs c.hear_any.new.self (Hears n c.args.body ∷ deeds)) (sym f)
     (c.in-Ok-hear_any.ensures.left deeds h))) (from_server_grants_none p (no_mirror p.from c.args.server f c.requires.server)) s

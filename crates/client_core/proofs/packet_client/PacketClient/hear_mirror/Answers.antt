@@ -6,7 +6,7 @@ use Rattle.messages.specs.Kinds.{is_of_mirror}
 use Rattle.client_core.specs.declared.call.Call.TheVariants.{Deliver}
 use Rattle.client_core.specs.declared.packet_client.PacketClient.{PacketClient}
 use Rattle.client_core.specs.Ends.{Stores}
-use Rattle.client_core.specs.Framed.{framed}
+use Rattle.client_core.specs.Framed.{frame_bytes}
 use Rattle.client_core.specs.Life.{Hears}
 use Rattle.client_core.specs.Lives.{LifeIs}
 use Rattle.client_core.specs.Note.{IsNoted}
@@ -42,7 +42,7 @@ returns-in-Ok g c o past p e from to r s =
     answers_stored note old c.keep.new.self old.life c.keep.new.self.life (Keep c.in-Some.state) o past (Deliver p) c.new.result c.notes_are_read_back.ensures c.requires.up r
     (ap (addition_by old.noted) e ∙ c.in-Some.ensures)
     (λ n. subst IsNoted (ap (λ d. noted_after true d old.noted) c.in-Some.ensures) (body_step c.found_after_a_push.ensures.apart true old.noted c.args.body.now c.requires.free c.requires.state n)) _ stored
-    (λ deeds h. c.new.ensures ∙ ap framed (sym (no_reply old.peers.mirror old.noted deeds (node_number p.from) p.body kind)))
+    (λ deeds h. c.new.ensures ∙ ap frame_bytes (sym (no_reply old.peers.mirror old.noted deeds (node_number p.from) p.body kind)))
     (λ deeds h. subst (λ l. LifeIs l (Hears (node_number p.from) p.body ∷ deeds)) (sym (ap (λ (m : PacketClient _). m.life) stored.1)) (mirror_said_nothing old.life (node_number p.from) p.body deeds kind copy.tells h)) copy.grants s
 
 pub returns-in-Ok-hear_mirror : goal.returns-in-Ok-hear_mirror
@@ -50,5 +50,5 @@ returns-in-Ok-hear_mirror g c o past p e from to r s =
     let old = c.args.self.now in
     let kind = ap (λ b. is_of_mirror (kind_of b)) e ∙ c.requires.kind in
     answers_from_mirror g.N.Notes.note old c.hear_mirror.new.self o past p c.args.body.now c.new-in-Ok-hear_mirror.result _ e from to c.requires.up c.requires.mirror r (ap (addition_by old.noted) e ∙ c.in-None.ensures)
-    (λ deeds h. c.new-in-Ok-hear_mirror.ensures ∙ ap framed (sym (no_reply old.peers.mirror old.noted deeds (node_number p.from) p.body kind)))
+    (λ deeds h. c.new-in-Ok-hear_mirror.ensures ∙ ap frame_bytes (sym (no_reply old.peers.mirror old.noted deeds (node_number p.from) p.body kind)))
     (λ deeds h. subst (λ n. LifeIs c.hear_mirror.new.self (Hears n p.body ∷ deeds)) (sym (mirror_number p.from from)) (subst (λ b. LifeIs c.hear_mirror.new.self (Hears MIRROR_NUMBER b ∷ deeds)) (sym e) (c.in-Ok-hear_mirror.ensures.left deeds h))) c.hear.ensures s

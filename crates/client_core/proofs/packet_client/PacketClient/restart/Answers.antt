@@ -1,7 +1,7 @@
 use Rattle.std.proofs.Common.{refl, sym, ◌∙◌, ap, subst, false, ◌==◌, length, List, ℕ, arith}
 use Rattle.disk_model.specs.Notes.{Note}
 use Rattle.client_core.specs.Note.{Says, Reads}
-use Rattle.client_core.specs.Words.{noted}
+use Rattle.client_core.specs.Words.{words_noted}
 use Rattle.client_core.proofs.RenewLemmas.{some_note, no_mirror}
 use Rattle.client_core.proofs.packet_client.PacketClient.restart.Goals.{else-mirror-via-then-mirror+else-is_lost, else-mirror-via-else-mirror}
 use Rattle.client_core.proofs.packet_client.PacketClient.restart.Goals as goal
@@ -23,8 +23,8 @@ returns-in-Ok-Some g c =
         on = refl;
         peers = λ i. record { servers = (c.new.ensures ∙ sym servers) i; mirror = c.args.mirror; granted = false };
         few = omega (arith, servers, c.requires.few);
-        durable = subst (λ (n : Note). Says n.bytes (noted o past)) (sym loaded.0) said;
+        durable = subst (λ (n : Note). Says n.bytes (words_noted o past)) (sym loaded.0) said;
         lives = c.new-life.ensures;
-        knows = c.one_note.ensures old.bytes c.in-Ok-Some.noted (noted o past) says said;
+        knows = c.one_note.ensures old.bytes c.in-Ok-Some.noted (words_noted o past) says said;
       };
     }

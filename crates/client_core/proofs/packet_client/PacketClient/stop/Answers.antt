@@ -1,7 +1,7 @@
 use Rattle.std.proofs.Common.{refl, sym, ◌∙◌, ap}
 use Rattle.messages.specs.declared.body.Body.TheVariants as bodies
 use Rattle.client_core.specs.declared.call.Call.TheVariants.{Stop}
-use Rattle.client_core.specs.Framed.{framed}
+use Rattle.client_core.specs.Framed.{frame_bytes}
 use Rattle.client_core.specs.Packets.{to_all}
 use Rattle.client_core.proofs.CallLemmas.{answers_plain}
 use Rattle.client_core.proofs.EndLemmas.{refuses}
@@ -22,5 +22,5 @@ returns g c o past s =
     let call = Stop c.args.run in
     let free = sym c.run_refusal.ensures.why ∙ c.in_default.is in
     answers_plain g.N.Notes.note c.args.self.now c.stop.new.self o past call c.in-Ok.frames (run_free _ _ free).0 free refl
-    (λ deeds h. c.in-Ok.ensures ∙ ap (λ n. framed (to_all n (bodies.Stop c.args.run))) c.count.ensures.count)
+    (λ deeds h. c.in-Ok.ensures ∙ ap (λ n. frame_bytes (to_all n (bodies.Stop c.args.run))) c.count.ensures.count)
     (λ deeds h. c.stop.ensures deeds (c.make_room_for_run.ensures.same deeds h)) refl s

@@ -4,7 +4,7 @@ use Rattle.messages.specs.declared.body.Body.TheVariants.{Verify}
 use Rattle.client_core.specs.declared.call.Call.TheVariants.{Verify as Verifying}
 use Rattle.client_core.specs.declared.packet_client.PacketClient.{PacketClient}
 use Rattle.client_core.specs.declared.noted.Noted.{Noted}
-use Rattle.client_core.specs.Framed.{framed}
+use Rattle.client_core.specs.Framed.{frame_bytes}
 use Rattle.client_core.specs.Life.{Verifies}
 use Rattle.client_core.specs.Lives.{LifeIs, AttemptIs}
 use Rattle.client_core.specs.Packets.{to_all}
@@ -57,7 +57,7 @@ returns g c = λ o past s.
       ap (λ (n : Noted). n.attempts + 1) (sym (free_now g.N.Notes.note old o past call f.0 s free).1),
       answers_stored g.N.Notes.note old c.use_attempt.new.self c.make_room_for_attempt.new.self c.verify.new.self NextAttempt o past call c.in-Ok.frames c.notes_are_read_back.ensures f.0 free refl
           (one_attempt true old.noted (next_left old.peers old.noted.generation old.noted.attempts f.3)) c.in_ok-use_attempt.field-0 stored
-          (λ deeds h. c.in-Ok.ensures.frames ∙ ap (λ n. framed (to_all n (Verify c.args.run attempt c.args.text.now))) c.count-servers.ensures.count)
+          (λ deeds h. c.in-Ok.ensures.frames ∙ ap (λ n. frame_bytes (to_all n (Verify c.args.run attempt c.args.text.now))) c.count-servers.ensures.count)
           (λ deeds h. subst (λ r. LifeIs c.verify.new.self (Verifies r attempt c.args.text.now ∷ deeds)) c.in-Ok.ensures.run_is
           (subst (λ t. LifeIs c.verify.new.self (Verifies c.in-Ok.asked.run attempt t ∷ deeds)) c.in-Ok.ensures.text_is
           (c.verify.ensures deeds (subst (λ l. LifeIs l deeds) (sym (ap (λ (m : PacketClient _). m.life) stored.1)) (c.make_room_for_attempt.ensures.same deeds h))))) refl s,

@@ -6,7 +6,7 @@ use Rattle.messages.specs.declared.body.Body.TheVariants.{CopyOk}
 use Rattle.state_table.specs.Kept.{kept_of}
 use Rattle.mirror_core.specs.declared.request.Request.TheVariants.{Copy}
 use Rattle.mirror_core.specs.Saves.{Keep}
-use Rattle.mirror_core.specs.Packets.{to_client, framed}
+use Rattle.mirror_core.specs.Packets.{to_client, frame_bytes}
 use Rattle.mirror_core.proofs.EndLemmas.{answers_plain, answers_stored, fails_stored}
 use Rattle.mirror_core.proofs.NotedLemmas.{has_room, kept_already, kept_fits, kept_newly}
 use Rattle.mirror_core.proofs.mirror.Mirror.copy.Goals as goal
@@ -16,7 +16,7 @@ returns-then-has g c = λ o past f asked s.
     let old = c.args.self.now in
     let state = c.args.state.now in
     answers_plain g.N.Notes.note old o past f (Copy state) c.in-Ok.frames c.requires.up c.requires.free asked (kept_already (kept_of state.key old.noted.kept) state (sym (c.if-has.ensures ∙ ap (λ k. is_some (kept_of k old.noted.kept)) c.key-2.ensures.value)))
-    (c.in-Ok.ensures ∙ ap (λ (k : Key). framed (to_client (CopyOk k.run k.server k.job) ∷ [])) c.key.ensures.value) s
+    (c.in-Ok.ensures ∙ ap (λ (k : Key). frame_bytes (to_client (CopyOk k.run k.server k.job) ∷ [])) c.key.ensures.value) s
 
 pub returns-in_err-keep : goal.returns-in_err-keep
 returns-in_err-keep g c = λ o past f asked s.
@@ -34,4 +34,4 @@ returns g c = λ o past f asked s.
     let new = kept_newly (kept_of state.key old.noted.kept) state (sym (c.if-has.ensures ∙ ap (λ k. is_some (kept_of k old.noted.kept)) c.key-2.ensures.value)) in
     answers_stored g.N.Notes.note old c.keep.new.self (Keep state) o past f (Copy state) c.in-Ok.frames c.notes_are_read_back.ensures c.requires.up c.requires.free asked new.1
     (kept_fits c.found_after_a_push.ensures.apart old.noted state new.0 (has_room old.noted state new.0 c.requires.free) c.keeps_its_ranges.ensures) c.in_ok-keep.field-0 c.in_ok-keep.ensures
-    (c.in-Ok.ensures ∙ ap (λ (k : Key). framed (to_client (CopyOk k.run k.server k.job) ∷ [])) c.key.ensures.value) s
+    (c.in-Ok.ensures ∙ ap (λ (k : Key). frame_bytes (to_client (CopyOk k.run k.server k.job) ∷ [])) c.key.ensures.value) s

@@ -1,7 +1,7 @@
 use Rattle.std.proofs.Common.{refl, sym, ◌∙◌, subst, List, ℕ}
 use Rattle.disk_model.specs.Notes.{Note}
 use Rattle.mirror_core.specs.Note.{Says, Reads}
-use Rattle.mirror_core.specs.Words.{noted}
+use Rattle.mirror_core.specs.Words.{words_noted}
 use Rattle.mirror_core.proofs.mirror.Mirror.restart.Goals as goal
 
 pub returns-in-Ok-Some : goal.returns-in-Ok-Some
@@ -15,7 +15,7 @@ returns-in-Ok-Some g c =
       says = says;
       stands = λ o past said. record {
         on = refl;
-        durable = subst (λ (n : Note). Says n.bytes (noted o past)) (sym loaded.0) said;
-        knows = c.one_note.ensures old.bytes c.in-Ok-Some.noted (noted o past) says said;
+        durable = subst (λ (n : Note). Says n.bytes (words_noted o past)) (sym loaded.0) said;
+        knows = c.one_note.ensures old.bytes c.in-Ok-Some.noted (words_noted o past) says said;
       };
     }

@@ -4,7 +4,7 @@ use Rattle.std.specs.Io.KnownBytes.{Appends}
 use Rattle.fc_base.specs.Fault.{sort_of}
 use Rattle.net_world.specs.World.{world}
 use Rattle.net_script.specs.Commands.{happens}
-use Rattle.printed.specs.Words.{ended}
+use Rattle.printed.specs.Words.{with_line_feed}
 use Rattle.net_script.specs.Printed.{answer_line, sent_lines, act_lines}
 use Rattle.net_script.specs.Running.{HasCome, refused_by}
 use Rattle.net_script.proofs.ScriptLemmas.{if_ok_is}
@@ -18,8 +18,8 @@ returns-in_ok-write_told-in-Ok g c setup before stands =
     let ends = c.in-Ok.ensures setup before stands in
     let p = told_prints c.sent_are_frames.ensures setup before e t _ stands.few ends.0 (c.frames.ensures setup (world setup (e ∷ before)) ends.1) in (
       subst (Appends (g.W.Write.contents c.args.writer.now) (g.W.Write.contents c.write_told.new.writer))
-          (ap (λ a. flat_map ended ((answer_line t.answer ∷ sent_lines t.first p.sent) ++ act_lines a t.act)) (c.addressee_of-addressee.ensures setup before stands)
-          ∙ ap (flat_map ended) (sym p.lines))
+          (ap (λ a. flat_map with_line_feed ((answer_line t.answer ∷ sent_lines t.first p.sent) ++ act_lines a t.act)) (c.addressee_of-addressee.ensures setup before stands)
+          ∙ ap (flat_map with_line_feed) (sym p.lines))
           (c.in_ok-write_told-in-Ok.ensures p.sent p.bytes),
       ends.1,
       c.has_faults.ensures ∙ p.faults,

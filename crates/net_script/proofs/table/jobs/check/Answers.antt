@@ -1,6 +1,6 @@
 use Rattle.std.proofs.Common.{sym, ◌∙◌, ap}
 use Rattle.net_script.specs.declared.command.Command.TheVariants.{Check}
-use Rattle.net_script.specs.declared.line.Line.TheVariants.{Asks}
+use Rattle.net_script.specs.declared.line.ScriptLine.TheVariants.{Asks}
 use Rattle.net_script.specs.Arguments.{place}
 use Rattle.net_script.proofs.table.jobs.check.Goals as goal
 

@@ -1,5 +1,5 @@
 use Rattle.std.proofs.Common.{sym, ◌∙◌, ap}
-use Rattle.net_script.specs.declared.line.Line.TheVariants.{Asks}
+use Rattle.net_script.specs.declared.line.ScriptLine.TheVariants.{Asks}
 use Rattle.net_script.specs.declared.command.Command.TheVariants.{Land}
 use Rattle.net_script.specs.Words.{words_of}
 use Rattle.net_script.specs.Arguments.{place}

@@ -1,6 +1,6 @@
 use Rattle.std.proofs.Common.{sym}
 use Rattle.net_script.specs.declared.command.Command.TheVariants.{Stop}
-use Rattle.net_script.specs.declared.line.Line.TheVariants.{Asks}
+use Rattle.net_script.specs.declared.line.ScriptLine.TheVariants.{Asks}
 use Rattle.net_script.proofs.table.runs.stop.Goals as goal
 
 pub returns-in-Some : goal.returns-in-Some

@@ -1,7 +1,7 @@
 use Rattle.std.proofs.Common.{refl, ap}
 use Rattle.std.proofs.lemmas.Result.{err_from_is_err_and}
 use Rattle.client_core.specs.declared.input.Input.TheVariants as inputs
-use Rattle.net_world.specs.declared.told.Answer.TheVariants as told
+use Rattle.net_world.specs.declared.told.WorldAnswer.TheVariants as told
 use Rattle.net_world.proofs.ClientNodeLemmas.{answers, fails}
 use Rattle.net_world.proofs.client_node.ClientNode.ask.Goals as goal
 

@@ -6,7 +6,7 @@ use Rattle.fc_base.specs.declared.limits.TheConstants.{MAX_JOBS}
 use Rattle.verify_state.specs.State.{State}
 use Rattle.recheck.specs.Disk.{ChecksDisk}
 use Rattle.disk_model.specs.MemDisk.{file_of}
-use Rattle.net_world.specs.declared.told.Answer.TheVariants.{Checked}
+use Rattle.net_world.specs.declared.told.WorldAnswer.TheVariants.{Checked}
 use Rattle.net_world.specs.Telling.{told_of}
 use Rattle.net_world.proofs.ServeLemmas.{node_at, on_below}
 use Rattle.net_world.proofs.FileStepLemmas.{file_kept, has_slot, no_slot}

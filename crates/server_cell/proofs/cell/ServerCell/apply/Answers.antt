@@ -3,7 +3,7 @@ use Rattle.std.specs.Prelude.{reverse}
 use Rattle.server_cell.specs.Cells.{ServerLog}
 use Rattle.node_history.specs.Failures.{Counts}
 use Rattle.server_cell.specs.Calls.{is_right, entry_of}
-use Rattle.node_history.specs.ServerRules.{asked}
+use Rattle.node_history.specs.ServerRules.{ask_of}
 use Rattle.node_history.proofs.HubLemmas.{pushed}
 use Rattle.node_history.proofs.MoveLemmas.{is_lack, lack_counts, stays, done}
 use Rattle.server_cell.specs.Tasks.{came_by, loads_note}
@@ -22,7 +22,7 @@ invariant_of-self-then-lacks_memory g c =
     let o = opening_with c.self.inside.me c.self.inside.boot c.self.inside.last_run in
     rw c.reserve.ensures.same
     (same_cell note o c.self.inside.power c.perform-answer.new.power (reverse c.self.inside.history.items) c.self.inside.applied cell
-    (stays (ways note o) cell.kept.past (asked (came_by c.args.task)) c.perform-answer.new.power c.perform-answer.result (sym c.lacks_memory.ensures ∙ c.if-lacks_memory.true) (c.perform-answer.ensures.ends o cell.kept.past refl cell.kept.stands)))
+    (stays (ways note o) cell.kept.past (ask_of (came_by c.args.task)) c.perform-answer.new.power c.perform-answer.result (sym c.lacks_memory.ensures ∙ c.if-lacks_memory.true) (c.perform-answer.ensures.ends o cell.kept.past refl cell.kept.stands)))
 
 pub returns-then-lacks_memory-clause-ends : goal.returns-then-lacks_memory-clause-ends
 returns-then-lacks_memory-clause-ends g c =
@@ -30,7 +30,7 @@ returns-then-lacks_memory-clause-ends g c =
     let cell = c.self.invariant in
     let o = opening_with c.self.inside.me c.self.inside.boot c.self.inside.last_run in
     let ends = c.perform-answer.ensures.ends o cell.kept.past refl cell.kept.stands in
-    let lack = is_lack (ways note o) cell.kept.past (asked (came_by c.args.task)) c.perform-answer.new.power c.perform-answer.result (sym c.lacks_memory.ensures ∙ c.if-lacks_memory.true) ends in
+    let lack = is_lack (ways note o) cell.kept.past (ask_of (came_by c.args.task)) c.perform-answer.new.power c.perform-answer.result (sym c.lacks_memory.ensures ∙ c.if-lacks_memory.true) ends in
     let same = lack_counts (loads_note c.args.task) (failures_of note c.self.inside.power) (failures_of note c.perform-answer.new.power) c.perform-answer.result lack (c.perform-answer.ensures.count o cell.kept.past refl cell.kept.stands) in
     lacks c.args.self.now _ c.args.seat.now c.args.task (sym c.is_right.ensures ∙ c.if-not-is_right.false) (rw (c.reserve.ensures.same, same) c.self.view_is)
 
@@ -47,7 +47,7 @@ invariant_of-self-2 g c =
     let note = g.N.Notes.note in
     let cell = c.self.invariant in
     let o = opening_with c.self.inside.me c.self.inside.boot c.self.inside.last_run in
-    let m = done (ways note o) cell.kept.past (asked (came_by c.args.task)) c.perform-answer.new.power c.perform-answer.result (sym c.lacks_memory.ensures ∙ c.if-lacks_memory.false) (c.perform-answer.ensures.ends o cell.kept.past refl cell.kept.stands) in
+    let m = done (ways note o) cell.kept.past (ask_of (came_by c.args.task)) c.perform-answer.new.power c.perform-answer.result (sym c.lacks_memory.ensures ∙ c.if-lacks_memory.false) (c.perform-answer.ensures.ends o cell.kept.past refl cell.kept.stands) in
     let right = ap (λ (log : ServerLog). is_right log c.args.seat.now) c.self.view_is ∙ sym c.is_right.ensures ∙ c.if-not-is_right.false in
     rw (c.enter.ensures.items, c.reserve.ensures.same, pushed c.self.inside.history.items (entry_of c.args.seat.now c.args.task c.perform-answer.result), c.number.ensures.value)
     (entered note o c.self.inside.power c.perform-answer.new.power (reverse c.self.inside.history.items) c.self.inside.applied (failures_of note c.self.inside.power) c.args.seat.now c.args.task c.perform-answer.result cell right (subst (λ n. n < 17) c.number.ensures.value c.number.ensures.few) m)
@@ -57,7 +57,7 @@ returns-clause-replay g c =
     let note = g.N.Notes.note in
     let cell = c.self.invariant in
     let o = opening_with c.self.inside.me c.self.inside.boot c.self.inside.last_run in
-    let m = done (ways note o) cell.kept.past (asked (came_by c.args.task)) c.perform-answer.new.power c.perform-answer.result (sym c.lacks_memory.ensures ∙ c.if-lacks_memory.false) (c.perform-answer.ensures.ends o cell.kept.past refl cell.kept.stands) in
+    let m = done (ways note o) cell.kept.past (ask_of (came_by c.args.task)) c.perform-answer.new.power c.perform-answer.result (sym c.lacks_memory.ensures ∙ c.if-lacks_memory.false) (c.perform-answer.ensures.ends o cell.kept.past refl cell.kept.stands) in
     let right = ap (λ (log : ServerLog). is_right log c.args.seat.now) c.self.view_is ∙ sym c.is_right.ensures ∙ c.if-not-is_right.false in
     rw (c.enter.ensures.items, c.reserve.ensures.same, pushed c.self.inside.history.items (entry_of c.args.seat.now c.args.task c.perform-answer.result))
     (replayed note o cell (failures_of note c.self.inside.power) c.args.seat.now c.args.task c.perform-answer.result right m)

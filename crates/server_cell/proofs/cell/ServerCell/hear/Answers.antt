@@ -14,7 +14,7 @@ use Rattle.node_history.proofs.HubLemmas.{lacking, off_why, lack_why, step_why, 
 use Rattle.node_history.proofs.MoveLemmas.{where_ok}
 use Rattle.node_history.proofs.PowerLemmas.{hidden, there}
 use Rattle.server_cell.specs.Cells.{ServerLog}
-use Rattle.server_cell.specs.Stands.{failures_of, given, ways}
+use Rattle.server_cell.specs.Stands.{failures_of, reply_and_frames, ways}
 use Rattle.server_cell.proofs.CellLemmas.{opening_with}
 use Rattle.server_cell.proofs.HearLemmas.{short, has_room, sent_spelled, heard_cell, replayed, is_off_as}
 use Rattle.server_cell.proofs.cell.ServerCell.hear.Goals as goal
@@ -89,11 +89,11 @@ returns-clause-why g c =
     let o = opening_with c.self.inside.me c.self.inside.boot c.self.inside.last_run in
     let on = there (server_kind note o) cell.kept.past c.core.result (c.core.ensures o cell.kept.past cell.kept.stands) c.if-is_none.ensures in
     subst (λ (log : ServerLog). IfErr c.enter.result (HasWhy (rules log.opening) log.history (Meets c.args.input))) c.self.view_is
-    (step_why (ways note o) _ c.self.inside.power c.step.new.power cell.kept c.args.input (given c.step.result) _ _ c.enter.result (is_off_as o cell.kept.past true on) refl (c.step.ensures.ends o cell.kept.past cell.kept.stands) (rw c.outcome-done.ensures at c.enter.ensures.told))
+    (step_why (ways note o) _ c.self.inside.power c.step.new.power cell.kept c.args.input (reply_and_frames c.step.result) _ _ c.enter.result (is_off_as o cell.kept.past true on) refl (c.step.ensures.ends o cell.kept.past cell.kept.stands) (rw c.outcome-done.ensures at c.enter.ensures.told))
 
 pub returns-clause-failures : goal.returns-clause-failures
 returns-clause-failures g c =
     let note = g.N.Notes.note in
     let cell = c.self.invariant in
     let o = opening_with c.self.inside.me c.self.inside.boot c.self.inside.last_run in
-    hear_counts c.args.self.now.failures (failures_of note c.self.inside.power) (failures_of note c.step.new.power) _ _ (given c.step.result) c.enter.result (ap (λ (log : ServerLog). log.failures) c.self.view_is) (rw c.outcome-done.ensures at c.enter.ensures.told) (c.step.ensures.count o cell.kept.past cell.kept.stands)
+    hear_counts c.args.self.now.failures (failures_of note c.self.inside.power) (failures_of note c.step.new.power) _ _ (reply_and_frames c.step.result) c.enter.result (ap (λ (log : ServerLog). log.failures) c.self.view_is) (rw c.outcome-done.ensures at c.enter.ensures.told) (c.step.ensures.count o cell.kept.past cell.kept.stands)

@@ -3,7 +3,7 @@ use Rattle.std.proofs.Common.{sym, ap, subst, ◌∙◌, Ok, Err}
 use Rattle.fc_base.specs.declared.fault.Fault.TheVariants.{FrameBadField}
 use Rattle.disk_model.specs.Steps.{Ends}
 use Rattle.messages.specs.declared.frame.Frame.TheVariants.{Piece}
-use Rattle.messages.specs.Assemblies.{Row, Look, Gives, look, without, taken}
+use Rattle.messages.specs.Assemblies.{Row, Look, Gives, look_at_piece, without_tag, rows_after_piece}
 use Rattle.messages.specs.Assemblies as looks
 use Rattle.server_core.specs.declared.input.Input.TheVariants.{Deliver}
 use Rattle.server_core.specs.Hearing.{packets_heard}
@@ -23,10 +23,10 @@ returns-then-is_ok-clause-ends g c o past s =
     let old = c.args.self.now in
     let q = c.args.piece.now in
     let p = c.in-Ok-Some.packet in
-    let gives = gave c.look.result (look old.pieces q) p c.look.ensures (c.in-Ok-Some.is ∙ ap Ok c.in-Ok-Some.field-0-is) in
+    let gives = gave c.look.result (look_at_piece old.pieces q) p c.look.ensures (c.in-Ok-Some.is ∙ ap Ok c.in-Ok-Some.field-0-is) in
     let on = sym (c.on.ensures o (packets_heard o past) s.core) ∙ c.if-not-on.false in
     let is = arrives note old o past q c.me.result s on (c.me.ensures o (packets_heard o past) s.core) (sym c.is_piece_for.ensures ∙ c.if-not-is_piece_for.false) (Gives p) gives in
-    subst (λ rows. Ends (steps note o) past (Deliver (Piece q)) old (record { alloc = old.alloc; core = c.step-outs.new.self; pieces = rows }) c.step-outs.result) (sym (c.drop.ensures ∙ ap (λ t. without t old.pieces) c.tag.ensures))
+    subst (λ rows. Ends (steps note o) past (Deliver (Piece q)) old (record { alloc = old.alloc; core = c.step-outs.new.self; pieces = rows }) c.step-outs.result) (sym (c.drop.ensures ∙ ap (λ t. without_tag t old.pieces) c.tag.ensures))
     (given_ends note old c.step-outs.new.self o past q p c.step-outs.result s on is gives (c.step-outs.ensures o (packets_heard o past) s.core) (sym c.is_ok.ensures.value ∙ c.if-is_ok.true))
 
 pub returns-else-is_ok-clause-ends : goal.returns-else-is_ok-clause-ends
@@ -35,7 +35,7 @@ returns-else-is_ok-clause-ends g c o past s =
     let old = c.args.self.now in
     let q = c.args.piece.now in
     let p = c.in-Ok-Some.packet in
-    let gives = gave c.look.result (look old.pieces q) p c.look.ensures (c.in-Ok-Some.is ∙ ap Ok c.in-Ok-Some.field-0-is) in
+    let gives = gave c.look.result (look_at_piece old.pieces q) p c.look.ensures (c.in-Ok-Some.is ∙ ap Ok c.in-Ok-Some.field-0-is) in
     let on = sym (c.on.ensures o (packets_heard o past) s.core) ∙ c.if-not-on.false in
     let is = arrives note old o past q c.me.result s on (c.me.ensures o (packets_heard o past) s.core) (sym c.is_piece_for.ensures ∙ c.if-not-is_piece_for.false) (Gives p) gives in
     refused_ends note old c.step-outs.new.self o past q p c.step-outs.result s is (c.step-outs.ensures o (packets_heard o past) s.core) (sym c.is_ok.ensures.value ∙ c.if-is_ok.false)
@@ -45,22 +45,22 @@ returns-in-Ok-clause-ends g c o past s =
     let note = g.N.Notes.note in
     let old = c.args.self.now in
     let q = c.args.piece.now in
-    let waits = waited c.look.result (look old.pieces q) c.look.ensures (c.in-Ok-None.is ∙ ap Ok c.in-Ok-None.field-0-is) in
+    let waits = waited c.look.result (look_at_piece old.pieces q) c.look.ensures (c.in-Ok-None.is ∙ ap Ok c.in-Ok-None.field-0-is) in
     let on = sym (c.on.ensures o (packets_heard o past) s.core) ∙ c.if-not-on.false in
     let is = arrives note old o past q c.me.result s on (c.me.ensures o (packets_heard o past) s.core) (sym c.is_piece_for.ensures ∙ c.if-not-is_piece_for.false) looks.Waits waits in
     subst (λ rows. Ends (steps note o) past (Deliver (Piece q)) old (record old { pieces = rows }) (Ok c.sent.result)) (sym c.in-Ok.ensures.taken)
-    (subst (λ outs. Ends (steps note o) past (Deliver (Piece q)) old (record old { pieces = taken old.pieces q }) (Ok outs)) (sym (c.sent.ensures ∙ ap sent_alone c.new.ensures)) (kept_ends note o past (Deliver (Piece q)) q old is s))
+    (subst (λ outs. Ends (steps note o) past (Deliver (Piece q)) old (record old { pieces = rows_after_piece old.pieces q }) (Ok outs)) (sym (c.sent.ensures ∙ ap sent_alone c.new.ensures)) (kept_ends note o past (Deliver (Piece q)) q old is s))
 
 pub returns-in-Err-FrameBadField-clause-ends : goal.returns-in-Err-FrameBadField-clause-ends
 returns-in-Err-FrameBadField-clause-ends g c o past s =
     let note = g.N.Notes.note in
     let old = c.args.self.now in
     let q = c.args.piece.now in
-    let spoils = spoiled c.look.result (look old.pieces q) c.look.ensures (c.in-Err-FrameBadField.is ∙ ap Err c.in-Err-FrameBadField.field-0-is) in
+    let spoils = spoiled c.look.result (look_at_piece old.pieces q) c.look.ensures (c.in-Err-FrameBadField.is ∙ ap Err c.in-Err-FrameBadField.field-0-is) in
     let on = sym (c.on.ensures o (packets_heard o past) s.core) ∙ c.if-not-on.false in
     let is = arrives note old o past q c.me.result s on (c.me.ensures o (packets_heard o past) s.core) (sym c.is_piece_for.ensures ∙ c.if-not-is_piece_for.false) looks.NoPacket spoils in
     subst (λ rows. Ends (steps note o) past (Deliver (Piece q)) old (record old { pieces = rows }) (Err FrameBadField))
-    (sym (c.drop-in-Err-FrameBadField.ensures ∙ ap (λ t. without t old.pieces) c.tag-in-Err-FrameBadField.ensures ∙ sym (spoiled_gone old.pieces q spoils)))
+    (sym (c.drop-in-Err-FrameBadField.ensures ∙ ap (λ t. without_tag t old.pieces) c.tag-in-Err-FrameBadField.ensures ∙ sym (spoiled_gone old.pieces q spoils)))
     (dropped_ends note o past (Deliver (Piece q)) q old is s)
 
 pub returns-then-is_ok-clause-ranges : goal.returns-then-is_ok-clause-ranges
@@ -69,7 +69,7 @@ returns-then-is_ok-clause-ranges g c o past s =
     let old = c.args.self.now in
     let q = c.args.piece.now in
     let p = c.in-Ok-Some.packet in
-    let gives = gave c.look.result (look old.pieces q) p c.look.ensures (c.in-Ok-Some.is ∙ ap Ok c.in-Ok-Some.field-0-is) in
+    let gives = gave c.look.result (look_at_piece old.pieces q) p c.look.ensures (c.in-Ok-Some.is ∙ ap Ok c.in-Ok-Some.field-0-is) in
     let on = sym (c.on.ensures o (packets_heard o past) s.core) ∙ c.if-not-on.false in
     let is = arrives note old o past q c.me.result s on (c.me.ensures o (packets_heard o past) s.core) (sym c.is_piece_for.ensures ∙ c.if-not-is_piece_for.false) (Gives p) gives in
     hears_in_range o past (Deliver (Piece q)) (Hears (events.Deliver p)) c.step-outs.result is c.keeps_its_ranges.ensures
@@ -80,7 +80,7 @@ returns-else-is_ok-clause-ranges g c o past s =
     let old = c.args.self.now in
     let q = c.args.piece.now in
     let p = c.in-Ok-Some.packet in
-    let gives = gave c.look.result (look old.pieces q) p c.look.ensures (c.in-Ok-Some.is ∙ ap Ok c.in-Ok-Some.field-0-is) in
+    let gives = gave c.look.result (look_at_piece old.pieces q) p c.look.ensures (c.in-Ok-Some.is ∙ ap Ok c.in-Ok-Some.field-0-is) in
     let on = sym (c.on.ensures o (packets_heard o past) s.core) ∙ c.if-not-on.false in
     let is = arrives note old o past q c.me.result s on (c.me.ensures o (packets_heard o past) s.core) (sym c.is_piece_for.ensures ∙ c.if-not-is_piece_for.false) (Gives p) gives in
     hears_in_range o past (Deliver (Piece q)) (Hears (events.Deliver p)) c.step-outs.result is c.keeps_its_ranges.ensures
@@ -90,7 +90,7 @@ returns-in-Ok-clause-ranges g c o past s =
     let note = g.N.Notes.note in
     let old = c.args.self.now in
     let q = c.args.piece.now in
-    let waits = waited c.look.result (look old.pieces q) c.look.ensures (c.in-Ok-None.is ∙ ap Ok c.in-Ok-None.field-0-is) in
+    let waits = waited c.look.result (look_at_piece old.pieces q) c.look.ensures (c.in-Ok-None.is ∙ ap Ok c.in-Ok-None.field-0-is) in
     let on = sym (c.on.ensures o (packets_heard o past) s.core) ∙ c.if-not-on.false in
     let is = arrives note old o past q c.me.result s on (c.me.ensures o (packets_heard o past) s.core) (sym c.is_piece_for.ensures ∙ c.if-not-is_piece_for.false) looks.Waits waits in
     hears_in_range o past (Deliver (Piece q)) (Keeps q) (Ok c.sent.result) is tt
@@ -100,7 +100,7 @@ returns-in-Err-FrameBadField-clause-ranges g c o past s =
     let note = g.N.Notes.note in
     let old = c.args.self.now in
     let q = c.args.piece.now in
-    let spoils = spoiled c.look.result (look old.pieces q) c.look.ensures (c.in-Err-FrameBadField.is ∙ ap Err c.in-Err-FrameBadField.field-0-is) in
+    let spoils = spoiled c.look.result (look_at_piece old.pieces q) c.look.ensures (c.in-Err-FrameBadField.is ∙ ap Err c.in-Err-FrameBadField.field-0-is) in
     let on = sym (c.on.ensures o (packets_heard o past) s.core) ∙ c.if-not-on.false in
     let is = arrives note old o past q c.me.result s on (c.me.ensures o (packets_heard o past) s.core) (sym c.is_piece_for.ensures ∙ c.if-not-is_piece_for.false) looks.NoPacket spoils in
     subst SenseInRange (sym is) tt

@@ -2,7 +2,7 @@ use Rattle.std.proofs.Common.{arith, ap, refl, sym, ◌∙◌}
 use Rattle.engine.specs.declared.issue.Ticket.{Ticket}
 use Rattle.engine.specs.Running.{Origin}
 use Rattle.targets.proofs.OrderLemmas.{none_yet, one_more, write_is, left_by_write, not_write, same_by_answer, all_ordered}
-use Rattle.targets.specs.Writing.{left}
+use Rattle.targets.specs.Writing.{steps_left}
 use Rattle.targets.proofs.writing.Writes.order_all.Goals as goal
 
 pub loop-ticket-init : goal.loop-ticket-init
@@ -34,5 +34,5 @@ returns g c =
       orders = λ h stands. all_ordered c.args.self.now.engine.origin h running c.issue.new.self _ _ c.issue.result (c.loop-ticket.invariant.orders h stands)
           c.loop-ticket.invariant.origin c.loop-ticket.self.goes_on c.issue.ensures.history c.issue.ensures.left none;
       origin = ap (λ r. r.origin) unchanged ∙ c.loop-ticket.invariant.origin;
-      left = omega (arith, ap left unchanged, c.loop-ticket.invariant.left);
+      left = omega (arith, ap steps_left unchanged, c.loop-ticket.invariant.left);
     }

@@ -1,7 +1,7 @@
 use Rattle.std.proofs.Common.{◌≡◌, ℕ, List}
 use Rattle.std.specs.Prelude.{Option}
 use Rattle.std.specs.Io.Buffered.{reader_remaining}
-use Rattle.targets.specs.Writing.{left, SoFar}
+use Rattle.targets.specs.Writing.{steps_left, SoFar}
 use Rattle.targets.proofs.writing.Writes.run.Given as goal
 
 -- Whatever was so far, the run has gone on from there.
@@ -14,4 +14,4 @@ invariant-loop-end g l = record {
 }
 
 abbrev pub decreases-loop-end : goal.decreases-loop-end
-decreases-loop-end g l = left l.self.engine
+decreases-loop-end g l = steps_left l.self.engine
