@@ -46,7 +46,7 @@ fn put_answer(lines: &mut String, answer: &WorldAnswer) -> Result<(), Trouble> {
         WorldAnswer::Run(run) => put(write!(lines, "ok run {}", run.0)),
         WorldAnswer::Attempt(attempt) => put(write!(lines, "ok attempt {}", attempt.0)),
         WorldAnswer::Issued(issue) => put_issue(lines, *issue),
-        WorldAnswer::Checked(report) => put_report(lines, report),
+        WorldAnswer::Checked(report) => put_report(lines, report.as_report()),
     }
 }
 
