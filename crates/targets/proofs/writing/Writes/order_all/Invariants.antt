@@ -9,7 +9,7 @@ abbrev pub invariant-loop-ticket : goal.invariant-loop-ticket
 invariant-loop-ticket g l = record {
   orders : (h : List Event) → StandsFor l.initial.self.engine h
       → OrdersSome l.initial.self.engine.origin h l.self.engine (g.W.Write.contents l.initial.writer) (g.W.Write.contents l.writer);
-  steps_left : steps_left l.self.engine ≤ steps_left l.initial.self.engine;
+  left : steps_left l.self.engine ≤ steps_left l.initial.self.engine;
   origin : l.self.engine.origin ≡ l.initial.self.engine.origin;
 }
 
