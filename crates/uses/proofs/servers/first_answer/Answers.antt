@@ -13,6 +13,6 @@ returns-in-Ok-answer c =
     let answers = c.in-Ok-answer.ensures.ends o _ stood in
     record {
       free = answers.free;
-      frames = answers.frames_are;
+      frames = answers.sends.frames_are;
       note = c.off-notes.ensures.says o _ answers.stands;
     }
