@@ -5,6 +5,7 @@ use Rattle.std.specs.Option.{option_map_or}
 use Rattle.std.proofs.lemmas.Bool.Decides.{nat_tests}
 use Rattle.std.proofs.lemmas.List.{length-set, get_or-set_same, get_or-set_other, get_or-replicate}
 use Rattle.std.proofs.lemmas.Option.{slice_get_past}
+use Rattle.messages.specs.declared.limits.TheConstants.{MAX_NODES}
 use Rattle.messages.specs.declared.node.Node.{Node}
 use Rattle.messages.specs.declared.node.Node.TheVariants.{Server, Client, Mirror}
 use Rattle.messages.specs.Nodes.{node_number, is_node}
@@ -15,7 +16,7 @@ use Rattle.assembly.specs.Order.{next_of, with_next}
 
 -- ---- nodes
 
-pub number_below : (node : Node) → is_node node ≡ true → node_number node < 10
+pub number_below : (node : Node) → is_node node ≡ true → node_number node < MAX_NODES
 number_below (Server s) h = let lt : s < 8 = grind (arith, nat_tests) in omega arith
 number_below Client h = omega arith
 number_below Mirror h = omega arith
@@ -69,7 +70,7 @@ long_with next node at = elim (is_node node) as (λ b. length (if b then slice_s
 ]
 
 -- The place that was put there.
-pub next_same : (next : List ℕ) (node : Node) (at : ℕ) → length next ≡ 10 → is_node node ≡ true → next_of (with_next next node at) node ≡ at
+pub next_same : (next : List ℕ) (node : Node) (at : ℕ) → length next ≡ MAX_NODES → is_node node ≡ true → next_of (with_next next node at) node ≡ at
 next_same next node at long e =
     let below : node_number node < length next = omega (arith, long, number_below node e) in
     rw e (get_or-set_same next (node_number node) at 0 below)
@@ -85,9 +86,9 @@ by_range next node other at true true ea eb differ =
 pub next_other : (next : List ℕ) (node other : Node) (at : ℕ) → is_same_node node other ≡ false → next_of (with_next next node at) other ≡ next_of next other
 next_other next node other at differ = by_range next node other at (is_node node) (is_node other) refl refl differ
 
-none_by : (node : Node) (b : Bool) → is_node node ≡ b → next_of (replicate 10 0) node ≡ 0
-none_by node true e = rw e (get_or-replicate 10 (node_number node) 0 0 (number_below node e))
+none_by : (node : Node) (b : Bool) → is_node node ≡ b → next_of (replicate MAX_NODES 0) node ≡ 0
+none_by node true e = rw e (get_or-replicate MAX_NODES (node_number node) 0 0 (number_below node e))
 none_by node false e = rw e refl
 
-pub next_none : (node : Node) → next_of (replicate 10 0) node ≡ 0
+pub next_none : (node : Node) → next_of (replicate MAX_NODES 0) node ≡ 0
 next_none node = none_by node (is_node node) refl

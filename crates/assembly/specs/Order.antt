@@ -2,6 +2,7 @@
 -- marks are newest first, the order is oldest first.
 use Rattle.std.specs.Prelude.{◌≡◌, ◌≢◌, ◌≤◌, ◌<◌, ℕ, ◌+◌, if◌then◌else◌, List, [], ◌∷◌, ◌++◌, reverse, Option, Some, slice_index_or, slice_set, length, replicate}
 use Rattle.messages.specs.declared.node.Node.{Node}
+use Rattle.messages.specs.declared.limits.TheConstants.{MAX_NODES}
 use Rattle.messages.specs.Nodes.{node_number, is_node}
 use Rattle.hub.specs.declared.line.Line.{Line}
 use Rattle.hub.specs.Network.{Network}
@@ -67,11 +68,11 @@ pub record IsOther (h : List Logged) (from : ℕ) (entry : Mark) (at : ℕ) : Ty
 
 -- Nothing was followed yet.
 abbrev pub nothing_followed : Followed
-nothing_followed = record { places = []; next = replicate 10 0 }
+nothing_followed = record { places = []; next = replicate MAX_NODES 0 }
 
 -- Each node was followed up to its last entry in a journal, which has the marks of its history so far.
 pub record IsFollowed (r : Ran) (net : Network) (journal : List Line) (order : Followed) : Type 0 where
-  pub long : length order.next ≡ 10
+  pub long : length order.next ≡ MAX_NODES
   pub places : order.places ≡ reverse (up_to_last (history_of r) journal)
   pub next : (node : Node) → next_of order.next node ≡ next_place node journal
   pub within : (node : Node) → next_place node journal ≤ length (history_of r node)

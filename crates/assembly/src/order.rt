@@ -9,32 +9,31 @@ ghost use Rattle.assembly.specs.Order.{nothing_followed, next_of, with_next, IsP
 use crate::fault::AssembleFault;
 use crate::marks::{is_marked, is_told_by};
 use hub::{Hub, Line};
-use messages::Node;
+use messages::{MAX_NODES, Node};
 use node_history::History;
 use node_traces::{Place, histories_rise};
 use std::alloc::Global;
 use std::marker::Model;
 
-/// How many nodes have a number: eight servers, the client, and the mirror, which never has a history.
-const NODES: usize = 10;
-
-/// The events so far, the oldest first, and for each node the place from which it is to be followed.
+/// The events so far, the oldest first, and for each node the place from which it is to be followed. The
+/// mirror never has a history.
 #[derive(Drop)]
 pub(crate) struct Order {
     places: Vec<Place>,
-    next: [u64; NODES],
+    next: [u64; MAX_NODES],
 }
 
 impl Model for Order {
     ghost use Rattle.std.specs.Prelude.{◌≡◌, length};
     ghost use Rattle.assembly.specs.declared.fault.AssembleFault.TheVariants.{Unlike, NoMemory};
+    ghost use Rattle.messages.specs.declared.limits.TheConstants.{MAX_NODES};
     ghost use Rattle.assembly.specs.Order.{Followed};
 
     ghost Value = { Followed };
 
     ghost view = { λ o. record { places = o.places.items; next = o.next } };
 
-    ghost invariant = { λ o. length o.next ≡ 10 };
+    ghost invariant = { λ o. length o.next ≡ MAX_NODES };
 }
 
 impl Order {
@@ -44,7 +43,7 @@ impl Order {
     {
         Order {
             places: Vec::new(alloc),
-            next: [0; NODES],
+            next: [0; MAX_NODES],
         }
     }
 
