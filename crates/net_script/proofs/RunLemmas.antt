@@ -1,5 +1,5 @@
 -- A run of a script's commands, as far as it has come.
-use Rattle.std.proofs.Common.{◌≡◌, inr, ℕ, Bool, true, false, ◌||◌, cond, List, [], ◌∷◌, ◌++◌, Option, append_assoc, append-nil, refl, sym, ◌∙◌, ap, subst}
+use Rattle.std.proofs.Common.{◌≡◌, inr, ℕ, Bool, true, false, ◌||◌, List, [], ◌∷◌, ◌++◌, Option, append_assoc, append-nil, refl, sym, ◌∙◌, ap, subst}
 use Rattle.std.specs.List.{flat_map}
 use Rattle.std.specs.Io.KnownBytes.{Appends}
 use Rattle.std.proofs.KnownBytes.{Appends-nil, Appends-trans}
@@ -16,7 +16,7 @@ use Rattle.net_script.specs.Commands.{happens}
 use Rattle.printed.specs.Words.{with_line_feed}
 use Rattle.net_script.specs.Orders.{Order, Asks}
 use Rattle.net_script.specs.Printed.{lines_at, refusal_line}
-use Rattle.net_script.specs.Script.{lines_in, are_commands, some_faults, finds_fault, status_by, status_in}
+use Rattle.net_script.specs.Script.{lines_in, are_commands, some_faults, finds_fault, status_in}
 use Rattle.net_script.specs.Runs.{RunOrders}
 use Rattle.net_script.specs.Running.{HasCome}
 
@@ -80,25 +80,6 @@ command_run setup before all left w new old mid now faults more_faults line comm
 
     asked_lines : lines_in setup before (s.asked ++ o ∷ []) ≡ lines_in setup before s.asked ++ lines_at setup (world setup s.behind) e
     asked_lines = s.lines (o ∷ []) ∙ ap (λ l. lines_in setup before s.asked ++ l) (append-nil (lines_at setup (world setup s.behind) e))
-
-    lines_are : lines_in setup before all ≡ lines_in setup before s.asked
-    lines_are = ap (lines_in setup before) whole ∙ s.lines [] ∙ append-nil (lines_in setup before s.asked)
-
-    by_faults : (f : Bool) → status_by true (f || false) ≡ cond f 1 0
-    by_faults true = refl
-    by_faults false = refl
-
-    status_is : status_in setup before all ≡ cond faults 1 0
-    status_is =
-        ap (λ os. status_in setup before os) whole
-        ∙ ap (λ b. status_by b (some_faults setup before (s.asked ++ []))) (s.commands [])
-        ∙ ap (status_by true) (s.found [])
-        ∙ by_faults faults
-
-    status_is : status_in setup before all ≡ 2
-    status_is =
-        ap (λ os. status_in setup before os) s.split
-        ∙ ap (λ b. status_by b (some_faults setup before (s.asked ++ left))) (s.commands left ∙ bad)
 
 -- Memory ran out at a command.
 pub lacks : (setup : Setup) (before : List Happening) (all left : List Order) (w : World) (old mid now : Option (List ℕ)) (faults : Bool) (status line : ℕ) (command : Command) (text : List ℕ) (rest : List Order)
