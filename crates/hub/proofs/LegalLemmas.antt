@@ -1,10 +1,10 @@
 -- Journals that stay legal.
-use Rattle.std.proofs.Common.{◌≡◌, sym, subst, ℕ, ◌<◌, arith, List, ◌∷◌, ◌++◌, length, Option}
+use Rattle.std.proofs.Common.{sym, subst, ℕ, ◌<◌, arith, List, ◌∷◌, ◌++◌, length, Option}
 use Rattle.std.specs.Option.{ForSome}
 use Rattle.std.proofs.lemmas.List.{length-append}
 use Rattle.messages.specs.declared.node.Node.{Node}
 use Rattle.hub.specs.declared.line.Line.{Line}
-use Rattle.hub.specs.Journal.{count_sent, IsLegal}
+use Rattle.hub.specs.Journal.{IsLegal}
 
 -- With the entry of an event more, and the frames that it sent.
 pub legal_more : (frames sent : List (List ℕ)) (journal : List Line) (node : Node) (at : ℕ) (taken : Option ℕ) → ForSome taken (λ i. i < length frames)

@@ -22,7 +22,8 @@ next sent i f is = drop_more sent i [] (slice_get_within sent i f is) ∙ ap (λ
 
 pub next_bytes : (sent : List (List ℕ)) (i : ℕ) (f : List ℕ) → slice_get sent i ≡ Some f
     → sum_by (λ (frame : List ℕ). length frame) (drop i sent) ≡ length f + sum_by (λ (frame : List ℕ). length frame) (drop (i + 1) sent)
-next_bytes sent i f is = ap (sum_by (λ (frame : List ℕ). length frame)) (next sent i f is) ∙ sum_by-cons (λ (frame : List ℕ). length frame) f (drop (i + 1) sent)
+next_bytes sent i f is =
+    ap (sum_by (λ (frame : List ℕ). length frame)) (next sent i f is) ∙ sum_by-cons (λ (frame : List ℕ). length frame) f (drop (i + 1) sent)
 
 pub next_length : (sent : List (List ℕ)) (i : ℕ) (f : List ℕ) → slice_get sent i ≡ Some f → length (drop i sent) ≡ length (drop (i + 1) sent) + 1
 next_length sent i f is = omega (arith, ap (λ (xs : List (List ℕ)). length xs) (next sent i f is))
@@ -33,7 +34,8 @@ next_spelled sent i f is all = subst IsSpelled (get_or_from_slice_get sent i f [
 next_taken : (sent old : List (List ℕ)) (i : ℕ) (f : List ℕ) → slice_get sent i ≡ Some f → (old ++ take i sent) ++ f ∷ [] ≡ old ++ take (i + 1) sent
 next_taken sent old i f is =
     append_assoc old (take i sent) (f ∷ [])
-    ∙ ap (λ (xs : List (List ℕ)). old ++ xs) (sym (take_more sent i [] (slice_get_within sent i f is) ∙ ap (λ (x : List ℕ). take i sent ++ x ∷ []) (get_or_from_slice_get sent i f [] is)))
+    ∙ ap (λ (xs : List (List ℕ)). old ++ xs) (sym (take_more sent i [] (slice_get_within sent i f is)
+    ∙ ap (λ (x : List ℕ). take i sent ++ x ∷ []) (get_or_from_slice_get sent i f [] is)))
 
 pub noted_more : (sent : List (List ℕ)) (i : ℕ) (old : Stored) (before : Queued) (mid : Stored) (between : Queued) (new : Stored) (after : Queued) (f : List ℕ)
     → IsNoted sent i old before mid between → slice_get sent i ≡ Some f

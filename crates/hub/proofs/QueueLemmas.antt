@@ -1,5 +1,6 @@
 -- Lists of numbers, and the least room in them.
-use Rattle.std.proofs.Common.{◌≡◌, refl, sym, ◌∙◌, ap, ℕ, zero, suc, ◌+◌, ◌<◌, ◌≤◌, ◌≢◌, arith, true, false, not, ◌==◌, inl, inr, nat_lt, List, [], ◌∷◌, length, get_or, map, filter, Option, Some, None}
+use Rattle.std.proofs.Common.{◌≡◌, refl, sym, ◌∙◌, ap, ℕ, zero, suc, ◌+◌, ◌<◌, ◌≤◌, ◌≢◌, arith, true, false, not}
+use Rattle.std.proofs.Common.{◌==◌, inl, inr, nat_lt, List, [], ◌∷◌, length, get_or, map, filter, Option, Some, None}
 use Rattle.std.specs.Prelude.{if◌then◌else◌, replicate, slice_set, All, AllPairs, remove}
 use Rattle.std.proofs.lemmas.Bool.{cases_Bool, cases_eq}
 use Rattle.std.proofs.lemmas.Bool.Decides.{nat_tests}
@@ -45,7 +46,8 @@ rises xs pairs i j le h = elim (cases_eq i j) [
 ]
 
 -- What a search that didn't find it says.
-pub not_found : (n : ℕ) (xs : List ℕ) (i : ℕ) → ((k : ℕ) → k < i → get_or xs k 0 < n) → ((k : ℕ) → i ≤ k → k < length xs → n < get_or xs k 0) → All (λ k. n ≢ k) xs
+pub not_found : (n : ℕ) (xs : List ℕ) (i : ℕ) → ((k : ℕ) → k < i → get_or xs k 0 < n) → ((k : ℕ) → i ≤ k → k < length xs → n < get_or xs k 0)
+    → All (λ k. n ≢ k) xs
 not_found n xs i low high = λ k d h.
     let same = get_or_default xs k d 0 h in
     elim (cases_Bool (nat_lt k i)) [
@@ -61,7 +63,8 @@ room_at most spare (v ∷ vs) zero d h = omega arith
 room_at most spare (v ∷ vs) (suc k) d h = omega (arith, room_at most spare vs k d (omega (arith, h)))
 
 -- Where one list has room for n fewer at most, so has the one with the least.
-pub room_set : {V : Type 0} (most : ℕ) (spare : V → ℕ) (vs : List V) (k n : ℕ) (v d : V) → spare (get_or vs k d) ≤ spare v + n → least most (map spare vs) ≤ least most (map spare (slice_set vs k v)) + n
+pub room_set : {V : Type 0} (most : ℕ) (spare : V → ℕ) (vs : List V) (k n : ℕ) (v d : V) → spare (get_or vs k d) ≤ spare v + n
+    → least most (map spare vs) ≤ least most (map spare (slice_set vs k v)) + n
 room_set most spare [] k n v d h = omega arith
 room_set most spare (w ∷ vs) zero n v d h = omega (arith, h)
 room_set most spare (w ∷ vs) (suc k) n v d h = omega (arith, room_set most spare vs k n v d h)
@@ -73,20 +76,25 @@ room_all most spare (v ∷ vs) n le each = omega (arith, each 0 v (omega arith),
 -- ---- one of the lists
 
 -- A new list at a place, by what each list holds.
-pub set_items : {V : Type 0} (f : V → List ℕ) (g : List ℕ → List ℕ) (vs : List V) (old : List (List ℕ)) (k n : ℕ) (v d : V) → map f vs ≡ old → k ≡ n → k < length vs → f v ≡ g (f (get_or vs k d))
+pub set_items : {V : Type 0} (f : V → List ℕ) (g : List ℕ → List ℕ) (vs : List V) (old : List (List ℕ)) (k n : ℕ) (v d : V) → map f vs ≡ old → k ≡ n
+    → k < length vs → f v ≡ g (f (get_or vs k d))
     → map f (slice_set vs k v) ≡ slice_set old n (g (get_or old n []))
 set_items f g vs old k n v d old_is k_is h v_is =
     rw (← old_is, ← k_is) (map-set f vs k v ∙ ap (λ (x : List ℕ). slice_set (map f vs) k x) (v_is ∙ ap g (sym (get_or-map f vs k d [] h))))
 
 -- Lists of which each is empty.
-pub all_empty : {V : Type 0} (f : V → List ℕ) (vs : List V) (n : ℕ) → length vs ≡ n → ((i : ℕ) (d : V) → i < n → f (get_or vs i d) ≡ []) → map f vs ≡ replicate n []
+pub all_empty : {V : Type 0} (f : V → List ℕ) (vs : List V) (n : ℕ) → length vs ≡ n → ((i : ℕ) (d : V) → i < n → f (get_or vs i d) ≡ [])
+    → map f vs ≡ replicate n []
 all_empty f [] n e each = rw (← e) refl
 all_empty f (v ∷ vs) n e each =
-    rw (← e, each 0 v (omega (arith, e))) (ap (λ (xs : List (List ℕ)). [] ∷ xs) (all_empty f vs (length vs) refl (λ i d h. each (suc i) d (omega (arith, e, h)))))
+    rw (← e, each 0 v (omega (arith, e))) (ap (λ (xs : List (List ℕ)). [] ∷ xs)
+    (all_empty f vs (length vs) refl (λ i d h. each (suc i) d (omega (arith, e, h)))))
 
 -- What a node took is out of its list.
-pub take_items : {V : Type 0} (f : V → List ℕ) (vs : List V) (lists : List (List ℕ)) (node : Node) (taken : Option ℕ) (n place : ℕ) (v d : V) → map f vs ≡ lists → length vs ≡ MAX_NODES → taken ≡ Some n
-    → Some place ≡ (if is_node node then Some (node_number node) else None) → f v ≡ filter (λ k. not (n == k)) (f (get_or vs place d)) → map f (slice_set vs place v) ≡ without_frame lists node taken
+pub take_items : {V : Type 0} (f : V → List ℕ) (vs : List V) (lists : List (List ℕ)) (node : Node) (taken : Option ℕ) (n place : ℕ) (v d : V) → map f vs ≡ lists
+    → length vs ≡ MAX_NODES → taken ≡ Some n
+    → Some place ≡ (if is_node node then Some (node_number node) else None) → f v ≡ filter (λ k. not (n == k)) (f (get_or vs place d))
+    → map f (slice_set vs place v) ≡ without_frame lists node taken
 take_items f vs lists node taken n place v d lists_are long taken_is place_is v_is =
     let at = placed node place (node_number node) (is_node node) place_is in
     let valid : is_node node ≡ true = at.0 in

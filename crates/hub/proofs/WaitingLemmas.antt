@@ -1,5 +1,6 @@
 -- The frames that wait for a node: what an entry of the journal and a frame more change.
-use Rattle.std.proofs.Common.{◌≡◌, refl, ◌∙◌, ap, ℕ, zero, suc, ◌+◌, ◌<◌, ◌≤◌, arith, Bool, true, false, not, ◌&&◌, ◌||◌, ◌==◌, inl, inr, nat_lt, List, [], ◌∷◌, ◌++◌, length, get_or, filter, Option, Some, None}
+use Rattle.std.proofs.Common.{◌≡◌, refl, ◌∙◌, ap, ℕ, zero, suc, ◌+◌, ◌<◌, ◌≤◌, arith, Bool, true, false, not, ◌&&◌, ◌||◌}
+use Rattle.std.proofs.Common.{◌==◌, inl, inr, nat_lt, List, [], ◌∷◌, ◌++◌, length, get_or, filter, Option, Some, None}
 use Rattle.std.specs.Prelude.{All, slice_get}
 use Rattle.std.specs.Option.{ForSome, option_map_or}
 use Rattle.std.specs.List.{list_any}
@@ -51,7 +52,8 @@ both true false true = refl
 both true false false = refl
 both false b c = refl
 
-filter_both_by : (p q r : ℕ → Bool) (x : ℕ) (xs : List ℕ) (a b : Bool) → p x ≡ (a && b) → q x ≡ a → r x ≡ b → filter p xs ≡ filter r (filter q xs) → filter p (x ∷ xs) ≡ filter r (filter q (x ∷ xs))
+filter_both_by : (p q r : ℕ → Bool) (x : ℕ) (xs : List ℕ) (a b : Bool) → p x ≡ (a && b) → q x ≡ a → r x ≡ b → filter p xs ≡ filter r (filter q xs)
+    → filter p (x ∷ xs) ≡ filter r (filter q (x ∷ xs))
 filter_both_by p q r x xs true true ep eq er ih = rw (ep, eq, er, ih) refl
 filter_both_by p q r x xs true false ep eq er ih = rw (ep, eq, er) ih
 filter_both_by p q r x xs false b ep eq er ih = rw (ep, eq) ih
@@ -70,24 +72,29 @@ filter_same p q [] each = refl
 filter_same p q (x ∷ xs) each = rw (each x, filter_same p q xs each) refl
 
 with_entry : (frames : List (List ℕ)) (l : Line) (journal : List Line) (node : Node)
-    → waiting_frames (record { frames = frames; journal = l ∷ journal }) node ≡ filter (λ i. not (is_taken_by node i l)) (waiting_frames (record { frames = frames; journal = journal }) node)
+    → waiting_frames (record { frames = frames; journal = l ∷ journal }) node
+    ≡ filter (λ i. not (is_taken_by node i l)) (waiting_frames (record { frames = frames; journal = journal }) node)
 unfolding waiting_frames
 with_entry frames l journal node =
-    filter_both (is_waiting (record { frames = frames; journal = l ∷ journal }) node) (is_waiting (record { frames = frames; journal = journal }) node) (λ i. not (is_taken_by node i l)) (numbers_below (length frames))
+    filter_both (is_waiting (record { frames = frames; journal = l ∷ journal }) node) (is_waiting (record { frames = frames; journal = journal }) node)
+    (λ i. not (is_taken_by node i l)) (numbers_below (length frames))
     (λ i. both (option_map_or (is_for node) (slice_get frames i) false) (is_taken_by node i l) (list_any (is_taken_by node i) journal))
 
 -- By an entry that took no frame, or of another node, no frame fewer waits.
 pub untouched : (frames : List (List ℕ)) (l : Line) (journal : List Line) (node : Node) → ((i : ℕ) → is_taken_by node i l ≡ false)
     → waiting_frames (record { frames = frames; journal = l ∷ journal }) node ≡ waiting_frames (record { frames = frames; journal = journal }) node
 untouched frames l journal node none =
-    with_entry frames l journal node ∙ filter_all (λ i. not (is_taken_by node i l)) (waiting_frames (record { frames = frames; journal = journal }) node) (λ i. ap not (none i))
+    with_entry frames l journal node ∙ filter_all (λ i. not (is_taken_by node i l)) (waiting_frames (record { frames = frames; journal = journal }) node)
+    (λ i. ap not (none i))
 
 -- By an entry of the node that took frame n, that one doesn't wait any more.
 pub touched : (frames : List (List ℕ)) (l : Line) (journal : List Line) (node : Node) (n : ℕ) → ((i : ℕ) → is_taken_by node i l ≡ (n == i))
-    → waiting_frames (record { frames = frames; journal = l ∷ journal }) node ≡ filter (λ i. not (n == i)) (waiting_frames (record { frames = frames; journal = journal }) node)
+    → waiting_frames (record { frames = frames; journal = l ∷ journal }) node
+    ≡ filter (λ i. not (n == i)) (waiting_frames (record { frames = frames; journal = journal }) node)
 touched frames l journal node n that =
     with_entry frames l journal node
-    ∙ filter_same (λ i. not (is_taken_by node i l)) (λ i. not (n == i)) (waiting_frames (record { frames = frames; journal = journal }) node) (λ i. ap not (that i))
+    ∙ filter_same (λ i. not (is_taken_by node i l)) (λ i. not (n == i)) (waiting_frames (record { frames = frames; journal = journal }) node)
+    (λ i. ap not (that i))
 
 -- ---- a frame more
 
@@ -114,16 +121,19 @@ same_below : (frames : List (List ℕ)) (f : List ℕ) (journal : List Line) (no
     → is_waiting (record { frames = frames ++ f ∷ []; journal = journal }) node i ≡ is_waiting (record { frames = frames; journal = journal }) node i
 same_below frames f journal node i h = rw (get_left frames f i h) refl
 
-last_waits : (frames : List (List ℕ)) (f : List ℕ) (journal : List Line) (node : Node) (b : Bool) → All (IsTakenBelow (length frames)) journal → is_for node f ≡ b
+last_waits : (frames : List (List ℕ)) (f : List ℕ) (journal : List Line) (node : Node) (b : Bool) → All (IsTakenBelow (length frames)) journal
+    → is_for node f ≡ b
     → is_waiting (record { frames = frames ++ f ∷ []; journal = journal }) node (length frames) ≡ b
 last_waits frames f journal node b below e =
     rw (get_last frames f, not_taken node journal (length frames) below, e) (elim b as (λ v. (v && not false) ≡ v) [ true ↦ refl | false ↦ refl ])
 
 more_below : (frames : List (List ℕ)) (f : List ℕ) (journal : List Line) (node : Node)
-    → filter (is_waiting (record { frames = frames ++ f ∷ []; journal = journal }) node) (numbers_below (length frames)) ≡ waiting_frames (record { frames = frames; journal = journal }) node
+    → filter (is_waiting (record { frames = frames ++ f ∷ []; journal = journal }) node) (numbers_below (length frames))
+    ≡ waiting_frames (record { frames = frames; journal = journal }) node
 unfolding waiting_frames
 more_below frames f journal node =
-    filter_agree_below (is_waiting (record { frames = frames ++ f ∷ []; journal = journal }) node) (is_waiting (record { frames = frames; journal = journal }) node) (length frames) (same_below frames f journal node)
+    filter_agree_below (is_waiting (record { frames = frames ++ f ∷ []; journal = journal }) node)
+    (is_waiting (record { frames = frames; journal = journal }) node) (length frames) (same_below frames f journal node)
 
 waiting_of : (frames : List (List ℕ)) (f : List ℕ) (journal : List Line) (node : Node)
     → waiting_frames (record { frames = frames ++ f ∷ []; journal = journal }) node
@@ -135,7 +145,8 @@ waiting_of frames f journal node =
 
 -- A frame for the node waits behind those that do.
 pub one_more : (frames : List (List ℕ)) (f : List ℕ) (journal : List Line) (node : Node) → All (IsTakenBelow (length frames)) journal → is_for node f ≡ true
-    → waiting_frames (record { frames = frames ++ f ∷ []; journal = journal }) node ≡ waiting_frames (record { frames = frames; journal = journal }) node ++ length frames ∷ []
+    → waiting_frames (record { frames = frames ++ f ∷ []; journal = journal }) node
+    ≡ waiting_frames (record { frames = frames; journal = journal }) node ++ length frames ∷ []
 one_more frames f journal node below e =
     waiting_of frames f journal node
     ∙ filter_next (is_waiting (record { frames = frames ++ f ∷ []; journal = journal }) node) (length frames) (last_waits frames f journal node true below e)
@@ -146,5 +157,6 @@ pub none_more : (frames : List (List ℕ)) (f : List ℕ) (journal : List Line) 
     → waiting_frames (record { frames = frames ++ f ∷ []; journal = journal }) node ≡ waiting_frames (record { frames = frames; journal = journal }) node
 none_more frames f journal node below e =
     waiting_of frames f journal node
-    ∙ filter_not_next (is_waiting (record { frames = frames ++ f ∷ []; journal = journal }) node) (length frames) (last_waits frames f journal node false below e)
+    ∙ filter_not_next (is_waiting (record { frames = frames ++ f ∷ []; journal = journal }) node) (length frames)
+    (last_waits frames f journal node false below e)
     ∙ more_below frames f journal node

@@ -15,7 +15,8 @@ pub record Stored : Type 0 where
   pub more : ℕ
   pub bytes : ℕ
 
--- A list of numbers for each node, in the order of the nodes' numbers, and how many more fit into each of them.
+-- A list of numbers for each node, in the order of the nodes' numbers, and how many more fit into
+-- each of them.
 pub record Queued : Type 0 where
   pub lists : List (List ℕ)
   pub more : ℕ
@@ -36,13 +37,15 @@ with_list lists node list = if is_node node then slice_set lists (node_number no
 -- The lists without the number that a node took, if it took one.
 abbrev pub without_frame : List (List ℕ) → Node → Option ℕ → List (List ℕ)
 without_frame lists node None = lists
-without_frame lists node (Some n) = with_list lists node (filter (λ k. not (n == k)) (list_of lists node))
+without_frame lists node (Some n) =
+    with_list lists node (filter (λ k. not (n == k)) (list_of lists node))
 
 -- The frame that an entry took is one of the first n.
 abbrev pub IsTakenBelow : ℕ → Line → Type 0
 IsTakenBelow n l = ForSome l.taken (λ i. i < n)
 
--- All frames are spelled, those that were taken are there, and each node's list has the frames that wait for it.
+-- All frames are spelled, those that were taken are there, and each node's list has the frames that
+-- wait for it.
 pub record IsKept (net : Network) (lists : List (List ℕ)) : Type 0 where
   pub spelled : All IsSpelled net.frames
   pub taken : All (IsTakenBelow (length net.frames)) net.journal
@@ -52,7 +55,8 @@ pub record IsKept (net : Network) (lists : List (List ℕ)) : Type 0 where
 -- With these frames more, whatever the journal was, the network is kept as it was before.
 abbrev pub StayKept : List (List ℕ) → List (List ℕ) → List (List ℕ) → List (List ℕ) → Type 0
 StayKept frames more lists longer =
-    (journal : List Line) → IsKept (record { frames = frames; journal = journal }) lists → IsKept (record { frames = more; journal = journal }) longer
+    (journal : List Line) → IsKept (record { frames = frames; journal = journal }) lists
+    → IsKept (record { frames = more; journal = journal }) longer
 
 -- What is true of every hub: it keeps its network, whose journal is legal.
 pub record IsHub (net : Network) (lists : List (List ℕ)) : Type 0 where

@@ -31,7 +31,8 @@ is_taken_by node i l = is_same_node l.node node && option_map_or (λ taken. take
 
 -- Frame i is for the node, which hasn't taken it.
 abbrev pub is_waiting : Network → Node → ℕ → Bool
-is_waiting net node i = option_map_or (is_for node) (slice_get net.frames i) false && not (list_any (is_taken_by node i) net.journal)
+is_waiting net node i = option_map_or (is_for node) (slice_get net.frames i) false && not
+    (list_any (is_taken_by node i) net.journal)
 
 -- The numbers of the frames to a node that it hasn't taken, ascending.
 unfoldable pub waiting_frames : Network → Node → List ℕ

@@ -51,7 +51,8 @@ impl Model for Hub {
       };
     } };
 
-    ghost invariant = { λ h. IsHub (record { frames = h.store.frames; journal = reverse h.journal.items }) h.queues.lists };
+    ghost invariant = { λ h. IsHub (record
+        { frames = h.store.frames; journal = reverse h.journal.items }) h.queues.lists };
 }
 
 impl Hub {

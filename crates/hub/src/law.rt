@@ -1,15 +1,8 @@
-//! Laws of frames. The functions have nothing to run.
+//! A law of frames. The function has nothing to run.
 
-ghost use Rattle.hub.specs.Laws.{FramesAreReadable, FramesAreSpelled};
+ghost use Rattle.hub.specs.Laws.{FramesAreSpelled};
 
-use messages::lengths_are_bounded;
-
-/// The frames of a packet in its ranges are in theirs, and short enough to be read.
-pub fn frames_are_readable()
-    ensures { FramesAreReadable }
-{
-    lengths_are_bounded();
-}
+use messages::frames_are_readable;
 
 /// The frames of a packet in its ranges are spelled, so that a hub can note them.
 pub fn frames_are_spelled()

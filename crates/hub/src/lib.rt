@@ -19,5 +19,5 @@ mod queues;
 mod store;
 
 pub use hub::Hub;
-pub use law::{frames_are_readable, frames_are_spelled};
+pub use law::frames_are_spelled;
 pub use line::Line;

@@ -8,7 +8,8 @@ use Rattle.fc_base.specs.declared.limits.TheConstants.{MAX_LISTED, MAX_TEXT}
 use Rattle.fc_base.specs.declared.report.ReportParts.{ReportParts}
 use Rattle.fc_base.specs.Report.{is_report}
 use Rattle.messages.specs.declared.body.Body.{Body}
-use Rattle.messages.specs.declared.body.Body.TheVariants.{Jobs, JobsOk, Start, Started, Trigger, State, NoState, StateAck, Stop, Stopped, Verify, WantState, Saved, NoSaved, Report, Refused, Copy, CopyOk, Fetch, Granted}
+use Rattle.messages.specs.declared.body.Body.TheVariants.{Jobs, JobsOk, Start, Started, Trigger, State, NoState, StateAck, Stop, Stopped}
+use Rattle.messages.specs.declared.body.Body.TheVariants.{Verify, WantState, Saved, NoSaved, Report, Refused, Copy, CopyOk, Fetch, Granted}
 use Rattle.messages.specs.declared.kind.PacketKind.{PacketKind}
 use Rattle.messages.specs.declared.kind.PacketKind.TheVariants as kinds
 use Rattle.fc_base.specs.Layouts.{number_in, size, spelled, numbers}
@@ -69,7 +70,11 @@ length-numbers_of (Granted generation) = refl
 
 pub length-spelled_body : (b : Body) → length (spelled_body b) ≡ length_of b
 length-spelled_body b =
-    omega (arith, length-append (spelled (layout (kind_of b)) (numbers_of b)) (tail_of b), length-spelled (layout (kind_of b)) (numbers_of b) (length-numbers_of b))
+    omega (
+      arith,
+      length-append (spelled (layout (kind_of b)) (numbers_of b)) (tail_of b),
+      length-spelled (layout (kind_of b)) (numbers_of b) (length-numbers_of b),
+    )
 
 -- Nor than any body may have.
 pub within_limit : (k : PacketKind) → length_limit k ≤ MAX_BODY
@@ -152,6 +157,7 @@ refusal_in bytes a r =
       value = number_in w64 (drop 8 (drop 8 run));
     })
 
-pub refused_at : (bytes : List ℕ) (a : Asked) (r : Reason) → length bytes ≡ 34 → asked_numbered (number_in w8 bytes) ≡ Some a → reason_numbered (number_in w8 (drop 1 bytes)) ≡ Some r
+pub refused_at : (bytes : List ℕ) (a : Asked) (r : Reason) → length bytes ≡ 34 → asked_numbered (number_in w8 bytes) ≡ Some a
+    → reason_numbered (number_in w8 (drop 1 bytes)) ≡ Some r
     → body_at kinds.Refused bytes ≡ (if is_body (refusal_in bytes a r) then Some (refusal_in bytes a r) else None)
 refused_at bytes a r len ea er = rw (ea, er, len) refl

@@ -23,7 +23,8 @@ use Rattle.messages.specs.Choices.{act_number, act_numbered, asked_number, asked
 use Rattle.messages.specs.Bodies.{end_number, end_at, end_numbered}
 
 -- What is found by its number has it.
-find_pick : {X : Type 0} (number : X → ℕ) (n : ℕ) (y x : X) (rest : Option X) (t : Bool) → (number y == n) ≡ t → cond t (Some y) rest ≡ Some x → (rest ≡ Some x → number x ≡ n) → number x ≡ n
+find_pick : {X : Type 0} (number : X → ℕ) (n : ℕ) (y x : X) (rest : Option X) (t : Bool) → (number y == n) ≡ t → cond t (Some y) rest ≡ Some x
+    → (rest ≡ Some x → number x ≡ n) → number x ≡ n
 find_pick number n y x rest true is same later = let here : y ≡ x = cc in rw (← here) (eqb-true (number y) n is)
 find_pick number n y x rest false is same later = later same
 
@@ -125,7 +126,8 @@ reason_again reasons.Misfit = refl
 
 pub reason_is : (n : ℕ) (r : Reason) → reason_numbered n ≡ Some r → reason_number r ≡ n
 unfolding reason_numbered
-reason_is n r e = find_is reason_number n (reasons.Old ∷ reasons.Busy ∷ reasons.NoJobs ∷ reasons.Gone ∷ reasons.Overwritten ∷ reasons.Unknown ∷ reasons.BadJobs ∷ reasons.Misfit ∷ []) r e
+reason_is n r e = find_is reason_number n (reasons.Old ∷ reasons.Busy ∷ reasons.NoJobs ∷ reasons.Gone ∷ reasons.Overwritten ∷ reasons.Unknown ∷ reasons.BadJobs
+    ∷ reasons.Misfit ∷ []) r e
 
 pub reason_fits : (r : Reason) → reason_number r < 256
 reason_fits reasons.Old = omega arith
@@ -169,7 +171,8 @@ node_again Mirror h = refl
 pub node_is : (n : ℕ) (node : Node) → node_numbered n ≡ Some node → node_number node ≡ n
 node_is n node e = pick (nat_lt n MAX_SERVERS) (n == CLIENT_NUMBER) refl (n == MIRROR_NUMBER) refl e
   where
-    pick : (below client : Bool) → (n == CLIENT_NUMBER) ≡ client → (last : Bool) → (n == MIRROR_NUMBER) ≡ last → (if below then Some (Server n) else if client then Some Client else if last then Some Mirror else None) ≡ Some node → node_number node ≡ n
+    pick : (below client : Bool) → (n == CLIENT_NUMBER) ≡ client → (last : Bool) → (n == MIRROR_NUMBER) ≡ last
+        → (if below then Some (Server n) else if client then Some Client else if last then Some Mirror else None) ≡ Some node → node_number node ≡ n
     pick true client l last m same = let here : Server n ≡ node = cc in rw (← here) refl
     pick false true l last m same = let here : Client ≡ node = cc in rw (← here) (sym (eqb-true n CLIENT_NUMBER l))
     pick false false l true m same = let here : Mirror ≡ node = cc in rw (← here) (sym (eqb-true n MIRROR_NUMBER m))

@@ -12,13 +12,15 @@ use Rattle.fc_base.specs.declared.report.ReportEnd.{ReportEnd}
 use Rattle.fc_base.specs.declared.report.ReportEnd.TheVariants as ends
 use Rattle.fc_base.specs.Report.{has_counts, has_list, has_end, is_report}
 use Rattle.messages.specs.declared.body.Body.{Body}
-use Rattle.messages.specs.declared.body.Body.TheVariants.{Jobs, JobsOk, Start, Started, Trigger, State, NoState, StateAck, Stop, Stopped, Verify, WantState, Saved, NoSaved, Report, Refused, Copy, CopyOk, Fetch, Granted}
+use Rattle.messages.specs.declared.body.Body.TheVariants.{Jobs, JobsOk, Start, Started, Trigger, State, NoState, StateAck, Stop, Stopped}
+use Rattle.messages.specs.declared.body.Body.TheVariants.{Verify, WantState, Saved, NoSaved, Report, Refused, Copy, CopyOk, Fetch, Granted}
 use Rattle.messages.specs.declared.refusal.Asked.{Asked}
 use Rattle.messages.specs.declared.refusal.Asked.TheVariants as asks
 use Rattle.messages.specs.declared.refusal.Reason.{Reason}
 use Rattle.messages.specs.declared.refusal.Reason.TheVariants as reasons
 use Rattle.fc_base.specs.Layouts.{bytes_of, spelled_blocks, blocks_in}
-use Rattle.messages.specs.Ranges.{is_word, is_run, is_attempt, is_jobs, is_job, is_job_of, is_server_no, is_generation, is_text, is_job_refused, is_attempt_refused, is_body, KeepsState}
+use Rattle.messages.specs.Ranges.{is_word, is_run, is_attempt, is_jobs, is_job, is_job_of, is_server_no}
+use Rattle.messages.specs.Ranges.{is_generation, is_text, is_job_refused, is_attempt_refused, is_body, KeepsState}
 use Rattle.messages.specs.Bodies.{kind_of, layout, numbers_of, tail_of, spelled_body, length_of, takes_all, body_of, whole, body_at, end_at}
 use Rattle.verify_state.specs.Laws.{ReadsBack}
 use Rattle.messages.proofs.StateLemmas.{state_again}
@@ -132,14 +134,27 @@ fit_of (Report run attempt job jobs r) h =
     let numbers = job_of_fits job jobs names.1 in
     let found = both (has_counts r && has_list r) (has_end r) last.1 in
     let lists = both (has_counts r) (has_list r) found.0 in
-    let counts = counts_fit r lists.0 in
-    (run_fits run parts.0, (attempt_fits attempt parts.1, (numbers.0, (numbers.1, (end_fits r.end, (at_fits r r.end found.1, (counts.0, (counts.1, (list_fits r lists.1, tt)))))))))
+    let counts = counts_fit r lists.0 in (
+      run_fits run parts.0,
+      (
+        attempt_fits attempt parts.1,
+        (numbers.0, (numbers.1, (end_fits r.end, (at_fits r r.end found.1, (counts.0, (counts.1, (list_fits r lists.1, tt))))))),
+      ),
+    )
 fit_of (Refused r) h =
     let last = both (is_run r.run && is_word r.value && is_job_refused r.reason r.job r.jobs) (is_attempt_refused r.asked r.attempt) h in
     let named = both (is_run r.run && is_word r.value) (is_job_refused r.reason r.job r.jobs) last.0 in
     let parts = both (is_run r.run) (is_word r.value) named.0 in
-    let numbers = job_refused_fits r.reason r.job r.jobs named.1 in
-    (asked_fits r.asked, (reason_fits r.reason, (numbers.0, (numbers.1, (run_fits r.run parts.0, (attempt_refused_fits r.asked r.attempt last.1, (lt_of r.value 18446744073709551616 parts.1, tt)))))))
+    let numbers = job_refused_fits r.reason r.job r.jobs named.1 in (
+      asked_fits r.asked,
+      (
+        reason_fits r.reason,
+        (
+          numbers.0,
+          (numbers.1, (run_fits r.run parts.0, (attempt_refused_fits r.asked r.attempt last.1, (lt_of r.value 18446744073709551616 parts.1, tt)))),
+        ),
+      ),
+    )
 fit_of (Copy state) h = tt
 fit_of (CopyOk run server job) h =
     let last = both (is_run run && is_server_no server) (is_job job) h in

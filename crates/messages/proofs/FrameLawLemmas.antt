@@ -1,5 +1,6 @@
 -- The laws of frames that hold packets or pieces.
-use Rattle.std.proofs.Common.{◌≡◌, ℕ, ◌+◌, ◌-◌, ◌%◌, ◌<◌, ◌≤◌, Bool, true, ◌&&◌, Option, Some, None, List, [], ◌++◌, length, drop, refl, sym, ap, ◌∙◌, append_assoc, arith}
+use Rattle.std.proofs.Common.{◌≡◌, ℕ, ◌+◌, ◌-◌, ◌%◌, ◌<◌, ◌≤◌, Bool, true, ◌&&◌, Option, Some, None}
+use Rattle.std.proofs.Common.{List, [], ◌++◌, length, drop, refl, sym, ap, ◌∙◌, append_assoc, arith}
 use Rattle.std.specs.Prelude.{if◌then◌else◌, ◌==◌, nat_lt, nat_le, is_none, is_some, slice_index, min}
 use Rattle.std.specs.Option.{option_map, option_and_then}
 use Rattle.std.proofs.lemmas.Bool.{eqb-true}
@@ -26,7 +27,8 @@ use Rattle.messages.specs.Bodies.{kind_of, length_of, spelled_body}
 use Rattle.messages.specs.Packets.{header, header_faults, spelling}
 use Rattle.messages.specs.Laws.{IsPacket}
 use Rattle.messages.specs.PieceRanges.{is_long_kind, is_number, is_owner, is_cut_length, is_tag_in_range, is_place, is_piece}
-use Rattle.messages.specs.FrameBytes.{piece_layout, piece_numbers, piece_spelling, sort_numbered, is_frame_kind, frame_limit, in_ranges, piece_with, piece_said, frame_said, frame_at, frame_faults, frame_spelling}
+use Rattle.messages.specs.FrameBytes.{piece_layout, piece_numbers, piece_spelling, sort_numbered, is_frame_kind, frame_limit}
+use Rattle.messages.specs.FrameBytes.{in_ranges, piece_with, piece_said, frame_said, frame_at, frame_faults, frame_spelling}
 use Rattle.messages.specs.FrameLaws.{IsFrame, FramesAreRead, NoFrameBeginsAnother}
 use Rattle.verify_state.specs.Laws.{ReadsBack}
 use Rattle.messages.proofs.LayoutLemmas.{AreWide, Fit, wide8, wide32, wide64, length-spelled, numbers-spelled, drop-spelled}
@@ -36,12 +38,13 @@ use Rattle.messages.proofs.HeaderLemmas.{header_wide, passes, none_left, clean, 
 use Rattle.messages.proofs.LawLemmas.{parts_of, numbers_of_header, spelling_headed, framed, none_begins_another}
 use Rattle.messages.proofs.BodyLemmas.{length-spelled_body}
 use Rattle.messages.proofs.FitLemmas.{body_at-spelled}
-use Rattle.messages.proofs.FramesOfLemmas.{length-piece_spelling}
+use Rattle.messages.proofs.FrameLemmas.{length-piece_spelling}
 
 pub layout_wide : AreWide piece_layout
 layout_wide = (wide8, (wide64, (wide64, (wide32, (wide32, (wide32, (wide32, tt)))))))
 
-headed_read : (bytes : List ℕ) (kind : ℕ) (from to : Node) (len : ℕ) (sort : FrameKind) (f : Frame) → Headed bytes kind from to len → len ≤ FRAME_LIMIT → sort_numbered kind ≡ Some sort → is_node from ≡ true → is_node to ≡ true
+headed_read : (bytes : List ℕ) (kind : ℕ) (from to : Node) (len : ℕ) (sort : FrameKind) (f : Frame) → Headed bytes kind from to len → len ≤ FRAME_LIMIT
+    → sort_numbered kind ≡ Some sort → is_node from ≡ true → is_node to ≡ true
     → frame_said from to (drop 16 bytes) sort ≡ Some f → (frame_faults bytes ≡ []) × (frame_at bytes ≡ Some f)
 headed_read bytes kind from to len sort f told most sort_is hf ht said =
     let number = λ (i : ℕ). ap (λ (ns : List ℕ). slice_index ns i) told.numbers in
@@ -49,8 +52,12 @@ headed_read bytes kind from to len sort f told most sort_is hf ht said =
     let from_is = ap node_numbered (number 4) ∙ node_again from hf in
     let to_is = ap node_numbered (number 5) ∙ node_again to ht in
     let read : frame_at bytes ≡ Some f = rw (kind_is, from_is, to_is, said) refl in
-    let passes_all = headed_passes is_frame_kind frame_limit bytes kind from to len told (ap (λ (o : Option FrameKind). is_some o) sort_is) hf ht most in
-    (none_left (header_faults is_frame_kind frame_limit bytes) (when (is_none (frame_at bytes)) FrameBadField) (clean is_frame_kind frame_limit bytes passes_all) (passes (is_none (frame_at bytes)) FrameBadField (ap is_none read)), read)
+    let passes_all = headed_passes is_frame_kind frame_limit bytes kind from to len told (ap (λ (o : Option FrameKind). is_some o) sort_is) hf ht most in (
+      none_left (header_faults is_frame_kind frame_limit bytes) (when
+          (is_none (frame_at bytes)) FrameBadField) (clean is_frame_kind frame_limit bytes passes_all)
+          (passes (is_none (frame_at bytes)) FrameBadField (ap is_none read)),
+      read,
+    )
 
 -- A kind of packets isn't that of pieces.
 pub sort_of_kind : (k : PacketKind) → sort_numbered (number_of k) ≡ Some (sorts.Packet k)
@@ -75,15 +82,18 @@ sort_of_kind kinds.CopyOk = ap (λ (o : Option PacketKind). option_map sorts.Pac
 sort_of_kind kinds.Fetch = ap (λ (o : Option PacketKind). option_map sorts.Packet o) (kind_again kinds.Fetch)
 sort_of_kind kinds.Granted = ap (λ (o : Option PacketKind). option_map sorts.Packet o) (kind_again kinds.Granted)
 
-whole_read : ReadsBack → (p : PacketParts) → IsPacket p → length_of p.body ≤ CHUNK_LIMIT → (frame_faults (spelling p) ≡ []) × (frame_at (spelling p) ≡ Some (Whole p))
+whole_read : ReadsBack → (p : PacketParts) → IsPacket p → length_of p.body ≤ CHUNK_LIMIT
+    → (frame_faults (spelling p) ≡ []) × (frame_at (spelling p) ≡ Some (Whole p))
 whole_read law p h short =
     let parts = parts_of p h in
     let behind : drop 16 (spelling p) ≡ spelled_body p.body = drop-spelled header (numbers_of_header p) (spelled_body p.body) refl in
     let len = length-spelled_body p.body in
     let enough : nat_le (length (spelled_body p.body)) CHUNK_LIMIT ≡ true = grind (arith, nat_tests) in
     let said : frame_said p.from p.to (drop 16 (spelling p)) (sorts.Packet (kind_of p.body)) ≡ Some (Whole p) =
-    ap (λ (bs : List ℕ). frame_said p.from p.to bs (sorts.Packet (kind_of p.body))) behind ∙ rw (enough, body_at-spelled law p.body parts.body parts.keeps) refl in
-    headed_read (spelling p) (number_of (kind_of p.body)) p.from p.to (length_of p.body) (sorts.Packet (kind_of p.body)) (Whole p) (spelling_headed law p parts) (omega (arith, short)) (sort_of_kind (kind_of p.body)) parts.from parts.to said
+    ap (λ (bs : List ℕ). frame_said p.from p.to bs (sorts.Packet (kind_of p.body))) behind
+    ∙ rw (enough, body_at-spelled law p.body parts.body parts.keeps) refl in
+    headed_read (spelling p) (number_of (kind_of p.body)) p.from p.to (length_of p.body) (sorts.Packet (kind_of p.body)) (Whole p) (spelling_headed law p parts)
+    (omega (arith, short)) (sort_of_kind (kind_of p.body)) parts.from parts.to said
 
 -- The numbers of a piece fit their widths.
 
@@ -175,19 +185,28 @@ ranged q h =
     record {
       from = nodes.0;
       to = nodes.1;
-      numbers = (kind_fits t.whole, (word_of t.run run.1, (number_fits t.whole t.number run.0 number.1, (owners.0, (owners.1, (omega (arith, most), (omega (arith, before, most), tt)))))));
+      numbers = (
+        kind_fits t.whole,
+        (
+          word_of t.run run.1,
+          (number_fits t.whole t.number run.0 number.1, (owners.0, (owners.1, (omega (arith, most), (omega (arith, before, most), tt))))),
+        ),
+      );
       short = omega (arith, part);
     }
 
 piece_again : (q : PieceParts) → is_piece q ≡ true → Ranged q → piece_said q.from q.to (spelled piece_layout (piece_numbers q) ++ q.bytes) ≡ Some q
 piece_again q h r =
     let bytes = spelled piece_layout (piece_numbers q) ++ q.bytes in
-    let len : 33 ≤ length bytes = omega (arith, length-append (spelled piece_layout (piece_numbers q)) q.bytes, length-spelled piece_layout (piece_numbers q) refl) in
+    let len : 33 ≤ length bytes =
+    omega (arith, length-append (spelled piece_layout (piece_numbers q)) q.bytes, length-spelled piece_layout (piece_numbers q) refl) in
     let enough : nat_le 33 (length bytes) ≡ true = grind (arith, nat_tests) in
-    let by : List ℕ → Option PieceParts = λ ns. option_and_then (λ (k : PacketKind). in_ranges (piece_with q.from q.to ns (drop 33 bytes) k)) (kind_numbered (slice_index ns 0)) in
+    let by : List ℕ → Option PieceParts =
+    λ ns. option_and_then (λ (k : PacketKind). in_ranges (piece_with q.from q.to ns (drop 33 bytes) k)) (kind_numbered (slice_index ns 0)) in
     ap (λ (b : Bool). if b then by (numbers piece_layout bytes) else None) enough
     ∙ ap by (numbers-spelled piece_layout (piece_numbers q) q.bytes layout_wide r.numbers)
-    ∙ ap (λ (o : Option PacketKind). option_and_then (λ (k : PacketKind). in_ranges (piece_with q.from q.to (piece_numbers q) (drop 33 bytes) k)) o) (kind_again q.tag.whole)
+    ∙ ap (λ (o : Option PacketKind). option_and_then (λ (k : PacketKind). in_ranges (piece_with q.from q.to (piece_numbers q) (drop 33 bytes) k)) o)
+    (kind_again q.tag.whole)
     ∙ ap (λ (bs : List ℕ). in_ranges (piece_with q.from q.to (piece_numbers q) bs q.tag.whole)) (drop-spelled piece_layout (piece_numbers q) q.bytes refl)
     ∙ rw h refl
 
@@ -196,7 +215,8 @@ piece_front : (q : PieceParts) (more : List ℕ) → Ranged q → numbers header
 piece_front q more r =
     let short = r.short in
     let ns = head_numbers 17 q.from q.to (33 + length q.bytes) in
-    let fits : Fit header ns = (omega arith, (omega arith, (omega arith, (omega arith, (node_fits q.from r.from, (node_fits q.to r.to, (omega (arith, short), tt))))))) in
+    let fits : Fit header ns =
+    (omega arith, (omega arith, (omega arith, (omega arith, (node_fits q.from r.from, (node_fits q.to r.to, (omega (arith, short), tt))))))) in
     let body = spelled piece_layout (piece_numbers q) ++ q.bytes in
     ap (numbers header) (append_assoc (spelled header ns) body more) ∙ numbers-spelled header ns (body ++ more) header_wide fits
 

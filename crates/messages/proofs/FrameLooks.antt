@@ -29,14 +29,16 @@ use Rattle.messages.proofs.FrameLawLemmas.{sort_of_kind, ranged, piece_headed}
 pub no_frame : (bytes : List ℕ) (g : Fault) → FieldsAre (Err g) bytes → begins_frame bytes ≡ false
 no_frame bytes g told = by_tests (nat_lt (length bytes) 16) (nat_le 16 (length bytes)) (has_magic bytes) (grind (arith, nat_tests)) (told [])
   where
-    by_tests : (short long magic : Bool) → long ≡ not short → slice_get (when short FrameShort ++ (when (not magic) FrameBadMagic ++ [])) 0 ≡ Some g → (long && magic) ≡ false
+    by_tests : (short long magic : Bool) → long ≡ not short → slice_get (when short FrameShort ++ (when (not magic) FrameBadMagic ++ [])) 0 ≡ Some g
+        → (long && magic) ≡ false
     by_tests true long magic e first = rw e refl
     by_tests false long true e first = absurd cc
     by_tests false true false e first = refl
     by_tests false false false e first = refl
 
 -- What a header's numbers say is the look at its bytes.
-pub fields_looked : (bytes : List ℕ) (f : HeaderFields) → FieldsAre (Ok f) bytes → look_by (node_numbered f.from) (node_numbered f.to) (sort_numbered f.kind) ≡ look_at bytes
+pub fields_looked : (bytes : List ℕ) (f : HeaderFields) → FieldsAre (Ok f) bytes
+    → look_by (node_numbered f.from) (node_numbered f.to) (sort_numbered f.kind) ≡ look_at bytes
 fields_looked bytes f told =
     let number = λ (i : ℕ). ap (λ (ns : List ℕ). slice_index ns i) told.2 in
     let long : nat_le 16 (length bytes) ≡ true = grind (arith, nat_tests, told.0) in
@@ -45,7 +47,8 @@ fields_looked bytes f told =
     let to = ap node_numbered (number 5) in
     rw (long, told.1, kind, from, to) refl
 
-headed_looked : (bytes : List ℕ) (kind : ℕ) (from to : Node) (len : ℕ) (sort : FrameKind) → Headed bytes kind from to len → sort_numbered kind ≡ Some sort → is_node from ≡ true → is_node to ≡ true
+headed_looked : (bytes : List ℕ) (kind : ℕ) (from to : Node) (len : ℕ) (sort : FrameKind) → Headed bytes kind from to len → sort_numbered kind ≡ Some sort
+    → is_node from ≡ true → is_node to ≡ true
     → look_at bytes ≡ Some (record { from = from; to = to; kind = sort })
 headed_looked bytes kind from to len sort told sort_is hf ht =
     let number = λ (i : ℕ). ap (λ (ns : List ℕ). slice_index ns i) told.numbers in
@@ -61,7 +64,8 @@ headed_looked bytes kind from to len sort told sort_is hf ht =
 pub looks_at_frames : ReadsBack → (f : Frame) → IsFrame f → look_at (frame_spelling f) ≡ Some (look_of f)
 looks_at_frames law (Whole p) h =
     let parts = parts_of p h in
-    headed_looked (spelling p) (number_of (kind_of p.body)) p.from p.to (length_of p.body) (sorts.Packet (kind_of p.body)) (spelling_headed law p parts) (sort_of_kind (kind_of p.body)) parts.from parts.to
+    headed_looked (spelling p) (number_of (kind_of p.body)) p.from p.to (length_of p.body) (sorts.Packet (kind_of p.body)) (spelling_headed law p parts)
+    (sort_of_kind (kind_of p.body)) parts.from parts.to
 looks_at_frames law (Piece q) h =
     let r = ranged q h in
     headed_looked (piece_spelling q) 17 q.from q.to (33 + length q.bytes) sorts.Piece (piece_headed q r) refl r.from r.to

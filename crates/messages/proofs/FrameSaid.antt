@@ -1,5 +1,6 @@
 -- What the bytes of a frame without a fault say.
-use Rattle.std.proofs.Common.{◌≡◌, ℕ, ◌+◌, ◌≤◌, Bool, true, false, Option, Some, None, List, [], ◌∷◌, ◌++◌, length, drop, refl, sym, subst, ap, ◌∙◌, inl, inr, arith}
+use Rattle.std.proofs.Common.{◌≡◌, ℕ, ◌+◌, ◌≤◌, Bool, true, false, Option, Some, None, List, []}
+use Rattle.std.proofs.Common.{◌∷◌, ◌++◌, length, drop, refl, sym, subst, ap, ◌∙◌, inl, inr, arith}
 use Rattle.std.specs.Prelude.{if◌then◌else◌, ◌==◌, nat_le, is_none, is_some, not, slice_index}
 use Rattle.std.specs.Option.{option_map}
 use Rattle.std.proofs.lemmas.Bool.{eqb-true, cases_Bool}
@@ -25,7 +26,8 @@ use Rattle.messages.specs.Bodies.{length_of, length_limit, body_at}
 use Rattle.messages.specs.Packets.{header, header_at, header_faults, is_packet_kind, body_limit, packet_at, faults_of}
 use Rattle.messages.specs.Laws.{IsBytes, Says, OnlyPacketsAreRead}
 use Rattle.messages.specs.PieceRanges.{is_piece}
-use Rattle.messages.specs.FrameBytes.{piece_layout, piece_numbers, sort_numbered, is_frame_kind, frame_limit, in_ranges, piece_with, piece_said, frame_said, frame_at}
+use Rattle.messages.specs.FrameBytes.{piece_layout, piece_numbers, sort_numbered, is_frame_kind}
+use Rattle.messages.specs.FrameBytes.{frame_limit, in_ranges, piece_with, piece_said, frame_said, frame_at}
 use Rattle.messages.specs.FrameLaws.{SaysFrame, OnlyFramesAreRead}
 use Rattle.verify_state.specs.Laws.{ReadsBack, IsSpelled, SaysAState}
 use Rattle.messages.proofs.LayoutLemmas.{IsBytes-drop, spelled-numbers}
@@ -60,7 +62,8 @@ old_limit kinds.CopyOk bytes e = absurd cc
 old_limit kinds.Fetch bytes e = absurd cc
 old_limit kinds.Granted bytes e = absurd cc
 
-short_body : ReadsBack → IsSpelled → SaysAState → (k : PacketKind) (bytes : List ℕ) (b : Body) → IsBytes bytes → body_at k bytes ≡ Some b → length bytes ≤ CHUNK_LIMIT → length_of b ≤ CHUNK_LIMIT
+short_body : ReadsBack → IsSpelled → SaysAState → (k : PacketKind) (bytes : List ℕ) (b : Body) → IsBytes bytes → body_at k bytes ≡ Some b
+    → length bytes ≤ CHUNK_LIMIT → length_of b ≤ CHUNK_LIMIT
 short_body law spell says k bytes b fits e short =
     let read = read_body spell says k bytes b fits e in
     elim (cases_Bool (is_old k bytes)) [
@@ -90,12 +93,14 @@ frame_fields bytes f e =
 
 -- A number that is a kind's of packets, or that of pieces.
 
-kind_of_sort : (t : Bool) (o : Option PacketKind) (k : PacketKind) → (if t then Some sorts.Piece else option_map sorts.Packet o) ≡ Some (sorts.Packet k) → o ≡ Some k
+kind_of_sort : (t : Bool) (o : Option PacketKind) (k : PacketKind) → (if t then Some sorts.Piece else option_map sorts.Packet o) ≡ Some (sorts.Packet k)
+    → o ≡ Some k
 kind_of_sort true o k e = absurd cc
 kind_of_sort false None k e = absurd cc
 kind_of_sort false (Some j) k e = cc
 
-piece_of_sort : (n : ℕ) (t : Bool) (o : Option PacketKind) → (n == 17) ≡ t → (if t then Some sorts.Piece else option_map sorts.Packet o) ≡ Some sorts.Piece → n ≡ 17
+piece_of_sort : (n : ℕ) (t : Bool) (o : Option PacketKind) → (n == 17) ≡ t → (if t then Some sorts.Piece else option_map sorts.Packet o) ≡ Some sorts.Piece
+    → n ≡ 17
 piece_of_sort n true o is e = eqb-true n 17 is
 piece_of_sort n false None is e = absurd cc
 piece_of_sort n false (Some j) is e = absurd cc
@@ -107,7 +112,8 @@ where_true false o x e = absurd cc
 
 -- A whole packet is what the bytes say as a packet.
 
-whole_faults : (bytes : List ℕ) (k : PacketKind) (p : PacketParts) → header_faults is_frame_kind frame_limit bytes ≡ [] → kind_numbered (header_at 3 bytes) ≡ Some k → packet_at bytes ≡ Some p → faults_of bytes ≡ []
+whole_faults : (bytes : List ℕ) (k : PacketKind) (p : PacketParts) → header_faults is_frame_kind frame_limit bytes ≡ []
+    → kind_numbered (header_at 3 bytes) ≡ Some k → packet_at bytes ≡ Some p → faults_of bytes ≡ []
 whole_faults bytes k p none kind_is is =
     let t = tested is_frame_kind frame_limit bytes none in
     let within = t.within in
@@ -121,21 +127,25 @@ whole_faults bytes k p none kind_is is =
       less = t.less;
       more = t.more;
     } in
-    none_left (header_faults is_packet_kind body_limit bytes) (when (is_none (packet_at bytes)) FrameBadField) (clean is_packet_kind body_limit bytes packet) (passes (is_none (packet_at bytes)) FrameBadField (ap is_none is))
+    none_left (header_faults is_packet_kind body_limit bytes) (when (is_none (packet_at bytes)) FrameBadField) (clean is_packet_kind body_limit bytes packet)
+    (passes (is_none (packet_at bytes)) FrameBadField (ap is_none is))
 
 same_packet : (p q : PacketParts) → Some p ≡ Some q → p ≡ q
 same_packet p q e = cc
 
-packet_is : (bytes : List ℕ) (k : PacketKind) (from to : Node) (b : Body) → kind_numbered (header_at 3 bytes) ≡ Some k → node_numbered (header_at 4 bytes) ≡ Some from → node_numbered (header_at 5 bytes) ≡ Some to
+packet_is : (bytes : List ℕ) (k : PacketKind) (from to : Node) (b : Body) → kind_numbered (header_at 3 bytes) ≡ Some k
+    → node_numbered (header_at 4 bytes) ≡ Some from → node_numbered (header_at 5 bytes) ≡ Some to
     → body_at k (drop 16 bytes) ≡ Some b → packet_at bytes ≡ Some (record { from = from; to = to; body = b })
 packet_is bytes k from to b kind from_is to_is body = rw (kind, from_is, to_is, body) refl
 
-whole_says : ReadsBack → IsSpelled → SaysAState → OnlyPacketsAreRead → (bytes : List ℕ) → IsBytes bytes → header_faults is_frame_kind frame_limit bytes ≡ [] → (k : PacketKind) (from to : Node) (f : Frame)
+whole_says : ReadsBack → IsSpelled → SaysAState → OnlyPacketsAreRead → (bytes : List ℕ) → IsBytes bytes → header_faults is_frame_kind frame_limit bytes ≡ []
+    → (k : PacketKind) (from to : Node) (f : Frame)
     → sort_numbered (header_at 3 bytes) ≡ Some (sorts.Packet k) → node_numbered (header_at 4 bytes) ≡ Some from → node_numbered (header_at 5 bytes) ≡ Some to
     → frame_said from to (drop 16 bytes) (sorts.Packet k) ≡ Some f → SaysFrame bytes f
 whole_says law spell says only bytes fits none k from to f sort_is from_is to_is said =
     let kind = kind_of_sort (header_at 3 bytes == 17) (kind_numbered (header_at 3 bytes)) k sort_is in
-    let part = where_true (nat_le (length (drop 16 bytes)) CHUNK_LIMIT) (option_map (λ (b : Body). Whole (record { from = from; to = to; body = b })) (body_at k (drop 16 bytes))) f said in
+    let part = where_true (nat_le (length (drop 16 bytes)) CHUNK_LIMIT)
+    (option_map (λ (b : Body). Whole (record { from = from; to = to; body = b })) (body_at k (drop 16 bytes))) f said in
     let body = some_of (λ (b : Body). Whole (record { from = from; to = to; body = b })) (body_at k (drop 16 bytes)) f part.1 in
     let p : PacketParts = record { from = from; to = to; body = body.0 } in
     let is : packet_at bytes ≡ Some p = packet_is bytes k from to body.0 kind from_is to_is body.1 in
@@ -185,7 +195,8 @@ piece_says bytes fits none from to q kind from_is to_is said =
     let long = s.long in
     let len : 33 + length q.bytes ≡ header_at 6 bytes = omega (arith, ap length s.bytes, length-drop 33 body, length-drop 16 bytes) in
     let behind : spelled piece_layout (piece_numbers q) ++ q.bytes ≡ body =
-    ap (λ (ns : List ℕ). spelled piece_layout ns ++ q.bytes) s.numbers ∙ ap (λ (bs : List ℕ). spelled piece_layout (numbers piece_layout body) ++ bs) s.bytes ∙ spelled-numbers piece_layout body layout_wide (IsBytes-drop 16 bytes fits) long in (
+    ap (λ (ns : List ℕ). spelled piece_layout ns ++ q.bytes) s.numbers ∙ ap (λ (bs : List ℕ). spelled piece_layout (numbers piece_layout body) ++ bs) s.bytes
+    ∙ spelled-numbers piece_layout body layout_wide (IsBytes-drop 16 bytes fits) long in (
       s.in_range,
       ap (λ (bs : List ℕ). spelled header (head_numbers 17 q.from q.to (33 + length q.bytes)) ++ bs) behind
           ∙ ap (λ (n : ℕ). spelled header (head_numbers 17 q.from q.to n) ++ body) len
@@ -195,10 +206,12 @@ piece_says bytes fits none from to q kind from_is to_is said =
           ∙ headed_spelled bytes (header_at 3 bytes) from to (header_at 6 bytes) fits told,
     )
 
-by_sort : ReadsBack → IsSpelled → SaysAState → OnlyPacketsAreRead → (bytes : List ℕ) → IsBytes bytes → header_faults is_frame_kind frame_limit bytes ≡ [] → (f : Frame) (from to : Node) (sort : FrameKind)
+by_sort : ReadsBack → IsSpelled → SaysAState → OnlyPacketsAreRead → (bytes : List ℕ) → IsBytes bytes → header_faults is_frame_kind frame_limit bytes ≡ []
+    → (f : Frame) (from to : Node) (sort : FrameKind)
     → sort_numbered (header_at 3 bytes) ≡ Some sort → node_numbered (header_at 4 bytes) ≡ Some from → node_numbered (header_at 5 bytes) ≡ Some to
     → frame_said from to (drop 16 bytes) sort ≡ Some f → SaysFrame bytes f
-by_sort law spell says only bytes fits none f from to (sorts.Packet k) sort_is from_is to_is said = whole_says law spell says only bytes fits none k from to f sort_is from_is to_is said
+by_sort law spell says only bytes fits none f from to (sorts.Packet k) sort_is from_is to_is said =
+    whole_says law spell says only bytes fits none k from to f sort_is from_is to_is said
 by_sort law spell says only bytes fits none f from to sorts.Piece sort_is from_is to_is said =
     let kind = piece_of_sort (header_at 3 bytes) (header_at 3 bytes == 17) (kind_numbered (header_at 3 bytes)) refl sort_is in
     let q = some_of Piece (piece_said from to (drop 16 bytes)) f said in

@@ -85,7 +85,8 @@ pub record Headed (bytes : List ℕ) (kind : ℕ) (from to : Node) (len : ℕ) :
   pub numbers : numbers header bytes ≡ head_numbers kind from to len
   pub long : length bytes ≡ 16 + len
 
-pub headed_passes : (is_known : ℕ → Bool) (limit : ℕ) (bytes : List ℕ) (kind : ℕ) (from to : Node) (len : ℕ) → Headed bytes kind from to len → is_known kind ≡ true → is_node from ≡ true → is_node to ≡ true → len ≤ limit → Passes is_known limit bytes
+pub headed_passes : (is_known : ℕ → Bool) (limit : ℕ) (bytes : List ℕ) (kind : ℕ) (from to : Node) (len : ℕ) → Headed bytes kind from to len
+    → is_known kind ≡ true → is_node from ≡ true → is_node to ≡ true → len ≤ limit → Passes is_known limit bytes
 headed_passes is_known limit bytes kind from to len told known hf ht most =
     let number = λ (i : ℕ). ap (λ (ns : List ℕ). slice_index ns i) told.numbers in
     let size_is : header_at 6 bytes ≡ len = number 6 in
@@ -108,11 +109,13 @@ not_false false e = absurd cc
 at_least : (a b : ℕ) → nat_lt a b ≡ false → b ≤ a
 at_least a b h = grind (arith, nat_tests)
 
-seven : (a b c d e f g a' b' c' d' e' f' g' : ℕ) → a ≡ a' → b ≡ b' → c ≡ c' → d ≡ d' → e ≡ e' → f ≡ f' → g ≡ g' → (a ∷ b ∷ c ∷ d ∷ e ∷ f ∷ g ∷ []) ≡ (a' ∷ b' ∷ c' ∷ d' ∷ e' ∷ f' ∷ g' ∷ [])
+seven : (a b c d e f g a' b' c' d' e' f' g' : ℕ) → a ≡ a' → b ≡ b' → c ≡ c' → d ≡ d' → e ≡ e' → f ≡ f' → g ≡ g'
+    → (a ∷ b ∷ c ∷ d ∷ e ∷ f ∷ g ∷ []) ≡ (a' ∷ b' ∷ c' ∷ d' ∷ e' ∷ f' ∷ g' ∷ [])
 seven a b c d e f g a' b' c' d' e' f' g' p q r s t u v = rw (p, q, r, s, t, u, v) refl
 
 -- What passes the tests has such a header.
-pub passed_headed : (is_known : ℕ → Bool) (limit : ℕ) (bytes : List ℕ) → Passes is_known limit bytes → (from to : Node) → node_numbered (header_at 4 bytes) ≡ Some from → node_numbered (header_at 5 bytes) ≡ Some to
+pub passed_headed : (is_known : ℕ → Bool) (limit : ℕ) (bytes : List ℕ) → Passes is_known limit bytes → (from to : Node)
+    → node_numbered (header_at 4 bytes) ≡ Some from → node_numbered (header_at 5 bytes) ≡ Some to
     → Headed bytes (header_at 3 bytes) from to (header_at 6 bytes)
 passed_headed is_known limit bytes t from to from_is to_is =
     let magic = both ((header_at 0 bytes == 70) && (header_at 1 bytes == 67)) (header_at 2 bytes == 1) (not_false (has_magic bytes) t.magic) in
@@ -121,14 +124,16 @@ passed_headed is_known limit bytes t from to from_is to_is =
     let at_most = at_least (16 + header_at 6 bytes) (length bytes) t.more in
     record {
       numbers =
-          seven (header_at 0 bytes) (header_at 1 bytes) (header_at 2 bytes) (header_at 3 bytes) (header_at 4 bytes) (header_at 5 bytes) (header_at 6 bytes) 70 67 1 (header_at 3 bytes) (node_number from) (node_number to) (header_at 6 bytes)
+          seven (header_at 0 bytes) (header_at 1 bytes) (header_at 2 bytes) (header_at 3 bytes) (header_at 4 bytes) (header_at 5 bytes)
+          (header_at 6 bytes) 70 67 1 (header_at 3 bytes) (node_number from) (node_number to) (header_at 6 bytes)
           (eqb-true (header_at 0 bytes) 70 letters.0) (eqb-true (header_at 1 bytes) 67 letters.1) (eqb-true (header_at 2 bytes) 1 magic.1) refl
           (sym (node_is (header_at 4 bytes) from from_is)) (sym (node_is (header_at 5 bytes) to to_is)) refl;
       long = omega (arith, enough, at_most);
     }
 
 -- Such bytes are that header, and what stands behind it.
-pub headed_spelled : (bytes : List ℕ) (kind : ℕ) (from to : Node) (len : ℕ) → IsBytes bytes → Headed bytes kind from to len → spelled header (head_numbers kind from to len) ++ drop 16 bytes ≡ bytes
+pub headed_spelled : (bytes : List ℕ) (kind : ℕ) (from to : Node) (len : ℕ) → IsBytes bytes → Headed bytes kind from to len
+    → spelled header (head_numbers kind from to len) ++ drop 16 bytes ≡ bytes
 headed_spelled bytes kind from to len fits told =
     let all = told.long in
     ap (λ (ns : List ℕ). spelled header ns ++ drop 16 bytes) (sym told.numbers) ∙ spelled-numbers header bytes header_wide fits (omega (arith, all))

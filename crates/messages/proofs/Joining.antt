@@ -1,5 +1,6 @@
 -- Putting the filled places of a body together.
-use Rattle.std.proofs.Common.{◌≡◌, refl, sym, ◌∙◌, ap, inl, inr, ℕ, zero, suc, ◌+◌, ◌<◌, ◌≤◌, arith, Bool, true, false, ◌==◌, Option, Some, None, List, [], ◌∷◌, ◌++◌, length, append_assoc}
+use Rattle.std.proofs.Common.{◌≡◌, refl, sym, ◌∙◌, ap, inl, inr, ℕ, zero, suc, ◌+◌, ◌<◌, ◌≤◌, arith, Bool}
+use Rattle.std.proofs.Common.{true, false, ◌==◌, Option, Some, None, List, [], ◌∷◌, ◌++◌, length, append_assoc}
 use Rattle.std.specs.Prelude.{if◌then◌else◌, is_some, nat_le, ◌&&◌, Err}
 use Rattle.fc_base.specs.declared.fault.Fault.TheVariants.{NoMemory}
 use Rattle.std.proofs.lemmas.Bool.{eqb-true, cases_Bool}
@@ -29,7 +30,8 @@ one_of false x rest last = refl
 
 pub filled_last : (fs : List Filled) (f : Filled) (at : ℕ) → filled_at (fs ++ f ∷ []) at ≡ or_else (filled_at fs at) (if f.at == at then Some f.bytes else None)
 filled_last [] f at = refl
-filled_last (g ∷ fs) f at = ap (λ r. if g.at == at then Some g.bytes else r) (filled_last fs f at) ∙ one_of (g.at == at) g.bytes (filled_at fs at) (if f.at == at then Some f.bytes else None)
+filled_last (g ∷ fs) f at = ap (λ r. if g.at == at then Some g.bytes else r) (filled_last fs f at)
+    ∙ one_of (g.at == at) g.bytes (filled_at fs at) (if f.at == at then Some f.bytes else None)
 
 some_stays : (b : List ℕ) (o last : Option (List ℕ)) → o ≡ Some b → or_else o last ≡ Some b
 some_stays b o last e = rw e refl
@@ -53,7 +55,8 @@ with_it q fs at (Some b) e same = by_place (q.at == at) refl
     by_place true h = found (filled_at fs at) (Some q.bytes) (same (eqb-true q.at at h))
     by_place false h = not_it (filled_at fs at)
 
-pub with_the_piece : (q : PieceParts) (fs : List Filled) (at : ℕ) → filled_at (fill q fs) at ≡ or_else (filled_at fs at) (if q.at == at then Some q.bytes else None)
+pub with_the_piece : (q : PieceParts) (fs : List Filled) (at : ℕ)
+    → filled_at (fill q fs) at ≡ or_else (filled_at fs at) (if q.at == at then Some q.bytes else None)
 with_the_piece q fs at = with_it q fs at (filled_at fs q.at) refl (λ e. ap (filled_at fs) (sym e))
 
 -- Whether all are filled: the places that are still to be looked at decide.
@@ -69,7 +72,8 @@ behind_one : (x : List ℕ) (o : Option (List ℕ)) → is_some (after_these (So
 behind_one x None = refl
 behind_one x (Some y) = refl
 
-look_step : (fs : List Filled) (len at left : ℕ) (x : List ℕ) → at < len → len ≤ at + left → is_some (joined_bytes fs (places_from left at len)) ≡ is_some (joined_bytes fs (places len))
+look_step : (fs : List Filled) (len at left : ℕ) (x : List ℕ) → at < len → len ≤ at + left
+    → is_some (joined_bytes fs (places_from left at len)) ≡ is_some (joined_bytes fs (places len))
     → filled_at fs at ≡ Some x → IsLooking fs len (at + CHUNK_LIMIT)
 look_step fs len at zero x lt enough same e = absurd (omega (arith, lt, enough))
 look_step fs len at (suc left) x lt enough same e = record {
@@ -100,7 +104,8 @@ after_both : (out x : List ℕ) (o : Option (List ℕ)) → after_these (Some (o
 after_both out x None = refl
 after_both out x (Some y) = ap (λ (z : List ℕ). Some z) (append_assoc out x y)
 
-join_step : (fs : List Filled) (len at left : ℕ) (out x : List ℕ) → at < len → len ≤ at + left → after_these (Some out) (joined_bytes fs (places_from left at len)) ≡ joined_bytes fs (places len)
+join_step : (fs : List Filled) (len at left : ℕ) (out x : List ℕ) → at < len → len ≤ at + left
+    → after_these (Some out) (joined_bytes fs (places_from left at len)) ≡ joined_bytes fs (places len)
     → filled_at fs at ≡ Some x → IsJoining fs len (at + CHUNK_LIMIT) (out ++ x)
 join_step fs len at zero out x lt enough same e = absurd (omega (arith, lt, enough))
 join_step fs len at (suc left) out x lt enough same e = record {
@@ -113,7 +118,8 @@ join_step fs len at (suc left) out x lt enough same e = record {
       ∙ same;
 }
 
-pub join_one : (fs : List Filled) (len at : ℕ) (out x new : List ℕ) → IsJoining fs len at out → at < len → filled_at fs at ≡ Some x → new ≡ out ++ x → IsJoining fs len (at + CHUNK_LIMIT) new
+pub join_one : (fs : List Filled) (len at : ℕ) (out x new : List ℕ) → IsJoining fs len at out → at < len → filled_at fs at ≡ Some x → new ≡ out ++ x
+    → IsJoining fs len (at + CHUNK_LIMIT) new
 join_one fs len at out x new so_far lt e is = rw is (join_step fs len at so_far.left out x lt so_far.enough so_far.same e)
 
 -- What a piece keeps.
@@ -122,7 +128,8 @@ pub piece_length : (q : PieceParts) → is_piece q ≡ true → q.tag.length ≤
 piece_length q h =
     let place = both (is_node q.from && is_node q.to && is_tag_in_range q.tag) (is_place q.tag.length q.at (length q.bytes)) h in
     let tag = both (is_node q.from && is_node q.to) (is_tag_in_range q.tag) place.0 in
-    let len = both (is_long_kind q.tag.whole && is_run q.tag.run && is_number q.tag.whole q.tag.number && is_owner q.tag.whole q.tag.server q.tag.job) (is_cut_length q.tag.length) tag.1 in
+    let len = both (is_long_kind q.tag.whole && is_run q.tag.run && is_number q.tag.whole q.tag.number && is_owner q.tag.whole q.tag.server q.tag.job)
+    (is_cut_length q.tag.length) tag.1 in
     le_of q.tag.length MAX_BODY (both (nat_le (CHUNK_LIMIT + 1) q.tag.length) (nat_le q.tag.length MAX_BODY) len.1).1
 
 pub piece_ends : (q : PieceParts) → is_piece q ≡ true → (is_node q.from ≡ true) × (is_node q.to ≡ true)
@@ -152,9 +159,11 @@ here_some q fs at b e = with_the_piece q fs at ∙ some_stays b (filled_at fs at
 pub here_this : (q : PieceParts) (fs : List Filled) (at : ℕ) (b : List ℕ) → filled_at fs at ≡ None → q.at ≡ at → b ≡ q.bytes → filled_at (fill q fs) at ≡ Some b
 here_this q fs at b none is bytes =
     let t : (q.at == at) ≡ true = grind (arith, is) in
-    with_the_piece q fs at ∙ none_goes (filled_at fs at) (if q.at == at then Some q.bytes else None) none ∙ ap (λ (u : Bool). if u then Some q.bytes else None) t ∙ ap (λ (x : List ℕ). Some x) (sym bytes)
+    with_the_piece q fs at ∙ none_goes (filled_at fs at) (if q.at == at then Some q.bytes else None) none
+    ∙ ap (λ (u : Bool). if u then Some q.bytes else None) t ∙ ap (λ (x : List ℕ). Some x) (sym bytes)
 
 pub here_none : (q : PieceParts) (fs : List Filled) (at place : ℕ) → filled_at fs at ≡ None → place ≡ q.at → (place ≡ at → ⊥) → filled_at (fill q fs) at ≡ None
 here_none q fs at place none is other =
     let t : (q.at == at) ≡ false = elim (cases_Bool (q.at == at)) [ inl h ↦ absurd (other (is ∙ eqb-true q.at at h)) | inr f ↦ f ] in
-    with_the_piece q fs at ∙ none_goes (filled_at fs at) (if q.at == at then Some q.bytes else None) none ∙ ap (λ (u : Bool). if u then Some q.bytes else None) t
+    with_the_piece q fs at ∙ none_goes (filled_at fs at) (if q.at == at then Some q.bytes else None) none
+    ∙ ap (λ (u : Bool). if u then Some q.bytes else None) t

@@ -1,5 +1,6 @@
 -- The laws of frames.
-use Rattle.std.proofs.Common.{◌≡◌, ℕ, ◌+◌, ◌≤◌, Bool, true, false, ◌&&◌, ◌||◌, Option, Some, None, List, [], ◌++◌, length, drop, refl, sym, ap, ◌∙◌, append_assoc, arith}
+use Rattle.std.proofs.Common.{◌≡◌, ℕ, ◌+◌, ◌≤◌, Bool, true, false, ◌&&◌, ◌||◌, Option, Some, None}
+use Rattle.std.proofs.Common.{List, [], ◌++◌, length, drop, refl, sym, ap, ◌∙◌, append_assoc, arith}
 use Rattle.std.specs.Prelude.{◌==◌, is_none, is_some, slice_index}
 use Rattle.std.proofs.lemmas.Bool.{eq-eqb}
 use Rattle.std.proofs.lemmas.List.{append-nil, length-append, length-drop, drop-drop, nil_from_length}
@@ -23,7 +24,8 @@ use Rattle.verify_state.specs.Reading.{is_layout_1}
 use Rattle.messages.proofs.LayoutLemmas.{IsBytes-drop, Fit, numbers-spelled, drop-spelled}
 use Rattle.messages.proofs.ChoiceLemmas.{kind_again, kind_is, kind_fits, node_again, node_fits}
 use Rattle.messages.proofs.TestLemmas.{both}
-use Rattle.messages.proofs.HeaderLemmas.{header_wide, passes, passed, none_left, left_none, clean, tested, head_numbers, Headed, headed_passes, passed_headed, headed_spelled}
+use Rattle.messages.proofs.HeaderLemmas.{header_wide, passes, passed, none_left, left_none, clean, tested}
+use Rattle.messages.proofs.HeaderLemmas.{head_numbers, Headed, headed_passes, passed_headed, headed_spelled}
 use Rattle.messages.proofs.BodyLemmas.{length-spelled_body, length_of-limit, within_limit}
 use Rattle.messages.proofs.FramesOfLemmas.{length-spelling}
 use Rattle.messages.proofs.DecodeLemmas.{node_in_range}
@@ -69,7 +71,8 @@ spelling_clean : ReadsBack → (p : PacketParts) → Parts p → header_faults i
 spelling_clean law p h =
     let known : is_packet_kind (number_of (kind_of p.body)) ≡ true = ap (λ (k : Option PacketKind). is_some k) (kind_again (kind_of p.body)) in
     clean is_packet_kind body_limit (spelling p)
-    (headed_passes is_packet_kind body_limit (spelling p) (number_of (kind_of p.body)) p.from p.to (length_of p.body) (spelling_headed law p h) known h.from h.to (most law p h))
+    (headed_passes is_packet_kind body_limit (spelling p) (number_of (kind_of p.body)) p.from p.to (length_of p.body)
+    (spelling_headed law p h) known h.from h.to (most law p h))
 
 spelling_read : ReadsBack → (p : PacketParts) → Parts p → packet_at (spelling p) ≡ Some p
 spelling_read law p h =
@@ -85,8 +88,12 @@ spelling_read law p h =
 pub spellings_are_read : ReadsBack → SpellingsAreRead
 spellings_are_read law p h =
     let parts = parts_of p h in
-    let read = spelling_read law p parts in
-    (none_left (header_faults is_packet_kind body_limit (spelling p)) (when (is_none (packet_at (spelling p))) FrameBadField) (spelling_clean law p parts) (passes (is_none (packet_at (spelling p))) FrameBadField (ap is_none read)), read)
+    let read = spelling_read law p parts in (
+      none_left (header_faults is_packet_kind body_limit (spelling p)) (when
+          (is_none (packet_at (spelling p))) FrameBadField) (spelling_clean law p parts)
+          (passes (is_none (packet_at (spelling p))) FrameBadField (ap is_none read)),
+      read,
+    )
 
 there : (o : Option PacketParts) → is_none o ≡ false → (p : PacketParts) × (o ≡ Some p)
 there None e = absurd cc
@@ -144,8 +151,10 @@ not_old bytes k known other = by_kind k (sym (kind_is (header_at 3 bytes) k know
     others : (in_saved ≡ false) × (in_copy ≡ false)
     others = neither in_saved in_copy first.1
 
-    behind : (number skip : ℕ) → header_at 3 bytes ≡ number → ((header_at 3 bytes == number) && is_layout_1 (drop (16 + skip) bytes)) ≡ false → is_layout_1 (drop skip (drop 16 bytes)) ≡ false
-    behind number skip e other = ap is_layout_1 (drop-drop skip 16 bytes) ∙ the_other (header_at 3 bytes == number) (is_layout_1 (drop (16 + skip) bytes)) (eq-eqb (header_at 3 bytes) number e) other
+    behind : (number skip : ℕ) → header_at 3 bytes ≡ number → ((header_at 3 bytes == number) && is_layout_1 (drop (16 + skip) bytes)) ≡ false
+        → is_layout_1 (drop skip (drop 16 bytes)) ≡ false
+    behind number skip e other = ap is_layout_1 (drop-drop skip 16 bytes)
+        ∙ the_other (header_at 3 bytes == number) (is_layout_1 (drop (16 + skip) bytes)) (eq-eqb (header_at 3 bytes) number e) other
 
     by_kind : (j : PacketKind) → header_at 3 bytes ≡ number_of j → is_old j (drop 16 bytes) ≡ false
     by_kind kinds.Jobs e = refl

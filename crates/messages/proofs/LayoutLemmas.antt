@@ -1,8 +1,10 @@
 -- Numbers in bytes: what is read is what was written, and what was written is read again.
-use Rattle.std.proofs.Common.{◌≡◌, ℕ, zero, suc, ◌+◌, ◌*◌, ◌%◌, ◌^◌, ◌<◌, ◌≤◌, List, [], ◌∷◌, ◌++◌, length, get_or, take, drop, refl, ap, ◌∙◌, append_assoc, arith, inl, inr}
+use Rattle.std.proofs.Common.{◌≡◌, ℕ, zero, suc, ◌+◌, ◌*◌, ◌%◌, ◌^◌, ◌<◌, ◌≤◌, List, [], ◌∷◌, ◌++◌}
+use Rattle.std.proofs.Common.{length, get_or, take, drop, refl, ap, ◌∙◌, append_assoc, arith, inl, inr}
 use Rattle.std.specs.Int.{Width, w8, w32, w64, byte_len, bytes_high_first, from_be_bytes, to_be_bytes}
 use Rattle.std.proofs.lemmas.Bool.{cases_lt}
-use Rattle.std.proofs.lemmas.List.{take_at, drop_at, take-append-drop, length-append, length-take, length-drop, drop-drop, get_or-drop, get_or-take, get_or_past}
+use Rattle.std.proofs.lemmas.List.{take_at, drop_at, take-append-drop, length-append, length-take}
+use Rattle.std.proofs.lemmas.List.{length-drop, drop-drop, get_or-drop, get_or-take, get_or_past}
 use Rattle.std.proofs.lemmas.Nat.{be_bytes_4, be_bytes_8, from_be_bytes-to_be_bytes_4, from_be_bytes-to_be_bytes_8}
 use Rattle.fc_base.specs.Layouts.{bytes_of, number_in, size, spelled, numbers, spelled_blocks, blocks_in}
 
@@ -98,14 +100,16 @@ numbers-spelled (w ∷ ws) (n ∷ ns) rest wide fit =
 pub drop-spelled : (ws : List Width) (ns rest : List ℕ) → length ns ≡ length ws → drop (size ws) (spelled ws ns ++ rest) ≡ rest
 drop-spelled ws ns rest e = drop_at (spelled ws ns) rest (size ws) (length-spelled ws ns e)
 
-pub spelled-numbers : (ws : List Width) (bytes : List ℕ) → AreWide ws → IsBytes bytes → size ws ≤ length bytes → spelled ws (numbers ws bytes) ++ drop (size ws) bytes ≡ bytes
+pub spelled-numbers : (ws : List Width) (bytes : List ℕ) → AreWide ws → IsBytes bytes → size ws ≤ length bytes
+    → spelled ws (numbers ws bytes) ++ drop (size ws) bytes ≡ bytes
 spelled-numbers [] bytes wide fits le = refl
 spelled-numbers (w ∷ ws) bytes wide fits le =
     let k = byte_len w in
     let after = drop k bytes in
     let front = wide.0.back bytes fits (omega arith) in
     let rest = spelled-numbers ws after wide.1 (IsBytes-drop k bytes fits) (omega (arith, length-drop k bytes)) in
-    rw (append_assoc (bytes_of w (number_in w bytes)) (spelled ws (numbers ws after)) (drop (k + size ws) bytes), ← drop-drop (size ws) k bytes, rest, front) (take-append-drop k bytes)
+    rw (append_assoc (bytes_of w (number_in w bytes)) (spelled ws (numbers ws after)) (drop (k + size ws) bytes), ← drop-drop (size ws) k bytes, rest, front)
+    (take-append-drop k bytes)
 
 -- Blocks
 

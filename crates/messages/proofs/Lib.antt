@@ -24,3 +24,4 @@ pub mod OnlySent
 pub mod FrameLawLemmas
 pub mod FrameSaid
 pub mod FrameLooks
+pub mod ReadableLemmas

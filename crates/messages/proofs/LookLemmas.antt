@@ -21,13 +21,16 @@ pub record IsReadFor (q : PieceParts) (bytes : List ℕ) (b : Body) (has_it : Bo
   pub own_is : own ≡ tag_in b tag.length
   pub same : (eq-value).it own tag ≡ has_it
 
-shown : (q : PieceParts) (bytes : List ℕ) (b : Body) (has_it : Bool) → IsReadFor q bytes b has_it → of_tag q (body_at q.tag.whole bytes) ≡ (if has_it then Gives (packet_of q b) else NoPacket)
+shown : (q : PieceParts) (bytes : List ℕ) (b : Body) (has_it : Bool) → IsReadFor q bytes b has_it
+    → of_tag q (body_at q.tag.whole bytes) ≡ (if has_it then Gives (packet_of q b) else NoPacket)
 shown q bytes b has_it r =
     let body : body_at q.tag.whole bytes ≡ Some b = ap (λ (t : Tag). body_at t.whole bytes) (sym r.tag_is) ∙ r.read in
-    let same : is_tag (tag_in b q.tag.length) q.tag ≡ has_it = ap (λ (t : Tag). is_tag (tag_in b t.length) t) (sym r.tag_is) ∙ ap (λ (t : Tag). is_tag t r.tag) (sym r.own_is) ∙ sym (eq_is r.own r.tag) ∙ r.same in
+    let same : is_tag (tag_in b q.tag.length) q.tag ≡ has_it =
+    ap (λ (t : Tag). is_tag (tag_in b t.length) t) (sym r.tag_is) ∙ ap (λ (t : Tag). is_tag t r.tag) (sym r.own_is) ∙ sym (eq_is r.own r.tag) ∙ r.same in
     ap (of_tag q) body ∙ ap (λ (t : Bool). if t then Gives (packet_of q b) else NoPacket) same
 
-pub gives_packet : (q : PieceParts) (bytes : List ℕ) (b : Body) (p : PacketParts) → IsReadFor q bytes b true → p ≡ packet_of q b → LookAnswers (Ok (Some p)) (of_tag q (body_at q.tag.whole bytes))
+pub gives_packet : (q : PieceParts) (bytes : List ℕ) (b : Body) (p : PacketParts) → IsReadFor q bytes b true → p ≡ packet_of q b
+    → LookAnswers (Ok (Some p)) (of_tag q (body_at q.tag.whole bytes))
 gives_packet q bytes b p r is =
     subst (λ (l : Look). LookAnswers (Ok (Some p)) l) (sym (shown q bytes b true r)) (ap (λ (x : PacketParts). Some x) is)
 

@@ -20,7 +20,8 @@ record IsPiece (p : PacketParts) (f : Frame) : Type 0 where
   pub is : Piece piece ≡ f
   pub is_of : IsPieceOf p piece
 
-of_either : (p : PacketParts) (f : Frame) (t : Bool) → is_cut p.body ≡ t → Contains (if t then map Piece (pieces_of p) else Whole p ∷ []) f → (Whole p ≡ f) ⊎ IsPiece p f
+of_either : (p : PacketParts) (f : Frame) (t : Bool) → is_cut p.body ≡ t → Contains (if t then map Piece (pieces_of p) else Whole p ∷ []) f
+    → (Whole p ≡ f) ⊎ IsPiece p f
 of_either p f true cut h = let q = of_map Piece (pieces_of p) f h in inr (record { piece = q.0; is = q.2; is_of = (cut, q.1) })
 of_either p f false cut h = inl (only_in (Whole p) f h)
 
@@ -33,17 +34,25 @@ record Steps (sent : List PacketParts) (rows : List Row) (f : Frame) : Type 0 wh
   pub gives : (look_at_frame rows f ≡ Waits) ⊎ GivesOneOf sent rows f
   pub leaves : WasSent sent (left_by rows f)
 
-by_piece : (sent : List PacketParts) (rows : List Row) (p : PacketParts) → Contains sent p → (q : PieceParts) → Contains (frames_of p) (Piece q) → (look_at_piece rows q ≡ Waits) ⊎ (look_at_piece rows q ≡ Gives p) → (look_at_piece rows q ≡ Waits) ⊎ GivesOneOf sent rows (Piece q)
+by_piece : (sent : List PacketParts) (rows : List Row) (p : PacketParts) → Contains sent p → (q : PieceParts) → Contains (frames_of p) (Piece q)
+    → (look_at_piece rows q ≡ Waits) ⊎ (look_at_piece rows q ≡ Gives p) → (look_at_piece rows q ≡ Waits) ⊎ GivesOneOf sent rows (Piece q)
 by_piece sent rows p s q is (inl waits) = inl waits
 by_piece sent rows p s q is (inr gives) = inr (record { packet = p; was_sent = s; is_frame = is; gives = gives })
 
 by_either : ReadsBack → (sent : List PacketParts) → ArePackets sent → OneBodyOfEachTag sent → (rows : List Row) → WasSent sent rows
     → (p : PacketParts) → Contains sent p → (f : Frame) → Contains (frames_of p) f → (Whole p ≡ f) ⊎ IsPiece p f → Steps sent rows f
 by_either law sent packets one rows w p s f is (inl whole) =
-    subst (Steps sent rows) whole (record { gives = inr (record { packet = p; was_sent = s; is_frame = subst (Contains (frames_of p)) (sym whole) is; gives = refl }); leaves = w })
+    subst (Steps sent rows) whole (record {
+      gives = inr (record
+          { packet = p; was_sent = s; is_frame = subst (Contains (frames_of p)) (sym whole) is; gives = refl });
+      leaves = w;
+    })
 by_either law sent packets one rows w p s f is (inr piece) =
     let next = only_sent_comes_together law sent packets one rows w p s piece.piece piece.is_of in
-    subst (Steps sent rows) piece.is (record { gives = by_piece sent rows p s piece.piece (subst (Contains (frames_of p)) (sym piece.is) is) next.0; leaves = next.1 })
+    subst (Steps sent rows) piece.is (record {
+      gives = by_piece sent rows p s piece.piece (subst (Contains (frames_of p)) (sym piece.is) is) next.0;
+      leaves = next.1;
+    })
 
 step : ReadsBack → (sent : List PacketParts) → ArePackets sent → OneBodyOfEachTag sent → (rows : List Row) → WasSent sent rows
     → (f : Frame) → (p : PacketParts) × Contains sent p × Contains (frames_of p) f → Steps sent rows f
@@ -55,7 +64,8 @@ first f fs = Contains-append_left (f ∷ []) fs f (zero, omega arith, refl)
 others : (sent : List PacketParts) (f : Frame) (fs : List Frame) → AreFramesOf sent (f ∷ fs) → AreFramesOf sent fs
 others sent f fs are g h = are g (Contains-append_right (f ∷ []) fs g h)
 
-together_sent : ReadsBack → (sent : List PacketParts) → ArePackets sent → OneBodyOfEachTag sent → (fs : List Frame) → AreFramesOf sent fs → WasSent sent (rows_of_frames fs)
+together_sent : ReadsBack → (sent : List PacketParts) → ArePackets sent → OneBodyOfEachTag sent → (fs : List Frame) → AreFramesOf sent fs
+    → WasSent sent (rows_of_frames fs)
 together_sent law sent packets one [] are = tt
 together_sent law sent packets one (f ∷ fs) are =
     (step law sent packets one (rows_of_frames fs) (together_sent law sent packets one fs (others sent f fs are)) f (are f (first f fs))).leaves

@@ -1,5 +1,6 @@
 -- The rows of tags: what looking a tag up, and changing or removing its row, makes of them.
-use Rattle.std.proofs.Common.{rules, ◌≡◌, refl, sym, ◌∙◌, ap, subst, not, ℕ, suc, ◌+◌, ◌-◌, ◌<◌, arith, Bool, true, false, ◌&&◌, ◌==◌, cond, Option, Some, None, List, [], ◌∷◌, ◌++◌, length, get_or}
+use Rattle.std.proofs.Common.{rules, ◌≡◌, refl, sym, ◌∙◌, ap, subst, not, ℕ, suc, ◌+◌, ◌<◌, arith, Bool, true}
+use Rattle.std.proofs.Common.{false, ◌&&◌, ◌==◌, cond, Option, Some, None, List, [], ◌∷◌, ◌++◌, length, get_or}
 use Rattle.std.specs.Prelude.{is_some, nat_lt, slice_set, Result, Ok, Err, OnOk, OnErr}
 use Rattle.std.specs.List.{remove, position, position_or_len}
 use Rattle.std.proofs.lemmas.Bool.{eqb-true, eq-eqb}
@@ -15,7 +16,8 @@ use Rattle.messages.specs.declared.places.Filled.{Filled}
 use Rattle.messages.specs.Kinds.{number_of}
 use Rattle.messages.specs.Pieces.{places}
 use Rattle.messages.specs.Tags.{is_tag}
-use Rattle.messages.specs.Assemblies.{joined_bytes, Row, fill, filled_of, with_piece, completed_body, without_tag, has_tag, with_row_replaced, newest, with_row, rows_after_body, rows_after_piece}
+use Rattle.messages.specs.Assemblies.{joined_bytes, Row, fill, filled_of, with_piece, completed_body, without_tag}
+use Rattle.messages.specs.Assemblies.{has_tag, with_row_replaced, newest, with_row, rows_after_body, rows_after_piece}
 use Rattle.messages.proofs.TagLemmas.{same_kind}
 
 -- Tags are equal where they are the same.
@@ -40,7 +42,8 @@ regrouped true true true true e f = refl
 
 pub eq_is : (a b : Tag) → (eq-value).it a b ≡ is_tag a b
 eq_is a b =
-    ap (λ (k : Bool). k && ((a.run == b.run) && ((a.number == b.number) && ((a.server == b.server) && ((a.job == b.job) && (a.length == b.length)))))) (kinds_same a.whole b.whole)
+    ap (λ (k : Bool). k && ((a.run == b.run) && ((a.number == b.number) && ((a.server == b.server) && ((a.job == b.job) && (a.length == b.length))))))
+    (kinds_same a.whole b.whole)
     ∙ regrouped (number_of a.whole == number_of b.whole) (a.run == b.run) (a.number == b.number) (a.server == b.server) (a.job == b.job) (a.length == b.length)
 
 -- Where a tag has its first row.
@@ -74,7 +77,8 @@ stands_later tag row rows i e s = record {
   changed = λ d fs. rw e (ap (λ (rs : List Row). row ∷ rs) (s.changed d fs));
 }
 
-stands_at : (tag : Tag) (row : Row) (rows : List Row) (i : ℕ) (b : Bool) → is_tag row.tag tag ≡ b → cond (not b) (1 + position_or_len (asks tag) rows) 0 ≡ i → i < suc (length rows)
+stands_at : (tag : Tag) (row : Row) (rows : List Row) (i : ℕ) (b : Bool) → is_tag row.tag tag ≡ b → cond (not b) (1 + position_or_len (asks tag) rows) 0 ≡ i
+    → i < suc (length rows)
     → ((j : ℕ) → position_or_len (asks tag) rows ≡ j → j < length rows → Stands tag rows j) → Stands tag (row ∷ rows) i
 stands_at tag row rows i true e h lt f = subst (Stands tag (row ∷ rows)) h (stands_first tag row rows e)
 stands_at tag row rows i false e h lt f =
@@ -103,7 +107,8 @@ pub record Lacks (tag : Tag) (rows : List Row) : Type 0 where
   pub empty : filled_of tag rows ≡ []
   pub left : without_tag tag rows ≡ rows
 
-lacks_here : (tag : Tag) (row : Row) (rows : List Row) (b : Bool) → is_tag row.tag tag ≡ b → nat_lt (cond (not b) (1 + position_or_len (asks tag) rows) 0) (suc (length rows)) ≡ false
+lacks_here : (tag : Tag) (row : Row) (rows : List Row) (b : Bool) → is_tag row.tag tag ≡ b
+    → nat_lt (cond (not b) (1 + position_or_len (asks tag) rows) 0) (suc (length rows)) ≡ false
     → (nat_lt (position_or_len (asks tag) rows) (length rows) ≡ false → Lacks tag rows) → Lacks tag (row ∷ rows)
 lacks_here tag row rows true e h f = absurd (let first : nat_lt 0 (suc (length rows)) ≡ true = grind (arith, nat_tests) in cc)
 lacks_here tag row rows false e h f =
@@ -133,15 +138,18 @@ none_of None e = refl
 none_of (Some x) e = absurd cc
 
 -- A piece that completes nothing, by what was looked up for it.
-pub still_waits : (rows : List Row) (q : PieceParts) (fs : List Filled) (t : Tag) (all : Bool) → fs ≡ filled_of t rows → t ≡ q.tag → all ≡ is_some (joined_bytes (fill q fs) (places q.tag.length)) → all ≡ false → completed_body rows q ≡ None
+pub still_waits : (rows : List Row) (q : PieceParts) (fs : List Filled) (t : Tag) (all : Bool) → fs ≡ filled_of t rows → t ≡ q.tag
+    → all ≡ is_some (joined_bytes (fill q fs) (places q.tag.length)) → all ≡ false → completed_body rows q ≡ None
 still_waits rows q fs t all is tag_is told lacks =
     let filled = is ∙ ap (λ (u : Tag). filled_of u rows) tag_is in
     none_of (completed_body rows q) (ap (λ (gs : List Filled). is_some (joined_bytes (fill q gs) (places q.tag.length))) (sym filled) ∙ sym told ∙ lacks)
 
-taken_waiting : (rows : List Row) (q : PieceParts) → completed_body rows q ≡ None → rows_after_piece rows q ≡ with_row (has_tag q.tag rows) q.tag (with_piece rows q) rows
+taken_waiting : (rows : List Row) (q : PieceParts) → completed_body rows q ≡ None
+    → rows_after_piece rows q ≡ with_row (has_tag q.tag rows) q.tag (with_piece rows q) rows
 taken_waiting rows q e = ap (λ (o : Option (List ℕ)). rows_after_body o q (with_piece rows q) rows) e
 
-pub taken_more : (q : PieceParts) (rows : List Row) → has_tag q.tag rows ≡ true → completed_body rows q ≡ None → with_row_replaced q.tag (fill q (filled_of q.tag rows)) rows ≡ rows_after_piece rows q
+pub taken_more : (q : PieceParts) (rows : List Row) → has_tag q.tag rows ≡ true → completed_body rows q ≡ None
+    → with_row_replaced q.tag (fill q (filled_of q.tag rows)) rows ≡ rows_after_piece rows q
 taken_more q rows there waits =
     ap (λ (t : Bool). with_row t q.tag (with_piece rows q) rows) (sym there)
     ∙ sym (taken_waiting rows q waits)

@@ -35,7 +35,8 @@ no_faults [] s t e = (refl, cc)
 no_faults (x ∷ xs) s t e = absurd cc
 
 -- Bytes that say a state are of layout 1, or its spelling.
-pub state_is : IsSpelled → SaysAState → (bytes : List ℕ) (s : State) → IsBytes bytes → state_said bytes ≡ Some s → IsState s × (is_layout_1 bytes ≡ false → spelled_state s ≡ bytes)
+pub state_is : IsSpelled → SaysAState → (bytes : List ℕ) (s : State) → IsBytes bytes → state_said bytes ≡ Some s
+    → IsState s × (is_layout_1 bytes ≡ false → spelled_state s ≡ bytes)
 unfolding state_said spelled_state
 state_is law says bytes s fits e =
     let parts = no_faults (faults_of bytes) (state_in bytes) s e in

@@ -13,7 +13,8 @@ same_number : (x : ℕ) → (x == x) ≡ true
 same_number x = grind (arith, nat_tests)
 
 pub is_tag_self : (t : Tag) → is_tag t t ≡ true
-is_tag_self t = rw (same_number (number_of t.whole), same_number t.run, same_number t.number, same_number t.server, same_number t.job, same_number t.length) refl
+is_tag_self t =
+    rw (same_number (number_of t.whole), same_number t.run, same_number t.number, same_number t.server, same_number t.job, same_number t.length) refl
 
 some_kind : (a b : PacketKind) → Some a ≡ Some b → a ≡ b
 some_kind a b h = cc

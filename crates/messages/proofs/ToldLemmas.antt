@@ -6,7 +6,8 @@ use Rattle.std.proofs.lemmas.Bool.{eqb-true, leb-true}
 use Rattle.std.proofs.lemmas.List.{length-drop, nil_from_length}
 use Rattle.fc_base.specs.declared.report.ReportEnd.{ReportEnd}
 use Rattle.messages.specs.declared.body.Body.{Body}
-use Rattle.messages.specs.declared.body.Body.TheVariants.{Jobs, JobsOk, Start, Started, Trigger, State, NoState, StateAck, Stop, Stopped, Verify, WantState, Saved, NoSaved, Report, Refused, Copy, CopyOk, Fetch, Granted}
+use Rattle.messages.specs.declared.body.Body.TheVariants.{Jobs, JobsOk, Start, Started, Trigger, State, NoState, StateAck, Stop, Stopped}
+use Rattle.messages.specs.declared.body.Body.TheVariants.{Verify, WantState, Saved, NoSaved, Report, Refused, Copy, CopyOk, Fetch, Granted}
 use Rattle.messages.specs.declared.kind.PacketKind.{PacketKind}
 use Rattle.messages.specs.declared.kind.PacketKind.TheVariants as kinds
 use Rattle.messages.specs.declared.refusal.Asked.{Asked}
@@ -57,7 +58,8 @@ abbrev IsExact : Body → List ℕ → Type 0
 IsExact b bytes = takes_all b (length bytes) ≡ true → length_of b ≡ length bytes
 
 -- Bodies of numbers alone.
-plain : (k : PacketKind) (bytes : List ℕ) (x b : Body) → Some x ≡ Some b → kind_of x ≡ k → numbers_of x ≡ numbers (layout k) bytes → tail_of x ≡ [] → KeepsState x → IsExact x bytes → Told k bytes b
+plain : (k : PacketKind) (bytes : List ℕ) (x b : Body) → Some x ≡ Some b → kind_of x ≡ k → numbers_of x ≡ numbers (layout k) bytes → tail_of x ≡ []
+    → KeepsState x → IsExact x bytes → Told k bytes b
 plain k bytes x b e kind same none keeps exact =
     let whole : takes_all x (length bytes) ≡ true → size (layout k) + 0 ≡ length bytes =
     λ all. ap (λ (j : PacketKind). size (layout j) + 0) (sym kind) ∙ ap (λ (t : List ℕ). size (layout (kind_of x)) + length t) (sym none) ∙ exact all in
@@ -70,22 +72,26 @@ plain k bytes x b e kind same none keeps exact =
     })
 
 -- A report, whose tail is as many blocks as it says.
-report_told : (bytes : List ℕ) (b : Body) → IsBytes bytes → body_of kinds.Report (numbers (layout kinds.Report) bytes) (drop 41 bytes) ≡ Some b → Told kinds.Report bytes b
+report_told : (bytes : List ℕ) (b : Body) → IsBytes bytes → body_of kinds.Report (numbers (layout kinds.Report) bytes) (drop 41 bytes) ≡ Some b
+    → Told kinds.Report bytes b
 report_told bytes b fits e =
     let ns = numbers (layout kinds.Report) bytes in
     let count = slice_index ns 8 in
     let tail = drop 41 bytes in
     let bs = blocks_in count tail in
-    let report = λ (end : ReportEnd). Report (slice_index ns 0) (slice_index ns 1) (slice_index ns 2) (slice_index ns 3) (record { checked = slice_index ns 6; faults = slice_index ns 7; first = bs; end = end }) in
+    let report = λ (end : ReportEnd). Report (slice_index ns 0) (slice_index ns 1) (slice_index ns 2) (slice_index ns 3)
+    (record { checked = slice_index ns 6; faults = slice_index ns 7; first = bs; end = end }) in
     let end = some_of report (end_numbered (slice_index ns 4) (slice_index ns 5)) b e in
     let is = end_is (slice_index ns 4) (slice_index ns 5) end.0 end.1 in
     let many = length-blocks_in count tail in
-    let exact : takes_all (report end.0) (length bytes) ≡ true → length_of (report end.0) ≡ length bytes = λ all. eqb-true (length_of (report end.0)) (length bytes) all in
+    let exact : takes_all (report end.0) (length bytes) ≡ true → length_of (report end.0) ≡ length bytes =
+    λ all. eqb-true (length_of (report end.0)) (length bytes) all in
     subst (λ (y : Body). Told kinds.Report bytes y) end.2 (record {
       kind = refl;
       numbers = rw (is.0, is.1, many) refl;
       long = λ all. omega (arith, exact all);
-      tail = λ all other. spelled_blocks-blocks_in count tail (IsBytes-drop 41 bytes fits) (omega (arith, length-drop 41 bytes, length-spelled_blocks bs, many, exact all));
+      tail = λ all other. spelled_blocks-blocks_in count tail (IsBytes-drop 41 bytes fits)
+          (omega (arith, length-drop 41 bytes, length-spelled_blocks bs, many, exact all));
       keeps = tt;
     })
 
@@ -95,9 +101,11 @@ at_least n bytes e = leb-true n (length bytes) e
 whole_text : (n : ℕ) (bytes : List ℕ) → (n + length (drop n bytes) == length bytes) ≡ true → n ≤ length bytes
 whole_text n bytes e = omega (arith, eqb-true (n + length (drop n bytes)) (length bytes) e, length-drop n bytes)
 
-told : IsSpelled → SaysAState → (k : PacketKind) (bytes : List ℕ) (b : Body) → IsBytes bytes → body_of k (numbers (layout k) bytes) (drop (size (layout k)) bytes) ≡ Some b → Told k bytes b
+told : IsSpelled → SaysAState → (k : PacketKind) (bytes : List ℕ) (b : Body) → IsBytes bytes
+    → body_of k (numbers (layout k) bytes) (drop (size (layout k)) bytes) ≡ Some b → Told k bytes b
 told law says kinds.Jobs bytes b fits e =
-    subst (λ (y : Body). Told kinds.Jobs bytes y) (some_body (Jobs _ (drop 8 bytes)) b e) (record { kind = refl; numbers = refl; long = λ all. whole_text 8 bytes all; tail = λ all other. refl; keeps = tt })
+    subst (λ (y : Body). Told kinds.Jobs bytes y) (some_body (Jobs _ (drop 8 bytes)) b e)
+    (record { kind = refl; numbers = refl; long = λ all. whole_text 8 bytes all; tail = λ all other. refl; keeps = tt })
 told law says kinds.JobsOk bytes b fits e = plain kinds.JobsOk bytes (JobsOk _ _) b e refl refl refl tt (λ all. eqb-true _ _ all)
 told law says kinds.Start bytes b fits e = plain kinds.Start bytes (Start _) b e refl refl refl tt (λ all. eqb-true _ _ all)
 told law says kinds.Started bytes b fits e = plain kinds.Started bytes (Started _) b e refl refl refl tt (λ all. eqb-true _ _ all)
@@ -110,31 +118,44 @@ told law says kinds.State bytes b fits e =
     let jobs = slice_index (numbers (layout kinds.State) bytes) 0 in
     let state = some_of (State jobs) (state_said (drop 4 bytes)) b e in
     let is = state_is law says (drop 4 bytes) state.0 (IsBytes-drop 4 bytes fits) state.1 in
-    subst (λ (y : Body). Told kinds.State bytes y) state.2 (record { kind = refl; numbers = refl; long = λ all. at_least 4 bytes all; tail = λ all other. is.1 other; keeps = is.0 })
+    subst (λ (y : Body). Told kinds.State bytes y) state.2
+    (record { kind = refl; numbers = refl; long = λ all. at_least 4 bytes all; tail = λ all other. is.1 other; keeps = is.0 })
 told law says kinds.NoState bytes b fits e = plain kinds.NoState bytes (NoState _ _ _) b e refl refl refl tt (λ all. eqb-true _ _ all)
 told law says kinds.StateAck bytes b fits e = plain kinds.StateAck bytes (StateAck _ _) b e refl refl refl tt (λ all. eqb-true _ _ all)
 told law says kinds.Stop bytes b fits e = plain kinds.Stop bytes (Stop _) b e refl refl refl tt (λ all. eqb-true _ _ all)
 told law says kinds.Stopped bytes b fits e = plain kinds.Stopped bytes (Stopped _) b e refl refl refl tt (λ all. eqb-true _ _ all)
 told law says kinds.Verify bytes b fits e =
-    subst (λ (y : Body). Told kinds.Verify bytes y) (some_body (Verify _ _ (drop 16 bytes)) b e) (record { kind = refl; numbers = refl; long = λ all. whole_text 16 bytes all; tail = λ all other. refl; keeps = tt })
+    subst (λ (y : Body). Told kinds.Verify bytes y) (some_body (Verify _ _ (drop 16 bytes)) b e)
+    (record { kind = refl; numbers = refl; long = λ all. whole_text 16 bytes all; tail = λ all other. refl; keeps = tt })
 told law says kinds.WantState bytes b fits e = plain kinds.WantState bytes (WantState _ _ _) b e refl refl refl tt (λ all. eqb-true _ _ all)
 told law says kinds.Saved bytes b fits e =
     let attempt = slice_index (numbers (layout kinds.Saved) bytes) 0 in
     let state = some_of (Saved attempt) (state_said (drop 8 bytes)) b e in
     let is = state_is law says (drop 8 bytes) state.0 (IsBytes-drop 8 bytes fits) state.1 in
-    subst (λ (y : Body). Told kinds.Saved bytes y) state.2 (record { kind = refl; numbers = refl; long = λ all. at_least 8 bytes all; tail = λ all other. is.1 other; keeps = is.0 })
+    subst (λ (y : Body). Told kinds.Saved bytes y) state.2
+    (record { kind = refl; numbers = refl; long = λ all. at_least 8 bytes all; tail = λ all other. is.1 other; keeps = is.0 })
 told law says kinds.NoSaved bytes b fits e = plain kinds.NoSaved bytes (NoSaved _ _ _) b e refl refl refl tt (λ all. eqb-true _ _ all)
 told law says kinds.Report bytes b fits e = report_told bytes b fits e
 told law says kinds.Refused bytes b fits e =
     let ns = numbers (layout kinds.Refused) bytes in
-    let refusal = λ (a : Asked) (r : Reason). Refused (record { asked = a; reason = r; job = slice_index ns 2; jobs = slice_index ns 3; run = slice_index ns 4; attempt = slice_index ns 5; value = slice_index ns 6 }) in
+    let refusal = λ (a : Asked) (r : Reason). Refused (record {
+      asked = a;
+      reason = r;
+      job = slice_index ns 2;
+      jobs = slice_index ns 3;
+      run = slice_index ns 4;
+      attempt = slice_index ns 5;
+      value = slice_index ns 6;
+    }) in
     let asked = some_then (λ a. option_map (refusal a) (reason_numbered (slice_index ns 1))) (asked_numbered (slice_index ns 0)) b e in
     let reason = some_of (refusal asked.0) (reason_numbered (slice_index ns 1)) b asked.2 in
-    plain kinds.Refused bytes (refusal asked.0 reason.0) b (ap (λ (y : Body). Some y) reason.2) refl (rw (asked_is (slice_index ns 0) asked.0 asked.1, reason_is (slice_index ns 1) reason.0 reason.1) refl) refl tt (λ all. eqb-true _ _ all)
+    plain kinds.Refused bytes (refusal asked.0 reason.0) b (ap (λ (y : Body). Some y) reason.2) refl
+    (rw (asked_is (slice_index ns 0) asked.0 asked.1, reason_is (slice_index ns 1) reason.0 reason.1) refl) refl tt (λ all. eqb-true _ _ all)
 told law says kinds.Copy bytes b fits e =
     let state = some_of Copy (state_said bytes) b e in
     let is = state_is law says bytes state.0 fits state.1 in
-    subst (λ (y : Body). Told kinds.Copy bytes y) state.2 (record { kind = refl; numbers = refl; long = λ all. omega arith; tail = λ all other. is.1 other; keeps = is.0 })
+    subst (λ (y : Body). Told kinds.Copy bytes y) state.2
+    (record { kind = refl; numbers = refl; long = λ all. omega arith; tail = λ all other. is.1 other; keeps = is.0 })
 told law says kinds.CopyOk bytes b fits e = plain kinds.CopyOk bytes (CopyOk _ _ _) b e refl refl refl tt (λ all. eqb-true _ _ all)
 told law says kinds.Fetch bytes b fits e = plain kinds.Fetch bytes (Fetch _) b e refl refl refl tt (λ all. eqb-true _ _ all)
 told law says kinds.Granted bytes b fits e = plain kinds.Granted bytes (Granted _) b e refl refl refl tt (λ all. eqb-true _ _ all)

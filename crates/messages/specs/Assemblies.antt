@@ -29,6 +29,7 @@ abbrev pub unless_filled : Option (List ℕ) → PieceParts → List Filled → 
 unless_filled None q fs = fs ++ record { at = q.at; bytes = q.bytes } ∷ []
 unless_filled (Some bytes) q fs = fs
 
+-- The filled places of a tag, with a piece of it.
 abbrev pub fill : PieceParts → List Filled → List Filled
 fill q fs = unless_filled (filled_at fs q.at) q fs
 
@@ -38,6 +39,7 @@ after_these None rest = None
 after_these (Some bytes) None = None
 after_these (Some bytes) (Some rest) = Some (bytes ++ rest)
 
+-- The bytes at these places in order, where all are filled.
 abbrev pub joined_bytes : List Filled → List ℕ → Option (List ℕ)
 joined_bytes fs [] = Some []
 joined_bytes fs (at ∷ ats) = after_these (filled_at fs at) (joined_bytes fs ats)
@@ -65,14 +67,17 @@ pub data Look : Type 0 where
 abbrev pub packet_of : PieceParts → Body → PacketParts
 packet_of q b = record { from = q.from; to = q.to; body = b }
 
+-- A packet with a body whose tag is that of the piece; another body isn't a packet with it.
 abbrev pub of_tag : PieceParts → Option Body → Look
 of_tag q None = NoPacket
 of_tag q (Some b) = if is_tag (tag_in b q.tag.length) q.tag then Gives (packet_of q b) else NoPacket
 
+-- What a piece gives by the bytes that it completes, if it completes any.
 abbrev pub look_by_body : PieceParts → Option (List ℕ) → Look
 look_by_body q None = Waits
 look_by_body q (Some bytes) = of_tag q (body_at q.tag.whole bytes)
 
+-- What a piece gives behind those that have come.
 abbrev pub look_at_piece : List Row → PieceParts → Look
 look_at_piece rows q = look_by_body q (completed_body rows q)
 
@@ -89,12 +94,15 @@ has_tag tag (row ∷ rows) = if is_tag row.tag tag then true else has_tag tag ro
 -- A tag has these places filled.
 abbrev pub with_row_replaced : Tag → List Filled → List Row → List Row
 with_row_replaced tag fs [] = []
-with_row_replaced tag fs (row ∷ rows) = if is_tag row.tag tag then record { tag = row.tag; filled = fs } ∷ rows else row ∷ with_row_replaced tag fs rows
+with_row_replaced tag fs (row ∷ rows) =
+    if is_tag row.tag tag then record { tag = row.tag; filled = fs } ∷ rows
+    else row ∷ with_row_replaced tag fs rows
 
 -- The newest 128 rows, and no older ones.
 abbrev pub newest : List Row → List Row
 newest rows = drop (length rows - MAX_TAGS) rows
 
+-- The rows where a tag has these places filled; a new tag is the newest row.
 abbrev pub with_row : Bool → Tag → List Filled → List Row → List Row
 with_row true tag fs rows = with_row_replaced tag fs rows
 with_row false tag fs rows = newest (rows ++ record { tag = tag; filled = fs } ∷ [])
@@ -104,6 +112,7 @@ abbrev pub rows_after_body : Option (List ℕ) → PieceParts → List Filled �
 rows_after_body None q fs rows = with_row (has_tag q.tag rows) q.tag fs rows
 rows_after_body (Some bytes) q fs rows = without_tag q.tag rows
 
+-- The rows behind a piece.
 abbrev pub rows_after_piece : List Row → PieceParts → List Row
 rows_after_piece rows q = rows_after_body (completed_body rows q) q (with_piece rows q) rows
 
@@ -117,8 +126,8 @@ abbrev pub look_at_frame : List Row → Frame → Look
 look_at_frame rows (Whole p) = Gives p
 look_at_frame rows (Piece q) = look_at_piece rows q
 
--- What looking answers: the packet or that there is none yet, unless memory ran out, or that the bytes
--- are no packet with the tag.
+-- What looking answers: the packet or that there is none yet, unless memory ran out, or that the
+-- bytes are no packet with the tag.
 abbrev pub LookAnswers : Result (Option PacketParts) Fault → Look → Type 0
 LookAnswers (Ok o) Waits = o ≡ None
 LookAnswers (Ok o) (Gives p) = o ≡ Some p

@@ -1,5 +1,6 @@
 -- The bytes of a body: numbers, and behind them whatever else it holds.
-use Rattle.std.specs.Prelude.{◌≡◌, ℕ, zero, suc, ◌+◌, Bool, true, ◌&&◌, ◌==◌, nat_le, if◌then◌else◌, List, [], ◌∷◌, ◌++◌, length, drop, slice_index, Option, Some, None, Result, Ok, Err}
+use Rattle.std.specs.Prelude.{◌≡◌, ℕ, zero, suc, ◌+◌, Bool, true, ◌&&◌, ◌==◌, nat_le, if◌then◌else◌, List}
+use Rattle.std.specs.Prelude.{[], ◌∷◌, ◌++◌, length, drop, slice_index, Option, Some, None, Result, Ok, Err}
 use Rattle.std.specs.Option.{option_map, option_and_then}
 use Rattle.std.specs.Int.{Width, w8, w32, w64}
 use Rattle.fc_base.specs.declared.limits.TheConstants.{MAX_TEXT}
@@ -11,7 +12,8 @@ use Rattle.verify_state.specs.State.{State as SavedState}
 use Rattle.verify_state.specs.Spelling.{spelling}
 use Rattle.verify_state.specs.Reading.{faults_of, state_in}
 use Rattle.messages.specs.declared.body.Body.{Body}
-use Rattle.messages.specs.declared.body.Body.TheVariants.{Jobs, JobsOk, Start, Started, Trigger, State, NoState, StateAck, Stop, Stopped, Verify, WantState, Saved, NoSaved, Report, Refused, Copy, CopyOk, Fetch, Granted}
+use Rattle.messages.specs.declared.body.Body.TheVariants.{Jobs, JobsOk, Start, Started, Trigger, State, NoState, StateAck, Stop, Stopped}
+use Rattle.messages.specs.declared.body.Body.TheVariants.{Verify, WantState, Saved, NoSaved, Report, Refused, Copy, CopyOk, Fetch, Granted}
 use Rattle.messages.specs.declared.kind.PacketKind.{PacketKind}
 use Rattle.messages.specs.declared.kind.PacketKind.TheVariants as kinds
 use Rattle.messages.specs.Choices.{act_number, act_numbered, asked_number, asked_numbered, reason_number, reason_numbered}
@@ -101,9 +103,11 @@ numbers_of (WantState run attempt job) = run ∷ attempt ∷ job ∷ []
 numbers_of (Saved attempt state) = attempt ∷ []
 numbers_of (NoSaved run attempt job) = run ∷ attempt ∷ job ∷ []
 numbers_of (Report run attempt job jobs r) =
-    run ∷ attempt ∷ job ∷ jobs ∷ end_number r.end ∷ end_at r.end ∷ r.checked ∷ r.faults ∷ length r.first ∷ []
+    run ∷ attempt ∷ job ∷ jobs ∷ end_number r.end ∷ end_at r.end ∷ r.checked ∷ r.faults
+    ∷ length r.first ∷ []
 numbers_of (Refused r) =
-    asked_number r.asked ∷ reason_number r.reason ∷ r.job ∷ r.jobs ∷ r.run ∷ r.attempt ∷ r.value ∷ []
+    asked_number r.asked ∷ reason_number r.reason ∷ r.job ∷ r.jobs ∷ r.run ∷ r.attempt ∷ r.value ∷
+    []
 numbers_of (Copy state) = []
 numbers_of (CopyOk run server job) = run ∷ server ∷ job ∷ []
 numbers_of (Fetch generation) = generation ∷ []
@@ -145,19 +149,29 @@ body_of kinds.Jobs ns tail = Some (Jobs (slice_index ns 0) tail)
 body_of kinds.JobsOk ns tail = Some (JobsOk (slice_index ns 0) (slice_index ns 1))
 body_of kinds.Start ns tail = Some (Start (slice_index ns 0))
 body_of kinds.Started ns tail = Some (Started (slice_index ns 0))
-body_of kinds.Trigger ns tail = option_map (Trigger (slice_index ns 0)) (act_numbered (slice_index ns 1))
+body_of kinds.Trigger ns tail =
+    option_map (Trigger (slice_index ns 0)) (act_numbered (slice_index ns 1))
 body_of kinds.State ns tail = option_map (State (slice_index ns 0)) (state_said tail)
-body_of kinds.NoState ns tail = Some (NoState (slice_index ns 0) (slice_index ns 1) (slice_index ns 2))
+body_of kinds.NoState ns tail =
+    Some (NoState (slice_index ns 0) (slice_index ns 1) (slice_index ns 2))
 body_of kinds.StateAck ns tail = Some (StateAck (slice_index ns 0) (slice_index ns 1))
 body_of kinds.Stop ns tail = Some (Stop (slice_index ns 0))
 body_of kinds.Stopped ns tail = Some (Stopped (slice_index ns 0))
 body_of kinds.Verify ns tail = Some (Verify (slice_index ns 0) (slice_index ns 1) tail)
-body_of kinds.WantState ns tail = Some (WantState (slice_index ns 0) (slice_index ns 1) (slice_index ns 2))
+body_of kinds.WantState ns tail =
+    Some (WantState (slice_index ns 0) (slice_index ns 1) (slice_index ns 2))
 body_of kinds.Saved ns tail = option_map (Saved (slice_index ns 0)) (state_said tail)
-body_of kinds.NoSaved ns tail = Some (NoSaved (slice_index ns 0) (slice_index ns 1) (slice_index ns 2))
+body_of kinds.NoSaved ns tail =
+    Some (NoSaved (slice_index ns 0) (slice_index ns 1) (slice_index ns 2))
 body_of kinds.Report ns tail =
-    option_map (λ end. Report (slice_index ns 0) (slice_index ns 1) (slice_index ns 2) (slice_index ns 3)
-    (record { checked = slice_index ns 6; faults = slice_index ns 7; first = blocks_in (slice_index ns 8) tail; end = end }))
+    option_map (λ end. Report (slice_index ns 0) (slice_index ns 1) (slice_index ns 2)
+    (slice_index ns 3)
+    (record {
+      checked = slice_index ns 6;
+      faults = slice_index ns 7;
+      first = blocks_in (slice_index ns 8) tail;
+      end = end;
+    }))
     (end_numbered (slice_index ns 4) (slice_index ns 5))
 body_of kinds.Refused ns tail =
     option_and_then (λ asked. option_map (λ reason.
@@ -172,7 +186,8 @@ body_of kinds.Refused ns tail =
     }))
     (reason_numbered (slice_index ns 1))) (asked_numbered (slice_index ns 0))
 body_of kinds.Copy ns tail = option_map Copy (state_said tail)
-body_of kinds.CopyOk ns tail = Some (CopyOk (slice_index ns 0) (slice_index ns 1) (slice_index ns 2))
+body_of kinds.CopyOk ns tail =
+    Some (CopyOk (slice_index ns 0) (slice_index ns 1) (slice_index ns 2))
 body_of kinds.Fetch ns tail = Some (Fetch (slice_index ns 0))
 body_of kinds.Granted ns tail = Some (Granted (slice_index ns 0))
 
@@ -187,13 +202,15 @@ takes_all b len = length_of b == len
 abbrev pub is_whole : List ℕ → Body → Bool
 is_whole bytes b = takes_all b (length bytes) && is_body b
 
+-- A body, if it takes all of the bytes and is within its ranges.
 abbrev pub whole : List ℕ → Option Body → Option Body
 whole bytes None = None
 whole bytes (Some b) = if is_whole bytes b then Some b else None
 
 -- The body of this kind that the bytes are, if they are one.
 abbrev pub body_at : PacketKind → List ℕ → Option Body
-body_at kind bytes = whole bytes (body_of kind (numbers (layout kind) bytes) (drop (size (layout kind)) bytes))
+body_at kind bytes =
+    whole bytes (body_of kind (numbers (layout kind) bytes) (drop (size (layout kind)) bytes))
 
 -- A reader gives what the bytes say, unless memory ran out, or a bad field where they say nothing.
 abbrev pub Reads : {X : Type 0} → Result X Fault → Option X → Type 0

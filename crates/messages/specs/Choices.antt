@@ -29,7 +29,8 @@ asked_number Verify = 11
 
 -- The request with this number.
 unfoldable pub asked_numbered : ℕ → Option Asked
-asked_numbered n = find (λ asked. asked_number asked == n) (Jobs ∷ Start ∷ Trigger ∷ Stop ∷ Verify ∷ [])
+asked_numbered n =
+    find (λ asked. asked_number asked == n) (Jobs ∷ Start ∷ Trigger ∷ Stop ∷ Verify ∷ [])
 
 -- The row of the table of faults.
 abbrev pub reason_fault : Reason → Fault
@@ -48,4 +49,5 @@ reason_number reason = number_of (reason_fault reason)
 
 -- The reason with this number.
 unfoldable pub reason_numbered : ℕ → Option Reason
-reason_numbered n = find (λ reason. reason_number reason == n) (Old ∷ Busy ∷ NoJobs ∷ Gone ∷ Overwritten ∷ Unknown ∷ BadJobs ∷ Misfit ∷ [])
+reason_numbered n = find (λ reason. reason_number reason == n)
+    (Old ∷ Busy ∷ NoJobs ∷ Gone ∷ Overwritten ∷ Unknown ∷ BadJobs ∷ Misfit ∷ [])

@@ -26,7 +26,8 @@ spelled_piece from to tag bytes at = piece_spelling (cut_at from to tag bytes at
 abbrev pub spelled_frames : PacketParts → List (List ℕ)
 spelled_frames p = map frame_spelling (frames_of p)
 
--- At most 17 frames, of at most 1,073 bytes each, which together have at most 49 bytes each beyond the body.
+-- At most 17 frames, of at most 1,073 bytes each, which together have at most 49 bytes each beyond
+-- the body.
 pub record AreFew (p : PacketParts) (frames : List (List ℕ)) : Type 0 where
   pub few : length frames ≤ MAX_FRAMES
   pub short : All (λ frame. length frame ≤ MAX_FRAME) frames

@@ -1,7 +1,9 @@
--- The kinds of packets: the number that a frame has for each, the name that is printed, and who sends it.
+-- The kinds of packets: the number that a frame has for each, the name that is printed, and who
+-- sends it.
 use Rattle.std.specs.Prelude.{ℕ, Bool, true, false, ◌==◌, List, [], ◌∷◌, Option, find, codes}
 use Rattle.messages.specs.declared.kind.PacketKind.{PacketKind}
-use Rattle.messages.specs.declared.kind.PacketKind.TheVariants.{Jobs, JobsOk, Start, Started, Trigger, State, NoState, StateAck, Stop, Stopped, Verify, WantState, Saved, NoSaved, Report, Refused, Copy, CopyOk, Fetch, Granted}
+use Rattle.messages.specs.declared.kind.PacketKind.TheVariants.{Jobs, JobsOk, Start, Started, Trigger, State, NoState, StateAck, Stop, Stopped}
+use Rattle.messages.specs.declared.kind.PacketKind.TheVariants.{Verify, WantState, Saved, NoSaved, Report, Refused, Copy, CopyOk, Fetch, Granted}
 
 -- The number of a kind: 17 is that of a piece.
 abbrev pub number_of : PacketKind → ℕ
@@ -51,7 +53,8 @@ name_of Granted = codes "Granted"
 
 -- Every kind.
 abbrev pub kinds : List PacketKind
-kinds = Jobs ∷ JobsOk ∷ Start ∷ Started ∷ Trigger ∷ State ∷ NoState ∷ StateAck ∷ Stop ∷ Stopped ∷ Verify ∷ WantState ∷ Saved ∷ NoSaved ∷ Report ∷ Refused ∷ Copy ∷ CopyOk ∷ Fetch ∷ Granted ∷ []
+kinds = Jobs ∷ JobsOk ∷ Start ∷ Started ∷ Trigger ∷ State ∷ NoState ∷ StateAck ∷ Stop ∷ Stopped
+    ∷ Verify ∷ WantState ∷ Saved ∷ NoSaved ∷ Report ∷ Refused ∷ Copy ∷ CopyOk ∷ Fetch ∷ Granted ∷ []
 
 -- The kind with this number.
 unfoldable pub kind_numbered : ℕ → Option PacketKind

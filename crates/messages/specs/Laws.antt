@@ -31,18 +31,22 @@ pub record Says (bytes : List ℕ) (p : PacketParts) : Type 0 where
 
 -- A packet's spelling has no fault and says that packet.
 abbrev pub SpellingsAreRead : Type 0
-SpellingsAreRead = (p : PacketParts) → IsPacket p → (faults_of (spelling p) ≡ []) × (packet_at (spelling p) ≡ Some p)
+SpellingsAreRead = (p : PacketParts) → IsPacket p
+    → (faults_of (spelling p) ≡ []) × (packet_at (spelling p) ≡ Some p)
 
 -- Bytes without a fault say a packet, and are its spelling but where they hold a state in layout 1.
 abbrev pub OnlyPacketsAreRead : Type 0
 OnlyPacketsAreRead =
-    (bytes : List ℕ) → IsBytes bytes → faults_of bytes ≡ [] → (p : PacketParts) × (packet_at bytes ≡ Some p) × Says bytes p
+    (bytes : List ℕ) → IsBytes bytes → faults_of bytes ≡ []
+    → (p : PacketParts) × (packet_at bytes ≡ Some p) × Says bytes p
 
 -- No spelling begins another.
 abbrev pub NoneBeginsAnother : Type 0
 NoneBeginsAnother =
-    (p q : PacketParts) (more : List ℕ) → IsPacket p → IsPacket q → spelling p ++ more ≡ spelling q → (more ≡ []) × (p ≡ q)
+    (p q : PacketParts) (more : List ℕ) → IsPacket p → IsPacket q → spelling p ++ more ≡ spelling q
+    → (more ≡ []) × (p ≡ q)
 
 -- No body has more bytes than its kind allows.
 abbrev pub LengthsAreBounded : Type 0
-LengthsAreBounded = (b : Body) → IsTrue (is_body b) → KeepsState b → length_of b ≤ length_limit (kind_of b)
+LengthsAreBounded =
+    (b : Body) → IsTrue (is_body b) → KeepsState b → length_of b ≤ length_limit (kind_of b)

@@ -39,9 +39,11 @@ look_by from to kind =
 abbrev pub look_at : List ℕ → Option FrameLook
 look_at bytes =
     if begins_frame bytes
-    then look_by (node_numbered (header_at 4 bytes)) (node_numbered (header_at 5 bytes)) (sort_numbered (header_at 3 bytes))
+    then look_by (node_numbered (header_at 4 bytes)) (node_numbered (header_at 5 bytes))
+    (sort_numbered (header_at 3 bytes))
     else None
 
 -- The look at a frame's spelling gives its ends and its kind.
 abbrev pub LooksAtFrames : List ℕ → Option FrameLook → Type 0
-LooksAtFrames bytes looked = (f : Frame) → IsFrame f → frame_spelling f ≡ bytes → looked ≡ Some (look_of f)
+LooksAtFrames bytes looked =
+    (f : Frame) → IsFrame f → frame_spelling f ≡ bytes → looked ≡ Some (look_of f)

@@ -13,7 +13,8 @@ node_number Mirror = MIRROR_NUMBER
 
 -- The node with this number.
 abbrev pub node_numbered : ℕ → Option Node
-node_numbered n = if nat_lt n MAX_SERVERS then Some (Server n) else if n == CLIENT_NUMBER then Some Client else if n == MIRROR_NUMBER then Some Mirror else None
+node_numbered n = if nat_lt n MAX_SERVERS then Some (Server n) else if n == CLIENT_NUMBER
+    then Some Client else if n == MIRROR_NUMBER then Some Mirror else None
 
 -- A server's number is below 8.
 abbrev pub is_node : Node → Bool

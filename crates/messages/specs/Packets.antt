@@ -1,5 +1,6 @@
 -- The one spelling of a packet, and what bytes say.
-use Rattle.std.specs.Prelude.{◌≡◌, ◌⊎◌, ℕ, ◌+◌, Bool, ◌&&◌, ◌==◌, not, nat_lt, is_none, is_some, List, [], ◌∷◌, ◌++◌, length, drop, slice_index, slice_get, Option, Some, Result, Ok, Err}
+use Rattle.std.specs.Prelude.{◌≡◌, ◌⊎◌, ℕ, ◌+◌, Bool, ◌&&◌, ◌==◌, not, nat_lt, is_none, is_some, List, []}
+use Rattle.std.specs.Prelude.{◌∷◌, ◌++◌, length, drop, slice_index, slice_get, Option, Some, Result, Ok, Err}
 use Rattle.std.specs.Option.{option_map, option_and_then}
 use Rattle.std.specs.Int.{Width, w8, w32}
 use Rattle.fc_base.specs.declared.fault.Fault.{Fault}
@@ -26,7 +27,8 @@ header = w8 ∷ w8 ∷ w8 ∷ w8 ∷ w32 ∷ w32 ∷ w32 ∷ []
 -- The letters FC, version 1, the kind, from, to and the length.
 abbrev pub header_of : Node → Node → Body → ℕ → List ℕ
 header_of from to body len =
-    spelled header (70 ∷ 67 ∷ 1 ∷ number_of (kind_of body) ∷ node_number from ∷ node_number to ∷ len ∷ [])
+    spelled header (70 ∷ 67 ∷ 1 ∷ number_of (kind_of body) ∷ node_number from ∷ node_number to ∷ len
+    ∷ [])
 
 -- The bytes of a packet: its header, which has the length of the body, and the body.
 abbrev pub spelling : PacketParts → List ℕ
@@ -66,13 +68,16 @@ abbrev pub packet_at : List ℕ → Option PacketParts
 packet_at bytes =
     option_and_then (λ kind. option_and_then (λ from. option_and_then (λ to. option_map (λ body.
     record { from = from; to = to; body = body })
-    (body_at kind (drop 16 bytes))) (node_numbered (header_at 5 bytes))) (node_numbered (header_at 4 bytes))) (kind_numbered (header_at 3 bytes))
+    (body_at kind (drop 16 bytes))) (node_numbered (header_at 5 bytes)))
+    (node_numbered (header_at 4 bytes))) (kind_numbered (header_at 3 bytes))
 
 -- All faults of a frame: those of the header, and a body that isn't of its kind.
 abbrev pub faults_of : List ℕ → List Fault
-faults_of bytes = header_faults is_packet_kind body_limit bytes ++ when (is_none (packet_at bytes)) FrameBadField
+faults_of bytes =
+    header_faults is_packet_kind body_limit bytes ++ when (is_none (packet_at bytes)) FrameBadField
 
 -- The bytes have no fault and say the packet, unless memory ran out, or the first fault is theirs.
 abbrev pub Answers : Result PacketParts Fault → List ℕ → Type 0
 Answers (Ok p) bytes = (faults_of bytes ≡ []) × (packet_at bytes ≡ Some p)
-Answers (Err f) bytes = ((f ≡ FrameNoMemory) × (faults_of bytes ≡ [])) ⊎ (slice_get (faults_of bytes) 0 ≡ Some f)
+Answers (Err f) bytes =
+    ((f ≡ FrameNoMemory) × (faults_of bytes ≡ [])) ⊎ (slice_get (faults_of bytes) 0 ≡ Some f)

@@ -13,10 +13,19 @@ fields_numbers f = f.whole ∷ f.run ∷ f.number ∷ f.server ∷ f.job ∷ f.l
 
 -- The tag that the numbers say, where it is in its ranges.
 abbrev pub tag_with : PieceFields → PacketKind → Tag
-tag_with f whole = record { whole = whole; run = f.run; number = f.number; server = f.server; job = f.job; length = f.length }
+tag_with f whole = record {
+  whole = whole;
+  run = f.run;
+  number = f.number;
+  server = f.server;
+  job = f.job;
+  length = f.length;
+}
 
+-- A tag, if it is within its ranges.
 abbrev pub tag_in_range : Tag → Option Tag
 tag_in_range t = if is_tag_in_range t then Some t else None
 
+-- The tag that the numbers of a piece say, if its kind is one and it is within its ranges.
 abbrev pub tag_said : PieceFields → Option Tag
 tag_said f = option_and_then (λ whole. tag_in_range (tag_with f whole)) (kind_numbered f.whole)

@@ -39,10 +39,13 @@ is_tag_in_range t =
     is_long_kind t.whole && is_run t.run && is_number t.whole t.number
     && is_owner t.whole t.server t.job && is_cut_length t.length
 
--- A place is a multiple of 1,024 below the length, and what stands there goes to the next place or to the end.
+-- A place is a multiple of 1,024 below the length, and what stands there goes to the next place or
+-- to the end.
 abbrev pub is_place : ℕ → ℕ → ℕ → Bool
-is_place len at count = (at % CHUNK_LIMIT == 0) && nat_lt at len && (count == min CHUNK_LIMIT (len - at))
+is_place len at count =
+    (at % CHUNK_LIMIT == 0) && nat_lt at len && (count == min CHUNK_LIMIT (len - at))
 
 -- The ranges of a piece.
 abbrev pub is_piece : PieceParts → Bool
-is_piece q = is_node q.from && is_node q.to && is_tag_in_range q.tag && is_place q.tag.length q.at (length q.bytes)
+is_piece q = is_node q.from && is_node q.to && is_tag_in_range q.tag && is_place q.tag.length q.at
+    (length q.bytes)

@@ -24,16 +24,19 @@ run_in (Verify run attempt text) = run
 run_in (Saved attempt state) = state.key.run
 run_in _ = 0
 
+-- The attempt of what is cut, or 0 where it has none.
 abbrev pub attempt_in : Body → ℕ
 attempt_in (Verify run attempt text) = attempt
 attempt_in (Saved attempt state) = attempt
 attempt_in _ = 0
 
+-- The server of what is cut, or 0 where it has none.
 abbrev pub server_in : Body → ℕ
 server_in (State jobs state) = state.key.server
 server_in (Saved attempt state) = state.key.server
 server_in _ = 0
 
+-- The job of what is cut, or 0 where it has none.
 abbrev pub job_in : Body → ℕ
 job_in (State jobs state) = state.key.job
 job_in (Saved attempt state) = state.key.job
@@ -41,7 +44,14 @@ job_in _ = 0
 
 -- The tag of the pieces of a body that came in so many bytes.
 abbrev pub tag_in : Body → ℕ → Tag
-tag_in b len = record { whole = kind_of b; run = run_in b; number = attempt_in b; server = server_in b; job = job_in b; length = len }
+tag_in b len = record {
+  whole = kind_of b;
+  run = run_in b;
+  number = attempt_in b;
+  server = server_in b;
+  job = job_in b;
+  length = len;
+}
 
 -- The tag of the pieces of a body.
 abbrev pub tag_of : Body → Tag
@@ -52,6 +62,7 @@ abbrev pub places_from : ℕ → ℕ → ℕ → List ℕ
 places_from zero at len = []
 places_from (suc n) at len = if nat_lt at len then at ∷ places_from n (at + CHUNK_LIMIT) len else []
 
+-- Where the pieces of so many bytes begin: at 0, and 1,024 bytes behind one another.
 abbrev pub places : ℕ → List ℕ
 places len = places_from len 0 len
 
@@ -61,7 +72,8 @@ bytes_at bytes at = take CHUNK_LIMIT (drop at bytes)
 
 -- The piece at a place of these bytes.
 abbrev pub cut_at : Node → Node → Tag → List ℕ → ℕ → PieceParts
-cut_at from to tag bytes at = record { from = from; to = to; tag = tag; at = at; bytes = bytes_at bytes at }
+cut_at from to tag bytes at =
+    record { from = from; to = to; tag = tag; at = at; bytes = bytes_at bytes at }
 
 -- The piece of a packet at a place.
 abbrev pub piece_at : PacketParts → ℕ → PieceParts

@@ -4,7 +4,8 @@ use Rattle.fc_base.specs.Report.{is_report}
 use Rattle.fc_base.specs.declared.limits.TheConstants.{MAX_GENERATION, MAX_JOBS, MAX_SERVERS, MAX_TEXT}
 use Rattle.verify_state.specs.State.{IsState}
 use Rattle.messages.specs.declared.body.Body.{Body}
-use Rattle.messages.specs.declared.body.Body.TheVariants.{Jobs, JobsOk, Start, Started, Trigger, State, NoState, StateAck, Stop, Stopped, Verify, WantState, Saved, NoSaved, Report, Refused, Copy, CopyOk, Fetch, Granted}
+use Rattle.messages.specs.declared.body.Body.TheVariants.{Jobs, JobsOk, Start, Started, Trigger, State, NoState, StateAck, Stop, Stopped}
+use Rattle.messages.specs.declared.body.Body.TheVariants.{Verify, WantState, Saved, NoSaved, Report, Refused, Copy, CopyOk, Fetch, Granted}
 use Rattle.messages.specs.declared.refusal.Asked.{Asked}
 use Rattle.messages.specs.declared.refusal.Asked.TheVariants as asks
 use Rattle.messages.specs.declared.refusal.Refusal.{Refusal}
@@ -79,7 +80,8 @@ is_body (Verify run attempt text) = is_run run && is_attempt attempt && is_text 
 is_body (WantState run attempt job) = is_run run && is_attempt attempt && is_job job
 is_body (Saved attempt state) = is_attempt attempt
 is_body (NoSaved run attempt job) = is_run run && is_attempt attempt && is_job job
-is_body (Report run attempt job jobs report) = is_run run && is_attempt attempt && is_job_of job jobs && is_report report
+is_body (Report run attempt job jobs report) =
+    is_run run && is_attempt attempt && is_job_of job jobs && is_report report
 is_body (Refused r) = is_refusal r
 is_body (Copy state) = true
 is_body (CopyOk run server job) = is_run run && is_server_no server && is_job job

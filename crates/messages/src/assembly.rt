@@ -122,7 +122,11 @@ impl Assembly {
     /// Begins a row with a piece.
     fn begin(&mut self, piece: &Piece) -> Result<(), AllocError>
         ensures begun { OnOk result
-            (self.new ≡ newest (self.old ++ record { tag = piece.now.tag; filled = record { at = piece.now.at; bytes = piece.now.bytes } ∷ [] } ∷ [])) }
+            (self.new ≡ newest (self.old
+            ++ record {
+              tag = piece.now.tag;
+              filled = record { at = piece.now.at; bytes = piece.now.bytes } ∷ [];
+            } ∷ [])) }
         ensures same { OnErr result (self.new ≡ self.old) }
     {
         let places = Places::new(self.alloc, piece)?;

@@ -47,8 +47,9 @@ pub use node::Node;
 pub use packet::{Packet, PacketParts};
 pub use piece::{Piece, PieceParts, Tag};
 pub use piece_law::{
-    frames_are_few, frames_are_read_back, no_frame_begins_another, only_frames_are_read,
-    only_sent_comes_together, only_whole_bodies_are_given, pieces_come_together,
+    frames_are_few, frames_are_read_back, frames_are_readable, no_frame_begins_another,
+    only_frames_are_read, only_sent_comes_together, only_whole_bodies_are_given,
+    pieces_come_together,
 };
 pub use reading::{FrameLook, decode, decode_frame, look_at};
 pub use refusal::{Act, Asked, Reason, Refusal};

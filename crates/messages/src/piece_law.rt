@@ -1,9 +1,9 @@
 //! The laws of pieces.
 
-ghost use Rattle.messages.specs.FrameLaws.{FramesAreFew, FramesAreRead, NoFrameBeginsAnother, OnlyFramesAreRead};
+ghost use Rattle.messages.specs.FrameLaws.{FramesAreFew, FramesAreRead, FramesAreReadable, NoFrameBeginsAnother, OnlyFramesAreRead};
 ghost use Rattle.messages.specs.PieceLaws.{PiecesGiveTheBytes, PiecesGiveThePacket, OnlyWholeBodiesAreGiven, OnlySentComesTogether, OnlySentIsGiven};
 
-use crate::law::one_spelling;
+use crate::law::{lengths_are_bounded, one_spelling};
 
 /// The pieces of a body come together in any order, and however often they come.
 pub fn pieces_come_together()
@@ -25,6 +25,13 @@ pub fn only_sent_comes_together()
     ensures all { OnlySentIsGiven }
 {
     verify_state::one_spelling();
+}
+
+/// The frames of a packet in its ranges are in theirs, also the pieces of one that is cut, and short enough to be read.
+pub fn frames_are_readable()
+    ensures { FramesAreReadable }
+{
+    lengths_are_bounded();
 }
 
 /// Each frame is read back from its bytes.

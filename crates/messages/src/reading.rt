@@ -79,7 +79,8 @@ struct Header<K> {
 
 fn header_fields(bytes: &[u8]) -> HeaderFields
     requires { 16 ≤ length bytes.now }
-    ensures { result.first ∷ result.second ∷ result.version ∷ result.kind ∷ result.from ∷ result.to ∷ result.len ∷ [] ≡ numbers header bytes.now }
+    ensures { result.first ∷ result.second ∷ result.version ∷ result.kind ∷ result.from ∷ result.to
+        ∷ result.len ∷ [] ≡ numbers header bytes.now }
 {
     let (first, rest) = split_u8(bytes);
     let (second, rest) = split_u8(rest);

@@ -206,7 +206,8 @@ fn put_findings(out: &mut Vec<u8>, report: &ReportParts) -> Result<(), AllocErro
     ensures { OnOk result
         (out.new.items ≡ out.old.items ++
         (spelled (w8 ∷ w32 ∷ w32 ∷ w32 ∷ w32 ∷ [])
-        (end_number report.now.end ∷ end_at report.now.end ∷ report.now.checked ∷ report.now.faults ∷ length report.now.first ∷ []) ++ spelled_blocks report.now.first)) }
+        (end_number report.now.end ∷ end_at report.now.end ∷ report.now.checked ∷ report.now.faults
+        ∷ length report.now.first ∷ []) ++ spelled_blocks report.now.first)) }
 {
     let first = report.first.as_slice();
     put_end(out, report.end)?;

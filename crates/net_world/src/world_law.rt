@@ -9,7 +9,7 @@ use crate::frame_law::{
 };
 use crate::fresh::nothing_differs;
 use crate::verdict::one_state_of_each_job;
-use messages::{frames_are_read_back, lengths_are_bounded, only_sent_comes_together};
+use messages::{frames_are_read_back, frames_are_readable, only_sent_comes_together};
 use recheck::reports_fit;
 use server_core::legal_histories;
 
@@ -53,7 +53,7 @@ pub fn sent_are_frames()
     each_world_is_a_trace();
     frames_are_of_packets();
     sent_are_in_range();
-    lengths_are_bounded();
+    frames_are_readable();
     reports_fit();
     legal_histories();
 }

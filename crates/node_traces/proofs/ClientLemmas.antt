@@ -1,13 +1,10 @@
 -- What an event of a history adds to the list of the client.
-use Rattle.std.proofs.Common.{◌≡◌, refl, sym, ◌∙◌, ap, subst, ◌⊎◌, inl, inr, ℕ, Bool, true, false, ◌&&◌, ◌||◌, List, [], ◌∷◌, ◌++◌, Option, Some, None, Result, Ok, Err}
-use Rattle.std.specs.Prelude.{Contains, map, not, is_none, if◌then◌else◌, slice_get}
+use Rattle.std.proofs.Common.{◌≡◌, refl, ◌∙◌, ap, subst, inl, inr, ℕ, Bool, true, false}
+use Rattle.std.proofs.Common.{◌&&◌, ◌||◌, List, [], ◌∷◌, ◌++◌, Option, Some, None}
+use Rattle.std.specs.Prelude.{Contains, not, is_none, if◌then◌else◌, slice_get}
 use Rattle.std.specs.List.{flat_map}
-use Rattle.std.specs.Option.{option_map}
 use Rattle.fc_base.specs.declared.fault.Fault.{Fault}
 use Rattle.fc_base.specs.declared.fault.Fault.TheVariants.{Down, Misdirected, NodeOff, NodeOn}
-use Rattle.fc_base.specs.declared.fault.FaultSort.{FaultSort}
-use Rattle.fc_base.specs.declared.fault.FaultSort.TheVariants as sorts
-use Rattle.fc_base.specs.Fault.{sort_of}
 use Rattle.fc_base.specs.Faults.{when}
 use Rattle.disk_model.specs.declared.left.Left.{Left}
 use Rattle.disk_model.specs.declared.left.Left.TheVariants as lefts
@@ -18,7 +15,7 @@ use Rattle.messages.specs.declared.node.Node.{Node}
 use Rattle.messages.specs.declared.node.Node.TheVariants.{Server, Client, Mirror}
 use Rattle.messages.specs.declared.packet.PacketParts.{PacketParts}
 use Rattle.messages.specs.declared.piece.PieceParts.{PieceParts}
-use Rattle.messages.specs.FrameBytes.{frame_at, frame_spelling}
+use Rattle.messages.specs.FrameBytes.{frame_at}
 use Rattle.messages.specs.Hearing.{Meaning, Says, Waits, Spoils, Strays, meaning, heard_by, said_by}
 use Rattle.messages.specs.Assemblies.{look_at_piece}
 use Rattle.messages.specs.Kinds.{is_of_server}
@@ -39,18 +36,18 @@ use Rattle.client_core.specs.Words as words
 use Rattle.client_core.specs.Words.{is_on, words_noted}
 use Rattle.client_core.specs.Hearing.{FrameEntry, Met, Cut, Restart, Renew, Lose, coming_of, heard_at, packets_heard, rules as hearing}
 use Rattle.client_core.specs.FrameAnswers as answers
-use Rattle.node_history.specs.declared.answer.Said.{Said}
 use Rattle.node_history.specs.declared.came.Came.{Came}
 use Rattle.node_history.specs.declared.came.Came.TheVariants as came
-use Rattle.node_history.specs.AtHub.{is_drop, is_left_out, is_save}
-use Rattle.node_history.specs.Replay.{Ends, Passes, Stops}
+use Rattle.node_history.specs.AtHub.{is_drop}
+use Rattle.node_history.specs.Replay.{Passes}
 use Rattle.node_history.specs.Rules.{Ask, Meets, Cuts, Restarts, Nothing}
 use Rattle.node_history.specs.ServerRules.{left_by}
 use Rattle.node_history.specs.ClientRules.{rules, ask_of, added_entry, ask_of_frame, is_up, unsaved_entry, entries_past_refusal, refusal}
 use Rattle.net_world.specs.Setup.{without_mirror}
 use Rattle.net_world.specs.Frames.{FrameStep, OfClient, MayHappen, is_allowed, to_of}
 use Rattle.node_traces.specs.Marks.{frame_of}
-use Rattle.node_traces.proofs.RefusalLemmas.{CameOf, IsFor, MayNot, MayPass, drop_for, dropped, left_out_stays, no_pass, no_power}
+use Rattle.node_traces.proofs.RefusalLemmas.{CameOf, MayNot, MayPass, no_pass, no_power}
+use Rattle.node_traces.proofs.AddLemmas.{Adds, IsLost, Quiet, Shown, as_core, lost_met, lost_of, met_drops, some_is, strays}
 
 -- ---- a frame that isn't refused is for the client
 
@@ -72,26 +69,22 @@ whole_to true true others h = refl
 whole_to true false others h = absurd (no_pass Misdirected refl h)
 whole_to false good others h = absurd (no_pass Down refl h)
 
-strays : (on : Bool) → MayPass (if on then Some Misdirected else Some Down) → ⊥
-strays true h = no_pass Misdirected refl h
-strays false h = no_pass Down refl h
-
-piece_to : (o : Opening) (past : List history.Entry) (q : PieceParts) (on a b : Bool) (m : Meaning) → MayPass (answers.refusal_in o past (answers.sense_of q (if on && (a && b) then m else Strays))) → a ≡ true
+piece_to : (o : Opening) (past : List history.Entry) (q : PieceParts) (on a b : Bool) (m : Meaning)
+    → MayPass (answers.refusal_in o past (answers.sense_of q (if on && (a && b) then m else Strays))) → a ≡ true
 piece_to o past q true true b m h = refl
-piece_to o past q true false b m h = absurd (strays (is_on past) h)
-piece_to o past q false a b m h = absurd (strays (is_on past) h)
+piece_to o past q true false b m h = absurd (strays (is_on past) Misdirected Down refl refl h)
+piece_to o past q false a b m h = absurd (strays (is_on past) Misdirected Down refl refl h)
 
 to_me : (o : Opening) (past : List FrameEntry) (f : Frame) → MayPass (answers.refusal o past (inputs.Deliver f)) → to_of f ≡ Client
 to_me o past (Whole p) h =
-    to_client p.to (for_client (words.peers o (packets_heard o past)) p (whole_to (is_on (packets_heard o past)) (is_for_client (words.peers o (packets_heard o past)) p) (faults_of_body (words_noted o (packets_heard o past)) p.body) h))
+    to_client p.to (for_client (words.peers o (packets_heard o past)) p
+    (whole_to (is_on (packets_heard o past)) (is_for_client (words.peers o (packets_heard o past)) p)
+    (faults_of_body (words_noted o (packets_heard o past)) p.body) h))
 to_me o past (Piece q) h =
-    to_client q.to (piece_to o (packets_heard o past) q (is_on (packets_heard o past)) (is_client q.to) (is_server_of o.servers q.from && is_of_server q.tag.whole) (said_by (look_at_piece (heard_at o past).rows q)) h)
+    to_client q.to (piece_to o (packets_heard o past) q (is_on (packets_heard o past)) (is_client q.to)
+    (is_server_of o.servers q.from && is_of_server q.tag.whole) (said_by (look_at_piece (heard_at o past).rows q)) h)
 
 -- ---- what is refused, or whose save failed, sends nothing
-
--- Its save failed, or it is refused.
-Quiet : Bool → Option Fault → Type 0
-Quiet gone x = (gone ≡ true) ⊎ ((fault : Fault) × (x ≡ Some fault))
 
 no_answer : (x : Option Addition) (left : Left) → is_lost left ≡ true → is_answer x left ≡ false
 no_answer None lefts.NoSave h = cc
@@ -104,22 +97,25 @@ no_answer (Some addition) lefts.LostNew h = refl
 no_answer (Some addition) lefts.LostOld h = refl
 
 unanswered : (x : Option Fault) (y : Option Addition) (left : Left) → Quiet (is_lost left) x → (is_none x && is_answer y left) ≡ false
-unfolding Quiet
 unanswered (Some fault) y left h = refl
 unanswered None y left (inl h) = no_answer y left h
 unanswered None y left (inr h) = cc
 
-call_quiet : (o : Opening) (list : List history.Entry) (c : Call) (left : Left) → Quiet (is_lost left) (words.refusal o list c) → answers.frames_by o list (Some (history.Met c left)) ≡ []
+call_quiet : (o : Opening) (list : List history.Entry) (c : Call) (left : Left) → Quiet (is_lost left) (words.refusal o list c)
+    → answers.frames_by o list (Some (history.Met c left)) ≡ []
 call_quiet o list c left h =
-    ap (λ b. flat_map frames_of (if b then packets_for (words.peers o list) (words_noted o list) (life o list) c else [])) (unanswered (words.refusal o list c) (words.due o list c) left h)
+    ap (λ b. flat_map frames_of (if b then packets_for (words.peers o list) (words_noted o list) (life o list) c else []))
+    (unanswered (words.refusal o list c) (words.due o list c) left h)
 
-piece_quiet : (o : Opening) (list : List history.Entry) (q : PieceParts) (left : Left) (m : Meaning) → Quiet (is_lost left) (answers.refusal_in o list (answers.sense_of q m)) → answers.frames_by o list (heard_by (hearing o) left m) ≡ []
+piece_quiet : (o : Opening) (list : List history.Entry) (q : PieceParts) (left : Left) (m : Meaning)
+    → Quiet (is_lost left) (answers.refusal_in o list (answers.sense_of q m)) → answers.frames_by o list (heard_by (hearing o) left m) ≡ []
 piece_quiet o list q left (Says p) h = call_quiet o list (calls.Deliver p) left h
 piece_quiet o list q left Waits h = refl
 piece_quiet o list q left Spoils h = refl
 piece_quiet o list q left Strays h = refl
 
-quiet : (o : Opening) (past : List FrameEntry) (e : Input) (left : Left) → Quiet (is_lost left) (answers.refusal o past e) → answers.frames o past (Met e left) ≡ []
+quiet : (o : Opening) (past : List FrameEntry) (e : Input) (left : Left) → Quiet (is_lost left) (answers.refusal o past e)
+    → answers.frames o past (Met e left) ≡ []
 quiet o past (inputs.Begin text) left h = call_quiet o (packets_heard o past) (calls.Begin text) left h
 quiet o past (inputs.Trigger run act) left h = call_quiet o (packets_heard o past) (calls.Trigger run act) left h
 quiet o past (inputs.Stop run) left h = call_quiet o (packets_heard o past) (calls.Stop run) left h
@@ -143,13 +139,6 @@ IsAsked ask (Restart mirror) = mirror ≡ false
 IsAsked ask (Renew g left) = ⊥
 IsAsked ask Lose = ⊥
 
--- What an event adds: an entry, whose frames it sends.
-pub record Adds (o : Opening) (past : List FrameEntry) (ask : Ask Input) (sent : List (List ℕ)) (after : List FrameEntry) : Type 0 where
-  pub entry : FrameEntry
-  pub after_is : after ≡ entry ∷ past
-  pub sent_are : sent ≡ map frame_spelling (answers.frames o past entry)
-  pub is_asked : IsAsked ask entry
-
 met_asked : (o : Opening) (past : List FrameEntry) (e : Input) (left : Left) → MayPass (answers.refusal o past e) → IsAsked (Meets e) (Met e left)
 unfolding IsAsked
 met_asked o past (inputs.Deliver f) left h = (refl, to_me o past f h)
@@ -159,61 +148,35 @@ met_asked o past (inputs.Stop run) left h = tt
 met_asked o past (inputs.Verify run text) left h = tt
 met_asked o past inputs.Tick left h = tt
 
--- A client that is on refuses as its core.
-as_core : (up : Bool) (x : Option Fault) → MayPass (if up then x else Some NodeOff) → MayPass x
-as_core true x h = h
-as_core false x h = absurd (no_pass NodeOff refl h)
-
-some_is : (x y : FrameEntry) → Some x ≡ Some y → x ≡ y
-some_is x y h = cc
-
-accepted : (o : Opening) (past : List FrameEntry) (ask : Ask Input) (entry : FrameEntry) → refusal o past ask ≡ None → added_entry o past ask ≡ Some entry → IsAsked ask entry
+accepted : (o : Opening) (past : List FrameEntry) (ask : Ask Input) (entry : FrameEntry) → refusal o past ask ≡ None → added_entry o past ask ≡ Some entry
+    → IsAsked ask entry
 unfolding IsAsked
 accepted o past (Meets e) entry free is =
-    subst (IsAsked (Meets e)) (some_is (answers.answered_entry o past e) entry is) (met_asked o past e _ (as_core (is_up o past) (answers.refusal o past e) (inl free)))
+    subst (IsAsked (Meets e)) (some_is (answers.answered_entry o past e) entry is)
+    (met_asked o past e _ (as_core (is_up o past) (answers.refusal o past e) (inl free)))
 accepted o past Cuts entry free is = subst (IsAsked Cuts) (some_is Cut entry is) tt
 accepted o past Restarts entry free is = subst (IsAsked Restarts) (some_is (Restart false) entry is) refl
 accepted o past Nothing entry free is = cc
 
-lost_of : (landed : Bool) → is_lost (left_by landed) ≡ true
-lost_of true = refl
-lost_of false = refl
-
--- What is left of a save that failed.
-record IsLost (o : Opening) (past : List FrameEntry) (ask : Ask Input) (entry : FrameEntry) : Type 0 where
-  silent : answers.frames o past entry ≡ []
-  is_asked : IsAsked ask entry
-
-lost_met : (o : Opening) (past : List FrameEntry) (e : Input) (landed : Bool) (entry : FrameEntry) (x : Option Addition) → MayPass (answers.refusal o past e) → option_map (λ addition. Met e (left_by landed)) x ≡ Some entry → IsLost o past (Meets e) entry
-unfolding Quiet
-lost_met o past e landed entry None h is = cc
-lost_met o past e landed entry (Some addition) h is =
-    subst (IsLost o past (Meets e)) (some_is (Met e (left_by landed)) entry is)
-    (record { silent = quiet o past e (left_by landed) (inl (lost_of landed)); is_asked = met_asked o past e (left_by landed) h })
-
-lost_save : (o : Opening) (past : List FrameEntry) (ask : Ask Input) (landed : Bool) (entry : FrameEntry) → refusal o past ask ≡ None → unsaved_entry o past ask landed ≡ Some entry → IsLost o past ask entry
-lost_save o past (Meets e) landed entry free is = lost_met o past e landed entry (answers.due o past e) (as_core (is_up o past) (answers.refusal o past e) (inl free)) is
+lost_save : (o : Opening) (past : List FrameEntry) (ask : Ask Input) (landed : Bool) (entry : FrameEntry) → refusal o past ask ≡ None
+    → unsaved_entry o past ask landed ≡ Some entry → IsLost (rules o) IsAsked past ask entry
+lost_save o past (Meets e) landed entry free is =
+    lost_met past e (Met e (left_by landed)) entry (answers.due o past e)
+    (record {
+      silent = quiet o past e (left_by landed) (inl (lost_of landed));
+      is_asked = met_asked o past e (left_by landed) (as_core (is_up o past) (answers.refusal o past e) (inl free));
+    }) is
 lost_save o past Restarts landed entry free is = cc
 lost_save o past Cuts landed entry free is = cc
 lost_save o past Nothing landed entry free is = cc
 
 -- ---- a tag that is dropped
 
-drops : (o : Opening) (past : List FrameEntry) (ask : Ask Input) (fault : Fault) (sent : List (List ℕ)) (after : List FrameEntry) → is_drop fault ≡ true → Passes (rules o) past ask fault sent after → Adds o past ask sent after
-unfolding Quiet
+drops : (o : Opening) (past : List FrameEntry) (ask : Ask Input) (fault : Fault) (sent : List (List ℕ)) (after : List FrameEntry) → is_drop fault ≡ true
+    → Passes (rules o) past ask fault sent after → Adds (rules o) IsAsked past ask sent after
 drops o past (Meets e) fault sent after d p =
-    let may = as_core (is_up o past) (answers.refusal o past e) (drop_for (refusal o past (Meets e)) false fault d p.why) in
-    record {
-      entry = Met e lefts.NoSave;
-      after_is = p.after_is ∙ ap (λ b. if b then Met e lefts.NoSave ∷ past else past) d;
-      sent_are = p.sends_none ∙ sym (ap (map frame_spelling) (quiet o past e lefts.NoSave (inr (refused (answers.refusal o past e) (is_up o past) p.why))));
-      is_asked = met_asked o past e lefts.NoSave may;
-    }
-  where
-    refused : (x : Option Fault) (up : Bool) → IsFor (if up then x else Some NodeOff) false fault → (other : Fault) × (x ≡ Some other)
-    refused x true (inl h) = (fault, h)
-    refused x true (inr h) = cc
-    refused x false h = absurd (no_pass NodeOff refl (drop_for (Some NodeOff) false fault d h))
+    met_drops past e (is_up o past) (answers.refusal o past e) (Met e lefts.NoSave) fault sent after d p.why p.sends_none
+    (p.after_is ∙ ap (λ b. if b then Met e lefts.NoSave ∷ past else past) d) (quiet o past e lefts.NoSave) (met_asked o past e lefts.NoSave)
 drops o past Cuts fault sent after d p = absurd (no_power (refusal o past Cuts) false fault d p.why (cuts (is_up o past)))
   where
     cuts : (up : Bool) → MayNot (if up then None else Some NodeOff)
@@ -226,30 +189,16 @@ drops o past Restarts fault sent after d p = absurd (no_power (refusal o past Re
     restarts false = inl refl
 drops o past Nothing fault sent after d p = absurd (no_power None false fault d p.why (inl refl))
 
--- ---- each event
-
-passed_none : (past : List FrameEntry) (ask : Ask Input) (fault : Fault) → is_drop fault ≡ false → entries_past_refusal past ask fault ≡ past
+-- Another refusal leaves the list as it was.
+pub passed_none : (past : List FrameEntry) (ask : Ask Input) (fault : Fault) → is_drop fault ≡ false → entries_past_refusal past ask fault ≡ past
 passed_none past (Meets e) fault h = ap (λ b. if b then Met e lefts.NoSave ∷ past else past) h
 passed_none past Cuts fault h = refl
 passed_none past Restarts fault h = refl
 passed_none past Nothing fault h = refl
 
--- What is left out changes nothing.
-pub stays : (o : Opening) (past : List FrameEntry) (ask : Ask Input) (answer : Result Said Fault) (sent : List (List ℕ)) (after : List FrameEntry) → is_left_out answer ≡ true → Ends (rules o) past ask answer sent after → after ≡ past
-stays o past ask answer sent after h ends = left_out_stays (rules o) passed_none past ask answer sent after h ends
-
--- All else adds an entry.
-pub adds : (o : Opening) (past : List FrameEntry) (ask : Ask Input) (answer : Result Said Fault) (sent : List (List ℕ)) (after : List FrameEntry) → is_left_out answer ≡ false → Ends (rules o) past ask answer sent after → Adds o past ask sent after
-adds o past ask (Ok said) sent after h ends =
-    record { entry = ends.entry; after_is = ends.after_is; sent_are = ends.sent_are; is_asked = accepted o past ask ends.entry ends.free ends.entry_is }
-adds o past ask (Err fault) sent after h ends = by_sort (sort_of fault) h ends
-  where
-    by_sort : (sort : FaultSort) → not (is_save sort || is_drop fault) ≡ false → Stops (rules o) past ask sort fault sent after → Adds o past ask sent after
-    by_sort sorts.Memory h ends = absurd ends
-    by_sort sorts.Save h ends =
-        let gone = lost_save o past ask ends.landed ends.entry ends.free ends.entry_is in
-        record { entry = ends.entry; after_is = ends.after_is; sent_are = ends.sends_none ∙ sym (ap (map frame_spelling) gone.silent); is_asked = gone.is_asked }
-    by_sort sorts.Refusal h ends = drops o past ask fault sent after (dropped (is_drop fault) h) ends
+-- What is shown of a client.
+pub shown : (o : Opening) → Shown (rules o) IsAsked
+shown o = record { accepted = accepted o; lost = lost_save o; drops = drops o }
 
 -- ---- what it is in a trace
 
@@ -298,7 +247,8 @@ happens frames ask (Renew g left) h k = absurd k
 happens frames ask Lose h k = absurd k
 
 -- It may happen behind these frames.
-pub client_happens : (frames : List Frame) (c : Came) (e : FrameEntry) → CameOf frames (frame_of c) → IsAsked (ask_of c) e → MayHappen frames (OfClient (coming_of e))
+pub client_happens : (frames : List Frame) (c : Came) (e : FrameEntry) → CameOf frames (frame_of c) → IsAsked (ask_of c) e
+    → MayHappen frames (OfClient (coming_of e))
 client_happens frames c e h k = happens frames (ask_of c) e (asked_of frames c h) k
 
 allowed : (n : ℕ) (t : List FrameStep) (ask : Ask Input) (e : FrameEntry) → IsAsked ask e → is_allowed (without_mirror n) t (OfClient (coming_of e)) ≡ true
@@ -315,5 +265,6 @@ allowed n t ask (Renew g left) k = absurd k
 allowed n t ask Lose k = absurd k
 
 -- It is one without a mirror.
-pub client_allowed : (n : ℕ) (t : List FrameStep) (c : Came) (e : FrameEntry) → IsAsked (ask_of c) e → is_allowed (without_mirror n) t (OfClient (coming_of e)) ≡ true
+pub client_allowed : (n : ℕ) (t : List FrameStep) (c : Came) (e : FrameEntry) → IsAsked (ask_of c) e
+    → is_allowed (without_mirror n) t (OfClient (coming_of e)) ≡ true
 client_allowed n t c e k = allowed n t (ask_of c) e k

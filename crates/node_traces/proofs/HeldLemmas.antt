@@ -72,8 +72,10 @@ unchecked s j state past h e =
 pub assembled_are_heard : OnlySentIsHeard → NodesHearTheirOwn → AssembledAreHeard
 assembled_are_heard only own n frames servers list trace is = record {
   legal = only (without_mirror n) trace is.legal is.fits;
-  servers_are = λ s. (own (without_mirror n) trace).servers s ∙ ap (λ (past : List (Coming server.Entry Left)). (heard (at_server s) past).entries) (is.servers_are s);
-  client_is = (own (without_mirror n) trace).client ∙ ap (λ (past : List (Coming client.Entry Left)). (heard (at_client (without_mirror n)) past).entries) is.client_is;
+  servers_are =
+      λ s. (own (without_mirror n) trace).servers s ∙ ap (λ (past : List (Coming server.Entry Left)). (heard (at_server s) past).entries) (is.servers_are s);
+  client_is = (own (without_mirror n) trace).client ∙ ap
+      (λ (past : List (Coming client.Entry Left)). (heard (at_client (without_mirror n)) past).entries) is.client_is;
 }
 
 -- The verdict theorem of all traces.
@@ -88,10 +90,14 @@ hold_one_state laws are n frames servers list trace is =
     let heard = are n frames servers list trace is in
     let t = trace_heard (without_mirror n) trace in
     record {
-      once = λ key. subst (λ (past : List server.Entry). length (takings (opening_of key.server) key.run key.job past) ≤ 1) (heard.servers_are key.server) (laws.once (without_mirror n) t key);
-      keeps = λ key state h. ByClient (subst (λ (past : List client.Entry). kept_state (client_opening (without_mirror n)) past key ≡ Some state) (sym heard.client_is) h);
-      held = λ key state h. subst (λ (past : List server.Entry). takings (opening_of key.server) key.run key.job past ≡ state ∷ []) (heard.servers_are key.server) (laws.held (without_mirror n) t heard.legal key state h);
-      counted = λ key state h. subst (λ (past : List server.Entry). IsTaking (opening_of key.server) key.run key.job past state) (heard.servers_are key.server) (laws.counted (without_mirror n) t heard.legal key state h);
+      once = λ key. subst (λ (past : List server.Entry). length (takings (opening_of key.server) key.run key.job past) ≤ 1) (heard.servers_are key.server)
+          (laws.once (without_mirror n) t key);
+      keeps = λ key state h. ByClient (subst (λ (past : List client.Entry). kept_state (client_opening (without_mirror n)) past key ≡ Some state)
+          (sym heard.client_is) h);
+      held = λ key state h. subst (λ (past : List server.Entry). takings (opening_of key.server) key.run key.job past ≡ state ∷ [])
+          (heard.servers_are key.server) (laws.held (without_mirror n) t heard.legal key state h);
+      counted = λ key state h. subst (λ (past : List server.Entry). IsTaking (opening_of key.server) key.run key.job past state) (heard.servers_are key.server)
+          (laws.counted (without_mirror n) t heard.legal key state h);
       quiet = λ s j state later past split h.
           let split_heard = heard.servers_are s ∙ split in
           let part = older n s t later past heard.legal split_heard (unchecked s j state past h) in

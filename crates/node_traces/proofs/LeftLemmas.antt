@@ -25,7 +25,8 @@ none_stands h at rest e is = never (sym (ap standing_places e) ∙ is)
     never : [] ≡ at ∷ rest → ⊥
     never h = cc
 
-pub node_below : (n : ℕ) (ran : Node → List Logged) (node : Node) (at : ℕ) (rest : List ℕ) → EndAt n ran → standing_places (ran node) ≡ at ∷ rest → IsBelow n node
+pub node_below : (n : ℕ) (ran : Node → List Logged) (node : Node) (at : ℕ) (rest : List ℕ) → EndAt n ran → standing_places (ran node) ≡ at ∷ rest
+    → IsBelow n node
 node_below n ran Client at rest ends is = tt
 node_below n ran Mirror at rest ends is = none_stands (ran Mirror) at rest ends.mirror is
 node_below n ran (Server s) at rest ends is = by_number (below_or_not s n)
@@ -51,7 +52,9 @@ ends_with n (Server r) h ran b ends = record {
     differ a b h = grind (arith, nat_tests, h)
 
 -- So the order without that event has the places of what is left.
-pub places_left : (p : Place) (order : List Place) (ran : Node → List Logged) (older : List Logged) → ((node : Node) → places_of node (p ∷ order) ≡ standing_places (ran node)) → standing_places older ≡ places_of p.node order → (node : Node) → places_of node order ≡ standing_places (with_history p.node older ran node)
+pub places_left : (p : Place) (order : List Place) (ran : Node → List Logged) (older : List Logged)
+    → ((node : Node) → places_of node (p ∷ order) ≡ standing_places (ran node)) → standing_places older ≡ places_of p.node order → (node : Node)
+    → places_of node order ≡ standing_places (with_history p.node older ran node)
 places_left p order ran older places rest node = by_test (is_same_node p.node node) refl
   where
     by_test : (b : Bool) → is_same_node p.node node ≡ b → places_of node order ≡ standing_places (if b then older else ran node)
@@ -65,7 +68,8 @@ abbrev pub HasPlace : List Place → Node → ℕ → Type 0
 HasPlace [] node at = ⊥
 HasPlace (q ∷ qs) node at = ((is_same_node q.node node ≡ true) × (q.at ≡ at)) ⊎ HasPlace qs node at
 
-pub marked_line : (frames : List (List ℕ)) (node : Node) (journal : List Line) (mark : Mark) (marks : List Mark) → marks_in frames node journal ≡ mark ∷ marks → HasPlace (map place_of journal) node mark.at
+pub marked_line : (frames : List (List ℕ)) (node : Node) (journal : List Line) (mark : Mark) (marks : List Mark) → marks_in frames node journal ≡ mark ∷ marks
+    → HasPlace (map place_of journal) node mark.at
 marked_line frames node [] mark marks h = absurd (never h)
   where
     never : [] ≡ mark ∷ marks → ⊥
@@ -76,7 +80,8 @@ marked_line frames node (l ∷ older) mark marks h = by_test (λ k. marked_line 
     same m ms h = cc
 
     by_test : (marks_in frames node older ≡ mark ∷ marks → HasPlace (map place_of older) node mark.at) → (b : Bool) → is_same_node l.node node ≡ b
-        → (if b then mark_of_line frames (count_sent older) l ∷ marks_in frames node older else marks_in frames node older) ≡ mark ∷ marks → HasPlace (place_of l ∷ map place_of older) node mark.at
+        → (if b then mark_of_line frames (count_sent older) l ∷ marks_in frames node older else marks_in frames node older) ≡ mark ∷ marks
+        → HasPlace (place_of l ∷ map place_of older) node mark.at
     by_test later true e h = inl (e, same (mark_of_line frames (count_sent older) l) (marks_in frames node older) h)
     by_test later false e h = inr (later h)
 
@@ -93,7 +98,8 @@ has_in : (order : List Place) (node : Node) (at : ℕ) → HasPlace order node a
 has_in [] node at h = absurd h
 has_in (p ∷ order) node at h = by_test (λ k. has_in order node at k) (is_same_node p.node node) refl h
   where
-    by_test : (HasPlace order node at → IsIn (places_of node order) at) → (b : Bool) → is_same_node p.node node ≡ b → HasPlace (p ∷ order) node at → IsIn (places_of node (p ∷ order)) at
+    by_test : (HasPlace order node at → IsIn (places_of node order) at) → (b : Bool) → is_same_node p.node node ≡ b → HasPlace (p ∷ order) node at
+        → IsIn (places_of node (p ∷ order)) at
     by_test later true e (inl k) = subst (λ (xs : List ℕ). IsIn xs at) (sym (own_places p.node node (p.at ∷ []) order e)) (inl k.1)
     by_test later true e (inr k) = subst (λ (xs : List ℕ). IsIn xs at) (sym (own_places p.node node (p.at ∷ []) order e)) (inr (later k))
     by_test later false e (inl k) = absurd (clash (sym k.0 ∙ e))
@@ -109,15 +115,19 @@ older_place older at mark marks len is e =
     omega (arith, falls.0, len, e)
 
 -- A place that isn't left isn't that of a mark.
-pub place_left : (older : List Logged) (order : List Place) (node : Node) (at : ℕ) → length older ≡ at → standing_places older ≡ places_of node order → HasPlace order node at → ⊥
+pub place_left : (older : List Logged) (order : List Place) (node : Node) (at : ℕ) → length older ≡ at → standing_places older ≡ places_of node order
+    → HasPlace order node at → ⊥
 place_left older order node at len rest h =
-    let less = in_falls (length older) at (standing_places older) (standing_falls older) (subst (λ (xs : List ℕ). IsIn xs at) (sym rest) (has_in order node at h)) in
+    let less = in_falls (length older) at (standing_places older) (standing_falls older)
+    (subst (λ (xs : List ℕ). IsIn xs at) (sym rest) (has_in order node at h)) in
     omega (arith, less, len)
 
 -- ---- the marks of what is left
 
-pub own_marks : (p : Place) (older : List Logged) (ran : Node → List Logged) (node : Node) → is_same_node p.node node ≡ true → marks_of (with_history p.node older ran node) ≡ marks_of older
+pub own_marks : (p : Place) (older : List Logged) (ran : Node → List Logged) (node : Node) → is_same_node p.node node ≡ true
+    → marks_of (with_history p.node older ran node) ≡ marks_of older
 own_marks p older ran node e = ap (λ (b : Bool). marks_of (if b then older else ran node)) e
 
-pub other_marks : (p : Place) (older : List Logged) (ran : Node → List Logged) (node : Node) → is_same_node p.node node ≡ false → marks_of (with_history p.node older ran node) ≡ marks_of (ran node)
+pub other_marks : (p : Place) (older : List Logged) (ran : Node → List Logged) (node : Node) → is_same_node p.node node ≡ false
+    → marks_of (with_history p.node older ran node) ≡ marks_of (ran node)
 other_marks p older ran node e = ap (λ (b : Bool). marks_of (if b then older else ran node)) e

@@ -3,6 +3,7 @@ mod PlaceLemmas
 mod MergedLemmas
 mod RisingLemmas
 mod RefusalLemmas
+mod AddLemmas
 mod ServerLemmas
 mod ClientLemmas
 mod SentLemmas

@@ -35,7 +35,8 @@ use Rattle.net_world.specs.Frames.{FrameStep, OfServer, OfClient, of_server, of_
 use Rattle.net_world.specs.InRange.{FrameStepFits}
 use Rattle.node_traces.specs.Marks.{frame_of}
 use Rattle.node_traces.specs.Names.{node_of}
-use Rattle.node_traces.proofs.RefusalLemmas.{CameOf}
+use Rattle.node_traces.proofs.RefusalLemmas.{CameOf, left_out_stays}
+use Rattle.node_traces.proofs.AddLemmas.{adds}
 use Rattle.node_traces.proofs.ServerLemmas as of_servers
 use Rattle.node_traces.proofs.ClientLemmas as of_clients
 
@@ -102,7 +103,8 @@ own_step n (Server s) c t = let same : (s == s) ≡ true = grind (arith, nat_tes
 own_step n Client c t = refl
 own_step n Mirror c t = absurd c
 
-pub other_step : (n : ℕ) (node other : Node) (c : ComingTo node) (t : List FrameStep) → is_same_node node other ≡ false → happened_to n other (step_at node c ∷ t) ≡ happened_to n other t
+pub other_step : (n : ℕ) (node other : Node) (c : ComingTo node) (t : List FrameStep) → is_same_node node other ≡ false
+    → happened_to n other (step_at node c ∷ t) ≡ happened_to n other t
 other_step n (Server s) (Server r) c t h = rw h refl
 other_step n (Server s) Client c t h = refl
 other_step n Client (Server r) c t h = refl
@@ -121,22 +123,30 @@ opens n (Server s) = refl
 opens n Client = refl
 opens n Mirror = refl
 
-server_frames : (s : ℕ) (list : List server.Entry) (x : Option server.Entry) → frames_by (server_packets (opening_of s)) list x ≡ server_answers.frames_by (opening_of s) list x
+server_frames : (s : ℕ) (list : List server.Entry) (x : Option server.Entry)
+    → frames_by (server_packets (opening_of s)) list x ≡ server_answers.frames_by (opening_of s) list x
 server_frames s list None = refl
 server_frames s list (Some e) = refl
 
-client_frames : (n : ℕ) (list : List client.Entry) (x : Option client.Entry) → frames_by (client_packets (client_opening (without_mirror n))) list x ≡ client_answers.frames_by (client_opening (without_mirror n)) list x
+client_frames : (n : ℕ) (list : List client.Entry) (x : Option client.Entry)
+    → frames_by (client_packets (client_opening (without_mirror n))) list x ≡ client_answers.frames_by (client_opening (without_mirror n)) list x
 client_frames n list None = refl
 client_frames n list (Some e) = refl
 
 -- A step sends the frames of its entry.
-pub frames_at : (n : ℕ) (node : Node) (t : List FrameStep) (past : List (EntryOf node)) (e : EntryOf node) → happened_to n node t ≡ map (coming_to node) past → frames_of_step (without_mirror n) t (step_at node (coming_to node e)) ≡ (rules_of n node).frames past e
+pub frames_at : (n : ℕ) (node : Node) (t : List FrameStep) (past : List (EntryOf node)) (e : EntryOf node) → happened_to n node t ≡ map (coming_to node) past
+    → frames_of_step (without_mirror n) t (step_at node (coming_to node e)) ≡ (rules_of n node).frames past e
 frames_at n (Server s) t past e h =
-    ap (λ (list : List (Coming server.Entry Left)). frames_by (server_packets (opening_of s)) (heard (at_server s) list).entries (entry_of (at_server s) (heard (at_server s) list) (server_coming e))) h
-    ∙ server_frames s (heard (at_server s) (map server_coming past)).entries (entry_of (at_server s) (heard (at_server s) (map server_coming past)) (server_coming e))
+    ap (λ (list : List (Coming server.Entry Left)). frames_by (server_packets (opening_of s)) (heard (at_server s) list).entries
+    (entry_of (at_server s) (heard (at_server s) list) (server_coming e))) h
+    ∙ server_frames s (heard (at_server s) (map server_coming past)).entries
+    (entry_of (at_server s) (heard (at_server s) (map server_coming past)) (server_coming e))
 frames_at n Client t past e h =
-    ap (λ (list : List (Coming client.Entry Left)). frames_by (client_packets (client_opening (without_mirror n))) (heard (at_client (without_mirror n)) list).entries (entry_of (at_client (without_mirror n)) (heard (at_client (without_mirror n)) list) (client_coming e))) h
-    ∙ client_frames n (heard (at_client (without_mirror n)) (map client_coming past)).entries (entry_of (at_client (without_mirror n)) (heard (at_client (without_mirror n)) (map client_coming past)) (client_coming e))
+    ap (λ (list : List (Coming client.Entry Left)). frames_by (client_packets (client_opening (without_mirror n)))
+    (heard (at_client (without_mirror n)) list).entries
+    (entry_of (at_client (without_mirror n)) (heard (at_client (without_mirror n)) list) (client_coming e))) h
+    ∙ client_frames n (heard (at_client (without_mirror n)) (map client_coming past)).entries
+    (entry_of (at_client (without_mirror n)) (heard (at_client (without_mirror n)) (map client_coming past)) (client_coming e))
 frames_at n Mirror t past e h = absurd e
 
 -- ---- the events of a node
@@ -150,10 +160,11 @@ pub record Goes (n : ℕ) (node : Node) (frames : List Frame) (past after : List
   pub allowed : (t : List FrameStep) → is_allowed (without_mirror n) t (step_at node (coming_to node entry)) ≡ true
   pub fits : FrameStepFits (step_at node (coming_to node entry))
 
-pub goes : (n : ℕ) (node : Node) (frames : List Frame) (past after : List (EntryOf node)) (l : Logged) → IsBelow 8 node → CameOf frames (frame_of l.came) → is_left_out l.answer ≡ false
+pub goes : (n : ℕ) (node : Node) (frames : List Frame) (past after : List (EntryOf node)) (l : Logged) → IsBelow 8 node → CameOf frames (frame_of l.came)
+    → is_left_out l.answer ≡ false
     → Ends (rules_of n node) past ((rules_of n node).asked l.came) l.answer l.sent after → Goes n node frames past after l.sent
 goes n (Server s) frames past after l few came stands ends =
-    let a = of_servers.adds (opening_of s) past _ l.answer l.sent after stands ends in
+    let a = adds (of_servers.shown (opening_of s)) past _ l.answer l.sent after stands ends in
     record {
       entry = a.entry;
       after_is = a.after_is;
@@ -163,7 +174,7 @@ goes n (Server s) frames past after l few came stands ends =
       fits = of_servers.server_fits frames (opening_of s) l.came a.entry few came a.is_asked;
     }
 goes n Client frames past after l few came stands ends =
-    let a = of_clients.adds (client_opening (without_mirror n)) past _ l.answer l.sent after stands ends in
+    let a = adds (of_clients.shown (client_opening (without_mirror n))) past _ l.answer l.sent after stands ends in
     record {
       entry = a.entry;
       after_is = a.after_is;
@@ -179,9 +190,10 @@ nothing : (past : List ⊥) → past ≡ []
 nothing [] = refl
 nothing (e ∷ past) = absurd e
 
-pub stays : (n : ℕ) (node : Node) (past after : List (EntryOf node)) (l : Logged) → is_left_out l.answer ≡ true → Ends (rules_of n node) past ((rules_of n node).asked l.came) l.answer l.sent after → after ≡ past
-stays n (Server s) past after l out ends = of_servers.stays (opening_of s) past _ l.answer l.sent after out ends
-stays n Client past after l out ends = of_clients.stays (client_opening (without_mirror n)) past _ l.answer l.sent after out ends
+pub stays : (n : ℕ) (node : Node) (past after : List (EntryOf node)) (l : Logged) → is_left_out l.answer ≡ true
+    → Ends (rules_of n node) past ((rules_of n node).asked l.came) l.answer l.sent after → after ≡ past
+stays n (Server s) past after l out ends = left_out_stays (server_rules (opening_of s)) of_servers.passed_none past _ l.answer l.sent after out ends
+stays n Client past after l out ends = left_out_stays (client_rules (client_opening (without_mirror n))) of_clients.passed_none past _ l.answer l.sent after out ends
 stays n Mirror past after l out ends = nothing after ∙ sym (nothing past)
 
 -- ---- one node's history and list in place of another
@@ -204,12 +216,14 @@ with_list Mirror list past Mirror = list
 abbrev pub AreMade : ℕ → (Node → List Logged) → ((node : Node) → List (EntryOf node)) → Type 0
 AreMade n ran past = (node : Node) → Makes (rules_of n node) (ran node) (past node)
 
-made_at : (s r : ℕ) (b : Bool) (h g : List Logged) (p q : List ServerEntry) → (s == r) ≡ b → Makes (server_rules (opening_of s)) h p → Makes (server_rules (opening_of r)) g q
+made_at : (s r : ℕ) (b : Bool) (h g : List Logged) (p q : List ServerEntry) → (s == r) ≡ b → Makes (server_rules (opening_of s)) h p
+    → Makes (server_rules (opening_of r)) g q
     → Makes (server_rules (opening_of r)) (if b then h else g) (if b then p else q)
 made_at s r true h g p q e here there = subst (λ i. Makes (server_rules (opening_of i)) h p) (eqb-true s r e) here
 made_at s r false h g p q e here there = there
 
-pub made_with : (n : ℕ) (node : Node) (h : List Logged) (list : List (EntryOf node)) → Makes (rules_of n node) h list → (ran : Node → List Logged) (past : (other : Node) → List (EntryOf other)) → AreMade n ran past
+pub made_with : (n : ℕ) (node : Node) (h : List Logged) (list : List (EntryOf node)) → Makes (rules_of n node) h list
+    → (ran : Node → List Logged) (past : (other : Node) → List (EntryOf other)) → AreMade n ran past
     → AreMade n (with_history node h ran) (with_list node list past)
 made_with n (Server s) h list made ran past all (Server r) = made_at s r (s == r) h (ran (Server r)) list (past (Server r)) refl made (all (Server r))
 made_with n (Server s) h list made ran past all Client = all Client
@@ -226,7 +240,8 @@ own_list (Server s) list past = let same : (s == s) ≡ true = grind (arith, nat
 own_list Client list past = refl
 own_list Mirror list past = refl
 
-pub other_list : (node other : Node) (list : List (EntryOf node)) (past : (other : Node) → List (EntryOf other)) → is_same_node node other ≡ false → with_list node list past other ≡ past other
+pub other_list : (node other : Node) (list : List (EntryOf node)) (past : (other : Node) → List (EntryOf other)) → is_same_node node other ≡ false
+    → with_list node list past other ≡ past other
 other_list (Server s) (Server r) list past h = rw h refl
 other_list (Server s) Client list past h = refl
 other_list Client (Server r) list past h = refl

@@ -128,10 +128,12 @@ pub spans_meet : (top from to : ℕ) (xs : List ℕ) → from ≤ to → Falls t
 spans_meet top from to [] l h = refl
 spans_meet top from to (x ∷ xs) l h = by_tests (spans_meet x from to xs l h.1) (nat_lt x from) refl (nat_lt x to) refl
   where
-    by_tests : span from to xs ++ below from xs ≡ below to xs → (a : Bool) → nat_lt x from ≡ a → (b : Bool) → nat_lt x to ≡ b → span from to (x ∷ xs) ++ below from (x ∷ xs) ≡ below to (x ∷ xs)
+    by_tests : span from to xs ++ below from xs ≡ below to xs → (a : Bool) → nat_lt x from ≡ a → (b : Bool) → nat_lt x to ≡ b
+        → span from to (x ∷ xs) ++ below from (x ∷ xs) ≡ below to (x ∷ xs)
     by_tests later true e b f =
         let less = lt_of x from e in
-        none_from_here less ∙ (all_below (suc x) from (x ∷ xs) (omega (arith, less)) (omega arith, h.1) ∙ sym (all_below (suc x) to (x ∷ xs) (omega (arith, less, l)) (omega arith, h.1)))
+        none_from_here less ∙ (all_below (suc x) from (x ∷ xs) (omega (arith, less)) (omega arith, h.1)
+        ∙ sym (all_below (suc x) to (x ∷ xs) (omega (arith, less, l)) (omega arith, h.1)))
       where
         none_from_here : x < from → span from to (x ∷ xs) ++ below from (x ∷ xs) ≡ below from (x ∷ xs)
         none_from_here less = ap (λ ys. ys ++ below from (x ∷ xs)) (none_from (suc x) from to (x ∷ xs) (omega (arith, less)) (omega arith, h.1))
@@ -144,11 +146,13 @@ spans_meet top from to (x ∷ xs) l h = by_tests (spans_meet x from to xs l h.1)
 
 -- ---- the places of a node in an order
 
-pub own_places : (own node : Node) (xs : List ℕ) (order : List Place) → is_same_node own node ≡ true → places_of node (map (λ at. record { node = own; at = at }) xs ++ order) ≡ xs ++ places_of node order
+pub own_places : (own node : Node) (xs : List ℕ) (order : List Place) → is_same_node own node ≡ true
+    → places_of node (map (λ at. record { node = own; at = at }) xs ++ order) ≡ xs ++ places_of node order
 own_places own node [] order h = refl
 own_places own node (x ∷ xs) order h = rw h (ap (λ ys. x ∷ ys) (own_places own node xs order h))
 
-pub other_places : (own node : Node) (xs : List ℕ) (order : List Place) → is_same_node own node ≡ false → places_of node (map (λ at. record { node = own; at = at }) xs ++ order) ≡ places_of node order
+pub other_places : (own node : Node) (xs : List ℕ) (order : List Place) → is_same_node own node ≡ false
+    → places_of node (map (λ at. record { node = own; at = at }) xs ++ order) ≡ places_of node order
 other_places own node [] order h = refl
 other_places own node (x ∷ xs) order h = rw h (other_places own node xs order h)
 
@@ -161,7 +165,8 @@ pub next_le : (node : Node) (journal : List Line) (top : ℕ) → Falls top (not
 next_le node [] top h = omega arith
 next_le node (l ∷ older) top h = by_test (λ k. next_le node older top k) (is_same_node l.node node) h
   where
-    by_test : (Falls top (noted_at node older) → next_place node older ≤ top) → (b : Bool) → Falls top (if b then l.at ∷ noted_at node older else noted_at node older) → (if b then l.at + 1 else next_place node older) ≤ top
+    by_test : (Falls top (noted_at node older) → next_place node older ≤ top) → (b : Bool)
+        → Falls top (if b then l.at ∷ noted_at node older else noted_at node older) → (if b then l.at + 1 else next_place node older) ≤ top
     by_test later true h = omega (arith, h.0)
     by_test later false h = later h
 
@@ -176,11 +181,13 @@ older_noted ran l older h = record {
   within = λ node. stand node (is_same_node l.node node) (h.within node);
 }
   where
-    fall : (node : Node) (b : Bool) → (top : ℕ) × Falls top (if b then l.at ∷ noted_at node older else noted_at node older) → (top : ℕ) × Falls top (noted_at node older)
+    fall : (node : Node) (b : Bool) → (top : ℕ) × Falls top (if b then l.at ∷ noted_at node older else noted_at node older)
+        → (top : ℕ) × Falls top (noted_at node older)
     fall node true f = (l.at, f.1.1)
     fall node false f = f
 
-    stand : (node : Node) (b : Bool) → IsWithin (if b then l.at ∷ noted_at node older else noted_at node older) (standing_places (ran node)) → IsWithin (noted_at node older) (standing_places (ran node))
+    stand : (node : Node) (b : Bool) → IsWithin (if b then l.at ∷ noted_at node older else noted_at node older) (standing_places (ran node))
+        → IsWithin (noted_at node older) (standing_places (ran node))
     stand node true w = within_rest l.at (noted_at node older) (standing_places (ran node)) w
     stand node false w = w
 
@@ -199,7 +206,8 @@ last_noted ran l older h = record {
     fall true e f = next_le l.node older l.at f.1.1
     fall false e f = cc
 
-    stand : (b : Bool) → b ≡ true → IsWithin (if b then l.at ∷ noted_at l.node older else noted_at l.node older) (standing_places (ran l.node)) → IsIn (standing_places (ran l.node)) l.at
+    stand : (b : Bool) → b ≡ true → IsWithin (if b then l.at ∷ noted_at l.node older else noted_at l.node older) (standing_places (ran l.node))
+        → IsIn (standing_places (ran l.node)) l.at
     stand true e w = within_in l.at (noted_at l.node older) (standing_places (ran l.node)) w
     stand false e w = cc
 
@@ -214,7 +222,8 @@ standing_falls (l ∷ ls) = by_test (standing_falls ls) (is_left_out l.answer)
 
 -- ---- up to the last entry
 
-pub up_to : (ran : Node → List Logged) (journal : List Line) → AreNoted ran journal → (node : Node) → places_of node (up_to_last ran journal) ≡ below (next_place node journal) (standing_places (ran node))
+pub up_to : (ran : Node → List Logged) (journal : List Line) → AreNoted ran journal → (node : Node)
+    → places_of node (up_to_last ran journal) ≡ below (next_place node journal) (standing_places (ran node))
 up_to ran [] h node = sym (none_below (standing_places (ran node)))
 up_to ran (l ∷ older) h node = by_test (up_to ran older (older_noted ran l older h) node) (is_same_node l.node node) refl
   where
@@ -224,22 +233,30 @@ up_to ran (l ∷ older) h node = by_test (up_to ran older (older_noted ran l old
     last : IsLast ran l older
     last = last_noted ran l older h
 
-    by_test : places_of node (up_to_last ran older) ≡ below (next_place node older) (standing_places (ran node)) → (b : Bool) → is_same_node l.node node ≡ b → places_of node (places_between l.node from (l.at + 1) (ran l.node) ++ up_to_last ran older) ≡ below (if b then l.at + 1 else next_place node older) (standing_places (ran node))
+    by_test : places_of node (up_to_last ran older) ≡ below (next_place node older) (standing_places (ran node)) → (b : Bool) → is_same_node l.node node ≡ b
+        → places_of node (places_between l.node from (l.at + 1) (ran l.node) ++ up_to_last ran older)
+        ≡ below (if b then l.at + 1 else next_place node older) (standing_places (ran node))
     by_test before true e =
         let same = same_node l.node node e in
         own_places l.node node (span from (l.at + 1) (standing_places (ran l.node))) (up_to_last ran older) e
         ∙ (ap (λ ys. span from (l.at + 1) (standing_places (ran l.node)) ++ ys) before
-        ∙ subst (λ (m : Node). span from (l.at + 1) (standing_places (ran l.node)) ++ below (next_place m older) (standing_places (ran m)) ≡ below (l.at + 1) (standing_places (ran m))) same
+        ∙ subst (λ (m : Node). span from (l.at + 1) (standing_places (ran l.node)) ++ below (next_place m older) (standing_places (ran m))
+        ≡ below (l.at + 1) (standing_places (ran m))) same
         (spans_meet (length (ran l.node)) from (l.at + 1) (standing_places (ran l.node)) (omega (arith, last.behind)) (standing_falls (ran l.node))))
     by_test before false e = other_places l.node node (span from (l.at + 1) (standing_places (ran l.node))) (up_to_last ran older) e ∙ before
 
 -- An entry's own event comes first of those up to it.
-first_of : (node : Node) (from at top : ℕ) (xs : List ℕ) (lines ws : List Place) → Falls top xs → IsIn xs at → from ≤ at → IsWithin lines ws → IsWithin (record { node = node; at = at } ∷ lines) (map (λ k. record { node = node; at = k }) (span from (at + 1) xs) ++ ws)
+first_of : (node : Node) (from at top : ℕ) (xs : List ℕ) (lines ws : List Place) → Falls top xs → IsIn xs at → from ≤ at → IsWithin lines ws
+    → IsWithin (record { node = node; at = at } ∷ lines) (map (λ k. record { node = node; at = k }) (span from (at + 1) xs) ++ ws)
 first_of node from at top [] lines ws h i l w = absurd i
 first_of node from at top (x ∷ xs) lines ws h (inl e) l w =
     let low : nat_le from x ≡ true = le_true from x (omega (arith, l, e)) in
     let high : nat_lt x (at + 1) ≡ true = lt_true x (at + 1) (omega (arith, e)) in
-    rw (low, high) (inr (lines, ap (λ k. record { node = node; at = k } ∷ lines) (sym e), within_more lines (map (λ k. record { node = node; at = k }) (span from (at + 1) xs)) ws w))
+    rw (low, high) (inr (
+      lines,
+      ap (λ k. record { node = node; at = k } ∷ lines) (sym e),
+      within_more lines (map (λ k. record { node = node; at = k }) (span from (at + 1) xs)) ws w,
+    ))
 first_of node from at top (x ∷ xs) lines ws h (inr i) l w =
     let less = in_falls x at xs h.1 i in
     let low : nat_le from x ≡ true = le_true from x (omega (arith, l, less)) in
@@ -250,4 +267,5 @@ pub in_order : (ran : Node → List Logged) (journal : List Line) → AreNoted r
 in_order ran [] h = refl
 in_order ran (l ∷ older) h =
     let last = last_noted ran l older h in
-    first_of l.node (next_place l.node older) l.at (length (ran l.node)) (standing_places (ran l.node)) (map place_of older) (up_to_last ran older) (standing_falls (ran l.node)) last.there last.behind (in_order ran older (older_noted ran l older h))
+    first_of l.node (next_place l.node older) l.at (length (ran l.node)) (standing_places (ran l.node)) (map place_of older) (up_to_last ran older)
+    (standing_falls (ran l.node)) last.there last.behind (in_order ran older (older_noted ran l older h))

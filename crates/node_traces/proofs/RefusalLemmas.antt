@@ -58,7 +58,9 @@ dropped true h = refl
 dropped false h = cc
 
 -- Where a refusal without a drop leaves a list as it was, what is left out does.
-pub left_out_stays : {E X : Type 0} (rules : Rules E X) → ((past : List X) (ask : Ask E) (fault : Fault) → is_drop fault ≡ false → rules.passed past ask fault ≡ past) → (past : List X) (ask : Ask E) (answer : Result Said Fault) (sent : List (List ℕ)) (after : List X) →
+pub left_out_stays : {E X : Type 0} (rules : Rules E X) →
+    ((past : List X) (ask : Ask E) (fault : Fault) → is_drop fault ≡ false → rules.passed past ask fault ≡ past) →
+    (past : List X) (ask : Ask E) (answer : Result Said Fault) (sent : List (List ℕ)) (after : List X) →
     is_left_out answer ≡ true → Ends rules past ask answer sent after → after ≡ past
 left_out_stays rules passed past ask (Ok said) sent after h ends = cc
 left_out_stays rules passed past ask (Err fault) sent after h ends = by_sort (sort_of fault) h ends

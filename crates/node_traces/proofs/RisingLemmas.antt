@@ -68,13 +68,15 @@ one_more from at (x ∷ xs) h =
     let rest = one_more from at xs (falls_wider x at xs (omega (arith, h.0)) h.1) in
     rw (low, high) (by_test (nat_le from x) rest)
   where
-    by_test : (b : Bool) → span from (at + 1) xs ≡ span from at xs → (if b && true then x ∷ span from (at + 1) xs else span from (at + 1) xs) ≡ (if b && true then x ∷ span from at xs else span from at xs)
+    by_test : (b : Bool) → span from (at + 1) xs ≡ span from at xs
+        → (if b && true then x ∷ span from (at + 1) xs else span from (at + 1) xs) ≡ (if b && true then x ∷ span from at xs else span from at xs)
     by_test true e = ap (λ ys. x ∷ ys) e
     by_test false e = e
 
 here : (from : ℕ) (l : Logged) (older : List Logged) → from ≤ length older → (b : Bool) →
     span from (length older + 1) (if b then standing_places older else length older ∷ standing_places older)
-    ≡ (if b then span from (length older) (if b then standing_places older else length older ∷ standing_places older) else length older ∷ span from (length older) (if b then standing_places older else length older ∷ standing_places older))
+    ≡ (if b then span from (length older) (if b then standing_places older else length older ∷ standing_places older)
+    else length older ∷ span from (length older) (if b then standing_places older else length older ∷ standing_places older))
 here from l older low true = one_more from (length older) (standing_places older) (standing_falls older)
 here from l older low false =
     let there : nat_le from (length older) ≡ true = le_true from (length older) low in
@@ -82,7 +84,8 @@ here from l older low false =
     let not_below : nat_lt (length older) (length older) ≡ false = lt_false (length older) (length older) (omega arith) in
     rw (there, above, not_below) (ap (λ ys. length older ∷ ys) (one_more from (length older) (standing_places older) (standing_falls older)))
 
-skipped : (from at k : ℕ) (xs : List ℕ) (b : Bool) → from ≤ at → at + 1 ≤ k → (out : Bool) → span from (at + 1) xs ≡ (if out then span from at xs else at ∷ span from at xs)
+skipped : (from at k : ℕ) (xs : List ℕ) (b : Bool) → from ≤ at → at + 1 ≤ k → (out : Bool)
+    → span from (at + 1) xs ≡ (if out then span from at xs else at ∷ span from at xs)
     → span from (at + 1) (if b then xs else k ∷ xs) ≡ (if out then span from at (if b then xs else k ∷ xs) else at ∷ span from at (if b then xs else k ∷ xs))
 skipped from at k xs true low far out h = h
 skipped from at k xs false low far out h =
@@ -92,10 +95,13 @@ skipped from at k xs false low far out h =
     rw (there, one, two) h
 
 rises : (from : ℕ) (newer older : List Logged) (l : Logged) → from ≤ length older →
-    span from (length older + 1) (standing_places (newer ++ l ∷ older)) ≡ (if is_left_out l.answer then span from (length older) (standing_places (newer ++ l ∷ older)) else length older ∷ span from (length older) (standing_places (newer ++ l ∷ older)))
+    span from (length older + 1) (standing_places (newer ++ l ∷ older))
+    ≡ (if is_left_out l.answer then span from (length older) (standing_places (newer ++ l ∷ older))
+    else length older ∷ span from (length older) (standing_places (newer ++ l ∷ older)))
 rises from [] older l low = here from l older low (is_left_out l.answer)
 rises from (e ∷ es) older l low =
-    skipped from (length older) (length (es ++ l ∷ older)) (standing_places (es ++ l ∷ older)) (is_left_out e.answer) low (longer es older l) (is_left_out l.answer) (rises from es older l low)
+    skipped from (length older) (length (es ++ l ∷ older)) (standing_places (es ++ l ∷ older)) (is_left_out e.answer) low (longer es older l)
+    (is_left_out l.answer) (rises from es older l low)
 
 none_between : (at : ℕ) (xs : List ℕ) → span at at xs ≡ []
 none_between at [] = refl
@@ -121,11 +127,16 @@ places_rise node h = record {
   more = λ from at l low is. by_among from at l low (among h at l is);
 }
   where
-    mapped : (b : Bool) (at : ℕ) (xs ys : List ℕ) → xs ≡ (if b then ys else at ∷ ys) → map {B = Place} (λ k. record { node = node; at = k }) xs ≡ (if b then map {B = Place} (λ k. record { node = node; at = k }) ys else record { node = node; at = at } ∷ map {B = Place} (λ k. record { node = node; at = k }) ys)
+    mapped : (b : Bool) (at : ℕ) (xs ys : List ℕ) → xs ≡ (if b then ys else at ∷ ys)
+        → map {B = Place} (λ k. record { node = node; at = k }) xs
+        ≡ (if b then map {B = Place} (λ k. record { node = node; at = k }) ys
+        else record { node = node; at = at } ∷ map {B = Place} (λ k. record { node = node; at = k }) ys)
     mapped true at xs ys e = ap (map {B = Place} (λ k. record { node = node; at = k })) e
     mapped false at xs ys e = ap (map {B = Place} (λ k. record { node = node; at = k })) e
 
-    by_among : (from at : ℕ) (l : Logged) → from ≤ at → Among h at l → places_between node from (at + 1) h ≡ (if is_left_out l.answer then places_between node from at h else record { node = node; at = at } ∷ places_between node from at h)
+    by_among : (from at : ℕ) (l : Logged) → from ≤ at → Among h at l
+        → places_between node from (at + 1) h ≡ (if is_left_out l.answer then places_between node from at h
+        else record { node = node; at = at } ∷ places_between node from at h)
     by_among from at l low a =
         mapped (is_left_out l.answer) at (span from (at + 1) (standing_places h)) (span from at (standing_places h))
         (rw (a.all, ← a.at_is) (rises from a.newer a.older l (omega (arith, low, a.at_is))))
@@ -143,20 +154,24 @@ mark_below at to l b h = by_test (is_left_out l.answer)
     nothing true marks e = ap (below_marks to) e ∙ sym e
     nothing false marks e = ap (below_marks to) e
 
-    single : (c : Bool) → nat_lt at to ≡ c → (marks : List Mark) → marks ≡ (record { at = at; taken = frame_of l.came; sent = l.sent }) ∷ [] → below_marks to marks ≡ (if c then marks else [])
+    single : (c : Bool) → nat_lt at to ≡ c → (marks : List Mark) → marks ≡ (record { at = at; taken = frame_of l.came; sent = l.sent }) ∷ []
+        → below_marks to marks ≡ (if c then marks else [])
     single true e marks is = ap (below_marks to) is ∙ (rw e refl ∙ sym is)
     single false e marks is = ap (below_marks to) is ∙ rw e refl
 
-    by_mark : (marks : List Mark) → HasNone (frame_of l.came) l.sent marks ⊎ (marks ≡ (record { at = at; taken = frame_of l.came; sent = l.sent }) ∷ []) → below_marks to marks ≡ (if b then marks else [])
+    by_mark : (marks : List Mark) → HasNone (frame_of l.came) l.sent marks ⊎ (marks ≡ (record { at = at; taken = frame_of l.came; sent = l.sent }) ∷ [])
+        → below_marks to marks ≡ (if b then marks else [])
     by_mark marks (inl none) = nothing b marks none.no_mark
     by_mark marks (inr one) = single b h marks one
 
-    by_test : (out : Bool) → below_marks to (if out then [] else marks_if at (frame_of l.came) l.sent) ≡ (if b then (if out then [] else marks_if at (frame_of l.came) l.sent) else [])
+    by_test : (out : Bool) → below_marks to (if out then [] else marks_if at (frame_of l.came) l.sent)
+        ≡ (if b then (if out then [] else marks_if at (frame_of l.came) l.sent) else [])
     by_test true = nothing b [] refl
     by_test false = by_mark (marks_if at (frame_of l.came) l.sent) (none_or_one at (frame_of l.came) l.sent)
 
 -- Those of the newest event, and of the others.
-below_both : (to : ℕ) (l : Logged) (ls : List Logged) (b : Bool) → nat_lt (length ls) to ≡ b → below_marks to (marks_of (l ∷ ls)) ≡ (if b then mark_of (length ls) l else []) ++ below_marks to (marks_of ls)
+below_both : (to : ℕ) (l : Logged) (ls : List Logged) (b : Bool) → nat_lt (length ls) to ≡ b
+    → below_marks to (marks_of (l ∷ ls)) ≡ (if b then mark_of (length ls) l else []) ++ below_marks to (marks_of ls)
 unfolding below_marks
 below_both to l ls b h =
     filter-append (λ (mark : Mark). nat_lt mark.at to) (mark_of (length ls) l) (marks_of ls)
@@ -174,11 +189,13 @@ unfolding below_marks
 marks_none [] = refl
 marks_none (l ∷ ls) = below_both 0 l ls false (lt_false (length ls) 0 (omega arith)) ∙ marks_none ls
 
-marks_more : (newer older : List Logged) (l : Logged) → below_marks (length older + 1) (marks_of (newer ++ l ∷ older)) ≡ mark_of (length older) l ++ below_marks (length older) (marks_of (newer ++ l ∷ older))
+marks_more : (newer older : List Logged) (l : Logged) → below_marks (length older + 1) (marks_of (newer ++ l ∷ older))
+    ≡ mark_of (length older) l ++ below_marks (length older) (marks_of (newer ++ l ∷ older))
 marks_more [] older l =
     let k = length older in
     below_both (k + 1) l older true (lt_true k (k + 1) (omega arith))
-    ∙ ap (λ ms. mark_of k l ++ ms) (marks_all older (k + 1) (omega arith) ∙ sym (below_both k l older false (lt_false k k (omega arith)) ∙ marks_all older k (omega arith)))
+    ∙ ap (λ ms. mark_of k l ++ ms) (marks_all older (k + 1) (omega arith)
+    ∙ sym (below_both k l older false (lt_false k k (omega arith)) ∙ marks_all older k (omega arith)))
 marks_more (e ∷ es) older l =
     let k = length older in
     let far = longer es older l in

@@ -8,18 +8,19 @@ use Rattle.std.proofs.lemmas.Option.{slice_get-map, slice_get_within, get_or_fro
 use Rattle.messages.specs.declared.packet.PacketParts.{PacketParts}
 use Rattle.messages.specs.declared.frame.Frame.{Frame}
 use Rattle.messages.specs.FrameBytes.{frame_at, frame_spelling}
-use Rattle.messages.specs.FrameLaws.{FramesAreRead}
+use Rattle.messages.specs.FrameLaws.{FramesAreRead, FramesAreReadable, IsReadable}
 use Rattle.messages.specs.Hearing.{Comes, Happens, Meaning, Says, Waits, Spoils, Strays, entry_of, heard, heard_by, meaning, with_entry}
 use Rattle.messages.specs.PieceLaws.{ArePackets}
 use Rattle.messages.specs.Pieces.{frames_of}
 use Rattle.disk_model.specs.declared.left.Left.{Left}
-use Rattle.hub.specs.Laws.{FramesAreReadable, IsReadable}
 use Rattle.client_core.specs.History as client
 use Rattle.net_world.specs.Setup.{without_mirror}
 use Rattle.net_world.specs.Trace.{Step, AtServer, AtClient, sent_packets}
-use Rattle.net_world.specs.Frames.{FrameStep, OfServer, OfClient, OfMirror, of_server, of_client, at_server, at_client, frames_sent, step_heard, trace_heard, IsFrameTrace}
+use Rattle.net_world.specs.Frames.{FrameStep, OfServer, OfClient, OfMirror, of_server, of_client, at_server}
+use Rattle.net_world.specs.Frames.{at_client, frames_sent, step_heard, trace_heard, IsFrameTrace}
 use Rattle.net_world.specs.FrameLaws.{FramesAreOfPackets, OnlySentIsHeard}
 use Rattle.net_world.specs.InRange.{FrameStepFits, StepFits, FitsFrames, SentAreInRange}
+use Rattle.net_world.proofs.FrameRangeLemmas.{sent_readable}
 use Rattle.node_traces.proofs.RefusalLemmas.{CameOf}
 
 -- The laws on which this rests.
@@ -53,7 +54,8 @@ unfolding StepIf
 step_fits n past (OfServer s (Comes f left)) h = piece_fits s left (meaning (at_server s) (heard (at_server s) (of_server s past)) f) h
 step_fits n past (OfServer s (Happens e)) h = h
 step_fits n past (OfMirror e) h = tt
-step_fits n past (OfClient c) h = client_fits (entry_of (at_client (without_mirror n)) (heard (at_client (without_mirror n)) (of_client (without_mirror n) past)) c)
+step_fits n past (OfClient c) h =
+    client_fits (entry_of (at_client (without_mirror n)) (heard (at_client (without_mirror n)) (of_client (without_mirror n) past)) c)
 
 more_fits : (x : Option Step) (t : List Step) → StepIf x → AllByRecursion StepFits t → AllByRecursion StepFits (with_entry x t)
 unfolding StepIf
@@ -62,21 +64,17 @@ more_fits (Some step) t h f = (h, f)
 
 all_fit : (n : ℕ) (t : List FrameStep) → AllByRecursion FrameStepFits t → AllByRecursion StepFits (trace_heard (without_mirror n) t)
 all_fit n [] h = tt
-all_fit n (step ∷ past) h = more_fits (step_heard (without_mirror n) past step) (trace_heard (without_mirror n) past) (step_fits n past step h.0) (all_fit n past h.1)
+all_fit n (step ∷ past) h =
+    more_fits (step_heard (without_mirror n) past step) (trace_heard (without_mirror n) past) (step_fits n past step h.0) (all_fit n past h.1)
 
 -- ---- the frames of packets
 
-all_readable : FramesAreReadable → (ps : List PacketParts) → ArePackets ps → All IsReadable (flat_map frames_of ps)
-all_readable law [] are = All-nil IsReadable
-all_readable law (p ∷ ps) are =
-    All-append IsReadable (frames_of p) (flat_map frames_of ps)
-    (law p (are p (Contains-append_left (p ∷ []) ps p (zero, omega arith, refl))))
-    (all_readable law ps (λ q i. are q (Contains-append_right (p ∷ []) ps q i)))
-
-pub sent_readable : Laws → (n : ℕ) (t : List FrameStep) → IsFrameTrace (without_mirror n) t → FitsFrames (without_mirror n) t → All IsReadable (frames_sent (without_mirror n) t)
-sent_readable laws n t legal fits =
-    let are = laws.in_range (without_mirror n) (trace_heard (without_mirror n) t) (laws.only_sent (without_mirror n) t legal fits) (record { few = fits.few; steps = all_fit n t fits.steps }) in
-    subst (All IsReadable) (sym (laws.of_packets (without_mirror n) t)) (all_readable laws.readable (sent_packets (without_mirror n) (trace_heard (without_mirror n) t)) are)
+pub trace_readable : Laws → (n : ℕ) (t : List FrameStep) → IsFrameTrace (without_mirror n) t → FitsFrames (without_mirror n) t
+    → All IsReadable (frames_sent (without_mirror n) t)
+trace_readable laws n t legal fits =
+    let are = laws.in_range (without_mirror n) (trace_heard (without_mirror n) t) (laws.only_sent (without_mirror n) t legal fits)
+    (record { few = fits.few; steps = all_fit n t fits.steps }) in
+    sent_readable laws.readable laws.of_packets (without_mirror n) t are
 
 -- ---- a frame by its bytes
 
@@ -90,7 +88,8 @@ among_first (f ∷ fs) (suc count) (suc i) bytes l h = among_first fs count i by
 some_is : (x y : Frame) → Some x ≡ Some y → x ≡ y
 some_is x y h = cc
 
-read_at : FramesAreRead → (frames : List Frame) (i : ℕ) (bytes : List ℕ) (x : Option Frame) → All IsReadable frames → slice_get frames i ≡ x → option_map frame_spelling x ≡ Some bytes → (f : Frame) → frame_at bytes ≡ Some f → Contains frames f
+read_at : FramesAreRead → (frames : List Frame) (i : ℕ) (bytes : List ℕ) (x : Option Frame) → All IsReadable frames → slice_get frames i ≡ x
+    → option_map frame_spelling x ≡ Some bytes → (f : Frame) → frame_at bytes ≡ Some f → Contains frames f
 read_at read frames i bytes None all at is f says = cc
 read_at read frames i bytes (Some g) all at is f says =
     let there : Contains frames g = (i, slice_get_within frames i g at, get_or_from_slice_get frames i g g at) in
@@ -103,7 +102,8 @@ read_at read frames i bytes (Some g) all at is f says =
     same other h = cc
 
 -- What is taken of the first frames of a network was sent, where these were sent.
-pub taken_was_sent : Laws → (n : ℕ) (t : List FrameStep) (frames : List (List ℕ)) (count : ℕ) → IsFrameTrace (without_mirror n) t → FitsFrames (without_mirror n) t → map frame_spelling (frames_sent (without_mirror n) t) ≡ take count frames
+pub taken_was_sent : Laws → (n : ℕ) (t : List FrameStep) (frames : List (List ℕ)) (count : ℕ) → IsFrameTrace (without_mirror n) t
+    → FitsFrames (without_mirror n) t → map frame_spelling (frames_sent (without_mirror n) t) ≡ take count frames
     → (taken : Option ℕ) → ForSome taken (λ i. i < count) → CameOf (frames_sent (without_mirror n) t) (option_and_then (λ i. slice_get frames i) taken)
 taken_was_sent laws n t frames count legal fits are None below = tt
 taken_was_sent laws n t frames count legal fits are (Some i) below = by_found (slice_get frames i) refl
@@ -111,6 +111,7 @@ taken_was_sent laws n t frames count legal fits are (Some i) below = by_found (s
     by_found : (x : Option (List ℕ)) → slice_get frames i ≡ x → CameOf (frames_sent (without_mirror n) t) x
     by_found None is = tt
     by_found (Some bytes) is = λ f says.
-        read_at laws.read (frames_sent (without_mirror n) t) i bytes (slice_get (frames_sent (without_mirror n) t) i) (sent_readable laws n t legal fits) refl
-        (sym (slice_get-map frame_spelling (frames_sent (without_mirror n) t) i) ∙ (ap (λ (fs : List (List ℕ)). slice_get fs i) are ∙ among_first frames count i bytes (below i refl) is))
+        read_at laws.read (frames_sent (without_mirror n) t) i bytes (slice_get (frames_sent (without_mirror n) t) i) (trace_readable laws n t legal fits) refl
+        (sym (slice_get-map frame_spelling (frames_sent (without_mirror n) t) i)
+        ∙ (ap (λ (fs : List (List ℕ)). slice_get fs i) are ∙ among_first frames count i bytes (below i refl) is))
         f says

@@ -1,15 +1,12 @@
 -- What an event of a history adds to the list of a server.
-use Rattle.std.proofs.Common.{◌≡◌, refl, sym, ◌∙◌, ap, subst, ◌⊎◌, inl, inr, ℕ, ◌<◌, Bool, true, false, ◌&&◌, ◌||◌, List, [], ◌∷◌, Option, Some, None, Result, Ok, Err}
-use Rattle.std.specs.Prelude.{Contains, IsTrue, map, not, if◌then◌else◌}
+use Rattle.std.proofs.Common.{◌≡◌, refl, ◌∙◌, ap, subst, inl, inr, ℕ, ◌<◌, Bool, true}
+use Rattle.std.proofs.Common.{false, ◌&&◌, ◌||◌, List, [], ◌∷◌, Option, Some, None}
+use Rattle.std.specs.Prelude.{Contains, IsTrue, not, if◌then◌else◌}
 use Rattle.std.specs.List.{flat_map}
-use Rattle.std.specs.Option.{option_map}
 use Rattle.std.proofs.lemmas.Bool.{eqb-true}
 use Rattle.fc_base.specs.declared.fault.Fault.{Fault}
 use Rattle.fc_base.specs.declared.fault.Fault.TheVariants.{Down, Misdirected, NodeOff, NodeOn, NumbersSpent}
-use Rattle.fc_base.specs.declared.fault.FaultSort.{FaultSort}
-use Rattle.fc_base.specs.declared.fault.FaultSort.TheVariants as sorts
 use Rattle.fc_base.specs.declared.report.ReportParts.{ReportParts}
-use Rattle.fc_base.specs.Fault.{sort_of}
 use Rattle.fc_base.specs.Report.{is_report}
 use Rattle.disk_model.specs.declared.left.Left.{Left}
 use Rattle.disk_model.specs.declared.left.Left.TheVariants as lefts
@@ -20,7 +17,7 @@ use Rattle.messages.specs.declared.frame.Frame.TheVariants.{Whole, Piece}
 use Rattle.messages.specs.declared.node.Node.{Node}
 use Rattle.messages.specs.declared.node.Node.TheVariants.{Server, Client, Mirror}
 use Rattle.messages.specs.declared.piece.PieceParts.{PieceParts}
-use Rattle.messages.specs.FrameBytes.{frame_at, frame_spelling}
+use Rattle.messages.specs.FrameBytes.{frame_at}
 use Rattle.messages.specs.Hearing.{Meaning, Says, Waits, Spoils, Strays, meaning, heard_by, said_by}
 use Rattle.messages.specs.Assemblies.{look_at_piece}
 use Rattle.messages.specs.Kinds.{is_of_client}
@@ -40,17 +37,18 @@ use Rattle.server_core.specs.Replies.{Now, replies}
 use Rattle.server_core.specs.Words.{Staged, is_on}
 use Rattle.server_core.specs.Hearing.{FrameEntry, Met, Cut, Restart, coming_of, heard_at, packets_heard, rules as hearing}
 use Rattle.server_core.specs.FrameAnswers as answers
-use Rattle.node_history.specs.declared.answer.Said.{Said}
 use Rattle.node_history.specs.declared.came.Came.{Came}
 use Rattle.node_history.specs.declared.came.Came.TheVariants as came
-use Rattle.node_history.specs.AtHub.{is_drop, is_left_out, is_save}
-use Rattle.node_history.specs.Replay.{Ends, Passes, Stops}
+use Rattle.node_history.specs.AtHub.{is_drop}
+use Rattle.node_history.specs.Replay.{Passes}
 use Rattle.node_history.specs.Rules.{Ask, Meets, Cuts, Restarts, Nothing}
-use Rattle.node_history.specs.ServerRules.{rules, ask_of, added_entry, ask_of_frame, has_boot, is_up, left_by, unsaved_entry, entries_past_refusal, refusal, ask_of_report}
+use Rattle.node_history.specs.ServerRules.{rules, ask_of, added_entry, ask_of_frame, has_boot, is_up, left_by}
+use Rattle.node_history.specs.ServerRules.{unsaved_entry, entries_past_refusal, refusal, ask_of_report}
 use Rattle.net_world.specs.Frames.{OfServer, MayHappen, to_of}
 use Rattle.net_world.specs.InRange.{FrameStepFits}
 use Rattle.node_traces.specs.Marks.{frame_of}
-use Rattle.node_traces.proofs.RefusalLemmas.{CameOf, IsFor, MayNot, MayPass, drop_for, dropped, left_out_stays, no_pass, no_power}
+use Rattle.node_traces.proofs.RefusalLemmas.{CameOf, MayNot, MayPass, no_pass, no_power}
+use Rattle.node_traces.proofs.AddLemmas.{Adds, IsLost, Quiet, Shown, as_core, lost_met, lost_of, met_drops, some_is, strays}
 
 -- ---- a frame that isn't refused is for the server
 
@@ -59,50 +57,47 @@ to_server me (Server s) h = ap (λ i. Server i) (eqb-true s me h)
 to_server me Client h = cc
 to_server me Mirror h = cc
 
-whole_to : (now : Now) (on a b : Bool) (body : Body) → MayPass (if on then refusal_of now (if a && b then request_in body else ToNobody) else Some Down) → b ≡ true
+whole_to : (now : Now) (on a b : Bool) (body : Body) → MayPass (if on then refusal_of now (if a && b then request_in body else ToNobody) else Some Down)
+    → b ≡ true
 whole_to now true true true body h = refl
 whole_to now true true false body h = absurd (no_pass Misdirected refl h)
 whole_to now true false b body h = absurd (no_pass Misdirected refl h)
 whole_to now false a b body h = absurd (no_pass Down refl h)
 
-strays : (on : Bool) → MayPass (if on then Some Misdirected else Some Down) → ⊥
-strays true h = no_pass Misdirected refl h
-strays false h = no_pass Down refl h
-
-piece_to : (o : Opening) (past : List history.Entry) (q : PieceParts) (on a b c : Bool) (m : Meaning) → MayPass (answers.refusal_of_sense o past (answers.sense_of q (if on && (a && (b && c)) then m else Strays))) → b ≡ true
+piece_to : (o : Opening) (past : List history.Entry) (q : PieceParts) (on a b c : Bool) (m : Meaning)
+    → MayPass (answers.refusal_of_sense o past (answers.sense_of q (if on && (a && (b && c)) then m else Strays))) → b ≡ true
 piece_to o past q true true true c m h = refl
-piece_to o past q true true false c m h = absurd (strays (is_on past) h)
-piece_to o past q true false b c m h = absurd (strays (is_on past) h)
-piece_to o past q false a b c m h = absurd (strays (is_on past) h)
+piece_to o past q true true false c m h = absurd (strays (is_on past) Misdirected Down refl refl h)
+piece_to o past q true false b c m h = absurd (strays (is_on past) Misdirected Down refl refl h)
+piece_to o past q false a b c m h = absurd (strays (is_on past) Misdirected Down refl refl h)
 
 to_me : (o : Opening) (past : List FrameEntry) (f : Frame) → MayPass (answers.refusal o past (inputs.Deliver f)) → to_of f ≡ Server o.me
 to_me o past (Whole p) h =
     to_server o.me p.to (whole_to (words.now o (packets_heard o past)) (is_on (packets_heard o past)) (is_client p.from) (is_server o.me p.to) p.body h)
 to_me o past (Piece q) h =
-    to_server o.me q.to (piece_to o (packets_heard o past) q (is_on (packets_heard o past)) (is_client q.from) (is_server o.me q.to) (is_of_client q.tag.whole) (said_by (look_at_piece (heard_at o past).rows q)) h)
+    to_server o.me q.to (piece_to o (packets_heard o past) q (is_on (packets_heard o past)) (is_client q.from) (is_server o.me q.to) (is_of_client q.tag.whole)
+    (said_by (look_at_piece (heard_at o past).rows q)) h)
 
 -- ---- what is refused, or whose save failed, sends nothing
 
--- Its save failed, or it is refused.
-Quiet : Bool → Option Fault → Type 0
-Quiet gone x = (gone ≡ true) ⊎ ((fault : Fault) × (x ≡ Some fault))
-
 none_sent : (me : ℕ) (gone : Bool) (x : Option Fault) (bodies : List Body) → Quiet gone x → flat_map frames_of (to_client me (sent_by gone x bodies)) ≡ []
-unfolding Quiet
 none_sent me gone (Some fault) bodies h = refl
 none_sent me gone None bodies (inl h) = ap (λ b. flat_map frames_of (to_client me (if b then [] else bodies))) h
 none_sent me gone None bodies (inr h) = cc
 
-event_quiet : (o : Opening) (list : List history.Entry) (e : Event) (left : Left) → Quiet (is_lost left) (words.refusal o list e) → answers.frames_by o list (Some (history.Met e left)) ≡ []
+event_quiet : (o : Opening) (list : List history.Entry) (e : Event) (left : Left) → Quiet (is_lost left) (words.refusal o list e)
+    → answers.frames_by o list (Some (history.Met e left)) ≡ []
 event_quiet o list e left h = none_sent o.me (is_lost left) (words.refusal o list e) (replies (words.now o list) (requests.request_of o.me e)) h
 
-piece_quiet : (o : Opening) (list : List history.Entry) (q : PieceParts) (left : Left) (m : Meaning) → Quiet (is_lost left) (answers.refusal_of_sense o list (answers.sense_of q m)) → answers.frames_by o list (heard_by (hearing o) left m) ≡ []
+piece_quiet : (o : Opening) (list : List history.Entry) (q : PieceParts) (left : Left) (m : Meaning)
+    → Quiet (is_lost left) (answers.refusal_of_sense o list (answers.sense_of q m)) → answers.frames_by o list (heard_by (hearing o) left m) ≡ []
 piece_quiet o list q left (Says p) h = event_quiet o list (events.Deliver p) left h
 piece_quiet o list q left Waits h = refl
 piece_quiet o list q left Spoils h = refl
 piece_quiet o list q left Strays h = refl
 
-quiet : (o : Opening) (past : List FrameEntry) (e : Input) (left : Left) → Quiet (is_lost left) (answers.refusal o past e) → answers.frames o past (Met e left) ≡ []
+quiet : (o : Opening) (past : List FrameEntry) (e : Input) (left : Left) → Quiet (is_lost left) (answers.refusal o past e)
+    → answers.frames o past (Met e left) ≡ []
 quiet o past (inputs.Deliver (Whole p)) left h = event_quiet o (packets_heard o past) (events.Deliver p) left h
 quiet o past (inputs.Deliver (Piece q)) left h = piece_quiet o (packets_heard o past) q left (meaning (hearing o) (heard_at o past) (Piece q)) h
 quiet o past (inputs.Issue j) left h = event_quiet o (packets_heard o past) (events.Issue j) left h
@@ -120,13 +115,6 @@ IsAsked o ask (Met (inputs.CheckDone boot a j report) left) = ask ≡ Meets (inp
 IsAsked o ask Cut = Unit {0}
 IsAsked o ask (Restart left) = Unit {0}
 
--- What an event adds: an entry, whose frames it sends.
-pub record Adds (o : Opening) (past : List FrameEntry) (ask : Ask Input) (sent : List (List ℕ)) (after : List FrameEntry) : Type 0 where
-  pub entry : FrameEntry
-  pub after_is : after ≡ entry ∷ past
-  pub sent_are : sent ≡ map frame_spelling (answers.frames o past entry)
-  pub is_asked : IsAsked o ask entry
-
 met_asked : (o : Opening) (past : List FrameEntry) (e : Input) (left : Left) → MayPass (answers.refusal o past e) → IsAsked o (Meets e) (Met e left)
 unfolding IsAsked
 met_asked o past (inputs.Deliver f) left h = (refl, to_me o past f h)
@@ -134,68 +122,44 @@ met_asked o past (inputs.Issue j) left h = tt
 met_asked o past (inputs.WriteDone ticket end) left h = tt
 met_asked o past (inputs.CheckDone boot a j report) left h = refl
 
--- A server that is on refuses as its core.
-as_core : (up : Bool) (x : Option Fault) → MayPass (if up then x else Some NodeOff) → MayPass x
-as_core true x h = h
-as_core false x h = absurd (no_pass NodeOff refl h)
-
-some_is : (x y : FrameEntry) → Some x ≡ Some y → x ≡ y
-some_is x y h = cc
-
-accepted : (o : Opening) (past : List FrameEntry) (ask : Ask Input) (entry : FrameEntry) → refusal o past ask ≡ None → added_entry o past ask ≡ Some entry → IsAsked o ask entry
+accepted : (o : Opening) (past : List FrameEntry) (ask : Ask Input) (entry : FrameEntry) → refusal o past ask ≡ None → added_entry o past ask ≡ Some entry
+    → IsAsked o ask entry
 unfolding IsAsked
 accepted o past (Meets e) entry free is =
-    subst (IsAsked o (Meets e)) (some_is (answers.answered_entry o past e) entry is) (met_asked o past e _ (as_core (is_up o past) (answers.refusal o past e) (inl free)))
+    subst (IsAsked o (Meets e)) (some_is (answers.answered_entry o past e) entry is)
+    (met_asked o past e _ (as_core (is_up o past) (answers.refusal o past e) (inl free)))
 accepted o past Cuts entry free is = subst (IsAsked o Cuts) (some_is Cut entry is) tt
 accepted o past Restarts entry free is = subst (IsAsked o Restarts) (some_is (Restart lefts.Saved) entry is) tt
 accepted o past Nothing entry free is = cc
 
-lost_of : (landed : Bool) → is_lost (left_by landed) ≡ true
-lost_of true = refl
-lost_of false = refl
-
--- What is left of a save that failed.
-record IsLost (o : Opening) (past : List FrameEntry) (ask : Ask Input) (entry : FrameEntry) : Type 0 where
-  silent : answers.frames o past entry ≡ []
-  is_asked : IsAsked o ask entry
-
-lost_met : (o : Opening) (past : List FrameEntry) (e : Input) (landed : Bool) (entry : FrameEntry) (x : Option Staged) → MayPass (answers.refusal o past e) → option_map (λ began. Met e (left_by landed)) x ≡ Some entry → IsLost o past (Meets e) entry
-unfolding Quiet
-lost_met o past e landed entry None h is = cc
-lost_met o past e landed entry (Some began) h is =
-    subst (IsLost o past (Meets e)) (some_is (Met e (left_by landed)) entry is)
-    (record { silent = quiet o past e (left_by landed) (inl (lost_of landed)); is_asked = met_asked o past e (left_by landed) h })
-
-lost_save : (o : Opening) (past : List FrameEntry) (ask : Ask Input) (landed : Bool) (entry : FrameEntry) → refusal o past ask ≡ None → unsaved_entry o past ask landed ≡ Some entry → IsLost o past ask entry
+lost_save : (o : Opening) (past : List FrameEntry) (ask : Ask Input) (landed : Bool) (entry : FrameEntry) → refusal o past ask ≡ None
+    → unsaved_entry o past ask landed ≡ Some entry → IsLost (rules o) (IsAsked o) past ask entry
 unfolding IsAsked
-lost_save o past (Meets e) landed entry free is = lost_met o past e landed entry (answers.due o past e) (as_core (is_up o past) (answers.refusal o past e) (inl free)) is
-lost_save o past Restarts landed entry free is = subst (IsLost o past Restarts) (some_is (Restart (left_by landed)) entry is) (record { silent = refl; is_asked = tt })
+lost_save o past (Meets e) landed entry free is =
+    lost_met past e (Met e (left_by landed)) entry (answers.due o past e)
+    (record {
+      silent = quiet o past e (left_by landed) (inl (lost_of landed));
+      is_asked = met_asked o past e (left_by landed) (as_core (is_up o past) (answers.refusal o past e) (inl free));
+    }) is
+lost_save o past Restarts landed entry free is =
+    subst (IsLost (rules o) (IsAsked o) past Restarts) (some_is (Restart (left_by landed)) entry is) (record { silent = refl; is_asked = tt })
 lost_save o past Cuts landed entry free is = cc
 lost_save o past Nothing landed entry free is = cc
 
 -- ---- a tag that is dropped
 
-drops : (o : Opening) (past : List FrameEntry) (ask : Ask Input) (fault : Fault) (sent : List (List ℕ)) (after : List FrameEntry) → is_drop fault ≡ true → Passes (rules o) past ask fault sent after → Adds o past ask sent after
-unfolding Quiet
+drops : (o : Opening) (past : List FrameEntry) (ask : Ask Input) (fault : Fault) (sent : List (List ℕ)) (after : List FrameEntry) → is_drop fault ≡ true
+    → Passes (rules o) past ask fault sent after → Adds (rules o) (IsAsked o) past ask sent after
 drops o past (Meets e) fault sent after d p =
-    let may = as_core (is_up o past) (answers.refusal o past e) (drop_for (refusal o past (Meets e)) false fault d p.why) in
-    record {
-      entry = Met e lefts.NoSave;
-      after_is = p.after_is ∙ ap (λ b. if b then Met e lefts.NoSave ∷ past else past) d;
-      sent_are = p.sends_none ∙ sym (ap (map frame_spelling) (quiet o past e lefts.NoSave (inr (refused (answers.refusal o past e) (is_up o past) p.why))));
-      is_asked = met_asked o past e lefts.NoSave may;
-    }
-  where
-    refused : (x : Option Fault) (up : Bool) → IsFor (if up then x else Some NodeOff) false fault → (other : Fault) × (x ≡ Some other)
-    refused x true (inl h) = (fault, h)
-    refused x true (inr h) = cc
-    refused x false h = absurd (no_pass NodeOff refl (drop_for (Some NodeOff) false fault d h))
+    met_drops past e (is_up o past) (answers.refusal o past e) (Met e lefts.NoSave) fault sent after d p.why p.sends_none
+    (p.after_is ∙ ap (λ b. if b then Met e lefts.NoSave ∷ past else past) d) (quiet o past e lefts.NoSave) (met_asked o past e lefts.NoSave)
 drops o past Cuts fault sent after d p = absurd (no_power (refusal o past Cuts) false fault d p.why (cuts (is_up o past)))
   where
     cuts : (up : Bool) → MayNot (if up then None else Some NodeOff)
     cuts true = inl refl
     cuts false = inr (NodeOff, refl, refl)
-drops o past Restarts fault sent after d p = absurd (no_power (refusal o past Restarts) (not (is_up o past)) fault d p.why (restarts (is_up o past) (has_boot o past)))
+drops o past Restarts fault sent after d p =
+    absurd (no_power (refusal o past Restarts) (not (is_up o past)) fault d p.why (restarts (is_up o past) (has_boot o past)))
   where
     restarts : (up boots : Bool) → MayNot (if up then Some NodeOn else (if boots then None else Some NumbersSpent))
     restarts true boots = inr (NodeOn, refl, refl)
@@ -203,30 +167,16 @@ drops o past Restarts fault sent after d p = absurd (no_power (refusal o past Re
     restarts false false = inr (NumbersSpent, refl, refl)
 drops o past Nothing fault sent after d p = absurd (no_power None false fault d p.why (inl refl))
 
--- ---- each event
-
-passed_none : (past : List FrameEntry) (ask : Ask Input) (fault : Fault) → is_drop fault ≡ false → entries_past_refusal past ask fault ≡ past
+-- Another refusal leaves the list as it was.
+pub passed_none : (past : List FrameEntry) (ask : Ask Input) (fault : Fault) → is_drop fault ≡ false → entries_past_refusal past ask fault ≡ past
 passed_none past (Meets e) fault h = ap (λ b. if b then Met e lefts.NoSave ∷ past else past) h
 passed_none past Cuts fault h = refl
 passed_none past Restarts fault h = refl
 passed_none past Nothing fault h = refl
 
--- What is left out changes nothing.
-pub stays : (o : Opening) (past : List FrameEntry) (ask : Ask Input) (answer : Result Said Fault) (sent : List (List ℕ)) (after : List FrameEntry) → is_left_out answer ≡ true → Ends (rules o) past ask answer sent after → after ≡ past
-stays o past ask answer sent after h ends = left_out_stays (rules o) passed_none past ask answer sent after h ends
-
--- All else adds an entry.
-pub adds : (o : Opening) (past : List FrameEntry) (ask : Ask Input) (answer : Result Said Fault) (sent : List (List ℕ)) (after : List FrameEntry) → is_left_out answer ≡ false → Ends (rules o) past ask answer sent after → Adds o past ask sent after
-adds o past ask (Ok said) sent after h ends =
-    record { entry = ends.entry; after_is = ends.after_is; sent_are = ends.sent_are; is_asked = accepted o past ask ends.entry ends.free ends.entry_is }
-adds o past ask (Err fault) sent after h ends = by_sort (sort_of fault) h ends
-  where
-    by_sort : (sort : FaultSort) → not (is_save sort || is_drop fault) ≡ false → Stops (rules o) past ask sort fault sent after → Adds o past ask sent after
-    by_sort sorts.Memory h ends = absurd ends
-    by_sort sorts.Save h ends =
-        let gone = lost_save o past ask ends.landed ends.entry ends.free ends.entry_is in
-        record { entry = ends.entry; after_is = ends.after_is; sent_are = ends.sends_none ∙ sym (ap (map frame_spelling) gone.silent); is_asked = gone.is_asked }
-    by_sort sorts.Refusal h ends = drops o past ask fault sent after (dropped (is_drop fault) h) ends
+-- What is shown of a server.
+pub shown : (o : Opening) → Shown (rules o) (IsAsked o)
+shown o = record { accepted = accepted o; lost = lost_save o; drops = drops o }
 
 -- ---- what it is in a trace
 
@@ -245,7 +195,8 @@ unfolding IsOf
 asked_frame frames None h = tt
 asked_frame frames (Some f) h = h f refl
 
-asked_report : (frames : List Frame) (boot a j : ℕ) (report : ReportParts) (b : Bool) → is_report report ≡ b → IsOf frames (ask_of_report b (inputs.CheckDone boot a j report))
+asked_report : (frames : List Frame) (boot a j : ℕ) (report : ReportParts) (b : Bool) → is_report report ≡ b
+    → IsOf frames (ask_of_report b (inputs.CheckDone boot a j report))
 unfolding IsOf
 asked_report frames boot a j report true h = h
 asked_report frames boot a j report false h = tt
@@ -264,7 +215,8 @@ asked_of frames came.Tick h = tt
 asked_of frames came.Cut h = tt
 asked_of frames came.Restart h = tt
 
-happens : (frames : List Frame) (s : ℕ) (ask : Ask Input) (e : FrameEntry) (o : Opening) → o.me ≡ s → IsOf frames ask → IsAsked o ask e → MayHappen frames (OfServer s (coming_of e))
+happens : (frames : List Frame) (s : ℕ) (ask : Ask Input) (e : FrameEntry) (o : Opening) → o.me ≡ s → IsOf frames ask → IsAsked o ask e
+    → MayHappen frames (OfServer s (coming_of e))
 unfolding IsOf IsAsked
 happens frames s ask (Met (inputs.Deliver f) left) o me h k = (subst (IsOf frames) k.0 h, k.1 ∙ ap (λ i. Server i) me)
 happens frames s ask (Met (inputs.Issue j) left) o me h k = refl
@@ -273,7 +225,8 @@ happens frames s ask (Met (inputs.CheckDone boot a j report) left) o me h k = re
 happens frames s ask Cut o me h k = refl
 happens frames s ask (Restart left) o me h k = refl
 
-fits : (frames : List Frame) (s : ℕ) (ask : Ask Input) (e : FrameEntry) (o : Opening) → s < 8 → IsOf frames ask → IsAsked o ask e → FrameStepFits (OfServer s (coming_of e))
+fits : (frames : List Frame) (s : ℕ) (ask : Ask Input) (e : FrameEntry) (o : Opening) → s < 8 → IsOf frames ask → IsAsked o ask e
+    → FrameStepFits (OfServer s (coming_of e))
 unfolding IsOf IsAsked
 fits frames s ask (Met (inputs.Deliver f) left) o l h k = l
 fits frames s ask (Met (inputs.Issue j) left) o l h k = (l, tt)
@@ -283,8 +236,10 @@ fits frames s ask Cut o l h k = (l, tt)
 fits frames s ask (Restart left) o l h k = (l, tt)
 
 -- It may happen behind these frames, and is within its ranges.
-pub server_happens : (frames : List Frame) (o : Opening) (c : Came) (e : FrameEntry) → CameOf frames (frame_of c) → IsAsked o (ask_of c) e → MayHappen frames (OfServer o.me (coming_of e))
+pub server_happens : (frames : List Frame) (o : Opening) (c : Came) (e : FrameEntry) → CameOf frames (frame_of c) → IsAsked o (ask_of c) e
+    → MayHappen frames (OfServer o.me (coming_of e))
 server_happens frames o c e h k = happens frames o.me (ask_of c) e o refl (asked_of frames c h) k
 
-pub server_fits : (frames : List Frame) (o : Opening) (c : Came) (e : FrameEntry) → o.me < 8 → CameOf frames (frame_of c) → IsAsked o (ask_of c) e → FrameStepFits (OfServer o.me (coming_of e))
+pub server_fits : (frames : List Frame) (o : Opening) (c : Came) (e : FrameEntry) → o.me < 8 → CameOf frames (frame_of c) → IsAsked o (ask_of c) e
+    → FrameStepFits (OfServer o.me (coming_of e))
 server_fits frames o c e l h k = fits frames o.me (ask_of c) e o l (asked_of frames c h) k

@@ -17,7 +17,8 @@ use Rattle.node_traces.specs.Marks.{frame_of, mark_of, marks_if, marks_of}
 use Rattle.node_traces.specs.Orders.{standing_places}
 use Rattle.node_traces.specs.Names.{node_of}
 use Rattle.node_traces.proofs.PlaceLemmas.{same_node}
-use Rattle.node_traces.proofs.NodeLemmas.{EntryOf, Goes, coming_to, frames_at, happened_to, node_at, other_list, other_step, own_list, own_step, rules_of, stays, step_at, with_list}
+use Rattle.node_traces.proofs.NodeLemmas.{EntryOf, Goes, coming_to, frames_at, happened_to, node_at, other_list}
+use Rattle.node_traces.proofs.NodeLemmas.{other_step, own_list, own_step, rules_of, stays, step_at, with_list}
 
 -- ---- a history's newest event that stands
 
@@ -34,7 +35,8 @@ pub record Newest (n : ℕ) (node : Node) (h : List Logged) (list : List (EntryO
   pub ends : Ends (rules_of n node) past ((rules_of n node).asked event.came) event.answer event.sent list
 
 -- An event that is left out is as if it hadn't come.
-left_out : (n : ℕ) (node : Node) (l : Logged) (ls : List Logged) (list past : List (EntryOf node)) (at : ℕ) (rest : List ℕ) → is_left_out l.answer ≡ true → list ≡ past → Newest n node ls past at rest → Newest n node (l ∷ ls) list at rest
+left_out : (n : ℕ) (node : Node) (l : Logged) (ls : List Logged) (list past : List (EntryOf node)) (at : ℕ) (rest : List ℕ) → is_left_out l.answer ≡ true
+    → list ≡ past → Newest n node ls past at rest → Newest n node (l ∷ ls) list at rest
 left_out n node l ls list past at rest out same newest = record {
   event = newest.event;
   older = newest.older;
@@ -44,7 +46,8 @@ left_out n node l ls list past at rest out same newest = record {
   marks_are = ap (λ b. (if b then [] else marks_if (length ls) (frame_of l.came) l.sent) ++ marks_of ls) out ∙ newest.marks_are;
   past = newest.past;
   made = newest.made;
-  ends = subst (λ (now : List (EntryOf node)). Ends (rules_of n node) newest.past ((rules_of n node).asked newest.event.came) newest.event.answer newest.event.sent now) (sym same) newest.ends;
+  ends = subst (λ (now : List (EntryOf node)). Ends (rules_of n node) newest.past
+      ((rules_of n node).asked newest.event.came) newest.event.answer newest.event.sent now) (sym same) newest.ends;
 }
 
 pub head_is : (x y : ℕ) (xs ys : List ℕ) → x ∷ xs ≡ y ∷ ys → x ≡ y
@@ -53,14 +56,16 @@ head_is x y xs ys h = cc
 pub tail_is : {X : Type 0} (x y : X) (xs ys : List X) → x ∷ xs ≡ y ∷ ys → xs ≡ ys
 tail_is x y xs ys h = cc
 
-pub newest_of : (n : ℕ) (node : Node) (h : List Logged) (list : List (EntryOf node)) (at : ℕ) (rest : List ℕ) → Makes (rules_of n node) h list → standing_places h ≡ at ∷ rest → Newest n node h list at rest
+pub newest_of : (n : ℕ) (node : Node) (h : List Logged) (list : List (EntryOf node)) (at : ℕ) (rest : List ℕ) → Makes (rules_of n node) h list
+    → standing_places h ≡ at ∷ rest → Newest n node h list at rest
 newest_of n node [] list at rest made is = absurd (never is)
   where
     never : [] ≡ at ∷ rest → ⊥
     never h = cc
 newest_of n node (l ∷ ls) list at rest made is = by_test (λ h. newest_of n node ls made.0 at rest made.1 h) (is_left_out l.answer) refl is
   where
-    by_test : (standing_places ls ≡ at ∷ rest → Newest n node ls made.0 at rest) → (b : Bool) → is_left_out l.answer ≡ b → (if b then standing_places ls else length ls ∷ standing_places ls) ≡ at ∷ rest → Newest n node (l ∷ ls) list at rest
+    by_test : (standing_places ls ≡ at ∷ rest → Newest n node ls made.0 at rest) → (b : Bool) → is_left_out l.answer ≡ b
+        → (if b then standing_places ls else length ls ∷ standing_places ls) ≡ at ∷ rest → Newest n node (l ∷ ls) list at rest
     by_test later true out is = left_out n node l ls list made.0 at rest out (stays n node made.0 list l out made.2) (later is)
     by_test later false out is = record {
       event = l;
@@ -75,11 +80,13 @@ newest_of n node (l ∷ ls) list at rest made is = by_test (λ h. newest_of n no
     }
 
 -- Where none stands, the list is the one with which the node opened.
-pub opened_still : (n : ℕ) (node : Node) (h : List Logged) (list : List (EntryOf node)) → Makes (rules_of n node) h list → standing_places h ≡ [] → list ≡ (rules_of n node).opened
+pub opened_still : (n : ℕ) (node : Node) (h : List Logged) (list : List (EntryOf node)) → Makes (rules_of n node) h list → standing_places h ≡ []
+    → list ≡ (rules_of n node).opened
 opened_still n node [] list made is = made
 opened_still n node (l ∷ ls) list made is = by_test (λ h. opened_still n node ls made.0 made.1 h) (is_left_out l.answer) refl is
   where
-    by_test : (standing_places ls ≡ [] → made.0 ≡ (rules_of n node).opened) → (b : Bool) → is_left_out l.answer ≡ b → (if b then standing_places ls else length ls ∷ standing_places ls) ≡ [] → list ≡ (rules_of n node).opened
+    by_test : (standing_places ls ≡ [] → made.0 ≡ (rules_of n node).opened) → (b : Bool) → is_left_out l.answer ≡ b
+        → (if b then standing_places ls else length ls ∷ standing_places ls) ≡ [] → list ≡ (rules_of n node).opened
     by_test later true out is = stays n node made.0 list l out made.2 ∙ later is
     by_test later false out is = absurd (never is)
       where
@@ -99,7 +106,8 @@ pub record IsTold (n : ℕ) (frames : List (List ℕ)) (lists : (node : Node) �
 abbrev pub Told : ℕ → List (List ℕ) → ((node : Node) → List (EntryOf node)) → List Place → Type 0
 Told n frames lists order = (t : List FrameStep) × IsTold n frames lists order t
 
-sent_more : (n : ℕ) (step : FrameStep) (past : List FrameStep) → frames_sent (without_mirror n) (step ∷ past) ≡ frames_sent (without_mirror n) past ++ frames_of_step (without_mirror n) past step
+sent_more : (n : ℕ) (step : FrameStep) (past : List FrameStep)
+    → frames_sent (without_mirror n) (step ∷ past) ≡ frames_sent (without_mirror n) past ++ frames_of_step (without_mirror n) past step
 unfolding frames_sent
 sent_more n step past = refl
 
@@ -108,7 +116,8 @@ unfolding frames_sent
 none_sent n = refl
 
 -- One event more.
-pub more : (n : ℕ) (p : Place) (order : List Place) (frames sent : List (List ℕ)) (lists : (node : Node) → List (EntryOf node)) (before : List (EntryOf p.node)) (t : List FrameStep) → IsTold n frames (with_list p.node before lists) order t
+pub more : (n : ℕ) (p : Place) (order : List Place) (frames sent : List (List ℕ)) (lists : (node : Node) → List (EntryOf node)) (before : List (EntryOf p.node))
+    (t : List FrameStep) → IsTold n frames (with_list p.node before lists) order t
     → Goes n p.node (frames_sent (without_mirror n) t) before (lists p.node) sent → Told n (frames ++ sent) lists (p ∷ order)
 more n p order frames sent lists before t told g = (
   step ∷ t,
@@ -138,4 +147,5 @@ more n p order frames sent lists before t told g = (
 
     list_at : (node : Node) (b : Bool) → is_same_node p.node node ≡ b → happened_to n node (step ∷ t) ≡ map (coming_to node) (lists node)
     list_at node true e = subst (λ (m : Node). happened_to n m (step ∷ t) ≡ map (coming_to m) (lists m)) (same_node p.node node e) here
-    list_at node false e = other_step n p.node node (coming_to p.node g.entry) t e ∙ (told.lists_are node ∙ ap (map (coming_to node)) (other_list p.node node before lists e))
+    list_at node false e =
+        other_step n p.node node (coming_to p.node g.entry) t e ∙ (told.lists_are node ∙ ap (map (coming_to node)) (other_list p.node node before lists e))

@@ -24,7 +24,8 @@ use Rattle.node_traces.proofs.SentLemmas.{Laws, taken_was_sent}
 use Rattle.node_traces.proofs.PlaceLemmas.{itself, own_places, same_node}
 use Rattle.node_traces.proofs.NodeLemmas.{EntryOf, IsBelow, AreMade, goes, made_with, opens, coming_to, rules_of, with_history, with_list}
 use Rattle.node_traces.proofs.TellLemmas.{Newest, Told, more, newest_of, none_sent, opened_still}
-use Rattle.node_traces.proofs.LeftLemmas.{few_below, has_within, ends_with, marked_line, node_below, older_place, other_marks, own_marks, place_left, places_left}
+use Rattle.node_traces.proofs.LeftLemmas.{few_below, has_within, ends_with, marked_line, node_below}
+use Rattle.node_traces.proofs.LeftLemmas.{older_place, other_marks, own_marks, place_left, places_left}
 
 -- Of each node the marks of its history are those of the journal.
 abbrev AreMarked : List (List ℕ) → List Line → (Node → List Logged) → Type 0
@@ -33,14 +34,16 @@ AreMarked frames journal ran = (node : Node) → marks_of (ran node) ≡ marks_i
 -- What is told of the order without its newest event.
 abbrev Before : ℕ → List (List ℕ) → Place → List Place → (Node → List Logged) → ((node : Node) → List (EntryOf node)) → Type 0
 Before n frames p order ran lists =
-    (journal : List Line) (older : List Logged) (past : List (EntryOf p.node)) → AreSentBefore journal → Makes (rules_of n p.node) older past → standing_places older ≡ places_of p.node order
+    (journal : List Line) (older : List Logged) (past : List (EntryOf p.node)) → AreSentBefore journal → Makes (rules_of n p.node) older past
+    → standing_places older ≡ places_of p.node order
     → AreMarked frames journal (with_history p.node older ran) → IsWithin (map place_of journal) order
     → Told n (take (count_sent journal) frames) (with_list p.node past lists) order
 
 -- ---- an event that has to do with no frames
 
 -- Its place is that of no entry.
-not_first : (frames : List (List ℕ)) (p : Place) (journal : List Line) (rest : List Place) (older : List Logged) → map place_of journal ≡ p ∷ rest → length older ≡ p.at → marks_of older ≡ marks_in frames p.node journal → ⊥
+not_first : (frames : List (List ℕ)) (p : Place) (journal : List Line) (rest : List Place) (older : List Logged) → map place_of journal ≡ p ∷ rest
+    → length older ≡ p.at → marks_of older ≡ marks_in frames p.node journal → ⊥
 not_first frames p [] rest older is len marks = never is
   where
     never : [] ≡ p ∷ rest → ⊥
@@ -55,21 +58,27 @@ not_first frames p (l ∷ lines) rest older is len marks =
     firsts : (q : Place) (qs : List Place) → q ∷ qs ≡ p ∷ rest → q ≡ p
     firsts q qs h = cc
 
-later_within : (frames : List (List ℕ)) (p : Place) (order : List Place) (journal : List Line) (older : List Logged) → length older ≡ p.at → marks_of older ≡ marks_in frames p.node journal → IsWithin (map place_of journal) (p ∷ order) → IsWithin (map place_of journal) order
+later_within : (frames : List (List ℕ)) (p : Place) (order : List Place) (journal : List Line) (older : List Logged) → length older ≡ p.at
+    → marks_of older ≡ marks_in frames p.node journal → IsWithin (map place_of journal) (p ∷ order) → IsWithin (map place_of journal) order
 later_within frames p order journal older len marks (inl w) = w
 later_within frames p order journal older len marks (inr w) = absurd (not_first frames p journal w.0 older w.1 len marks)
 
-quietly : Laws → (n : ℕ) → n ≤ 8 → (frames : List (List ℕ)) (p : Place) (order : List Place) (journal : List Line) (ran : Node → List Logged) (lists : (node : Node) → List (EntryOf node)) →
+quietly : Laws → (n : ℕ) → n ≤ 8 → (frames : List (List ℕ)) (p : Place) (order : List Place) (journal : List Line) (ran : Node → List Logged)
+    (lists : (node : Node) → List (EntryOf node)) →
     IsBelow n p.node → AreSentBefore journal → AreMarked frames journal ran → IsWithin (map place_of journal) (p ∷ order) →
-    (top : Newest n p.node (ran p.node) (lists p.node) p.at (places_of p.node order)) → HasNone (frame_of top.event.came) top.event.sent (marks_if (length top.older) (frame_of top.event.came) top.event.sent) → marks_of (ran p.node) ≡ marks_if (length top.older) (frame_of top.event.came) top.event.sent ++ marks_of top.older →
+    (top : Newest n p.node (ran p.node) (lists p.node) p.at (places_of p.node order)) →
+    HasNone (frame_of top.event.came) top.event.sent (marks_if (length top.older) (frame_of top.event.came) top.event.sent) →
+    marks_of (ran p.node) ≡ marks_if (length top.older) (frame_of top.event.came) top.event.sent ++ marks_of top.older →
     Before n frames p order ran lists → Told n (take (count_sent journal) frames) lists (p ∷ order)
 quietly laws n few frames p order journal ran lists below sent marked within top none marks before =
     let here : marks_of top.older ≡ marks_in frames p.node journal = sym (marks ∙ ap (λ ms. ms ++ marks_of top.older) none.no_mark) ∙ marked p.node in
     let t = before journal top.older top.past sent top.made top.rest_is (left here) (later_within frames p order journal top.older top.at_is here within) in
-    let came : CameOf (frames_sent (without_mirror n) t.0) (frame_of top.event.came) = subst (λ (x : Option (List ℕ)). CameOf (frames_sent (without_mirror n) t.0) x) (sym none.no_frame) tt in
+    let came : CameOf (frames_sent (without_mirror n) t.0) (frame_of top.event.came) =
+    subst (λ (x : Option (List ℕ)). CameOf (frames_sent (without_mirror n) t.0) x) (sym none.no_frame) tt in
     let told = more n p order (take (count_sent journal) frames) top.event.sent lists top.past t.0 t.1
     (goes n p.node (frames_sent (without_mirror n) t.0) top.past (lists p.node) top.event (few_below n p.node few below) came top.stands top.ends) in
-    subst (λ fs. Told n fs lists (p ∷ order)) (ap (λ fs. take (count_sent journal) frames ++ fs) none.no_sent ∙ append-nil (take (count_sent journal) frames)) told
+    subst (λ fs. Told n fs lists (p ∷ order)) (ap (λ fs. take (count_sent journal) frames ++ fs) none.no_sent ∙ append-nil (take (count_sent journal) frames))
+    told
   where
     left : marks_of top.older ≡ marks_in frames p.node journal → AreMarked frames journal (with_history p.node top.older ran)
     left here node = by_test (is_same_node p.node node) refl
@@ -86,7 +95,8 @@ record IsNoted (frames : List (List ℕ)) (p : Place) (l : Line) (lines : List L
   mark_is : mark ≡ mark_of_line frames (count_sent lines) l
   older_are : marks_of older ≡ marks_in frames p.node lines
 
-noted_first : (frames : List (List ℕ)) (p : Place) (l : Line) (lines : List Line) (mark : Mark) (older : List Logged) → place_of l ≡ p → mark ∷ marks_of older ≡ marks_in frames p.node (l ∷ lines) → IsNoted frames p l lines mark older
+noted_first : (frames : List (List ℕ)) (p : Place) (l : Line) (lines : List Line) (mark : Mark) (older : List Logged) → place_of l ≡ p
+    → mark ∷ marks_of older ≡ marks_in frames p.node (l ∷ lines) → IsNoted frames p l lines mark older
 noted_first frames p l lines mark older here marks = record { same = ap (λ (q : Place). q.node) here; mark_is = firsts both; older_are = lasts both }
   where
     same : is_same_node l.node p.node ≡ true
@@ -101,9 +111,11 @@ noted_first frames p l lines mark older here marks = record { same = ap (λ (q :
     lasts : mark ∷ marks_of older ≡ mark_of_line frames (count_sent lines) l ∷ marks_in frames p.node lines → marks_of older ≡ marks_in frames p.node lines
     lasts h = cc
 
-with_line : Laws → (n : ℕ) → n ≤ 8 → (frames : List (List ℕ)) (p : Place) (order : List Place) (l : Line) (lines : List Line) (ran : Node → List Logged) (lists : (node : Node) → List (EntryOf node)) →
+with_line : Laws → (n : ℕ) → n ≤ 8 → (frames : List (List ℕ)) (p : Place) (order : List Place) (l : Line) (lines : List Line) (ran : Node → List Logged)
+    (lists : (node : Node) → List (EntryOf node)) →
     IsBelow n p.node → AreSentBefore (l ∷ lines) → AreMarked frames (l ∷ lines) ran → IsWithin (map place_of lines) order →
-    (top : Newest n p.node (ran p.node) (lists p.node) p.at (places_of p.node order)) → IsNoted frames p l lines (record { at = length top.older; taken = frame_of top.event.came; sent = top.event.sent }) top.older →
+    (top : Newest n p.node (ran p.node) (lists p.node) p.at (places_of p.node order)) →
+    IsNoted frames p l lines (record { at = length top.older; taken = frame_of top.event.came; sent = top.event.sent }) top.older →
     Before n frames p order ran lists → Told n (take (count_sent (l ∷ lines)) frames) lists (p ∷ order)
 with_line laws n few frames p order l lines ran lists below sent marked within top noted before =
     let t = before lines top.older top.past sent.0 top.made top.rest_is left within in
@@ -113,7 +125,8 @@ with_line laws n few frames p order l lines ran lists below sent marked within t
     (taken_was_sent laws n t.0 frames (count_sent lines) t.1.legal fits t.1.frames_are l.taken sent.1) in
     let told = more n p order (take (count_sent lines) frames) top.event.sent lists top.past t.0 t.1
     (goes n p.node (frames_sent (without_mirror n) t.0) top.past (lists p.node) top.event (few_below n p.node few below) came top.stands top.ends) in
-    subst (λ fs. Told n fs lists (p ∷ order)) (ap (λ (m : Mark). take (count_sent lines) frames ++ m.sent) noted.mark_is ∙ sym (take-add (count_sent lines) l.sent frames)) told
+    subst (λ fs. Told n fs lists (p ∷ order)) (ap (λ (m : Mark). take (count_sent lines) frames ++ m.sent) noted.mark_is
+    ∙ sym (take-add (count_sent lines) l.sent frames)) told
   where
     others : (node : Node) → is_same_node p.node node ≡ false → marks_in frames node (l ∷ lines) ≡ marks_in frames node lines
     others node e =
@@ -124,12 +137,15 @@ with_line laws n few frames p order l lines ran lists below sent marked within t
     left node = by_test (is_same_node p.node node) refl
       where
         by_test : (b : Bool) → is_same_node p.node node ≡ b → marks_of (with_history p.node top.older ran node) ≡ marks_in frames node lines
-        by_test true e = own_marks p top.older ran node e ∙ subst (λ (m : Node). marks_of top.older ≡ marks_in frames m lines) (same_node p.node node e) noted.older_are
+        by_test true e =
+            own_marks p top.older ran node e ∙ subst (λ (m : Node). marks_of top.older ≡ marks_in frames m lines) (same_node p.node node e) noted.older_are
         by_test false e = other_marks p top.older ran node e ∙ (marked node ∙ others node e)
 
-noted : Laws → (n : ℕ) → n ≤ 8 → (frames : List (List ℕ)) (p : Place) (order : List Place) (journal : List Line) (ran : Node → List Logged) (lists : (node : Node) → List (EntryOf node)) →
+noted : Laws → (n : ℕ) → n ≤ 8 → (frames : List (List ℕ)) (p : Place) (order : List Place) (journal : List Line) (ran : Node → List Logged)
+    (lists : (node : Node) → List (EntryOf node)) →
     IsBelow n p.node → AreSentBefore journal → AreMarked frames journal ran → IsWithin (map place_of journal) (p ∷ order) →
-    (top : Newest n p.node (ran p.node) (lists p.node) p.at (places_of p.node order)) → (record { at = length top.older; taken = frame_of top.event.came; sent = top.event.sent }) ∷ marks_of top.older ≡ marks_in frames p.node journal →
+    (top : Newest n p.node (ran p.node) (lists p.node) p.at (places_of p.node order)) →
+    (record { at = length top.older; taken = frame_of top.event.came; sent = top.event.sent }) ∷ marks_of top.older ≡ marks_in frames p.node journal →
     Before n frames p order ran lists → Told n (take (count_sent journal) frames) lists (p ∷ order)
 noted laws n few frames p order journal ran lists below sent marked (inl within) top marks before =
     let mark : Mark = record { at = length top.older; taken = frame_of top.event.came; sent = top.event.sent } in
@@ -141,7 +157,8 @@ noted laws n few frames p order [] ran lists below sent marked (inr within) top 
     never h = cc
 noted laws n few frames p order (l ∷ lines) ran lists below sent marked (inr within) top marks before =
     with_line laws n few frames p order l lines ran lists below sent marked (subst (λ (qs : List Place). IsWithin qs order) (sym (rests within.1)) within.2) top
-    (noted_first frames p l lines (record { at = length top.older; taken = frame_of top.event.came; sent = top.event.sent }) top.older (firsts within.1) marks) before
+    (noted_first frames p l lines (record { at = length top.older; taken = frame_of top.event.came; sent = top.event.sent }) top.older (firsts within.1) marks)
+    before
   where
     firsts : place_of l ∷ map place_of lines ≡ p ∷ within.0 → place_of l ≡ p
     firsts h = cc
@@ -151,25 +168,33 @@ noted laws n few frames p order (l ∷ lines) ran lists below sent marked (inr w
 
 -- ---- each event
 
-event : Laws → (n : ℕ) → n ≤ 8 → (frames : List (List ℕ)) (p : Place) (order : List Place) (journal : List Line) (ran : Node → List Logged) (lists : (node : Node) → List (EntryOf node)) →
+event : Laws → (n : ℕ) → n ≤ 8 → (frames : List (List ℕ)) (p : Place) (order : List Place) (journal : List Line) (ran : Node → List Logged)
+    (lists : (node : Node) → List (EntryOf node)) →
     IsBelow n p.node → AreSentBefore journal → AreMarked frames journal ran → IsWithin (map place_of journal) (p ∷ order) →
-    (top : Newest n p.node (ran p.node) (lists p.node) p.at (places_of p.node order)) → Before n frames p order ran lists → Told n (take (count_sent journal) frames) lists (p ∷ order)
-event laws n few frames p order journal ran lists below sent marked within top before = by_mark (none_or_one (length top.older) (frame_of top.event.came) top.event.sent)
+    (top : Newest n p.node (ran p.node) (lists p.node) p.at (places_of p.node order)) → Before n frames p order ran lists
+    → Told n (take (count_sent journal) frames) lists (p ∷ order)
+event laws n few frames p order journal ran lists below sent marked within top before =
+    by_mark (none_or_one (length top.older) (frame_of top.event.came) top.event.sent)
   where
     marks : List Mark
     marks = marks_if (length top.older) (frame_of top.event.came) top.event.sent
 
     marks_are : marks_of (ran p.node) ≡ marks_if (length top.older) (frame_of top.event.came) top.event.sent ++ marks_of top.older
-    marks_are = top.marks_are ∙ ap (λ b. (if b then [] else marks_if (length top.older) (frame_of top.event.came) top.event.sent) ++ marks_of top.older) top.stands
+    marks_are = top.marks_are ∙ ap (λ b. (if b then [] else marks_if (length top.older) (frame_of top.event.came) top.event.sent) ++ marks_of top.older)
+        top.stands
 
-    by_mark : HasNone (frame_of top.event.came) top.event.sent marks ⊎ (marks ≡ (record { at = length top.older; taken = frame_of top.event.came; sent = top.event.sent }) ∷ []) → Told n (take (count_sent journal) frames) lists (p ∷ order)
+    by_mark : HasNone (frame_of top.event.came) top.event.sent marks
+        ⊎ (marks ≡ (record { at = length top.older; taken = frame_of top.event.came; sent = top.event.sent }) ∷ [])
+        → Told n (take (count_sent journal) frames) lists (p ∷ order)
     by_mark (inl none) = quietly laws n few frames p order journal ran lists below sent marked within top none marks_are before
     by_mark (inr one) =
         noted laws n few frames p order journal ran lists below sent marked within top
         (sym (marks_are ∙ ap (λ ms. ms ++ marks_of top.older) one) ∙ marked p.node) before
 
-tell : Laws → (n : ℕ) → n ≤ 8 → (frames : List (List ℕ)) (order : List Place) (journal : List Line) (ran : Node → List Logged) (lists : (node : Node) → List (EntryOf node)) →
-    AreMade n ran lists → EndAt n ran → AreSentBefore journal → AreMarked frames journal ran → ((node : Node) → places_of node order ≡ standing_places (ran node)) → IsWithin (map place_of journal) order →
+tell : Laws → (n : ℕ) → n ≤ 8 → (frames : List (List ℕ)) (order : List Place) (journal : List Line) (ran : Node → List Logged)
+    (lists : (node : Node) → List (EntryOf node)) →
+    AreMade n ran lists → EndAt n ran → AreSentBefore journal → AreMarked frames journal ran →
+    ((node : Node) → places_of node order ≡ standing_places (ran node)) → IsWithin (map place_of journal) order →
     Told n (take (count_sent journal) frames) lists order
 tell laws n few frames [] [] ran lists made ends sent marked places within = (
   [],
@@ -186,12 +211,14 @@ tell laws n few frames [] (l ∷ lines) ran lists made ends sent marked places w
     never : place_of l ∷ map place_of lines ≡ [] → ⊥
     never h = cc
 tell laws n few frames (p ∷ order) journal ran lists made ends sent marked places within =
-    let at_top : standing_places (ran p.node) ≡ p.at ∷ places_of p.node order = sym (places p.node) ∙ own_places p.node p.node (p.at ∷ []) order (itself p.node) in
+    let at_top : standing_places (ran p.node) ≡ p.at ∷ places_of p.node order =
+    sym (places p.node) ∙ own_places p.node p.node (p.at ∷ []) order (itself p.node) in
     let top = newest_of n p.node (ran p.node) (lists p.node) p.at (places_of p.node order) (made p.node) at_top in
     let below = node_below n ran p.node p.at (places_of p.node order) ends at_top in
     event laws n few frames p order journal ran lists below sent marked within top
     (λ lines older past s m rest marks w.
-    tell laws n few frames order lines (with_history p.node older ran) (with_list p.node past lists) (made_with n p.node older past m ran lists made) (ends_with n p.node older ran below ends) s marks (places_left p order ran older places rest) w)
+    tell laws n few frames order lines (with_history p.node older ran) (with_list p.node past lists) (made_with n p.node older past m ran lists made)
+    (ends_with n p.node older ran below ends) s marks (places_left p order ran older places rest) w)
 
 -- ---- the laws
 
@@ -209,7 +236,8 @@ made_of n ran lists ends Mirror = subst (λ (h : List Logged). Makes (rules_of n
 pub merges_name_a_trace : Laws → MergesNameATrace
 unfolding list_of
 merges_name_a_trace laws n net ran order agree merge lists =
-    let told = tell laws n agree.few net.frames order net.journal ran (list_of n ran lists) (made_of n ran lists agree.ends) agree.ends agree.legal.sent_before agree.marked merge.each_stands merge.as_noted in
+    let told = tell laws n agree.few net.frames order net.journal ran (list_of n ran lists)
+    (made_of n ran lists agree.ends) agree.ends agree.legal.sent_before agree.marked merge.each_stands merge.as_noted in
     let all : take (count_sent net.journal) net.frames ≡ net.frames = take_all (count_sent net.journal) net.frames (omega (arith, agree.legal.all_sent)) in (
       told.0,
       record {

@@ -19,6 +19,7 @@ use Rattle.node_traces.specs.Orders.{merged_order}
 abbrev pub request_bytes : List ℕ
 request_bytes = 7 ∷ []
 
+-- The bytes of the second frame.
 abbrev pub reply_bytes : List ℕ
 reply_bytes = 8 ∷ []
 
@@ -26,15 +27,17 @@ reply_bytes = 8 ∷ []
 abbrev pub event : Came → Result Said Fault → List (List ℕ) → Logged
 event came answer sent = record { by = None; came = came; answer = answer; sent = sent }
 
+-- A plain answer.
 abbrev pub good : Result Said Fault
 good = Ok (record { answer = Plain; act = acts.None })
 
--- The client ticks, and sends a frame; it ticks and sends none; and a frame comes to it. To the server
--- comes what asks for a write, and then the client's frame, to which it sends one; what asks for a
--- write is refused; and it is cut.
+-- The client ticks, and sends a frame; it ticks and sends none; and a frame comes to it. To the
+-- server comes what asks for a write, and then the client's frame, to which it sends one; what asks
+-- for a write is refused; and it is cut.
 abbrev pub history_of : Node → List Logged
 history_of Client =
-    event (came.Frame reply_bytes) good [] ∷ event came.Tick good [] ∷ event came.Tick good (request_bytes ∷ []) ∷ []
+    event (came.Frame reply_bytes) good [] ∷ event came.Tick good
+    [] ∷ event came.Tick good (request_bytes ∷ []) ∷ []
 history_of (Server zero) =
     event came.Cut good [] ∷ event (came.Issue 0) (Err NodeOff) []
     ∷ event (came.Frame request_bytes) good (reply_bytes ∷ []) ∷ event (came.Issue 0) good [] ∷ []
@@ -57,12 +60,14 @@ AgreeWithIt =
     (marks_of (history_of Client) ≡ marks_in net.frames Client net.journal)
     × (marks_of (history_of (Server 0)) ≡ marks_in net.frames (Server 0) net.journal)
 
+-- A place in the history of a node.
 abbrev pub place : Node → ℕ → Place
 place node at = record { node = node; at = at }
 
--- What was asked of the server at first is told before the frame that came to it, the client's second
--- tick before the frame that came to that, and the cut at the end; the refusal isn't told.
+-- What was asked of the server at first is told before the frame that came to it, the client's
+-- second tick before the frame that came to that, and the cut at the end; the refusal isn't told.
 abbrev pub AreToldSo : Type 0
 AreToldSo =
     merged_order 1 history_of net.journal
-    ≡ place (Server 0) 3 ∷ place Client 2 ∷ place Client 1 ∷ place (Server 0) 1 ∷ place (Server 0) 0 ∷ place Client 0 ∷ []
+    ≡ place (Server 0) 3 ∷ place Client 2 ∷ place Client 1 ∷ place (Server 0) 1 ∷ place (Server 0) 0
+    ∷ place Client 0 ∷ []

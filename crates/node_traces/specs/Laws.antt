@@ -43,11 +43,13 @@ AgreeingNodesAreATrace =
 -- What is heard in such a trace is a trace of packets.
 abbrev pub AssembledAreHeard : Type 0
 AssembledAreHeard =
-    (n : ℕ) (frames : List (List ℕ)) (servers : ℕ → List ServerEntry) (client : List ClientEntry) (trace : List FrameStep) →
+    (n : ℕ) (frames : List (List ℕ)) (servers : ℕ → List ServerEntry) (client : List ClientEntry)
+    (trace : List FrameStep) →
     IsAssembled n frames servers client trace → IsHeard n servers client trace
 
 -- The nodes of such a trace hold one state of each job.
 abbrev pub AssembledNodesHoldOneState : Type 0
 AssembledNodesHoldOneState =
-    (n : ℕ) (frames : List (List ℕ)) (servers : ℕ → List ServerEntry) (client : List ClientEntry) (trace : List FrameStep) →
+    (n : ℕ) (frames : List (List ℕ)) (servers : ℕ → List ServerEntry) (client : List ClientEntry)
+    (trace : List FrameStep) →
     IsAssembled n frames servers client trace → HoldOneState n servers client trace

@@ -1,5 +1,5 @@
--- What nodes ran, and the lists that their histories make. There is no mirror among them. All lists are
--- newest first.
+-- What nodes ran, and the lists that their histories make. There is no mirror among them. All lists
+-- are newest first.
 use Rattle.std.specs.Prelude.{◌≡◌, ◌≤◌, ℕ, List, []}
 use Rattle.messages.specs.declared.node.Node.{Node}
 use Rattle.messages.specs.declared.node.Node.TheVariants.{Server, Client, Mirror}

@@ -1,5 +1,5 @@
--- The events of nodes that have to do with the network: in a history, and in the journal. All lists are
--- newest first.
+-- The events of nodes that have to do with the network: in a history, and in the journal. All lists
+-- are newest first.
 use Rattle.std.specs.Prelude.{◌≡◌, ℕ, if◌then◌else◌, List, [], ◌∷◌, ◌++◌, length, take, drop, Option, Some, None, slice_get}
 use Rattle.std.specs.Option.{option_and_then}
 use Rattle.messages.specs.declared.node.Node.{Node}
@@ -12,7 +12,8 @@ use Rattle.node_history.specs.declared.logged.Logged.{Logged}
 use Rattle.node_history.specs.AtHub.{is_left_out}
 use Rattle.hub.specs.Journal.{count_sent}
 
--- The mark of an event: its place in its node's history, the frame that it took, and those that it sent.
+-- The mark of an event: its place in its node's history, the frame that it took, and those that it
+-- sent.
 pub record Mark : Type 0 where
   pub at : ℕ
   pub taken : Option (List ℕ)
@@ -30,7 +31,8 @@ mark_of_line frames before l = record {
 abbrev pub marks_in : List (List ℕ) → Node → List Line → List Mark
 marks_in frames node [] = []
 marks_in frames node (l ∷ older) =
-    if is_same_node l.node node then mark_of_line frames (count_sent older) l ∷ marks_in frames node older else marks_in frames node older
+    if is_same_node l.node node then mark_of_line frames (count_sent older) l
+    ∷ marks_in frames node older else marks_in frames node older
 
 -- The frame that came, if one did.
 abbrev pub frame_of : Came → Option (List ℕ)
@@ -43,7 +45,8 @@ marks_if at None [] = []
 marks_if at None (f ∷ fs) = record { at = at; taken = None; sent = f ∷ fs } ∷ []
 marks_if at (Some bytes) sent = record { at = at; taken = Some bytes; sent = sent } ∷ []
 
--- So is the event at a place of a history, unless it is left out: a frame that is refused isn't taken.
+-- So is the event at a place of a history, unless it is left out: a frame that is refused isn't
+-- taken.
 abbrev pub mark_of : ℕ → Logged → List Mark
 mark_of at l = if is_left_out l.answer then [] else marks_if at (frame_of l.came) l.sent
 
@@ -52,6 +55,7 @@ abbrev pub marks_of : List Logged → List Mark
 marks_of [] = []
 marks_of (l ∷ ls) = mark_of (length ls) l ++ marks_of ls
 
--- The histories agree with the journal: the marks of each are those that the journal tells of its node.
+-- The histories agree with the journal: the marks of each are those that the journal tells of its
+-- node.
 abbrev pub AreMarked : (Node → List Logged) → Network → Type 0
 AreMarked ran net = (node : Node) → marks_of (ran node) ≡ marks_in net.frames node net.journal

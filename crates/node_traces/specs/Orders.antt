@@ -8,14 +8,17 @@ use Rattle.node_history.specs.declared.logged.Logged.{Logged}
 use Rattle.node_history.specs.AtHub.{is_left_out}
 use Rattle.node_traces.specs.declared.place.Place.{Place}
 
--- The places of the events that stand in a node's list: of all but the refusals that change nothing.
+-- The places of the events that stand in a node's list: of all but the refusals that change
+-- nothing.
 abbrev pub standing_places : List Logged → List ℕ
 standing_places [] = []
-standing_places (l ∷ ls) = if is_left_out l.answer then standing_places ls else length ls ∷ standing_places ls
+standing_places (l ∷ ls) =
+    if is_left_out l.answer then standing_places ls else length ls ∷ standing_places ls
 
 -- The places of a node's events in an order.
 abbrev pub places_of : Node → List Place → List ℕ
-places_of node order = map (λ place. place.at) (filter (λ place. is_same_node place.node node) order)
+places_of node order =
+    map (λ place. place.at) (filter (λ place. is_same_node place.node node) order)
 
 -- Some stand among others, in their order.
 abbrev pub IsWithin : {X : Type 0} → List X → List X → Type 0
@@ -26,8 +29,10 @@ IsWithin {X} xs (y ∷ ys) = IsWithin xs ys ⊎ ((rest : List X) × (xs ≡ y �
 abbrev pub place_of : Line → Place
 place_of l = record { node = l.node; at = l.at }
 
--- An order has the events of each node that stand, in their order, and keeps the order of the journal.
-pub record IsMerge (ran : Node → List Logged) (journal : List Line) (order : List Place) : Type 0 where
+-- An order has the events of each node that stand, in their order, and keeps the order of the
+-- journal.
+pub record IsMerge (ran : Node → List Logged) (journal : List Line)
+    (order : List Place) : Type 0 where
   pub each_stands : (node : Node) → places_of node order ≡ standing_places (ran node)
   pub as_noted : IsWithin (map place_of journal) order
 
@@ -39,10 +44,11 @@ next_place node (l ∷ older) = if is_same_node l.node node then l.at + 1 else n
 -- The events of a node that stand, from one place on and before another.
 abbrev pub places_between : Node → ℕ → ℕ → List Logged → List Place
 places_between node from to history =
-    map (λ at. record { node = node; at = at }) (filter (λ at. nat_le from at && nat_lt at to) (standing_places history))
+    map (λ at. record { node = node; at = at })
+    (filter (λ at. nat_le from at && nat_lt at to) (standing_places history))
 
--- The events up to the last entry of a journal: for each entry those of its node that stand, behind the
--- node's entry before it and up to this one.
+-- The events up to the last entry of a journal: for each entry those of its node that stand, behind
+-- the node's entry before it and up to this one.
 abbrev pub up_to_last : (Node → List Logged) → List Line → List Place
 up_to_last ran [] = []
 up_to_last ran (l ∷ older) =
@@ -50,14 +56,16 @@ up_to_last ran (l ∷ older) =
 
 -- What is left of a node behind its last entry.
 abbrev pub left_of : (Node → List Logged) → List Line → Node → List Place
-left_of ran journal node = places_between node (next_place node journal) (length (ran node)) (ran node)
+left_of ran journal node =
+    places_between node (next_place node journal) (length (ran node)) (ran node)
 
 -- What is left of the first servers, one server behind the other.
 abbrev pub left_below : (Node → List Logged) → List Line → ℕ → List Place
 left_below ran journal zero = []
 left_below ran journal (suc s) = left_of ran journal (Server s) ++ left_below ran journal s
 
--- The order that the journal gives: its entries, each behind what its node did before it; then what is
--- left of each server, and of the client.
+-- The order that the journal gives: its entries, each behind what its node did before it; then what
+-- is left of each server, and of the client.
 abbrev pub merged_order : ℕ → (Node → List Logged) → List Line → List Place
-merged_order n ran journal = left_of ran journal Client ++ (left_below ran journal n ++ up_to_last ran journal)
+merged_order n ran journal =
+    left_of ran journal Client ++ (left_below ran journal n ++ up_to_last ran journal)

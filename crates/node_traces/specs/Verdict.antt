@@ -25,23 +25,35 @@ abbrev pub client_hears : ℕ → List ClientEntry → List client_history.Entry
 client_hears n list = client_heard (client_opening (without_mirror n)) list
 
 -- What is heard in the trace is a trace of packets, and of each node it has what the node hears.
-pub record IsHeard (n : ℕ) (servers : ℕ → List ServerEntry) (client : List ClientEntry) (trace : List FrameStep) : Type 0 where
+pub record IsHeard (n : ℕ) (servers : ℕ → List ServerEntry) (client : List ClientEntry)
+    (trace : List FrameStep) : Type 0 where
   pub legal : IsTrace (without_mirror n) (trace_heard (without_mirror n) trace)
-  pub servers_are : (s : ℕ) → of_server s (trace_heard (without_mirror n) trace) ≡ server_hears servers s
-  pub client_is : of_client (without_mirror n) (trace_heard (without_mirror n) trace) ≡ client_hears n client
+  pub servers_are : (s : ℕ) → of_server s (trace_heard (without_mirror n) trace)
+      ≡ server_hears servers s
+  pub client_is : of_client (without_mirror n) (trace_heard (without_mirror n) trace)
+      ≡ client_hears n client
 
 -- The states of a key that its server took.
 abbrev pub taken_by : (ℕ → List ServerEntry) → Key → List State
-taken_by servers key = takings (opening_of key.server) key.run key.job (server_hears servers key.server)
+taken_by servers key =
+    takings (opening_of key.server) key.run key.job (server_hears servers key.server)
 
--- Of each job of a run one state was taken at most. Whoever holds one, as the client which keeps it, holds
--- the one that was taken; it counts just the writes that were completed by then; and wherever in its
--- server's list a job is checked with it, no write was issued there since: up to the end of that check.
-pub record HoldOneState (n : ℕ) (servers : ℕ → List ServerEntry) (client : List ClientEntry) (trace : List FrameStep) : Type 0 where
+-- Of each job of a run one state was taken at most. Whoever holds one, as the client which keeps
+-- it, holds the one that was taken; it counts just the writes that were completed by then; and
+-- wherever in its server's list a job is checked with it, no write was issued there since: up to
+-- the end of that check.
+pub record HoldOneState (n : ℕ) (servers : ℕ → List ServerEntry) (client : List ClientEntry)
+    (trace : List FrameStep) : Type 0 where
   pub once : (key : Key) → length (taken_by servers key) ≤ 1
-  pub keeps : (key : Key) (state : State) → kept_state (client_opening (without_mirror n)) (client_hears n client) key ≡ Some state → Holds (without_mirror n) (trace_heard (without_mirror n) trace) key state
-  pub held : (key : Key) (state : State) → Holds (without_mirror n) (trace_heard (without_mirror n) trace) key state → taken_by servers key ≡ state ∷ []
-  pub counted : (key : Key) (state : State) → Holds (without_mirror n) (trace_heard (without_mirror n) trace) key state → IsTaking (opening_of key.server) key.run key.job (server_hears servers key.server) state
+  pub keeps : (key : Key) (state : State)
+      → kept_state (client_opening (without_mirror n)) (client_hears n client) key ≡ Some state
+      → Holds (without_mirror n) (trace_heard (without_mirror n) trace) key state
+  pub held : (key : Key) (state : State)
+      → Holds (without_mirror n) (trace_heard (without_mirror n) trace) key state
+      → taken_by servers key ≡ state ∷ []
+  pub counted : (key : Key) (state : State)
+      → Holds (without_mirror n) (trace_heard (without_mirror n) trace) key state
+      → IsTaking (opening_of key.server) key.run key.job (server_hears servers key.server) state
   pub quiet :
       (s j : ℕ) (state : State) (later past : List server_history.Entry) →
       server_hears servers s ≡ later ++ past → progress (opening_of s) past j ≡ Some (With state) →

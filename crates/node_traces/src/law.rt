@@ -3,8 +3,7 @@
 ghost use Rattle.node_traces.specs.Rising.{HistoriesRise};
 ghost use Rattle.node_traces.specs.Laws.{MergesNameATrace, MergedOrdersAreMerges, AgreeingNodesAreATrace, AssembledAreHeard, AssembledNodesHoldOneState};
 
-use hub::frames_are_readable;
-use messages::frames_are_read_back;
+use messages::{frames_are_read_back, frames_are_readable};
 use net_world::{
     frames_are_of_packets, one_state_of_each_job, only_sent_is_heard, sent_are_in_range,
 };

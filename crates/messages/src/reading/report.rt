@@ -64,7 +64,9 @@ pub(super) fn report(bytes: &[u8]) -> Option<Body>
 
 fn report_fields(bytes: &[u8]) -> (ReportFields, &[u8])
     requires { 41 ≤ length bytes.now }
-    ensures numbers { result.0.run ∷ result.0.attempt ∷ result.0.job ∷ result.0.jobs ∷ result.0.end ∷ result.0.at ∷ result.0.checked ∷ result.0.faults ∷ result.0.count ∷ [] ≡ numbers (layout Report) bytes.now }
+    ensures numbers { result.0.run ∷ result.0.attempt ∷ result.0.job ∷ result.0.jobs ∷ result.0.end
+        ∷ result.0.at ∷ result.0.checked ∷ result.0.faults ∷ result.0.count ∷ []
+        ≡ numbers (layout Report) bytes.now }
     ensures rest { result.1.now ≡ drop 41 bytes.now }
 {
     let (run, rest) = split_u64(bytes);

@@ -1,4 +1,4 @@
-use Rattle.std.proofs.Common.{arith, length}
+use Rattle.std.proofs.Common.{arith}
 use Rattle.std.proofs.lemmas.Option.{slice_get_within}
 use Rattle.hub.proofs.NoteLemmas.{next_bytes, next_length, next_spelled, noted_more}
 use Rattle.hub.proofs.hub.add_all.Goals as goal
@@ -23,5 +23,6 @@ loop-frame-smaller c = omega (arith, slice_get_within c.args.sent.now c.loop-fra
 
 pub loop-frame-preserved : goal.loop-frame-preserved
 loop-frame-preserved c =
-    noted_more c.args.sent.now c.loop-frame.i c.args.store.now c.args.queues.now c.loop-frame.store c.loop-frame.queues c.add.new.store c.add.new.queues c.in-Some.frame.now
+    noted_more c.args.sent.now c.loop-frame.i c.args.store.now c.args.queues.now c.loop-frame.store c.loop-frame.queues c.add.new.store c.add.new.queues
+    c.in-Some.frame.now
     c.loop-frame.invariant c.in-Some.ensures c.add.ensures.frames c.add.ensures.more c.add.ensures.waiting c.add.ensures.bytes c.add.ensures.kept

@@ -14,5 +14,12 @@ pub returns : goal.returns
 returns c =
     let q = c.args.piece.now in
     gives_packet q c.args.bytes.now c.in-Ok.body c.new.result
-    (record { tag = c.tag-tag.result; tag_is = c.tag-tag.ensures; read = c.in-Ok.ensures; own = c.tag.result; own_is = c.tag.ensures; same = is_same c.ne.result _ c.ne.ensures c.if-ne.false })
+    (record {
+      tag = c.tag-tag.result;
+      tag_is = c.tag-tag.ensures;
+      read = c.in-Ok.ensures;
+      own = c.tag.result;
+      own_is = c.tag.ensures;
+      same = is_same c.ne.result _ c.ne.ensures c.if-ne.false;
+    })
     (c.new.ensures ∙ rw (c.from.ensures, c.to.ensures) refl)

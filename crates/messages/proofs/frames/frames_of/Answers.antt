@@ -16,7 +16,8 @@ pub returns-else-as_slice-clause-spelling : goal.returns-else-as_slice-clause-sp
 returns-else-as_slice-clause-spelling c =
     let p = c.args.packet.now in
     let is = body_in p c.deref.result.now c.split_at.result.1.now (c.deref.ensures.value ∙ c.in_ok-bytes.ensures.spelling) c.split_at.ensures.back in
-    let long : CHUNK_LIMIT < length_of p.body = omega (arith, c.if-as_slice.false, c.in_ok-bytes.ensures.len, ap (λ (bs : List ℕ). length bs) c.as_slice.ensures.value) in
+    let long : CHUNK_LIMIT < length_of p.body =
+    omega (arith, c.if-as_slice.false, c.in_ok-bytes.ensures.len, ap (λ (bs : List ℕ). length bs) c.as_slice.ensures.value) in
     subst (λ (fs : List (List ℕ)). IfOk c.cut.result (λ frames. frames ≡ fs)) (cut_frames p c.split_at.result.1.now is long) c.cut.ensures
 
 pub returns-else-as_slice-clause-few : goal.returns-else-as_slice-clause-few

@@ -11,6 +11,17 @@ returns-clause-spelling c =
     let p = c.args.packet.now in
     let items = c.deref_mut.ensures.value ∙ c.in_ok-out.ensures.bytes in
     let n : c.len.result - 16 ≡ length_of p.body = omega (arith, c.deref_mut.ensures.len, c.len.ensures, c.in_ok-out.ensures.len.0) in
-    let frame : c.put_len.new.frame ≡ spelling p = c.put_len.ensures ∙ rw (items, n) (header_of-len p.from p.to p.body (length_of p.body) (spelled_body p.body)) in
-    let len : length c.put_len.new.frame ≡ c.in_ok-out.out.len = omega (arith, ap length frame, length-append (header_of p.from p.to p.body (length_of p.body)) (spelled_body p.body), length-header_of p.from p.to p.body (length_of p.body), length-spelled_body p.body, c.deref_mut.ensures.len, ap length c.deref_mut.ensures.value, c.in_ok-out.ensures.len.0) in
+    let frame : c.put_len.new.frame ≡ spelling p =
+    c.put_len.ensures ∙ rw (items, n) (header_of-len p.from p.to p.body (length_of p.body) (spelled_body p.body)) in
+    let len : length c.put_len.new.frame ≡ c.in_ok-out.out.len =
+    omega (
+      arith,
+      ap length frame,
+      length-append (header_of p.from p.to p.body (length_of p.body)) (spelled_body p.body),
+      length-header_of p.from p.to p.body (length_of p.body),
+      length-spelled_body p.body,
+      c.deref_mut.ensures.len,
+      ap length c.deref_mut.ensures.value,
+      c.in_ok-out.ensures.len.0,
+    ) in
     take_at c.put_len.new.frame _ c.in_ok-out.out.len len ∙ frame

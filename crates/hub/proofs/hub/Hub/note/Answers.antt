@@ -9,7 +9,8 @@ use Rattle.hub.proofs.hub.Hub.note.Goals as goal
 
 pub take-requires : goal.take-requires
 take-requires c =
-    rw (c.self.invariant.kept.waiting c.args.node) (waiting_increase (record { frames = c.self.inside.store.frames; journal = reverse c.self.inside.journal.items }) c.args.node)
+    rw (c.self.invariant.kept.waiting c.args.node) (waiting_increase
+    (record { frames = c.self.inside.store.frames; journal = reverse c.self.inside.journal.items }) c.args.node)
 
 pub invariant_of-self : goal.invariant_of-self
 invariant_of-self c =
@@ -17,6 +18,8 @@ invariant_of-self c =
     let below = (rw (← ap (λ (h : Held). h.net.frames) c.self.view_is) at c.requires.taken) in
     rw (c.push_reserved.ensures.items, c.len-2.ensures, reverse-append c.self.inside.journal.items (line ∷ [])) (record {
       kept = c.add_all.ensures.kept (line ∷ reverse c.self.inside.journal.items)
-          (rw c.take.ensures.lists (kept_entry c.self.inside.store.frames (reverse c.self.inside.journal.items) c.self.inside.queues.lists c.args.node c.args.at (length c.args.sent.now) c.args.taken below c.self.invariant.kept));
-      legal = rw c.add_all.ensures.frames (legal_more c.self.inside.store.frames c.args.sent.now (reverse c.self.inside.journal.items) c.args.node c.args.at c.args.taken below c.self.invariant.legal);
+          (rw c.take.ensures.lists (kept_entry c.self.inside.store.frames (reverse c.self.inside.journal.items) c.self.inside.queues.lists c.args.node c.args.at
+          (length c.args.sent.now) c.args.taken below c.self.invariant.kept));
+      legal = rw c.add_all.ensures.frames (legal_more c.self.inside.store.frames c.args.sent.now
+          (reverse c.self.inside.journal.items) c.args.node c.args.at c.args.taken below c.self.invariant.legal);
     })

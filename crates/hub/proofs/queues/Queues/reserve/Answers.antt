@@ -6,5 +6,6 @@ use Rattle.hub.proofs.queues.Queues.reserve.Goals as goal
 
 pub returns-clause-room : goal.returns-clause-room
 returns-clause-room c =
-    let all : All (λ (v : Vec ℕ Global). c.args.more ≤ vec_capacity v - vec_len v) c.loop-list.list-items = rw (take_all c.loop-list.list-index c.loop-list.list-items (omega arith)) at c.loop-list.invariant.2 in
+    let all : All (λ (v : Vec ℕ Global). c.args.more ≤ vec_capacity v - vec_len v) c.loop-list.list-items =
+    rw (take_all c.loop-list.list-index c.loop-list.list-items (omega arith)) at c.loop-list.invariant.2 in
     room_all (2 ^ 64) (λ (v : Vec ℕ Global). vec_capacity v - vec_len v) c.loop-list.list-items c.args.more (omega arith) all

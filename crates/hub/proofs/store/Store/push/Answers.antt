@@ -12,10 +12,12 @@ end c = ap (λ (xs : List ℕ). length xs) c.as_slice.ensures.value
 
 pub invariant_of-self : goal.invariant_of-self
 invariant_of-self c =
-    pushed_rise c.self.inside.ends.items c.self.inside.bytes.items c.args.frame.now c.push_reserved.new.self.items c.extend_from_slice.new.self.items (length c.as_slice.result.now)
+    pushed_rise c.self.inside.ends.items c.self.inside.bytes.items c.args.frame.now c.push_reserved.new.self.items c.extend_from_slice.new.self.items
+    (length c.as_slice.result.now)
     c.self.invariant (bytes c) (end c) c.push_reserved.ensures.items
 
 pub returns-clause-frames : goal.returns-clause-frames
 returns-clause-frames c =
-    pushed_frames c.self.inside.ends.items c.self.inside.bytes.items c.args.frame.now c.push_reserved.new.self.items c.extend_from_slice.new.self.items (length c.as_slice.result.now) c.args.self.now.frames
+    pushed_frames c.self.inside.ends.items c.self.inside.bytes.items c.args.frame.now c.push_reserved.new.self.items c.extend_from_slice.new.self.items
+    (length c.as_slice.result.now) c.args.self.now.frames
     c.self.invariant (ap (λ (s : Stored). s.frames) c.self.view_is) (bytes c) (end c) c.push_reserved.ensures.items

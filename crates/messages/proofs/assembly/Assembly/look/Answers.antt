@@ -11,4 +11,5 @@ pub returns-in-Err : goal.returns-in-Err
 returns-in-Err c =
     let q = c.args.piece.now in
     let filled = c.filled_of.ensures ∙ ap (λ (t : Tag). filled_of t c.args.self.now) c.tag.ensures in
-    no_memory q (completed_body c.args.self.now q) (ap (λ (fs : List Filled). is_some (joined_bytes (fill q fs) (places q.tag.length))) (sym filled) ∙ c.in-Err.ensures.complete)
+    no_memory q (completed_body c.args.self.now q) (ap (λ (fs : List Filled). is_some (joined_bytes (fill q fs) (places q.tag.length))) (sym filled)
+    ∙ c.in-Err.ensures.complete)

@@ -17,7 +17,8 @@ returns-in-Some-clause-taken c =
     let stands = stands q.tag rows at (c.in-Some.ensures ∙ ap (λ (t : Tag). position (λ (r : Row). is_tag r.tag t) rows) c.tag-2.ensures) in
     let here = c.behind-self.view_is ∙ c.index_mut.ensures.value ∙ ap (λ (rs : List Row). slice_index_or rs at row) c.self.view_is in
     let old : c.behind-self.inside.places ≡ filled_of q.tag rows = ap (λ (r : Row). r.filled) here ∙ sym (stands.filled row) in
-    let waits = still_waits rows q c.filled_of.result.now c.tag.result c.is_completed.result c.filled_of.ensures c.tag.ensures c.is_completed.ensures c.if-is_completed.false in
+    let waits = still_waits rows q c.filled_of.result.now c.tag.result c.is_completed.result c.filled_of.ensures c.tag.ensures c.is_completed.ensures
+    c.if-is_completed.false in
     on_ok c.fill.result
     (λ e.
     ap (λ (rs : List Row). slice_set rs at (record { tag = c.behind-self.inside.tag; filled = c.fill.new.self })) c.self.view_is
@@ -36,7 +37,8 @@ returns-in-Some-clause-kept c =
     let stands = stands q.tag rows at (c.in-Some.ensures ∙ ap (λ (t : Tag). position (λ (r : Row). is_tag r.tag t) rows) c.tag-2.ensures) in
     let here = c.behind-self.view_is ∙ c.index_mut.ensures.value ∙ ap (λ (rs : List Row). slice_index_or rs at row) c.self.view_is in
     let old : c.behind-self.inside.places ≡ filled_of q.tag rows = ap (λ (r : Row). r.filled) here ∙ sym (stands.filled row) in
-    let waits = still_waits rows q c.filled_of.result.now c.tag.result c.is_completed.result c.filled_of.ensures c.tag.ensures c.is_completed.ensures c.if-is_completed.false in
+    let waits = still_waits rows q c.filled_of.result.now c.tag.result c.is_completed.result c.filled_of.ensures c.tag.ensures c.is_completed.ensures
+    c.if-is_completed.false in
     on_err c.fill.result (λ e. record { empty = ap (λ (fs : List Filled). filled_at fs q.at) (sym old) ∙ e; waits = waits }) c.fill.ensures.empty
 
 pub returns-in-None-clause-taken : goal.returns-in-None-clause-taken
@@ -44,7 +46,8 @@ returns-in-None-clause-taken c =
     let q = c.args.piece.now in
     let rows = c.args.self.now in
     let lacks = lacks q.tag rows (c.in-None.ensures ∙ ap (λ (t : Tag). position (λ (r : Row). is_tag r.tag t) rows) c.tag-2.ensures) in
-    let waits = still_waits rows q c.filled_of.result.now c.tag.result c.is_completed.result c.filled_of.ensures c.tag.ensures c.is_completed.ensures c.if-is_completed.false in
+    let waits = still_waits rows q c.filled_of.result.now c.tag.result c.is_completed.result c.filled_of.ensures c.tag.ensures c.is_completed.ensures
+    c.if-is_completed.false in
     on_ok c.begin.result (λ e. e ∙ taken_first rows q lacks.absent lacks.empty waits) c.begin.ensures.begun
 
 pub returns-in-None-clause-kept : goal.returns-in-None-clause-kept
@@ -52,5 +55,6 @@ returns-in-None-clause-kept c =
     let q = c.args.piece.now in
     let rows = c.args.self.now in
     let lacks = lacks q.tag rows (c.in-None.ensures ∙ ap (λ (t : Tag). position (λ (r : Row). is_tag r.tag t) rows) c.tag-2.ensures) in
-    let waits = still_waits rows q c.filled_of.result.now c.tag.result c.is_completed.result c.filled_of.ensures c.tag.ensures c.is_completed.ensures c.if-is_completed.false in
+    let waits = still_waits rows q c.filled_of.result.now c.tag.result c.is_completed.result c.filled_of.ensures c.tag.ensures c.is_completed.ensures
+    c.if-is_completed.false in
     on_err c.begin.result (λ e. record { empty = ap (λ (fs : List Filled). filled_at fs q.at) lacks.empty; waits = waits }) c.begin.ensures.same

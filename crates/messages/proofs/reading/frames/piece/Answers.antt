@@ -19,7 +19,8 @@ returns-in-Ok c =
     let rest = c.piece_fields.result.1.now in
     let long : 33 ≤ length c.args.bytes.now = omega (arith, c.if-bytes-lt-NUMBERS.false) in
     let ranged = made_in_range c.args.ends f c.in-Some.tag rest c.requires (sym c.in-Some.ensures) (sym c.if-not-is_place.ensures) in
-    let said = piece_is_ranged c.args.ends f c.in-Some.tag c.args.bytes.now rest long c.piece_fields.ensures.numbers c.piece_fields.ensures.rest (sym c.in-Some.ensures) in
+    let said = piece_is_ranged c.args.ends f c.in-Some.tag c.args.bytes.now rest long c.piece_fields.ensures.numbers c.piece_fields.ensures.rest
+    (sym c.in-Some.ensures) in
     ap (λ (o : Option PieceParts). option_map Piece o) (said ∙ in_ranges-piece (made c.args.ends c.in-Some.tag f.at rest) ranged)
     ∙ ap (λ (bs : List ℕ). Some (Piece (made c.args.ends c.in-Some.tag f.at bs))) (sym c.in-Ok.ensures)
     ∙ ap (λ (q : PieceParts). Some (Piece q)) (sym c.new.ensures)
@@ -30,7 +31,8 @@ returns-in-Err c =
     let rest = c.piece_fields.result.1.now in
     let long : 33 ≤ length c.args.bytes.now = omega (arith, c.if-bytes-lt-NUMBERS.false) in
     let ranged = made_in_range c.args.ends f c.in-Some.tag rest c.requires (sym c.in-Some.ensures) (sym c.if-not-is_place.ensures) in
-    let said = piece_is_ranged c.args.ends f c.in-Some.tag c.args.bytes.now rest long c.piece_fields.ensures.numbers c.piece_fields.ensures.rest (sym c.in-Some.ensures) in
+    let said = piece_is_ranged c.args.ends f c.in-Some.tag c.args.bytes.now rest long c.piece_fields.ensures.numbers c.piece_fields.ensures.rest
+    (sym c.in-Some.ensures) in
     rw (said ∙ in_ranges-piece (made c.args.ends c.in-Some.tag f.at rest) ranged) refl
 
 pub returns-then-not-is_place : goal.returns-then-not-is_place
@@ -38,5 +40,6 @@ returns-then-not-is_place c =
     let f = c.piece_fields.result.0 in
     let rest = c.piece_fields.result.1.now in
     let long : 33 ≤ length c.args.bytes.now = omega (arith, c.if-bytes-lt-NUMBERS.false) in
-    let said = piece_is_ranged c.args.ends f c.in-Some.tag c.args.bytes.now rest long c.piece_fields.ensures.numbers c.piece_fields.ensures.rest (sym c.in-Some.ensures) in
+    let said = piece_is_ranged c.args.ends f c.in-Some.tag c.args.bytes.now rest long c.piece_fields.ensures.numbers c.piece_fields.ensures.rest
+    (sym c.in-Some.ensures) in
     rw (said ∙ in_ranges-no_place (made c.args.ends c.in-Some.tag f.at rest) (sym c.if-not-is_place.ensures)) refl

@@ -16,4 +16,15 @@ returns c =
     let run = c.split_u32-jobs.ensures.rest ∙ ap (drop 4) jobs in
     let attempt = c.split_u64-run.ensures.rest ∙ ap (drop 8) run in
     let value = c.split_u64-attempt.ensures.rest ∙ ap (drop 8) attempt in
-    c.in_range.ensures ∙ rw (c.split_u32-job.ensures.number, c.split_u32-jobs.ensures.number, c.split_u64-run.ensures.number, c.split_u64-attempt.ensures.number, c.split_u64-value.ensures.number, value, attempt, run, jobs, job) (sym told)
+    c.in_range.ensures ∙ rw (
+      c.split_u32-job.ensures.number,
+      c.split_u32-jobs.ensures.number,
+      c.split_u64-run.ensures.number,
+      c.split_u64-attempt.ensures.number,
+      c.split_u64-value.ensures.number,
+      value,
+      attempt,
+      run,
+      jobs,
+      job,
+    ) (sym told)

@@ -12,19 +12,22 @@ returns-then-bytes-lt-FIELDS c = sym (report_short c.args.bytes.now c.if-bytes-l
 pub returns-then-fields-gt-MAX_LISTED : goal.returns-then-fields-gt-MAX_LISTED
 returns-then-fields-gt-MAX_LISTED c =
     let r = c.report_fields in
-    sym (report_long c.args.bytes.now r.result.1.now r.result.0 c.in_ok-end.end r.ensures.numbers r.ensures.rest c.if-bytes-lt-FIELDS.false (sym c.end_numbered.ensures ∙ c.in_ok-end.was) c.if-fields-gt-MAX_LISTED.true)
+    sym (report_long c.args.bytes.now r.result.1.now r.result.0 c.in_ok-end.end r.ensures.numbers r.ensures.rest c.if-bytes-lt-FIELDS.false
+    (sym c.end_numbered.ensures ∙ c.in_ok-end.was) c.if-fields-gt-MAX_LISTED.true)
 
 pub returns-then-blocks-fields : goal.returns-then-blocks-fields
 returns-then-blocks-fields c =
     let r = c.report_fields in
-    sym (report_uneven c.args.bytes.now r.result.1.now r.result.0 c.in_ok-end.end r.ensures.numbers r.ensures.rest c.if-bytes-lt-FIELDS.false (sym c.end_numbered.ensures ∙ c.in_ok-end.was) c.if-blocks-fields.true)
+    sym (report_uneven c.args.bytes.now r.result.1.now r.result.0 c.in_ok-end.end r.ensures.numbers r.ensures.rest c.if-bytes-lt-FIELDS.false
+    (sym c.end_numbered.ensures ∙ c.in_ok-end.was) c.if-blocks-fields.true)
 
 pub returns : goal.returns
 returns c =
     let r = c.report_fields in
     let f = r.result.0 in
     let blocks = r.result.1.now in
-    let even = report_even c.args.bytes.now blocks f c.in_ok-end.end r.ensures.numbers r.ensures.rest c.if-bytes-lt-FIELDS.false (sym c.end_numbered.ensures ∙ c.in_ok-end.was) c.if-blocks-fields.false in
+    let even = report_even c.args.bytes.now blocks f c.in_ok-end.end r.ensures.numbers r.ensures.rest c.if-bytes-lt-FIELDS.false
+    (sym c.end_numbered.ensures ∙ c.in_ok-end.was) c.if-blocks-fields.false in
     let made = report_kept f c.in_ok-end.end blocks c.blocks_of.result c.in-Ok.report c.blocks_of.ensures (sym c.make.ensures ∙ c.in-Ok.is) in
     c.in_range.ensures
     ∙ ap (λ (x : ReportParts). if is_body (Report f.run f.attempt f.job f.jobs x) then Some (Report f.run f.attempt f.job f.jobs x) else None) made
@@ -35,5 +38,7 @@ returns-in-Err c =
     let r = c.report_fields in
     let f = r.result.0 in
     let blocks = r.result.1.now in
-    let even = report_even c.args.bytes.now blocks f c.in_ok-end.end r.ensures.numbers r.ensures.rest c.if-bytes-lt-FIELDS.false (sym c.end_numbered.ensures ∙ c.in_ok-end.was) c.if-blocks-fields.false in
-    sym (even ∙ report_none f blocks c.in_ok-end.end (report_refused f c.in_ok-end.end blocks c.blocks_of.result c.in-Err.field-0 c.blocks_of.ensures (sym c.make.ensures ∙ c.in-Err.is)))
+    let even = report_even c.args.bytes.now blocks f c.in_ok-end.end r.ensures.numbers r.ensures.rest c.if-bytes-lt-FIELDS.false
+    (sym c.end_numbered.ensures ∙ c.in_ok-end.was) c.if-blocks-fields.false in
+    sym (even ∙ report_none f blocks c.in_ok-end.end (report_refused f c.in_ok-end.end blocks c.blocks_of.result c.in-Err.field-0 c.blocks_of.ensures
+    (sym c.make.ensures ∙ c.in-Err.is)))
