@@ -28,11 +28,13 @@ told_of lines i = reverse (take i lines)
 
 pub told_more : (lines : List Line) (i : ℕ) (l : Line) → slice_get lines i ≡ Some l → told_of lines (i + 1) ≡ l ∷ told_of lines i
 told_more lines i l is =
-    ap (λ (ls : List Line). reverse ls) (take_more lines i l (slice_get_within lines i l is) ∙ ap (λ (x : Line). take i lines ++ x ∷ []) (get_or_from_slice_get lines i l l is))
+    ap (λ (ls : List Line). reverse ls) (take_more lines i l (slice_get_within lines i l is)
+    ∙ ap (λ (x : Line). take i lines ++ x ∷ []) (get_or_from_slice_get lines i l l is))
     ∙ reverse-append (take i lines) (l ∷ [])
 
 -- The entry of the journal that is read at an index.
-pub line_there : (lines journal : List Line) (i : ℕ) (l : Line) → lines ≡ reverse journal → i < length lines → l ≡ get_or lines i l → slice_get (reverse journal) i ≡ Some l
+pub line_there : (lines journal : List Line) (i : ℕ) (l : Line) → lines ≡ reverse journal → i < length lines → l ≡ get_or lines i l
+    → slice_get (reverse journal) i ≡ Some l
 line_there lines journal i l e low is = subst (λ (ls : List Line). slice_get ls i ≡ Some l) e (slice_get_read lines (length lines) i l refl low is)
 
 -- The whole journal has an entry behind the newer ones, and before the older.
@@ -49,7 +51,8 @@ count_more [] older = omega arith
 count_more (l ∷ newer) older = omega (arith, count_more newer older)
 
 -- The frames that an entry sent are there.
-pub frames_there : (net : Network) (lines : List Line) (i : ℕ) (l : Line) → lines ≡ reverse net.journal → slice_get lines i ≡ Some l → count_sent net.journal ≡ length net.frames
+pub frames_there : (net : Network) (lines : List Line) (i : ℕ) (l : Line) → lines ≡ reverse net.journal → slice_get lines i ≡ Some l
+    → count_sent net.journal ≡ length net.frames
     → count_sent (told_of lines i) + l.sent ≤ length net.frames
 frames_there net lines i l e is all =
     let w = whole lines i l is in
@@ -62,13 +65,16 @@ mark_here : (frames : List (List ℕ)) (older : List Line) (l : Line) (node : No
     → marks_in frames node (l ∷ older) ≡ mark_of_line frames (count_sent older) l ∷ marks_in frames node older
 mark_here frames older l node e = rw e refl
 
-one_more : (node : Node) (frames : List (List ℕ)) (l : Line) (ls : List Line) (xs ys : List Mark) → marks_in frames node ls ≡ xs ++ ys → (b : Bool) → is_same_node l.node node ≡ b
+one_more : (node : Node) (frames : List (List ℕ)) (l : Line) (ls : List Line) (xs ys : List Mark) → marks_in frames node ls ≡ xs ++ ys → (b : Bool)
+    → is_same_node l.node node ≡ b
     → (newer : List Mark) × (marks_in frames node (l ∷ ls) ≡ newer ++ ys)
-one_more node frames l ls xs ys e true same = (mark_of_line frames (count_sent ls) l ∷ xs, rw same (ap (λ (ms : List Mark). mark_of_line frames (count_sent ls) l ∷ ms) e))
+one_more node frames l ls xs ys e true same =
+    (mark_of_line frames (count_sent ls) l ∷ xs, rw same (ap (λ (ms : List Mark). mark_of_line frames (count_sent ls) l ∷ ms) e))
 one_more node frames l ls xs ys e false same = (xs, rw same e)
 
 -- The marks of older entries stand behind those of the newer.
-behind_newer : (node : Node) (frames : List (List ℕ)) (newer older : List Line) → (marks : List Mark) × (marks_in frames node (newer ++ older) ≡ marks ++ marks_in frames node older)
+behind_newer : (node : Node) (frames : List (List ℕ)) (newer older : List Line)
+    → (marks : List Mark) × (marks_in frames node (newer ++ older) ≡ marks ++ marks_in frames node older)
 behind_newer node frames [] older = ([], refl)
 behind_newer node frames (l ∷ newer) older =
     let rest = behind_newer node frames newer older in
@@ -76,7 +82,8 @@ behind_newer node frames (l ∷ newer) older =
 
 -- Behind the marks of the older entries, the journal goes on with that of an entry.
 pub goes_on_noted : (net : Network) (lines : List Line) (i : ℕ) (l : Line) → lines ≡ reverse net.journal → slice_get lines i ≡ Some l
-    → GoesOn (marks_in net.frames l.node (told_of lines i)) (marks_in net.frames l.node net.journal) (Some (mark_of_line net.frames (count_sent (told_of lines i)) l))
+    → GoesOn (marks_in net.frames l.node (told_of lines i)) (marks_in net.frames l.node net.journal)
+    (Some (mark_of_line net.frames (count_sent (told_of lines i)) l))
 goes_on_noted net lines i l e is =
     let w = whole lines i l is in
     let same : net.journal ≡ w.0 ++ l ∷ told_of lines i = sym (reverse-reverse net.journal) ∙ (ap (λ (ls : List Line). reverse ls) (sym e) ∙ w.1) in
@@ -99,7 +106,8 @@ followed_none rise r net = record {
 }
 
 -- One entry more.
-pub followed_more : (r : Ran) (net : Network) (older : List Line) (l : Line) (before : ℕ) (old new : Followed) → length r.servers ≤ 8 → before ≡ count_sent older → IsFollowed r net older old
+pub followed_more : (r : Ran) (net : Network) (older : List Line) (l : Line) (before : ℕ) (old new : Followed) → length r.servers ≤ 8
+    → before ≡ count_sent older → IsFollowed r net older old
     → IsTold l.node (history_of r l.node) (mark_of_line net.frames before l) old new → IsFollowed r net (l ∷ older) new
 followed_more r net older l before old new few sent followed told =
     let valid = has_place r l.node l.at few told.within in
@@ -124,7 +132,8 @@ followed_more r net older l before old new few sent followed told =
     next_by : is_node l.node ≡ true → (node : Node) (b : Bool) → is_same_node l.node node ≡ b → next_of new.next node ≡ next_place node (l ∷ older)
     next_by valid node true e =
         let same : l.node ≡ node = same_node l.node node e in
-        rw (told.next, e) (subst (λ (n : Node). next_of (with_next old.next l.node (l.at + 1)) n ≡ l.at + 1) same (next_same old.next l.node (l.at + 1) followed.long valid))
+        rw (told.next, e) (subst (λ (n : Node). next_of (with_next old.next l.node (l.at + 1)) n ≡ l.at + 1) same
+        (next_same old.next l.node (l.at + 1) followed.long valid))
     next_by valid node false e = rw (told.next, e) (next_other old.next l.node node (l.at + 1) e ∙ followed.next node)
 
     within_by : (node : Node) (b : Bool) → is_same_node l.node node ≡ b → next_place node (l ∷ older) ≤ length (ran node)
@@ -132,16 +141,21 @@ followed_more r net older l before old new few sent followed told =
     within_by node false e = rw e (followed.within node)
 
     here : marks_before (l.at + 1) (ran l.node) ≡ mark_of_line net.frames (count_sent older) l ∷ marks_in net.frames l.node older
-    here = rw (← sent) (told.marks ∙ ap (λ (ms : List Mark). mark_of_line net.frames before l ∷ ms) (ap (λ (n : ℕ). marks_before n (ran l.node)) from_is ∙ followed.marked l.node))
+    here = rw (← sent) (told.marks ∙ ap (λ (ms : List Mark). mark_of_line net.frames before l ∷ ms)
+        (ap (λ (n : ℕ). marks_before n (ran l.node)) from_is ∙ followed.marked l.node))
 
-    marked_by : (node : Node) (b : Bool) → is_same_node l.node node ≡ b → marks_before (next_place node (l ∷ older)) (ran node) ≡ marks_in net.frames node (l ∷ older)
+    marked_by : (node : Node) (b : Bool) → is_same_node l.node node ≡ b
+        → marks_before (next_place node (l ∷ older)) (ran node) ≡ marks_in net.frames node (l ∷ older)
     marked_by node true e =
-        rw e (subst (λ (n : Node). marks_before (l.at + 1) (ran n) ≡ mark_of_line net.frames (count_sent older) l ∷ marks_in net.frames n older) (same_node l.node node e) here)
+        rw e (subst (λ (n : Node). marks_before (l.at + 1) (ran n) ≡ mark_of_line net.frames (count_sent older) l ∷ marks_in net.frames n older)
+        (same_node l.node node e) here)
     marked_by node false e = rw e (followed.marked node)
 
 -- The next entry of the journal.
-pub followed_line : (r : Ran) (net : Network) (i : ℕ) (l : Line) (before : ℕ) (old new : Followed) → length r.servers ≤ 8 → slice_get (reverse net.journal) i ≡ Some l
-    → IsFollowed r net (told_of (reverse net.journal) i) old → before ≡ count_sent (told_of (reverse net.journal) i) → IsTold l.node (history_of r l.node) (mark_of_line net.frames before l) old new
+pub followed_line : (r : Ran) (net : Network) (i : ℕ) (l : Line) (before : ℕ) (old new : Followed) → length r.servers ≤ 8
+    → slice_get (reverse net.journal) i ≡ Some l
+    → IsFollowed r net (told_of (reverse net.journal) i) old → before ≡ count_sent (told_of (reverse net.journal) i)
+    → IsTold l.node (history_of r l.node) (mark_of_line net.frames before l) old new
     → IsFollowed r net (told_of (reverse net.journal) (i + 1)) new × (before + l.sent ≡ count_sent (told_of (reverse net.journal) (i + 1)))
 followed_line r net i l before old new few is followed sent told =
     let more = sym (told_more (reverse net.journal) i l is) in (
@@ -150,14 +164,17 @@ followed_line r net i l before old new few is followed sent told =
     )
 
 -- The place from which its node is to be followed is there.
-pub next_within : (r : Ran) (net : Network) (journal : List Line) (old : Followed) (node : Node) (list : List Logged) → IsFollowed r net journal old → list ≡ reverse (history_of r node)
+pub next_within : (r : Ran) (net : Network) (journal : List Line) (old : Followed) (node : Node) (list : List Logged) → IsFollowed r net journal old
+    → list ≡ reverse (history_of r node)
     → next_of old.next node ≤ length list
 next_within r net journal old node list followed e =
     omega (arith, followed.next node, followed.within node, ap (λ (ls : List Logged). length ls) e, length-reverse (history_of r node))
 
 -- An entry that isn't told differs from the history of its node.
-pub differs_there : (r : Ran) (net : Network) (lines : List Line) (i : ℕ) (l : Line) (before : ℕ) (old : Followed) (fault : AssembleFault) → lines ≡ reverse net.journal → slice_get lines i ≡ Some l
-    → before ≡ count_sent (told_of lines i) → IsFollowed r net (told_of lines i) old → IsUntold l.node (history_of r l.node) (next_of old.next l.node) (mark_of_line net.frames before l) fault → Differs r net fault
+pub differs_there : (r : Ran) (net : Network) (lines : List Line) (i : ℕ) (l : Line) (before : ℕ) (old : Followed) (fault : AssembleFault)
+    → lines ≡ reverse net.journal → slice_get lines i ≡ Some l
+    → before ≡ count_sent (told_of lines i) → IsFollowed r net (told_of lines i) old
+    → IsUntold l.node (history_of r l.node) (next_of old.next l.node) (mark_of_line net.frames before l) fault → Differs r net fault
 differs_there r net lines i l before old NoMemory e is sent followed untold = tt
 differs_there r net lines i l before old (Unlike n at) e is sent followed untold =
     subst (λ (node : Node). DifferAt (marks_of (history_of r node)) (marks_in net.frames node net.journal) at) (sym untold.0) (record {

@@ -1,5 +1,6 @@
 -- The marks of a history, from a place on.
-use Rattle.std.proofs.Common.{◌≡◌, ◌≢◌, refl, sym, ◌∙◌, ap, subst, ◌⊎◌, inl, inr, ℕ, zero, suc, ◌+◌, ◌-◌, ◌≤◌, ◌<◌, arith, Bool, true, false, List, [], ◌∷◌, ◌++◌, length, drop, get_or, Option, Some, None}
+use Rattle.std.proofs.Common.{◌≡◌, ◌≢◌, refl, sym, ◌∙◌, ap, subst, ◌⊎◌, inl, inr, ℕ, zero, suc, ◌+◌, ◌-◌, ◌≤◌, ◌<◌}
+use Rattle.std.proofs.Common.{arith, Bool, true, false, List, [], ◌∷◌, ◌++◌, length, drop, get_or, Option, Some, None}
 use Rattle.std.specs.Prelude.{reverse, if◌then◌else◌, slice_get}
 use Rattle.std.specs.Option.{ForSome}
 use Rattle.std.proofs.lemmas.List.{append_assoc, length-append, length-reverse}
@@ -17,7 +18,8 @@ use Rattle.assembly.specs.Order.{whole_mark, IsMarkedAt, IsOther}
 abbrev pub OneMark : ℕ → Logged → Type 0
 OneMark at l = (mark_of at l ≡ []) ⊎ (mark_of at l ≡ whole_mark at l ∷ [])
 
-one_if : (at : ℕ) (taken : Option (List ℕ)) (sent : List (List ℕ)) → (marks_if at taken sent ≡ []) ⊎ (marks_if at taken sent ≡ (record { at = at; taken = taken; sent = sent }) ∷ [])
+one_if : (at : ℕ) (taken : Option (List ℕ)) (sent : List (List ℕ))
+    → (marks_if at taken sent ≡ []) ⊎ (marks_if at taken sent ≡ (record { at = at; taken = taken; sent = sent }) ∷ [])
 one_if at None [] = inl refl
 one_if at None (f ∷ fs) = inr refl
 one_if at (Some bytes) sent = inr refl
@@ -55,11 +57,13 @@ rest_of older marks (Some m) e = (e.0 ++ m ∷ [], e.1 ∙ sym (append_assoc e.0
 pub at_place : (h : List Logged) (at : ℕ) → at < length h → (l : Logged) × (slice_get (reverse h) at ≡ Some l)
 at_place h at low = by (slice_get_cases (reverse h) at).1
   where
-    by : ((l : Logged) × (at < length (reverse h)) × (slice_get (reverse h) at ≡ Some l) × (get_or (reverse h) at l ≡ l)) ⊎ ((length (reverse h) ≤ at) × (slice_get (reverse h) at ≡ None)) → (l : Logged) × (slice_get (reverse h) at ≡ Some l)
+    by : ((l : Logged) × (at < length (reverse h)) × (slice_get (reverse h) at ≡ Some l) × (get_or (reverse h) at l ≡ l))
+        ⊎ ((length (reverse h) ≤ at) × (slice_get (reverse h) at ≡ None)) → (l : Logged) × (slice_get (reverse h) at ≡ Some l)
     by (inl p) = (p.0, p.2)
     by (inr p) = absurd (omega (arith, p.0, length-reverse h, low))
 
-one_further : (h : List Logged) (rise : MarksRise h) (from : ℕ) (l : Logged) → slice_get (reverse h) from ≡ Some l → Further h (from + 1) → OneMark from l → Further h from
+one_further : (h : List Logged) (rise : MarksRise h) (from : ℕ) (l : Logged) → slice_get (reverse h) from ≡ Some l → Further h (from + 1) → OneMark from l
+    → Further h from
 one_further h rise from l is f (inl none) =
     let same : marks_before (from + 1) h ≡ marks_before from h = rise.more from l is ∙ ap (λ (ms : List Mark). ms ++ marks_before from h) none in
     record {
@@ -68,7 +72,8 @@ one_further h rise from l is f (inl none) =
       low = λ m e. omega (arith, f.low m e);
     }
 one_further h rise from l is f (inr one) =
-    let more : marks_before (from + 1) h ≡ whole_mark from l ∷ marks_before from h = rise.more from l is ∙ ap (λ (ms : List Mark). ms ++ marks_before from h) one in
+    let more : marks_before (from + 1) h ≡ whole_mark from l ∷ marks_before from h =
+    rise.more from l is ∙ ap (λ (ms : List Mark). ms ++ marks_before from h) one in
     let rest = rest_of (marks_before (from + 1) h) (marks_of h) f.event f.goes_on in
     record {
       event = Some (whole_mark from l);
@@ -94,7 +99,8 @@ further h rise from low = further_by h rise (length h - from) from (omega (arith
 -- ---- a mark that comes next
 
 -- The event at a place is marked, and none before it from another place on: its mark comes next.
-pub comes_next : (h : List Logged) → MarksRise h → (from at : ℕ) (l : Logged) → at < length h → slice_get (reverse h) at ≡ Some l → marks_before at h ≡ marks_before from h
+pub comes_next : (h : List Logged) → MarksRise h → (from at : ℕ) (l : Logged) → at < length h → slice_get (reverse h) at ≡ Some l
+    → marks_before at h ≡ marks_before from h
     → mark_of at l ≡ whole_mark at l ∷ [] → GoesOn (marks_before from h) (marks_of h) (Some (whole_mark at l))
 comes_next h rise from at l low is same one =
     let f = further h rise (at + 1) (omega (arith, low)) in
@@ -118,14 +124,17 @@ behind : (event : Option Mark) (entry : Mark) (at : ℕ) → entry.at ≡ at →
 behind event entry at e low same = omega (arith, e, low entry same)
 
 -- They go on behind the entry's place.
-pub other_behind : (h : List Logged) → MarksRise h → (from at to : ℕ) (entry : Mark) → to ≤ length h → marks_before to h ≡ marks_before from h → entry.at ≡ at → at + 1 ≤ to → IsOther h from entry at
+pub other_behind : (h : List Logged) → MarksRise h → (from at to : ℕ) (entry : Mark) → to ≤ length h → marks_before to h ≡ marks_before from h → entry.at ≡ at
+    → at + 1 ≤ to → IsOther h from entry at
 other_behind h rise from at to entry within same e low =
     let f = further h rise to within in
-    other_than h from at entry f.event (subst (λ (older : List Mark). GoesOn older (marks_of h) f.event) same f.goes_on) e (λ m is. omega (arith, low, f.low m is))
+    other_than h from at entry f.event (subst (λ (older : List Mark). GoesOn older (marks_of h) f.event) same f.goes_on) e
+    (λ m is. omega (arith, low, f.low m is))
     (behind f.event entry at e (λ m is. omega (arith, low, f.low m is)))
 
 -- They don't go on.
-pub other_than_none : (h : List Logged) → MarksRise h → (from at : ℕ) (entry : Mark) → marks_before (length h) h ≡ marks_before from h → entry.at ≡ at → IsOther h from entry at
+pub other_than_none : (h : List Logged) → MarksRise h → (from at : ℕ) (entry : Mark) → marks_before (length h) h ≡ marks_before from h → entry.at ≡ at
+    → IsOther h from entry at
 other_than_none h rise from at entry same e =
     other_than h from at entry None (sym rise.all ∙ same) e (λ m is. absurd (cc)) (λ is. cc)
 
@@ -161,4 +170,5 @@ one_way older marks (Some m) (Some k) ha hb =
     cc
 
 pub differing : (marks noted : List Mark) (at : ℕ) → DifferAt marks noted at → marks ≡ noted → ⊥
-differing marks noted at d e = d.differ (one_way d.older marks d.event d.entry d.goes_on (subst (λ (ms : List Mark). GoesOn d.older ms d.entry) (sym e) d.is_noted))
+differing marks noted at d e =
+    d.differ (one_way d.older marks d.event d.entry d.goes_on (subst (λ (ms : List Mark). GoesOn d.older ms d.entry) (sym e) d.is_noted))

@@ -27,30 +27,35 @@ AreOpened servers n = (s : ℕ) → s < n → ForSome (slice_get servers s) (λ 
 pub opened_none : (servers : List ServerLog) → AreOpened servers 0
 opened_none servers = λ s low. absurd (omega (arith, low))
 
-pub opened_more : (servers : List ServerLog) (n : ℕ) (cell : ServerLog) → AreOpened servers n → slice_get servers n ≡ Some cell → cell.opening ≡ opening_of n → AreOpened servers (n + 1)
+pub opened_more : (servers : List ServerLog) (n : ℕ) (cell : ServerLog) → AreOpened servers n → slice_get servers n ≡ Some cell → cell.opening ≡ opening_of n
+    → AreOpened servers (n + 1)
 opened_more servers n cell opened is e s low = by (s == n) refl
   where
     by : (b : Bool) → (s == n) ≡ b → ForSome (slice_get servers s) (λ cell. cell.opening ≡ opening_of s)
     by true same =
         let eq : n ≡ s = grind (arith, nat_tests) in
-        subst (λ (k : ℕ). ForSome (slice_get servers k) (λ cell. cell.opening ≡ opening_of k)) eq (λ other is_other. let one : cell ≡ other = cc in rw (← one) e)
+        subst (λ (k : ℕ). ForSome (slice_get servers k) (λ cell. cell.opening ≡ opening_of k)) eq
+        (λ other is_other. let one : cell ≡ other = cc in rw (← one) e)
     by false apart = opened s (grind (arith, nat_tests))
 
 -- All are, and the client.
-pub all_opened : (client : ClientLog) (servers : List ServerLog) (n : ℕ) → says_nothing client.opening.noted ≡ true → client.opening.servers ≡ length servers → length servers ≤ 8 → length servers ≤ n → AreOpened servers n
+pub all_opened : (client : ClientLog) (servers : List ServerLog) (n : ℕ) → says_nothing client.opening.noted ≡ true → client.opening.servers ≡ length servers
+    → length servers ≤ 8 → length servers ≤ n → AreOpened servers n
     → (node : Node) → IsOpened (ran_of client servers) node
 all_opened client servers n blank drives few all opened Client = (blank, drives, few)
 all_opened client servers n blank drives few all opened Mirror = tt
 all_opened client servers n blank drives few all opened (Server s) = λ cell is. opened s (omega (arith, all, slice_get_within servers s cell is)) cell is
 
 -- One isn't.
-pub not_opened : (client : ClientLog) (servers : List ServerLog) (n : ℕ) (cell : ServerLog) → slice_get servers n ≡ Some cell → (cell.opening ≡ opening_of n → ⊥) → IsOpened (ran_of client servers) (Server n) → ⊥
+pub not_opened : (client : ClientLog) (servers : List ServerLog) (n : ℕ) (cell : ServerLog) → slice_get servers n ≡ Some cell
+    → (cell.opening ≡ opening_of n → ⊥) → IsOpened (ran_of client servers) (Server n) → ⊥
 not_opened client servers n cell is wrong opened = wrong (opened cell is)
 
 -- ---- seats
 
 -- A seat fits, or not.
-pub fits_cell : (r : Ran) (seat : Seated) (cell : ServerLog) → slice_get r.servers seat.server ≡ Some cell → cell.opening ≡ opening_of seat.server → Decides (is_right cell seat) (IsSeatOf r (Server seat.server) seat)
+pub fits_cell : (r : Ran) (seat : Seated) (cell : ServerLog) → slice_get r.servers seat.server ≡ Some cell → cell.opening ≡ opening_of seat.server
+    → Decides (is_right cell seat) (IsSeatOf r (Server seat.server) seat)
 fits_cell r seat cell is opened = (λ e same. right e, λ h. back (h refl))
   where
     history_is : history_of r (Server seat.server) ≡ cell.history
@@ -91,7 +96,8 @@ AreFit r seats n = (i : ℕ) (seat : Seated) → i < n → slice_get seats i ≡
 pub fit_none : (r : Ran) (seats : List Seated) → AreFit r seats 0
 fit_none r seats = λ i seat low. absurd (omega (arith, low))
 
-pub fit_more : (r : Ran) (seats : List Seated) (n : ℕ) (seat : Seated) → AreFit r seats n → slice_get seats n ≡ Some seat → IsSeatOf r (Server seat.server) seat → AreFit r seats (n + 1)
+pub fit_more : (r : Ran) (seats : List Seated) (n : ℕ) (seat : Seated) → AreFit r seats n → slice_get seats n ≡ Some seat → IsSeatOf r (Server seat.server) seat
+    → AreFit r seats (n + 1)
 fit_more r seats n seat fit is one i other low is_other = by (i == n) refl
   where
     by : (b : Bool) → (i == n) ≡ b → IsSeatOf r (Server other.server) other
@@ -110,6 +116,8 @@ all_fit r seats n fit all node = λ i d low. of_node (get_or seats i d) (fit i (
     of_node seat one same = subst (λ (k : Node). IsSeatOf r k seat) same one same
 
 -- One doesn't.
-pub not_fit : (r : Ran) (seats : List Seated) (n : ℕ) (seat : Seated) → slice_get seats n ≡ Some seat → (IsSeatOf r (Server seat.server) seat → ⊥) → All (IsSeatOf r (Server seat.server)) seats → ⊥
+pub not_fit : (r : Ran) (seats : List Seated) (n : ℕ) (seat : Seated) → slice_get seats n ≡ Some seat → (IsSeatOf r (Server seat.server) seat → ⊥)
+    → All (IsSeatOf r (Server seat.server)) seats → ⊥
 not_fit r seats n seat is wrong all =
-    wrong (subst (λ (s : Seated). IsSeatOf r (Server seat.server) s) (get_or_from_slice_get seats n seat seat is) (all n seat (slice_get_within seats n seat is)))
+    wrong (subst (λ (s : Seated). IsSeatOf r (Server seat.server) s) (get_or_from_slice_get seats n seat seat is)
+    (all n seat (slice_get_within seats n seat is)))

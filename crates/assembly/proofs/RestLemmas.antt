@@ -1,5 +1,6 @@
 -- What is left of each node behind its last entry.
-use Rattle.std.proofs.Common.{◌≡◌, refl, sym, ◌∙◌, ap, subst, ℕ, suc, ◌+◌, ◌≤◌, ◌<◌, arith, Bool, true, false, add-one, below_more, List, [], ◌++◌, length, get_or, Option, Some, None}
+use Rattle.std.proofs.Common.{◌≡◌, refl, sym, ◌∙◌, ap, subst, ℕ, suc, ◌+◌, ◌≤◌, ◌<◌, arith, Bool, true}
+use Rattle.std.proofs.Common.{false, add-one, below_more, List, [], ◌++◌, length, get_or, Option, Some, None}
 use Rattle.std.specs.Prelude.{reverse, nat_lt, Result, Ok, Err, OnOk, IfErr}
 use Rattle.std.specs.Option.{option_map_or}
 use Rattle.std.proofs.lemmas.Bool.Decides.{nat_tests}
@@ -29,8 +30,10 @@ marked_to_end rise r net node start old new followed passed =
     ∙ (passed.unmarked ∙ (ap (λ (n : ℕ). marks_before n (history_of r node)) (followed.next node) ∙ followed.marked node))
 
 -- What is left of it is added.
-pub left_added : (r : Ran) (net : Network) (node : Node) (start : Followed) (sofar old new : List Place) → IsFollowed r net net.journal start → old ≡ reverse sofar
-    → IsPassed node (history_of r node) (next_of start.next node) (length (history_of r node)) old new → new ≡ reverse (left_of (history_of r) net.journal node ++ sofar)
+pub left_added : (r : Ran) (net : Network) (node : Node) (start : Followed) (sofar old new : List Place) → IsFollowed r net net.journal start
+    → old ≡ reverse sofar
+    → IsPassed node (history_of r node) (next_of start.next node) (length (history_of r node)) old new
+    → new ≡ reverse (left_of (history_of r) net.journal node ++ sofar)
 left_added r net node start sofar old new followed e passed =
     passed.places
     ∙ rw (followed.next node, e) (sym (reverse-append (left_of (history_of r) net.journal node) sofar))
@@ -42,7 +45,8 @@ pub server_added : (r : Ran) (net : Network) (s : ℕ) (start : Followed) (old n
     → new ≡ reverse (left_below (history_of r) net.journal (suc s) ++ up_to_last (history_of r) net.journal)
 server_added r net s start old new followed e passed =
     left_added r net (Server s) start (left_below (history_of r) net.journal s ++ up_to_last (history_of r) net.journal) old new followed e passed
-    ∙ ap (λ (ps : List Place). reverse ps) (sym (append_assoc (left_of (history_of r) net.journal (Server s)) (left_below (history_of r) net.journal s) (up_to_last (history_of r) net.journal)))
+    ∙ ap (λ (ps : List Place). reverse ps) (sym (append_assoc (left_of (history_of r) net.journal (Server s)) (left_below (history_of r) net.journal s)
+    (up_to_last (history_of r) net.journal)))
 
 -- A node without a cell has no history.
 pub no_cell : (r : Ran) (s : ℕ) → length r.servers ≤ s → history_of r (Server s) ≡ []
@@ -74,27 +78,34 @@ differs_behind r net node start to (Unlike n at) followed stopped =
 -- ---- as the loop has it
 
 -- The history of a cell is that of its server.
-pub cell_history : (r : Ran) (s : ℕ) (cell : ServerLog) (list : List Logged) → s < length r.servers → cell ≡ get_or r.servers s cell → list ≡ reverse cell.history → list ≡ reverse (history_of r (Server s))
+pub cell_history : (r : Ran) (s : ℕ) (cell : ServerLog) (list : List Logged) → s < length r.servers → cell ≡ get_or r.servers s cell
+    → list ≡ reverse cell.history → list ≡ reverse (history_of r (Server s))
 cell_history r s cell list low is e =
     let found = slice_get_read r.servers (length r.servers) s cell refl low is in
     e ∙ sym (ap (λ (o : Option ServerLog). reverse (option_map_or (λ (c : ServerLog). c.history) o [])) found)
 
 -- No node is to be followed from behind its end.
-pub rest_rises : (r : Ran) (net : Network) (node : Node) (start : Followed) (next : List ℕ) (list : List Logged) → IsFollowed r net net.journal start → next ≡ start.next
+pub rest_rises : (r : Ran) (net : Network) (node : Node) (start : Followed) (next : List ℕ) (list : List Logged) → IsFollowed r net net.journal start
+    → next ≡ start.next
     → list ≡ reverse (history_of r node) → next_of next node ≤ length list
 rest_rises r net node start next list followed same e =
-    let low : next_of start.next node ≤ length list = omega (arith, followed.next node, followed.within node, ap (λ (ls : List Logged). length ls) e, length-reverse (history_of r node)) in
+    let low : next_of start.next node ≤ length list =
+    omega (arith, followed.next node, followed.within node, ap (λ (ls : List Logged). length ls) e, length-reverse (history_of r node)) in
     subst (λ (ns : List ℕ). next_of ns node ≤ length list) (sym same) low
 
 -- The places from which nodes are to be followed are those behind their last entries.
-rest_passed : (r : Ran) (node : Node) (start : Followed) (next : List ℕ) (list : List Logged) (old new : List Place) → next ≡ start.next → list ≡ reverse (history_of r node)
-    → IsPassed node (history_of r node) (next_of next node) (length list) old new → IsPassed node (history_of r node) (next_of start.next node) (length (history_of r node)) old new
+rest_passed : (r : Ran) (node : Node) (start : Followed) (next : List ℕ) (list : List Logged) (old new : List Place) → next ≡ start.next
+    → list ≡ reverse (history_of r node)
+    → IsPassed node (history_of r node) (next_of next node) (length list) old new
+    → IsPassed node (history_of r node) (next_of start.next node) (length (history_of r node)) old new
 rest_passed r node start next list old new same e passed =
     subst (λ (ns : List ℕ). IsPassed node (history_of r node) (next_of ns node) (length (history_of r node)) old new) same
-    (subst (λ (to : ℕ). IsPassed node (history_of r node) (next_of next node) to old new) (ap (λ (ls : List Logged). length ls) e ∙ length-reverse (history_of r node)) passed)
+    (subst (λ (to : ℕ). IsPassed node (history_of r node) (next_of next node) to old new)
+    (ap (λ (ls : List Logged). length ls) e ∙ length-reverse (history_of r node)) passed)
 
 -- A mark that is left of a node isn't in the journal.
-pub rest_differs : (r : Ran) (net : Network) (node : Node) (start : Followed) (next : List ℕ) (to : ℕ) (fault : AssembleFault) → IsFollowed r net net.journal start → next ≡ start.next
+pub rest_differs : (r : Ran) (net : Network) (node : Node) (start : Followed) (next : List ℕ) (to : ℕ) (fault : AssembleFault)
+    → IsFollowed r net net.journal start → next ≡ start.next
     → IsStopped node (history_of r node) (next_of next node) to fault → Differs r net fault
 rest_differs r net node start next to fault followed same stopped =
     differs_behind r net node start to fault followed (subst (λ (ns : List ℕ). IsStopped node (history_of r node) (next_of ns node) to fault) same stopped)
@@ -110,8 +121,10 @@ pub added_none : (r : Ran) (net : Network) (start : Followed) → IsFollowed r n
 added_none r net start followed = (λ s low. absurd (omega (arith, low)), followed.places, refl)
 
 -- One server more.
-pub added_more : HistoriesRise → (r : Ran) (net : Network) (start : Followed) (n : ℕ) (now then : Followed) (list : List Logged) → IsFollowed r net net.journal start → AreAdded r net start n now
-    → list ≡ reverse (history_of r (Server n)) → IsPassed (Server n) (history_of r (Server n)) (next_of now.next (Server n)) (length list) now.places then.places → then.next ≡ now.next
+pub added_more : HistoriesRise → (r : Ran) (net : Network) (start : Followed) (n : ℕ) (now then : Followed) (list : List Logged)
+    → IsFollowed r net net.journal start → AreAdded r net start n now
+    → list ≡ reverse (history_of r (Server n)) → IsPassed (Server n) (history_of r (Server n)) (next_of now.next (Server n))
+    (length list) now.places then.places → then.next ≡ now.next
     → AreAdded r net start (n + 1) then
 added_more rise r net start n now then list followed added e passed next =
     let all = rest_passed r (Server n) start now.next list now.places then.places added.2 e passed in (
@@ -122,8 +135,10 @@ added_more rise r net start n now then list followed added e passed next =
     )
 
 -- Behind the servers the client, and then all nodes are marked.
-all_marked : HistoriesRise → (r : Ran) (net : Network) (start : Followed) (n : ℕ) (now : Followed) (new : List Place) (list : List Logged) → IsFollowed r net net.journal start → AreAdded r net start n now
-    → length r.servers ≤ n → list ≡ reverse (history_of r Client) → IsPassed Client (history_of r Client) (next_of now.next Client) (length list) now.places new → (node : Node) → IsMarked r net node
+all_marked : HistoriesRise → (r : Ran) (net : Network) (start : Followed) (n : ℕ) (now : Followed) (new : List Place) (list : List Logged)
+    → IsFollowed r net net.journal start → AreAdded r net start n now
+    → length r.servers ≤ n → list ≡ reverse (history_of r Client) → IsPassed Client (history_of r Client) (next_of now.next Client) (length list) now.places new
+    → (node : Node) → IsMarked r net node
 all_marked rise r net start n now new list followed added all e passed Client =
     marked_to_end rise r net Client start now.places new followed (rest_passed r Client start now.next list now.places new added.2 e passed)
 all_marked rise r net start n now new list followed added all e passed Mirror = none_marked r net Mirror start followed refl
@@ -133,14 +148,17 @@ all_marked rise r net start n now new list followed added all e passed (Server s
     by true low = added.0 s (grind (arith, nat_tests))
     by false far = none_marked r net (Server s) start followed (no_cell r s (grind (arith, nat_tests)))
 
-pub ok_marked : HistoriesRise → (r : Ran) (net : Network) (start : Followed) (n : ℕ) (now : Followed) (new : List Place) (list : List Logged) (result : Result (Unit {0}) AssembleFault) → IsFollowed r net net.journal start
+pub ok_marked : HistoriesRise → (r : Ran) (net : Network) (start : Followed) (n : ℕ) (now : Followed) (new : List Place) (list : List Logged)
+    (result : Result (Unit {0}) AssembleFault) → IsFollowed r net net.journal start
     → AreAdded r net start n now → length r.servers ≤ n → list ≡ reverse (history_of r Client)
-    → OnOk result (IsPassed Client (history_of r Client) (next_of now.next Client) (length list) now.places new) → OnOk result ((node : Node) → IsMarked r net node)
+    → OnOk result (IsPassed Client (history_of r Client) (next_of now.next Client) (length list) now.places new)
+    → OnOk result ((node : Node) → IsMarked r net node)
 ok_marked rise r net start n now new list (Ok _) followed added all e passed = all_marked rise r net start n now new list followed added all e passed
 ok_marked rise r net start n now new list (Err _) followed added all e passed = tt
 
 -- And all is added, in the order that the journal gives.
-pub ok_merged : (r : Ran) (net : Network) (start : Followed) (n : ℕ) (now : Followed) (new : List Place) (list : List Logged) (result : Result (Unit {0}) AssembleFault) → IsFollowed r net net.journal start
+pub ok_merged : (r : Ran) (net : Network) (start : Followed) (n : ℕ) (now : Followed) (new : List Place) (list : List Logged)
+    (result : Result (Unit {0}) AssembleFault) → IsFollowed r net net.journal start
     → AreAdded r net start n now → n ≡ length r.servers → list ≡ reverse (history_of r Client)
     → OnOk result (IsPassed Client (history_of r Client) (next_of now.next Client) (length list) now.places new)
     → OnOk result (new ≡ reverse (merged_order (length r.servers) (history_of r) net.journal))
@@ -151,7 +169,8 @@ ok_merged r net start n now new list (Ok _) followed added all e passed =
 ok_merged r net start n now new list (Err _) followed added all e passed = tt
 
 -- Or a mark is left that the journal doesn't have.
-pub err_differs : (r : Ran) (net : Network) (start : Followed) (next : List ℕ) (to : ℕ) (result : Result (Unit {0}) AssembleFault) → IsFollowed r net net.journal start → next ≡ start.next
+pub err_differs : (r : Ran) (net : Network) (start : Followed) (next : List ℕ) (to : ℕ) (result : Result (Unit {0}) AssembleFault)
+    → IsFollowed r net net.journal start → next ≡ start.next
     → IfErr result (IsStopped Client (history_of r Client) (next_of next Client) to) → IfErr result (Differs r net)
 err_differs r net start next to (Ok _) followed same stopped = tt
 err_differs r net start next to (Err fault) followed same stopped = rest_differs r net Client start next to fault followed same stopped

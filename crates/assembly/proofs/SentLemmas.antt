@@ -10,11 +10,15 @@ pub record AreSame (frames : List (List ℕ)) (before : ℕ) (sent : List (List 
   pub same : take i sent ≡ take i (drop before frames)
 
 -- The frame behind so many more.
-there : (frames : List (List ℕ)) (before i : ℕ) (f : List ℕ) → slice_get frames (before + i) ≡ Some f → (i < length (drop before frames)) × (get_or (drop before frames) i [] ≡ f)
-there frames before i f is =
-    (omega (arith, slice_get_within frames (before + i) f is, length-drop before frames), get_or-drop before frames i [] ∙ get_or_from_slice_get frames (before + i) f [] is)
+there : (frames : List (List ℕ)) (before i : ℕ) (f : List ℕ) → slice_get frames (before + i) ≡ Some f
+    → (i < length (drop before frames)) × (get_or (drop before frames) i [] ≡ f)
+there frames before i f is = (
+  omega (arith, slice_get_within frames (before + i) f is, length-drop before frames),
+  get_or-drop before frames i [] ∙ get_or_from_slice_get frames (before + i) f [] is,
+)
 
-pub same_more : (frames : List (List ℕ)) (before : ℕ) (sent : List (List ℕ)) (i : ℕ) (f : List ℕ) → AreSame frames before sent i → slice_get sent i ≡ Some f → slice_get frames (before + i) ≡ Some f → AreSame frames before sent (i + 1)
+pub same_more : (frames : List (List ℕ)) (before : ℕ) (sent : List (List ℕ)) (i : ℕ) (f : List ℕ) → AreSame frames before sent i → slice_get sent i ≡ Some f
+    → slice_get frames (before + i) ≡ Some f → AreSame frames before sent (i + 1)
 same_more frames before sent i f same is also =
     let at = there frames before i f also in
     let low = slice_get_within sent i f is in
@@ -28,7 +32,8 @@ same_more frames before sent i f same is also =
     }
 
 -- All are.
-pub all_same : (frames : List (List ℕ)) (before count : ℕ) (sent : List (List ℕ)) (i : ℕ) → AreSame frames before sent i → length sent ≤ i → length sent ≡ count → sent ≡ take count (drop before frames)
+pub all_same : (frames : List (List ℕ)) (before count : ℕ) (sent : List (List ℕ)) (i : ℕ) → AreSame frames before sent i → length sent ≤ i → length sent ≡ count
+    → sent ≡ take count (drop before frames)
 all_same frames before count sent i same end long =
     let all : i ≡ length sent = omega (arith, same.within, end) in
     sym (take_all (length sent) sent (omega arith))

@@ -12,24 +12,27 @@ use Rattle.net_world.specs.Trace.{opening_of}
 use Rattle.node_traces.specs.Marks.{marks_in, marks_of}
 use Rattle.assembly.specs.Ran.{Ran, history_of}
 
--- The client was opened over a blank note, and drives just the servers that ran, eight at most; the cell
--- at each place is the server of that number, opened over a note that says of no boot and no run. There is
--- no mirror to be opened.
+-- The client was opened over a blank note, and drives just the servers that ran, eight at most; the
+-- cell at each place is the server of that number, opened over a note that says of no boot and no
+-- run. There is no mirror to be opened.
 abbrev pub IsOpened : Ran → Node → Type 0
-IsOpened r Client = (is_blank r.client.opening.noted ≡ true) × (r.client.opening.servers ≡ length r.servers) × (length r.servers ≤ MAX_SERVERS)
+IsOpened r Client = (is_blank r.client.opening.noted ≡ true)
+    × (r.client.opening.servers ≡ length r.servers) × (length r.servers ≤ MAX_SERVERS)
 IsOpened r Mirror = Unit {0}
 IsOpened r (Server s) = ForSome (slice_get r.servers s) (λ cell. cell.opening ≡ opening_of s)
 
 -- A seat of a node has applied as many events as the node's history has of it.
 abbrev pub IsSeatOf : Ran → Node → Seated → Type 0
-IsSeatOf r node seat = Server seat.server ≡ node → seat.applied ≡ times seat.number (history_of r node)
+IsSeatOf r node seat =
+    Server seat.server ≡ node → seat.applied ≡ times seat.number (history_of r node)
 
--- The events of a node that took or sent frames are just those that the journal tells of it, in its order.
+-- The events of a node that took or sent frames are just those that the journal tells of it, in its
+-- order.
 abbrev pub IsMarked : Ran → Network → Node → Type 0
 IsMarked r net node = marks_of (history_of r node) ≡ marks_in net.frames node net.journal
 
--- A node agrees with the journal: it was opened rightly, its seats that were handed in fit its history,
--- and the journal tells of its history.
+-- A node agrees with the journal: it was opened rightly, its seats that were handed in fit its
+-- history, and the journal tells of its history.
 pub record Agrees (r : Ran) (net : Network) (seats : List Seated) (node : Node) : Type 0 where
   pub opened : IsOpened r node
   pub seated : All (IsSeatOf r node) seats

@@ -1,6 +1,7 @@
--- Nodes that are followed through the journal, from the oldest entry on. Histories, journals and lists of
--- marks are newest first, the order is oldest first.
-use Rattle.std.specs.Prelude.{◌≡◌, ◌≢◌, ◌≤◌, ◌<◌, ℕ, ◌+◌, if◌then◌else◌, List, [], ◌∷◌, ◌++◌, reverse, Option, Some, slice_index_or, slice_set, length, replicate}
+-- Nodes that are followed through the journal, from the oldest entry on. Histories, journals and
+-- lists of marks are newest first, the order is oldest first.
+use Rattle.std.specs.Prelude.{◌≡◌, ◌≢◌, ◌≤◌, ◌<◌, ℕ, ◌+◌, if◌then◌else◌, List, [], ◌∷◌, ◌++◌}
+use Rattle.std.specs.Prelude.{reverse, Option, Some, slice_index_or, slice_set, length, replicate}
 use Rattle.messages.specs.declared.node.Node.{Node}
 use Rattle.messages.specs.declared.limits.TheConstants.{MAX_NODES}
 use Rattle.messages.specs.Nodes.{node_number, is_node}
@@ -16,7 +17,8 @@ use Rattle.assembly.specs.declared.fault.AssembleFault.TheVariants.{Unlike, NoMe
 use Rattle.assembly.specs.Ran.{Ran, history_of}
 use Rattle.assembly.specs.Unlike.{GoesOn, first_place, DifferAt}
 
--- An order so far, and for each node the place from which it is to be followed, by the nodes' numbers.
+-- An order so far, and for each node the place from which it is to be followed, by the nodes'
+-- numbers.
 pub record Followed : Type 0 where
   pub places : List Place
   pub next : List ℕ
@@ -33,9 +35,10 @@ with_next next node at = if is_node node then slice_set next (node_number node) 
 abbrev pub whole_mark : ℕ → Logged → Mark
 whole_mark at l = record { at = at; taken = frame_of l.came; sent = l.sent }
 
--- A node was followed from one place up to another: the events that stand there were added, and none of
--- them is marked.
-pub record IsPassed (node : Node) (h : List Logged) (from to : ℕ) (old new : List Place) : Type 0 where
+-- A node was followed from one place up to another: the events that stand there were added, and
+-- none of them is marked.
+pub record IsPassed (node : Node) (h : List Logged) (from to : ℕ)
+    (old new : List Place) : Type 0 where
   pub places : new ≡ old ++ reverse (places_between node from to h)
   pub unmarked : marks_before to h ≡ marks_before from h
 
@@ -55,7 +58,8 @@ IsStopped node h from to NoMemory = Unit {0}
 pub record IsTold (node : Node) (h : List Logged) (entry : Mark) (old new : Followed) : Type 0 where
   pub within : entry.at < length h
   pub rises : next_of old.next node ≤ entry.at
-  pub places : new.places ≡ old.places ++ reverse (places_between node (next_of old.next node) (entry.at + 1) h)
+  pub places : new.places ≡ old.places
+      ++ reverse (places_between node (next_of old.next node) (entry.at + 1) h)
   pub next : new.next ≡ with_next old.next node (entry.at + 1)
   pub marks : marks_before (entry.at + 1) h ≡ entry ∷ marks_before (next_of old.next node) h
 
@@ -70,13 +74,16 @@ pub record IsOther (h : List Logged) (from : ℕ) (entry : Mark) (at : ℕ) : Ty
 abbrev pub nothing_followed : Followed
 nothing_followed = record { places = []; next = replicate MAX_NODES 0 }
 
--- Each node was followed up to its last entry in a journal, which has the marks of its history so far.
-pub record IsFollowed (r : Ran) (net : Network) (journal : List Line) (order : Followed) : Type 0 where
+-- Each node was followed up to its last entry in a journal, which has the marks of its history so
+-- far.
+pub record IsFollowed (r : Ran) (net : Network) (journal : List Line)
+    (order : Followed) : Type 0 where
   pub long : length order.next ≡ MAX_NODES
   pub places : order.places ≡ reverse (up_to_last (history_of r) journal)
   pub next : (node : Node) → next_of order.next node ≡ next_place node journal
   pub within : (node : Node) → next_place node journal ≤ length (history_of r node)
-  pub marked : (node : Node) → marks_before (next_place node journal) (history_of r node) ≡ marks_in net.frames node journal
+  pub marked : (node : Node) → marks_before (next_place node journal) (history_of r node)
+      ≡ marks_in net.frames node journal
 
 -- Why an entry wasn't told.
 abbrev pub IsUntold : Node → List Logged → ℕ → Mark → AssembleFault → Type 0
@@ -85,5 +92,6 @@ IsUntold node h from entry NoMemory = Unit {0}
 
 -- A node's history and the journal differ at a place.
 abbrev pub Differs : Ran → Network → AssembleFault → Type 0
-Differs r net (Unlike node at) = DifferAt (marks_of (history_of r node)) (marks_in net.frames node net.journal) at
+Differs r net (Unlike node at) =
+    DifferAt (marks_of (history_of r node)) (marks_in net.frames node net.journal) at
 Differs r net NoMemory = Unit {0}

@@ -12,6 +12,7 @@ pub record Ran : Type 0 where
   pub client : ClientLog
   pub servers : List ServerLog
 
+-- What ran, by the log of the client and those of the servers.
 abbrev pub ran_of : ClientLog → List ServerLog → Ran
 ran_of client servers = record { client = client; servers = servers }
 

@@ -21,8 +21,9 @@ first_place (Some m) None = m.at
 first_place None (Some m) = m.at
 first_place (Some m) (Some k) = min m.at k.at
 
--- Up to a place two lists of marks are the same, and there they differ: behind the same older marks they go
--- on with different ones, of which the first is there, or one goes on and the other doesn't.
+-- Up to a place two lists of marks are the same, and there they differ: behind the same older marks
+-- they go on with different ones, of which the first is there, or one goes on and the other
+-- doesn't.
 pub record DifferAt (ran noted : List Mark) (at : ℕ) : Type 0 where
   pub older : List Mark
   pub event : Option Mark
@@ -32,15 +33,16 @@ pub record DifferAt (ran noted : List Mark) (at : ℕ) : Type 0 where
   pub differ : event ≢ entry
   pub at_is : at ≡ first_place event entry
 
--- What is wrong with a node at a place: it wasn't opened rightly, or a seat of it doesn't fit its history,
--- both at place 0; or its history and the journal differ there.
+-- What is wrong with a node at a place: it wasn't opened rightly, or a seat of it doesn't fit its
+-- history, both at place 0; or its history and the journal differ there.
 abbrev pub IsUnlike : Ran → Network → List Seated → Node → ℕ → Type 0
 IsUnlike r net seats node at =
     ((at ≡ 0) × (IsOpened r node → ⊥))
     ⊎ (((at ≡ 0) × (All (IsSeatOf r node) seats → ⊥))
     ⊎ DifferAt (marks_of (history_of r node)) (marks_in net.frames node net.journal) at)
 
--- Why there is no list of events: this node doesn't agree, and that is wrong with it; or memory ran out.
+-- Why there is no list of events: this node doesn't agree, and that is wrong with it; or memory ran
+-- out.
 abbrev pub IsWhy : Ran → Network → List Seated → AssembleFault → Type 0
 IsWhy r net seats (Unlike node at) = (Agrees r net seats node → ⊥) × IsUnlike r net seats node at
 IsWhy r net seats NoMemory = Unit {0}

@@ -1,5 +1,6 @@
 -- A buffer that reads fill from its front on.
-use Rattle.std.proofs.Common.{◌≡◌, ℕ, ◌+◌, List, ◌++◌, Option, None, Some, Result, Ok, Err, IfOk, length, take, drop, sym, ap, subst, ◌∙◌, append_assoc, drop_at}
+use Rattle.std.proofs.Common.{◌≡◌, ℕ, ◌+◌, List, ◌++◌, Option, None, Some, Result, Ok, Err, IfOk}
+use Rattle.std.proofs.Common.{length, take, drop, sym, ap, subst, ◌∙◌, append_assoc, drop_at}
 use Rattle.std.specs.Io.{ReadsAtMost}
 use Rattle.std.specs.Io.KnownBytes.{Consumes, Keeps, ReadConsumes}
 use lib.Seq.{take-add, take-append-le}

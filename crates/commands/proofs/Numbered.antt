@@ -5,7 +5,8 @@ use Rattle.std.proofs.lemmas.List.{take_more, flat_map_more}
 use Rattle.std.proofs.lemmas.List.FromFn.{length-enumerate_from, get_or-enumerate_from}
 
 -- One more element adds itself and its index.
-numbered_more : {X : Type 0} (xs : List X) (i : ℕ) (x : X) → i < length xs → x ≡ get_or xs i x → take (i + 1) (enumerate_from 0 xs) ≡ take i (enumerate_from 0 xs) ++ (i, x) ∷ []
+numbered_more : {X : Type 0} (xs : List X) (i : ℕ) (x : X) → i < length xs → x ≡ get_or xs i x
+    → take (i + 1) (enumerate_from 0 xs) ≡ take i (enumerate_from 0 xs) ++ (i, x) ∷ []
 numbered_more xs i x within is =
     let all = enumerate_from 0 xs in
     let inside : i < length all = subst (λ n. i < n) (sym (length-enumerate_from 0 xs)) within in
@@ -20,5 +21,6 @@ texts_more text front xs i x within is =
     flat_map_more text front (take i (enumerate_from 0 xs)) (i, x) ∙ ap (λ ps. front ++ flat_map text ps) (sym (numbered_more xs i x within is))
 
 -- At the end of the list all texts are there.
-pub texts_all : {X : Type 0} (text : ℕ × X → List ℕ) (xs : List X) (i : ℕ) → length xs ≤ i → flat_map text (take i (enumerate_from 0 xs)) ≡ flat_map text (enumerate_from 0 xs)
+pub texts_all : {X : Type 0} (text : ℕ × X → List ℕ) (xs : List X) (i : ℕ) → length xs ≤ i
+    → flat_map text (take i (enumerate_from 0 xs)) ≡ flat_map text (enumerate_from 0 xs)
 texts_all text xs i past = ap (flat_map text) (take_all i (enumerate_from 0 xs) (subst (λ n. n ≤ i) (sym (length-enumerate_from 0 xs)) past))

@@ -1,5 +1,6 @@
 -- What is answered to the front of an input that was read is the answer to the whole of it.
-use Rattle.std.proofs.Common.{◌≡◌, ◌+◌, inl, inr, ℕ, ◌<◌, ◌≤◌, Bool, true, false, nat_lt, List, ◌++◌, length, Option, None, Some, Result, Ok, Err, IfSome, slice_get, refl, sym, ap, subst, ◌∙◌, arith, append-nil, length-append}
+use Rattle.std.proofs.Common.{◌≡◌, ◌+◌, inl, inr, ℕ, ◌<◌, ◌≤◌, Bool, true, false, nat_lt, List, ◌++◌, length, Option, None, Some}
+use Rattle.std.proofs.Common.{Result, Ok, Err, IfSome, slice_get, refl, sym, ap, subst, ◌∙◌, arith, append-nil, length-append}
 use Rattle.std.proofs.lemmas.Bool.{cases_lt}
 use Rattle.std.proofs.lemmas.Bool.Decides.{nat_tests}
 use Rattle.fc_base.specs.declared.limits.TheConstants.{MAX_TEXT}
@@ -30,24 +31,28 @@ sound_is_short text sound =
     grind (arith, nat_tests)
 
 -- The lines of what was read are those of the whole.
-lines_of_whole : ShortReadsAreWhole → (text : List ℕ) (new : Option (List ℕ)) (bytes lines : List ℕ) → IsRead (MAX_TEXT + 1) (Some text) new bytes → AreLinesOf lines bytes → AreLinesOf lines text
+lines_of_whole : ShortReadsAreWhole → (text : List ℕ) (new : Option (List ℕ)) (bytes lines : List ℕ) → IsRead (MAX_TEXT + 1) (Some text) new bytes
+    → AreLinesOf lines bytes → AreLinesOf lines text
 lines_of_whole whole text new bytes lines read are =
     subst (AreLinesOf lines) (whole (MAX_TEXT + 1) text new bytes read (sound_is_short bytes are.sound)) are
 
 -- The first fault of what was read is that of the whole.
-refuses_whole : ShortReadsAreWhole → ReadsAreFronts → (text : List ℕ) (new : Option (List ℕ)) (bytes : List ℕ) (refusal : PrintedRefusal) → IsRead (MAX_TEXT + 1) (Some text) new bytes → RefusesText refusal bytes → RefusesText refusal text
+refuses_whole : ShortReadsAreWhole → ReadsAreFronts → (text : List ℕ) (new : Option (List ℕ)) (bytes : List ℕ) (refusal : PrintedRefusal)
+    → IsRead (MAX_TEXT + 1) (Some text) new bytes → RefusesText refusal bytes → RefusesText refusal text
 refuses_whole whole fronts text new bytes refusal read refuses =
     elim (cases_lt (length bytes) (MAX_TEXT + 1)) [
       | inl short ↦ subst (RefusesText refusal) (whole (MAX_TEXT + 1) text new bytes read short) refuses
       | inr long ↦ record {
         fault = refuses.fault;
-        first = refused_long text (omega (arith, long, fronts (MAX_TEXT + 1) text new bytes read)) ∙ (sym (refused_long bytes (omega (arith, long))) ∙ refuses.first);
+        first = refused_long text (omega (arith, long, fronts (MAX_TEXT + 1) text new bytes read))
+            ∙ (sym (refused_long bytes (omega (arith, long))) ∙ refuses.first);
         refused = refuses.refused;
       }
     ]
 
 -- The answer to what was read of an input is the answer to all of it.
-pub answers_whole : ShortReadsAreWhole → ReadsAreFronts → {X : Type 0} (view : X → List ℕ) (old new : Option (List ℕ)) (bytes : List ℕ) (answer : Result X PrintedRefusal)
+pub answers_whole : ShortReadsAreWhole → ReadsAreFronts → {X : Type 0} (view : X → List ℕ) (old new : Option (List ℕ)) (bytes : List ℕ)
+    (answer : Result X PrintedRefusal)
     → IsRead (MAX_TEXT + 1) old new bytes → AnswersText view answer bytes → IfSome old (AnswersText view answer)
 answers_whole whole fronts view None new bytes answer read h = tt
 answers_whole whole fronts view (Some text) new bytes (Ok lines) read h = lines_of_whole whole text new bytes (view lines) read h

@@ -64,11 +64,13 @@ job_line number job = with_blanks_between (
 
 -- The line of a note.
 abbrev pub note_line : LineNote → List ℕ
-note_line note = with_blanks_between (codes "note" ∷ decimal note.line ∷ note.option ∷ codes "has no effect here" ∷ [])
+note_line note = with_blanks_between
+    (codes "note" ∷ decimal note.line ∷ note.option ∷ codes "has no effect here" ∷ [])
 
 -- The lines of jobs, numbered from 0.
 abbrev pub job_lines : List Job → List ℕ
-job_lines jobs = flat_map (λ (number, job). with_line_feed (job_line number job)) (enumerate_from 0 jobs)
+job_lines jobs =
+    flat_map (λ (number, job). with_line_feed (job_line number job)) (enumerate_from 0 jobs)
 
 -- The lines of notes.
 abbrev pub note_lines : List LineNote → List ℕ
@@ -76,7 +78,8 @@ note_lines notes = flat_map (λ n. with_line_feed (note_line n)) notes
 
 -- The last line: how many jobs there are, and what they do.
 abbrev pub count_line : JobSet → List ℕ
-count_line set = with_blanks_between (codes "jobs" ∷ decimal (length set.jobs) ∷ codes "phase" ∷ phase_word set.phase ∷ [])
+count_line set = with_blanks_between
+    (codes "jobs" ∷ decimal (length set.jobs) ∷ codes "phase" ∷ phase_word set.phase ∷ [])
 
 -- All lines of a set: those of its notes, those of its jobs, and the count.
 abbrev pub set_lines : JobSet → List ℕ

@@ -8,7 +8,8 @@ use Rattle.printed.specs.Refusals.{plain, refusal_line}
 
 -- A script that was not read: the one line of this refusal is written.
 abbrev pub RefusesScript : Fault → Option (List ℕ) → Option (List ℕ) → ℕ → Type 0
-RefusesScript fault old new status = Finishes (with_line_feed (refusal_line (plain fault))) 2 old new status
+RefusesScript fault old new status =
+    Finishes (with_line_feed (refusal_line (plain fault))) 2 old new status
 
 -- The script has run; or it could not be read, or there was no memory for it.
 abbrev pub AnswersScript : List ℕ → Option (List ℕ) → Option (List ℕ) → ℕ → Type 0

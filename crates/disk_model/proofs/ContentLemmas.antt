@@ -1,5 +1,6 @@
 -- What a write to one run does to the content that runs stand for.
-use Rattle.std.proofs.Common.{◌≡◌, ◌≢◌, ◌==◌, ℕ, zero, suc, ne_eqb, ◌+◌, ◌*◌, ◌-◌, ◌/◌, ◌%◌, ◌<◌, ◌≤◌, ◌&&◌, Bool, true, false, cond, leb, ltb, List, length, Option, Some, refl, sym, ◌∙◌, ap, ap₂, ⊎_elim, arith, take, drop, length-drop, length-take-le}
+use Rattle.std.proofs.Common.{◌≡◌, ◌≢◌, ◌==◌, ℕ, zero, suc, ne_eqb, ◌+◌, ◌*◌, ◌-◌, ◌/◌, ◌%◌, ◌<◌, ◌≤◌, ◌&&◌, Bool, true, false, cond, leb, ltb}
+use Rattle.std.proofs.Common.{List, length, Option, Some, refl, sym, ◌∙◌, ap, ap₂, ⊎_elim, arith, take, drop, length-drop, length-take-le}
 use Rattle.std.specs.Ordering.{nat_cmp}
 use Rattle.std.specs.BTreeMap.{is_at}
 use Rattle.std.proofs.lemmas.Bool.{cases_lt, cases_eq}
@@ -29,7 +30,9 @@ is_within-in_run first count s same = ap₂ (λ a b. a && b) low high
 pub is_within-elsewhere : (first count s : ℕ) → first % 128 + count ≤ 128 → s / 128 ≢ first / 128 →
     (leb first s && ltb s (first + count)) ≡ false
 is_within-elsewhere first count s fits apart =
-    ⊎_elim (λ (lt : s < first). grind (arith, nat_tests)) (λ (le : first ≤ s). ⊎_elim (λ (lt : s < first + count). absurd (apart (omega arith))) (λ (past : first + count ≤ s). grind (arith, nat_tests)) (cases_lt s (first + count))) (cases_lt s first)
+    ⊎_elim (λ (lt : s < first). grind (arith, nat_tests))
+    (λ (le : first ≤ s). ⊎_elim (λ (lt : s < first + count). absurd (apart (omega arith))) (λ (past : first + count ≤ s). grind (arith, nat_tests))
+    (cases_lt s (first + count))) (cases_lt s first)
 
 pub content_by-landed : (runs later : ℕ → Option (List ℕ)) (singles : ℕ → List ℕ) (picks : ℕ → Bool) (run new bytes : List ℕ) (first s : ℕ) →
     runs (first / 128) ≡ Some run → later (first / 128) ≡ Some new →
@@ -44,7 +47,8 @@ content_by-landed runs later singles picks run new bytes first s had has others 
     elsewhere : s / 128 ≢ first / 128 → content_by later singles s ≡ landed picks first bytes (content_by runs singles) s
     elsewhere apart =
         ap (λ (o : Option (List ℕ)). run_sector o (singles s) (s % 128)) (others (s / 128) apart)
-        ∙ sym (ap (λ b. cond (b && picks (s - first)) (sector_of bytes (s - first)) (content_by runs singles s)) (is_within-elsewhere first (length bytes / 512) s fits apart))
+        ∙ sym (ap (λ b. cond (b && picks (s - first)) (sector_of bytes (s - first)) (content_by runs singles s))
+        (is_within-elsewhere first (length bytes / 512) s fits apart))
 
     shift : s / 128 ≡ first / 128 → s % 128 - first % 128 ≡ s - first
     shift same = omega arith
@@ -57,8 +61,10 @@ content_by-landed runs later singles picks run new bytes first s had has others 
         let below : s % 128 < 128 = omega arith in
         by_runs later new has same
         ∙ wrote (s % 128) below
-        ∙ ap (λ b. cond (b && picks (s % 128 - first % 128)) (sector_of bytes (s % 128 - first % 128)) (sector_of run (s % 128))) (is_within-in_run first (length bytes / 512) s same)
-        ∙ ap₂ (λ (k : ℕ) (l : List ℕ). cond (leb first s && ltb s (first + length bytes / 512) && picks k) (sector_of bytes k) l) (shift same) (sym (by_runs runs run had same))
+        ∙ ap (λ b. cond (b && picks (s % 128 - first % 128)) (sector_of bytes (s % 128 - first % 128)) (sector_of run (s % 128)))
+        (is_within-in_run first (length bytes / 512) s same)
+        ∙ ap₂ (λ (k : ℕ) (l : List ℕ). cond (leb first s && ltb s (first + length bytes / 512) && picks k) (sector_of bytes k) l) (shift same)
+        (sym (by_runs runs run had same))
 
 -- the order of the keys tells another key apart
 pub other_key : (k r : ℕ) → r ≢ k → is_at (nat_cmp k) r ≡ false
@@ -106,7 +112,8 @@ landed-twice picks rest first second m bytes front back old mid s rest_is second
     both_true le lt = grind (arith, nat_tests, front_len)
 
     both_behind : first + m ≤ s → (leb second s && ltb s (second + length back / 512)) ≡ (leb first s && ltb s (first + length bytes / 512))
-    both_behind le = ⊎_elim (λ (lt : s < first + length bytes / 512). grind (arith, nat_tests, back_len)) (λ (past : first + length bytes / 512 ≤ s). grind (arith, nat_tests, back_len)) (cases_lt s (first + length bytes / 512))
+    both_behind le = ⊎_elim (λ (lt : s < first + length bytes / 512). grind (arith, nat_tests, back_len))
+        (λ (past : first + length bytes / 512 ≤ s). grind (arith, nat_tests, back_len)) (cases_lt s (first + length bytes / 512))
 
     inner : s < first + m → landed picks first front old s ≡ landed picks first bytes old s
     inner lt = ⊎_elim
@@ -126,7 +133,9 @@ landed-twice picks rest first second m bytes front back old mid s rest_is second
     behind le =
         let shifted : m + (s - second) ≡ s - first = omega arith in
         let old_is = mid_is ∙ ap (λ b. cond (b && picks (s - first)) (sector_of front (s - first)) (old s)) (no_inner le) in
-        same_choice (leb second s && ltb s (second + length back / 512)) (leb first s && ltb s (first + length bytes / 512)) (rest (s - second)) (picks (s - first)) (sector_of back (s - second)) (sector_of bytes (s - first)) (mid s) (old s) (both_behind le) (rest_is (s - second) ∙ ap picks shifted)
+        same_choice (leb second s && ltb s (second + length back / 512)) (leb first s && ltb s (first + length bytes / 512)) (rest (s - second))
+        (picks (s - first)) (sector_of back (s - second)) (sector_of bytes (s - first)) (mid s) (old s) (both_behind le)
+        (rest_is (s - second) ∙ ap picks shifted)
         (ap (λ (l : List ℕ). sector_of l (s - second)) back_is ∙ sector_of-drop m bytes (s - second) ∙ ap (λ k. sector_of bytes k) shifted) old_is
 
 -- one sector is within itself alone

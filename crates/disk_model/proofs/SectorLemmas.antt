@@ -1,7 +1,9 @@
 -- Sectors of bytes: of zeros, of a part, of bytes with a part written over.
-use Rattle.std.proofs.Common.{◌≡◌, ℕ, zero, suc, ◌+◌, ◌*◌, ◌-◌, ◌/◌, ◌<◌, ◌≤◌, ◌&&◌, Bool, true, false, ◌≢◌, cond, eq-eqb, ne_eqb, leb, ltb, List, [], ◌++◌, length, take, drop, replicate, refl, sym, ◌∙◌, ap, ap₂, ⊎_elim, arith, length-drop}
+use Rattle.std.proofs.Common.{◌≡◌, ℕ, zero, suc, ◌+◌, ◌*◌, ◌-◌, ◌/◌, ◌<◌, ◌≤◌, ◌&&◌, Bool, true, false, ◌≢◌, cond, eq-eqb, ne_eqb, leb}
+use Rattle.std.proofs.Common.{ltb, List, [], ◌++◌, length, take, drop, replicate, refl, sym, ◌∙◌, ap, ap₂, ⊎_elim, arith, length-drop}
 use Rattle.std.specs.Int.{bit_at}
-use Rattle.std.proofs.lemmas.List.{append-nil, append_assoc, drop_all, take-append-le, drop-append-le, drop-drop, drop-take, take-take, take-replicate, drop-replicate, drop_at, take_all, take_at, length-take-le}
+use Rattle.std.proofs.lemmas.List.{append-nil, append_assoc, drop_all, take-append-le, drop-append-le, drop-drop, drop-take}
+use Rattle.std.proofs.lemmas.List.{take-take, take-replicate, drop-replicate, drop_at, take_all, take_at, length-take-le}
 use Rattle.std.proofs.lemmas.Bool.{cases_lt, cases_eq}
 use Rattle.std.proofs.lemmas.Bool.Decides.{nat_tests}
 use Rattle.std.proofs.Math.Seq.{take-add}
@@ -60,9 +62,11 @@ sector_of-written a k m n old part i a_is k_is fits len =
     front_len = omega (arith, length-take-le a old (omega arith))
 
     below : i < m → sector_of (take a old ++ (part ++ drop k (drop a old))) i ≡ cond (leb m i && ltb i (m + n)) (sector_of part (i - m)) (sector_of old i)
-    below lt = sector_of-left (take a old) (part ++ drop k (drop a old)) i (omega (arith, front_len)) ∙ sector_of-take a old i (omega arith) ∙ grind (arith, nat_tests)
+    below lt = sector_of-left (take a old) (part ++ drop k (drop a old)) i (omega (arith, front_len)) ∙ sector_of-take a old i (omega arith)
+        ∙ grind (arith, nat_tests)
 
-    within : m ≤ i → i < m + n → sector_of (take a old ++ (part ++ drop k (drop a old))) i ≡ cond (leb m i && ltb i (m + n)) (sector_of part (i - m)) (sector_of old i)
+    within : m ≤ i → i < m + n → sector_of (take a old ++ (part ++ drop k (drop a old))) i
+        ≡ cond (leb m i && ltb i (m + n)) (sector_of part (i - m)) (sector_of old i)
     within le lt =
         let at : i ≡ m + (i - m) = omega arith in
         ap (λ j. sector_of (take a old ++ (part ++ drop k (drop a old))) j) at
@@ -104,7 +108,8 @@ copied_one from to old part mask i j bit fits there is so_far =
         let from_is : i + 0 ≡ i = omega arith in
         rw (is, much, at) (sector_of-take 512 (drop (512 * i) from) 0 (omega arith) ∙ sector_of-drop i from 0 ∙ ap (λ k. sector_of from k) from_is)
 
-    below : j < i → cond (leb i j && ltb j (i + 1)) (sector_of part (j - i)) (sector_of to j) ≡ cond (ltb j (i + 1) && has_bit mask j) (sector_of from j) (sector_of old j)
+    below : j < i → cond (leb i j && ltb j (i + 1)) (sector_of part (j - i)) (sector_of to j)
+        ≡ cond (ltb j (i + 1) && has_bit mask j) (sector_of from j) (sector_of old j)
     below lt = grind (arith, nat_tests, so_far)
 
     is_one : i ≤ j → j < i + 1 → (leb i j && ltb j (i + 1)) ≡ true
@@ -113,15 +118,18 @@ copied_one from to old part mask i j bit fits there is so_far =
     is_before : j < i + 1 → ltb j (i + 1) ≡ true
     is_before lt = grind (arith, nat_tests)
 
-    here : i ≤ j → j < i + 1 → cond (leb i j && ltb j (i + 1)) (sector_of part (j - i)) (sector_of to j) ≡ cond (ltb j (i + 1) && has_bit mask j) (sector_of from j) (sector_of old j)
+    here : i ≤ j → j < i + 1 → cond (leb i j && ltb j (i + 1)) (sector_of part (j - i)) (sector_of to j)
+        ≡ cond (ltb j (i + 1) && has_bit mask j) (sector_of from j) (sector_of old j)
     here le lt =
         let same : j ≡ i = omega arith in
         let none : j - i ≡ 0 = omega arith in
         ap (λ b. cond b (sector_of part (j - i)) (sector_of to j)) (is_one le lt)
         ∙ ap (λ k. sector_of part k) none ∙ whole_part ∙ ap (λ k. sector_of from k) (sym same)
-        ∙ sym (ap (λ b. cond b (sector_of from j) (sector_of old j)) (ap₂ (λ a b. a && b) (is_before lt) (eq-eqb (bit_at mask j) 1 (ap (λ k. bit_at mask k) same ∙ bit))))
+        ∙ sym (ap (λ b. cond b (sector_of from j) (sector_of old j))
+        (ap₂ (λ a b. a && b) (is_before lt) (eq-eqb (bit_at mask j) 1 (ap (λ k. bit_at mask k) same ∙ bit))))
 
-    above : i + 1 ≤ j → cond (leb i j && ltb j (i + 1)) (sector_of part (j - i)) (sector_of to j) ≡ cond (ltb j (i + 1) && has_bit mask j) (sector_of from j) (sector_of old j)
+    above : i + 1 ≤ j → cond (leb i j && ltb j (i + 1)) (sector_of part (j - i)) (sector_of to j)
+        ≡ cond (ltb j (i + 1) && has_bit mask j) (sector_of from j) (sector_of old j)
     above le = grind (arith, nat_tests, so_far)
 
 -- one sector more is passed over
@@ -160,7 +168,8 @@ pub landed_part : (picks : ℕ → Bool) (old bytes part : List ℕ) (first i : 
     sector_of (take (first * 512) old ++ (part ++ drop (first * 512 + length bytes - first * 512) (drop (first * 512) old))) i
     ≡ cond (leb first i && ltb i (first + length bytes / 512) && picks (i - first)) (sector_of bytes (i - first)) (sector_of old i)
 landed_part picks old bytes part first i same whole fits copied =
-    sector_of-written (first * 512) (first * 512 + length bytes - first * 512) first (length bytes / 512) old part i (omega arith) (omega arith) (omega arith) (omega arith)
+    sector_of-written (first * 512) (first * 512 + length bytes - first * 512) first (length bytes / 512) old part i (omega arith) (omega arith) (omega arith)
+    (omega arith)
     ∙ ⊎_elim below (λ le. ⊎_elim (within le) above (cases_lt i (first + length bytes / 512))) (cases_lt i first)
   where
     below : i < first → cond (leb first i && ltb i (first + length bytes / 512)) (sector_of part (i - first)) (sector_of old i)
@@ -171,14 +180,17 @@ landed_part picks old bytes part first i same whole fits copied =
         ≡ cond (leb first i && ltb i (first + length bytes / 512) && picks (i - first)) (sector_of bytes (i - first)) (sector_of old i)
     above le = grind (arith, nat_tests)
 
-    old_sector : first ≤ i → i < first + length bytes / 512 → sector_of (take (first * 512 + length bytes - first * 512) (drop (first * 512) old)) (i - first) ≡ sector_of old i
+    old_sector : first ≤ i → i < first + length bytes / 512
+        → sector_of (take (first * 512 + length bytes - first * 512) (drop (first * 512) old)) (i - first) ≡ sector_of old i
     old_sector le lt =
         let much : first * 512 + length bytes - first * 512 ≡ length bytes = omega arith in
         let at : first * 512 ≡ 512 * first = omega arith in
         let back : first + (i - first) ≡ i = omega arith in
-        rw (much, at) (sector_of-take (length bytes) (drop (512 * first) old) (i - first) (omega arith) ∙ sector_of-drop first old (i - first) ∙ ap (λ k. sector_of old k) back)
+        rw (much, at) (sector_of-take (length bytes) (drop (512 * first) old) (i - first) (omega arith) ∙ sector_of-drop first old (i - first)
+        ∙ ap (λ k. sector_of old k) back)
 
-    within : first ≤ i → i < first + length bytes / 512 → cond (leb first i && ltb i (first + length bytes / 512)) (sector_of part (i - first)) (sector_of old i)
+    within : first ≤ i → i < first + length bytes / 512 → cond (leb first i && ltb i (first + length bytes / 512)) (sector_of part (i - first))
+        (sector_of old i)
         ≡ cond (leb first i && ltb i (first + length bytes / 512) && picks (i - first)) (sector_of bytes (i - first)) (sector_of old i)
     within le lt = grind (arith, nat_tests, copied (i - first) (omega arith), old_sector le lt)
 
@@ -190,7 +202,8 @@ sectors-append f first zero n =
 sectors-append f first (suc m) n =
     let more : suc m + n ≡ suc (m + n) = omega arith in
     let there : first + suc m ≡ first + 1 + m = omega arith in
-    rw (more, there) (ap (λ (l : List ℕ). f first ++ l) (sectors-append f (first + 1) m n) ∙ sym (append_assoc (f first) (sectors f (first + 1) m) (sectors f (first + 1 + m) n)))
+    rw (more, there) (ap (λ (l : List ℕ). f first ++ l) (sectors-append f (first + 1) m n)
+    ∙ sym (append_assoc (f first) (sectors f (first + 1) m) (sectors f (first + 1 + m) n)))
 
 -- two contents with the same sectors there
 pub sectors-same : (f g : ℕ → List ℕ) (a b count : ℕ) → ((i : ℕ) → i < count → f (a + i) ≡ g (b + i)) →

@@ -31,7 +31,8 @@ abbrev pub ReplacesOneSector : Type 0
 ReplacesOneSector =
     (file : File) (sector : ℕ) (bytes : List ℕ) → length bytes ≡ 512 →
     ((with_sector sector bytes file).content sector ≡ bytes)
-    × ((other : ℕ) → other ≢ sector → (with_sector sector bytes file).content other ≡ file.content other)
+    × ((other : ℕ) → other ≢ sector
+    → (with_sector sector bytes file).content other ≡ file.content other)
 
 -- The sectors of a file on which nothing was written are whole.
 abbrev pub StartsWhole : Type 0

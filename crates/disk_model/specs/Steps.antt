@@ -53,8 +53,8 @@ pub record Refuses {S E X D O : Type 0} (s : Steps S E X D O)
   pub unchanged : s.Stays past e new
   pub stands : s.StandsFor (s.met e NoSave ∷ past) new
 
--- The device failed in the save of what was due: the bytes are the old ones, or the spelling of what
--- was to be noted.
+-- The device failed in the save of what was due: the bytes are the old ones, or the spelling of
+-- what was to be noted.
 pub record Fails {S E X D O : Type 0} (s : Steps S E X D O)
     (past : List X) (e : E) (old new : S) : Type 0 where
   pub cause : (s.note old).failures < (s.note new).failures

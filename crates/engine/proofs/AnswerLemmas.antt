@@ -22,7 +22,8 @@ first_of_tests stopped finished full held overlaps ticket =
     cond stopped Stopped (cond finished Finished (cond full Full (cond held Held (cond overlaps Overlap (Write ticket)))))
 
 -- where the window is open, only an overlap is left
-pub open_answer : (stopped failed finished full held overlaps : Bool) (ticket : Ticket) → stopped ≡ false → failed ≡ false → finished ≡ false → Open ≡ room_by full held → first_of_tests (stopped || failed) finished full held overlaps ticket ≡ cond overlaps Overlap (Write ticket)
+pub open_answer : (stopped failed finished full held overlaps : Bool) (ticket : Ticket) → stopped ≡ false → failed ≡ false → finished ≡ false
+    → Open ≡ room_by full held → first_of_tests (stopped || failed) finished full held overlaps ticket ≡ cond overlaps Overlap (Write ticket)
 open_answer true failed finished full held overlaps ticket s a f o = cc
 open_answer false true finished full held overlaps ticket s a f o = cc
 open_answer false false true full held overlaps ticket s a f o = cc
@@ -39,7 +40,8 @@ pub record IsNext (stopped finished full held overlaps : Bool) (next ticket : Ti
   pub alone : overlaps ≡ false
   pub ticket_is : ticket ≡ next
 
-pub next_from_write : (stopped finished full held overlaps : Bool) (next ticket : Ticket) → Write ticket ≡ first_of_tests stopped finished full held overlaps next → IsNext stopped finished full held overlaps next ticket
+pub next_from_write : (stopped finished full held overlaps : Bool) (next ticket : Ticket)
+    → Write ticket ≡ first_of_tests stopped finished full held overlaps next → IsNext stopped finished full held overlaps next ticket
 next_from_write true finished full held overlaps next ticket e = cc
 next_from_write false true full held overlaps next ticket e = cc
 next_from_write false false true held overlaps next ticket e = cc
@@ -52,7 +54,9 @@ next_from_write false false false false false next ticket e =
 -- what a write as the answer says of an engine
 abbrev pub IsNextOf : Running → Ticket → Type 0
 IsNextOf r ticket =
-    IsNext (r.stopped || r.failed) (leb r.origin.job.total r.kept.issued) (leb r.origin.job.depth (length r.kept.in_flight)) (is_held r.origin.job.window r.kept.issued r.kept.in_flight) (any_goes_to r.origin.job (block_of r.origin.job r.kept.issued) r.kept.in_flight) (ticket_of r.origin r.kept.issued) ticket
+    IsNext (r.stopped || r.failed) (leb r.origin.job.total r.kept.issued) (leb r.origin.job.depth (length r.kept.in_flight))
+    (is_held r.origin.job.window r.kept.issued r.kept.in_flight) (any_goes_to r.origin.job (block_of r.origin.job r.kept.issued) r.kept.in_flight)
+    (ticket_of r.origin r.kept.issued) ticket
 
 pub next_of_write : (r : Running) (ticket : Ticket) → Write ticket ≡ answer_of r → IsNextOf r ticket
 next_of_write r ticket e = next_from_write _ _ _ _ _ _ ticket e
@@ -68,7 +72,8 @@ taken false named e = cc
 
 pub open_from_verdict : (origin : Origin) (writes : List ℕ) (ticket : Ticket) → Ok tt ≡ ticket_answer origin writes ticket → has writes ticket.seq ≡ true
 open_from_verdict origin writes ticket e =
-    (and_parts (has writes ticket.seq) _ (and_parts (is_same_key ticket.key origin.key) _ (taken (eqb ticket.boot origin.boot) (names_one_of origin writes ticket) e)).1).0
+    (and_parts (has writes ticket.seq) _ (and_parts (is_same_key ticket.key origin.key) _
+    (taken (eqb ticket.boot origin.boot) (names_one_of origin writes ticket) e)).1).0
 
 -- the window refuses only what isn't open
 pub not_refused : (is_open : Bool) (fault : Fault) → is_open ≡ true → Err fault ≡ verdict_by true is_open → ⊥

@@ -57,9 +57,13 @@ next_is at block e =
 abbrev pub answer_at : Inside → ℕ → Bool → Issue
 answer_at a block here = cond here Overlap (Write (record { boot = a.boot; key = a.key; seq = a.window.issued; block = block }))
 
-pub answer_when_open : (a : Inside) (block : ℕ) (here : Bool) → IsConsistent a → a.stopped ≡ false → a.failed ≡ false → Some block ≡ next_block a.order → Open ≡ room_of a.window → here ≡ list_any (λ (w : OpenWrite). eqb w.block block) a.open.items → answer_of (running_in a) ≡ answer_at a block here
+pub answer_when_open : (a : Inside) (block : ℕ) (here : Bool) → IsConsistent a → a.stopped ≡ false → a.failed ≡ false → Some block ≡ next_block a.order
+    → Open ≡ room_of a.window → here ≡ list_any (λ (w : OpenWrite). eqb w.block block) a.open.items → answer_of (running_in a) ≡ answer_at a block here
 answer_when_open a block here i s f n o h =
     let next = next_is (record { job = a.rec; issued = a.window.issued }) block (n ∙ ap next_block i.order) in
-    let room : Open ≡ room_by (leb a.rec.depth (length a.window.in_flight)) (is_held a.rec.window a.window.issued a.window.in_flight) = rw (← i.depth, ← i.window) o in
-    let overlap : any_goes_to a.rec (block_of a.rec a.window.issued) a.window.in_flight ≡ here = rw (← next.1, i.none_failed f) (sym (h ∙ ap (list_any (λ (w : OpenWrite). eqb w.block block)) i.open_writes ∙ any_block a.rec block a.window.open_writes)) in
+    let room : Open ≡ room_by (leb a.rec.depth (length a.window.in_flight)) (is_held a.rec.window a.window.issued a.window.in_flight) =
+    rw (← i.depth, ← i.window) o in
+    let overlap : any_goes_to a.rec (block_of a.rec a.window.issued) a.window.in_flight ≡ here =
+    rw (← next.1, i.none_failed f) (sym (h ∙ ap (list_any (λ (w : OpenWrite). eqb w.block block)) i.open_writes
+    ∙ any_block a.rec block a.window.open_writes)) in
     open_answer a.stopped a.failed _ _ _ _ _ s f next.0 room ∙ rw (overlap, next.1) refl

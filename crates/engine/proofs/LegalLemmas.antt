@@ -1,7 +1,8 @@
 -- What may be added to a legal history, and what stays as events are added.
 use Rattle.std.proofs.Common.{◌≡◌, ℕ, ◌<◌, Bool, true, false, ◌||◌, not, eqb, ltb, leb, List, [], ◌∷◌, length, refl, ap, sym, subst, ◌∙◌, arith, inl, inr}
 use Rattle.std.specs.List.{list_any}
-use Rattle.std.proofs.lemmas.Bool.{cases_Bool, cases_lt, false≢true, and_parts, and_from, or_cases, or_parts, or_left, or_right, not-true, eqb-true, eq-eqb, ltb-true, lt-ltb, leb-true, leb-false}
+use Rattle.std.proofs.lemmas.Bool.{cases_Bool, cases_lt, false≢true, and_parts, and_from, or_cases, or_parts, or_left}
+use Rattle.std.proofs.lemmas.Bool.{or_right, not-true, eqb-true, eq-eqb, ltb-true, lt-ltb, leb-true, leb-false}
 use Rattle.std.proofs.lemmas.List.{length_push}
 use Rattle.fc_base.specs.Counted.{has}
 use Rattle.fc_base.specs.declared.record.JobParts.{JobParts}
@@ -20,7 +21,8 @@ use Rattle.engine.proofs.RunningLemmas.{failed_now}
 
 -- ---- what is answered
 
-room_open : (full held : Bool) (depth window : ℕ) (h : List Event) → full ≡ false → held ≡ false → rules.HasRoom depth window h (room_by full held) → (length (in_flight h) < depth) × rules.IsClear window h
+room_open : (full held : Bool) (depth window : ℕ) (h : List Event) → full ≡ false → held ≡ false → rules.HasRoom depth window h (room_by full held)
+    → (length (in_flight h) < depth) × rules.IsClear window h
 room_open false false depth window h a b room = room
 room_open true held depth window h a b room = cc
 room_open false true depth window h a b room = cc
@@ -30,7 +32,8 @@ writes_are_legal right origin stopped h ticket some legal e =
     let job = origin.job in
     let n = next_from_write _ _ _ _ _ _ ticket (sym e) in
     let seq_is : ticket.seq ≡ issued h = ap (λ (t : Ticket). t.seq) n.ticket_is in
-    let room = room_open (leb job.depth (length (in_flight h))) (is_held job.window (issued h) (in_flight h)) job.depth job.window h n.free n.clear (right job.depth job.window h some legal.by_window) in
+    let room = room_open (leb job.depth (length (in_flight h))) (is_held job.window (issued h) (in_flight h)) job.depth job.window h n.free n.clear
+    (right job.depth job.window h some legal.by_window) in
     let unfailed = (or_parts stopped (has_failed h) n.runs).1 in
     let next : IsLegal job (issue (issued h) ∷ h) = record {
       by_window = (legal.by_window, refl, room.0, room.1);
@@ -56,12 +59,15 @@ any_where p (x ∷ ks) k h e = elim (or_cases (eqb x k) (has ks k) h) [
 ]
 
 -- no write in flight goes to the block of the next one, so an earlier write to it has completed
-next_waits : InFlightIsNotDone → (job : JobParts) (h : List Event) (j k : ℕ) → rules.IsLegal job.depth job.window h → any_goes_to job (block_of job k) (in_flight h) ≡ false → j < issued h → block_of job j ≡ block_of job k → is_done h j ≡ true
+next_waits : InFlightIsNotDone → (job : JobParts) (h : List Event) (j k : ℕ) → rules.IsLegal job.depth job.window h
+    → any_goes_to job (block_of job k) (in_flight h) ≡ false → j < issued h → block_of job j ≡ block_of job k → is_done h j ≡ true
 next_waits flying job h j k legal alone below same = elim (cases_Bool (is_done h j)) [
   | inl t ↦ t
   | inr f ↦
-      let flies : has (in_flight h) j ≡ true = flying job.depth job.window h legal j ∙ and_from (ltb j (issued h)) (not (is_done h j)) (lt-ltb j (issued h) below) (ap not f) in
-      absurd (false≢true (sym alone ∙ any_where (λ i. eqb (block_of job i) (block_of job k)) (in_flight h) j flies (eq-eqb (block_of job j) (block_of job k) same)))
+      let flies : has (in_flight h) j ≡ true =
+      flying job.depth job.window h legal j ∙ and_from (ltb j (issued h)) (not (is_done h j)) (lt-ltb j (issued h) below) (ap not f) in
+      absurd (false≢true (sym alone ∙ any_where (λ i. eqb (block_of job i) (block_of job k)) (in_flight h) j flies
+      (eq-eqb (block_of job j) (block_of job k) same)))
 ]
 
 pub later_waits : InFlightIsNotDone → LaterWaits
@@ -82,7 +88,8 @@ later_waits flying job (fail m ∷ h) j k legal lt below same =
     later_waits flying job h j k (record { by_window = legal.by_window.0; by_job = legal.by_job }) lt below same
 
 -- an earlier write in flight keeps a later one from being issued
-not_both : InFlightIsNotDone → (job : JobParts) (h : List Event) (j k : ℕ) → IsLegal job h → has (in_flight h) j ≡ true → has (in_flight h) k ≡ true → block_of job j ≡ block_of job k → j < k → ⊥
+not_both : InFlightIsNotDone → (job : JobParts) (h : List Event) (j k : ℕ) → IsLegal job h → has (in_flight h) j ≡ true → has (in_flight h) k ≡ true
+    → block_of job j ≡ block_of job k → j < k → ⊥
 not_both flying job h j k legal a b same lt =
     let first = and_parts (ltb j (issued h)) (not (is_done h j)) (sym (flying job.depth job.window h legal.by_window j) ∙ a) in
     let second = and_parts (ltb k (issued h)) (not (is_done h k)) (sym (flying job.depth job.window h legal.by_window k) ∙ b) in
@@ -107,7 +114,8 @@ stopped_by false false false true overlaps next e = cc
 stopped_by false false false false true next e = cc
 stopped_by false false false false false next e = cc
 
-finished_by : (stopped finished full held overlaps : Bool) (next : Ticket) → first_of_tests stopped finished full held overlaps next ≡ Finished → (stopped ≡ false) × (finished ≡ true)
+finished_by : (stopped finished full held overlaps : Bool) (next : Ticket) → first_of_tests stopped finished full held overlaps next ≡ Finished
+    → (stopped ≡ false) × (finished ≡ true)
 finished_by true finished full held overlaps next e = cc
 finished_by false true full held overlaps next e = (refl, refl)
 finished_by false false true held overlaps next e = cc
@@ -125,7 +133,8 @@ stays_stopped origin stopped event h e =
     rw (stays_failed stopped event h (stopped_by (stopped || has_failed h) _ _ _ _ _ e)) refl
 
 -- no write can be issued where all were
-all_issued : (job : JobParts) (event : Event) (h : List Event) → IsLegal job (event ∷ h) → leb job.total (issued h) ≡ true → leb job.total (issued (event ∷ h)) ≡ true
+all_issued : (job : JobParts) (event : Event) (h : List Event) → IsLegal job (event ∷ h) → leb job.total (issued h) ≡ true
+    → leb job.total (issued (event ∷ h)) ≡ true
 all_issued job (issue k) h legal e = absurd (omega (arith, leb-true job.total (issued h) e, legal.by_window.1, legal.by_job.1))
 all_issued job (done k) h legal e = e
 all_issued job (fail k) h legal e = e

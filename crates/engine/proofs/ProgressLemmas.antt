@@ -23,7 +23,8 @@ flying_is_open : (h : List Event) → has_failed h ≡ false → in_flight h ≡
 flying_is_open h e =
     sym (keeps_all (in_flight h)) ∙ ap (λ (fs : List ℕ). filter (λ k. not (has fs k)) (in_flight h)) (sym (none_in (failures h) e))
 
-alone : (origin : Origin) (next : ℕ) (failed : Bool) (writes : List ℕ) → 1 ≤ origin.job.depth → failed ≡ false → next < origin.job.total → writes ≡ [] → answer_by origin false failed next writes ≡ Write (ticket_of origin next)
+alone : (origin : Origin) (next : ℕ) (failed : Bool) (writes : List ℕ) → 1 ≤ origin.job.depth → failed ≡ false → next < origin.job.total → writes ≡ []
+    → answer_by origin false failed next writes ≡ Write (ticket_of origin next)
 alone origin next failed writes d f n w =
     rw (f, w, lt-leb origin.job.total next n, lt-leb origin.job.depth 0 d) refl
 

@@ -20,7 +20,9 @@ kept_is r h s = ap (λ (x : Running). x.kept) s.running_is
 pub in_window : (r : Running) (h : List Event) → StandsFor r h → window.StandsFor r.origin.job.depth r.origin.job.window r.kept h
 in_window r h s = record { legal = s.legal.by_window; kept_is = kept_is r h s }
 
-running_from : (origin : Origin) (stopped failed : Bool) (kept : Kept) (h : List Event) → failed ≡ has_failed h → kept ≡ kept_of origin.job.depth origin.job.window h → record { origin = origin; stopped = stopped; failed = failed; kept = kept } ≡ running_of origin stopped h
+running_from : (origin : Origin) (stopped failed : Bool) (kept : Kept) (h : List Event) → failed ≡ has_failed h
+    → kept ≡ kept_of origin.job.depth origin.job.window h
+    → record { origin = origin; stopped = stopped; failed = failed; kept = kept } ≡ running_of origin stopped h
 running_from origin stopped failed kept h f k = cc
 
 pub stop_step : (r : Running) (h : List Event) → StandsFor r h → StandsFor (record r { stopped = true }) h
@@ -29,7 +31,8 @@ stop_step r h s = record {
   running_is = running_from r.origin true r.failed r.kept h (failed_is r h s) (kept_is r h s);
 }
 
-pub issue_step : (r : Running) (kept : Kept) (ticket : Ticket) → IsNextOf r ticket → window.Adds r.kept kept (issue ticket.seq) → Adds r (record r { kept = kept }) (issue ticket.seq)
+pub issue_step : (r : Running) (kept : Kept) (ticket : Ticket) → IsNextOf r ticket → window.Adds r.kept kept (issue ticket.seq)
+    → Adds r (record r { kept = kept }) (issue ticket.seq)
 issue_step r kept ticket n adds h s =
     let w = adds _ _ h (in_window r h s) in
     let seq_is : ticket.seq ≡ r.kept.issued = ap (λ (t : Ticket). t.seq) n.ticket_is in

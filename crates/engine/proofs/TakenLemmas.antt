@@ -55,14 +55,16 @@ left_none_out depth window n ks =
     leb (length (uncounted window n ks)) depth && eqb (length ks) (min (2 * window) (length (counted window n ks)))
 
 -- it counts exactly the completed writes
-pub counts_the_done : CountsTheCompleted → ComesToPossible → (depth window : ℕ) (h : List Event) → rules.IsLegal depth window h → (k : ℕ) → has (counted window (issued h) (recent window h)) k ≡ is_done h k
+pub counts_the_done : CountsTheCompleted → ComesToPossible → (depth window : ℕ) (h : List Event) → rules.IsLegal depth window h → (k : ℕ)
+    → has (counted window (issued h) (recent window h)) k ≡ is_done h k
 counts_the_done counts comes depth window h legal k =
     let once = and_parts (listed_once (issued h) (recent window h)) (left_none_out depth window (issued h) (recent window h)) (comes depth window h legal) in
     let all = and_parts (is_distinct (recent window h)) _ once.0 in
     counted_where window (issued h) k (recent window h) all.1 ∙ counts depth window h legal k
 
 -- and so do its marks
-marks_count : CountsTheCompleted → MarksCountTheCompleted → (depth window : ℕ) (h : List Event) → window ≤ MAX_WINDOW → rules.IsLegal depth window h → counted_by window (issued h) (done_marks window h) ≡ counted window (issued h) (recent window h)
+marks_count : CountsTheCompleted → MarksCountTheCompleted → (depth window : ℕ) (h : List Event) → window ≤ MAX_WINDOW → rules.IsLegal depth window h
+    → counted_by window (issued h) (done_marks window h) ≡ counted window (issued h) (recent window h)
 marks_count counts marks depth window h narrow legal =
     marks depth window h narrow legal
     ∙ sym (filter_agree (is_counted window (issued h) (recent window h)) (is_done h) (counts depth window h legal) (numbers_below (issued h)))
@@ -70,25 +72,32 @@ marks_count counts marks depth window h narrow legal =
 -- ---- the state of an engine
 
 -- nothing is wrong with the fields of marks that some job can have come to
-pub no_faults : (key : Key) (job : JobParts) (n : ℕ) (marks : List ℕ) → is_key key ≡ true → n ≤ job.total → job.total ≤ MAX_WRITES → is_possible_by job.depth job.window n marks ≡ true → field_faults_by key job n marks ≡ []
+pub no_faults : (key : Key) (job : JobParts) (n : ℕ) (marks : List ℕ) → is_key key ≡ true → n ≤ job.total → job.total ≤ MAX_WRITES
+    → is_possible_by job.depth job.window n marks ≡ true → field_faults_by key job n marks ≡ []
 unfolding has_come_by
 no_faults key job n marks is_one fewer most possible =
     let come : has_come_by job n marks ≡ true = and_from _ _ (le-leb n job.total fewer) possible in
     rw (is_one, le-leb n MAX_WRITES (omega arith), come) refl
 
 -- the marks of an engine's window are those of its history
-marks_in : (r : Running) (marks : List ℕ) → window.EachHistory r.kept (λ depth window h. marks ≡ done_marks window h) → (h : List Event) → StandsFor r h → marks ≡ done_marks r.origin.job.window h
+marks_in : (r : Running) (marks : List ℕ) → window.EachHistory r.kept (λ depth window h. marks ≡ done_marks window h) → (h : List Event) → StandsFor r h
+    → marks ≡ done_marks r.origin.job.window h
 marks_in r marks each h s = each r.origin.job.depth r.origin.job.window h (in_window r h s)
 
-pub possible_in : ComesToPossibleMarks → (r : Running) (marks : List ℕ) → r.origin.job.window ≤ MAX_WINDOW → window.EachHistory r.kept (λ depth window h. marks ≡ done_marks window h) → (h : List Event) → StandsFor r h → is_possible_by r.origin.job.depth r.origin.job.window r.kept.issued marks ≡ true
+pub possible_in : ComesToPossibleMarks → (r : Running) (marks : List ℕ) → r.origin.job.window ≤ MAX_WINDOW
+    → window.EachHistory r.kept (λ depth window h. marks ≡ done_marks window h) → (h : List Event) → StandsFor r h
+    → is_possible_by r.origin.job.depth r.origin.job.window r.kept.issued marks ≡ true
 possible_in comes r marks narrow each h s =
     rw (kept_is r h s, marks_in r marks each h s) (comes r.origin.job.depth r.origin.job.window h narrow s.legal.by_window)
 
-pub counted_in : CountsTheCompleted → MarksCountTheCompleted → (r : Running) (marks : List ℕ) → r.origin.job.window ≤ MAX_WINDOW → window.EachHistory r.kept (λ depth window h. marks ≡ done_marks window h) → (h : List Event) → StandsFor r h → counted_by r.origin.job.window r.kept.issued marks ≡ counted r.origin.job.window r.kept.issued r.kept.recent
+pub counted_in : CountsTheCompleted → MarksCountTheCompleted → (r : Running) (marks : List ℕ) → r.origin.job.window ≤ MAX_WINDOW
+    → window.EachHistory r.kept (λ depth window h. marks ≡ done_marks window h) → (h : List Event) → StandsFor r h
+    → counted_by r.origin.job.window r.kept.issued marks ≡ counted r.origin.job.window r.kept.issued r.kept.recent
 counted_in counts by_marks r marks narrow each h s =
     rw (kept_is r h s, marks_in r marks each h s) (marks_count counts by_marks r.origin.job.depth r.origin.job.window h narrow s.legal.by_window)
 
-pub state_with : (key : Key) (job : JobParts) (n : ℕ) (place marks completions : List ℕ) → counted_by job.window n marks ≡ counted job.window n completions → state_by key job n place marks ≡ state_of key job n place completions
+pub state_with : (key : Key) (job : JobParts) (n : ℕ) (place marks completions : List ℕ) → counted_by job.window n marks ≡ counted job.window n completions
+    → state_by key job n place marks ≡ state_of key job n place completions
 state_with key job n place marks completions e = rw e refl
 
 pub state_of_history : (r : Running) (h : List Event) → StandsFor r h → state_now r ≡ state_after r.origin h

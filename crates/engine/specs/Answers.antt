@@ -75,8 +75,8 @@ names_one_of origin writes ticket =
     is_same_key ticket.key origin.key
     && (has writes ticket.seq && (block_of origin.job ticket.seq == ticket.block))
 
--- What `done` and `failed` answer to a ticket: one of another boot is refused, and then one that names
--- none of the open writes.
+-- What `done` and `failed` answer to a ticket: one of another boot is refused, and then one that
+-- names none of the open writes.
 abbrev pub ticket_answer : Origin → List ℕ → Ticket → Result Unit Fault
 ticket_answer origin open_writes ticket =
     if not (ticket.boot == origin.boot) then Err OldBoot

@@ -27,9 +27,9 @@ abbrev pub open_write : JobParts → ℕ → OpenWrite
 open_write job k = record { seq = k; block = block_of job k }
 
 -- The job is within its limits and the key is one that a state can have; the window has the job's
--- limits; the order stands at the next write; the open writes are those of the window, at most depth
--- of them, with room for as many; all writes in flight are open until one fails; and there is a
--- history that all this comes from.
+-- limits; the order stands at the next write; the open writes are those of the window, at most
+-- depth of them, with room for as many; all writes in flight are open until one fails; and there is
+-- a history that all this comes from.
 pub record IsConsistent (engine : Inside) : Type 0 where
   pub limits : IsTrue (is_within_limits engine.rec)
   pub key : IsTrue (is_key engine.key)

@@ -38,7 +38,8 @@ EndsAreLegal =
 -- The state after a history counts exactly its completions.
 abbrev pub StatesCountTheDone : Type 0
 StatesCountTheDone =
-    (origin : Origin) (h : List Event) → IsLegal origin.job h → CountsTheDone (state_after origin h) h
+    (origin : Origin) (h : List Event) → IsLegal origin.job h
+    → CountsTheDone (state_after origin h) h
 
 -- A write waits for each earlier one to its block.
 abbrev pub LaterWaits : Type 0
@@ -59,7 +60,8 @@ StaysStopped =
     (origin : Origin) (stopped : Bool) (event : Event) (h : List Event) →
     answer_to origin stopped h ≡ Stopped → answer_to origin stopped (event ∷ h) ≡ Stopped
 
--- A job that has issued all its writes stays so. Only the failure of one changes the answer, to Stopped.
+-- A job that has issued all its writes stays so. Only the failure of one changes the answer, to
+-- Stopped.
 abbrev pub StaysFinished : Type 0
 StaysFinished =
     (origin : Origin) (stopped : Bool) (event : Event) (h : List Event) →

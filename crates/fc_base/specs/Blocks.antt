@@ -19,13 +19,16 @@ pub record HasZerosBehind (b : Inside) : Type 0 where
 
 -- The fields that a list was shown by.
 abbrev pub kept : List ℕ → Inside
-kept blocks = record { len = length blocks; blocks = blocks ++ replicate (MAX_LISTED - length blocks) 0 }
+kept blocks =
+    record { len = length blocks; blocks = blocks ++ replicate (MAX_LISTED - length blocks) 0 }
 
 -- They are given back.
 pub kept_again : (b : Inside) → HasZerosBehind b → kept (listed b) ≡ b
 kept_again b h =
-    let len : length (take b.len b.blocks) ≡ b.len = omega (arith, length-take b.len b.blocks, h.few, h.long) in
+    let len : length (take b.len b.blocks) ≡ b.len =
+    omega (arith, length-take b.len b.blocks, h.few, h.long) in
     let whole : take b.len b.blocks ++ replicate (MAX_LISTED - b.len) 0 ≡ b.blocks =
     ap (λ l. take b.len b.blocks ++ l) (sym h.zeros) ∙ take-append-drop b.len b.blocks in
-    ap (λ (n : ℕ). let k : Inside = record { len = n; blocks = take b.len b.blocks ++ replicate (MAX_LISTED - n) 0 } in k) len
+    ap (λ (n : ℕ). let k : Inside =
+    record { len = n; blocks = take b.len b.blocks ++ replicate (MAX_LISTED - n) 0 } in k) len
     ∙ ap (λ (l : List ℕ). let k : Inside = record { len = b.len; blocks = l } in k) whole

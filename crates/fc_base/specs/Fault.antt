@@ -1,7 +1,14 @@
 -- The table of faults: what each is called, which number it has, and what sort it is of.
 use Rattle.std.specs.Prelude.{ℕ, List, codes}
 use Rattle.fc_base.specs.declared.fault.Fault.{Fault}
-use Rattle.fc_base.specs.declared.fault.Fault.TheVariants.{JobTooLong, NotAscii, BadLine, UnknownOption, BadValue, JobNoJobs, TooManyJobs, NoSize, OutOfLimits, SharedFile, MixedPhases, JobNoMemory, WrongPhase, OldBoot, NotInFlight, StateShort, StateBadMagic, StateBadField, Impossible, StateTrailing, NoMemory, OtherKey, OtherJob, OtherPlace, FrameShort, FrameBadMagic, BadKind, FrameBadField, FrameTooLong, FrameTrailing, FrameNoMemory, Off, WriteFault, ReadFault, SaveFault, BadNote, LoadFault, Old, Busy, NoJobs, Gone, Overwritten, Unknown, BadJobs, Misfit, Down, Misdirected, NoSuchRun, Conflict, NumbersSpent, TableFull, NoFrame, NodeOff, NodeOn, NoWrite, NoSave, NoServer, Unlike, UsedGeneration, BadGeneration, NoMirror, TurnsSpent, ReadError, WriteError, WrongSeat, BadNotice, EndOfInput, NoJob}
+use Rattle.fc_base.specs.declared.fault.Fault.TheVariants.{JobTooLong, NotAscii, BadLine, UnknownOption, BadValue, JobNoJobs, TooManyJobs, NoSize}
+use Rattle.fc_base.specs.declared.fault.Fault.TheVariants.{OutOfLimits, SharedFile, MixedPhases, JobNoMemory, WrongPhase, OldBoot, NotInFlight, StateShort}
+use Rattle.fc_base.specs.declared.fault.Fault.TheVariants.{StateBadMagic, StateBadField, Impossible, StateTrailing, NoMemory, OtherKey, OtherJob, OtherPlace}
+use Rattle.fc_base.specs.declared.fault.Fault.TheVariants.{FrameShort, FrameBadMagic, BadKind, FrameBadField, FrameTooLong, FrameTrailing, FrameNoMemory}
+use Rattle.fc_base.specs.declared.fault.Fault.TheVariants.{Off, WriteFault, ReadFault, SaveFault, BadNote, LoadFault, Old, Busy, NoJobs, Gone, Overwritten}
+use Rattle.fc_base.specs.declared.fault.Fault.TheVariants.{Unknown, BadJobs, Misfit, Down, Misdirected, NoSuchRun, Conflict, NumbersSpent, TableFull}
+use Rattle.fc_base.specs.declared.fault.Fault.TheVariants.{NoFrame, NodeOff, NodeOn, NoWrite, NoSave, NoServer, Unlike, UsedGeneration, BadGeneration}
+use Rattle.fc_base.specs.declared.fault.Fault.TheVariants.{NoMirror, TurnsSpent, ReadError, WriteError, WrongSeat, BadNotice, EndOfInput, NoJob}
 use Rattle.fc_base.specs.declared.fault.FaultSort.{FaultSort}
 use Rattle.fc_base.specs.declared.fault.FaultSort.TheVariants.{Memory, Save, Refusal}
 

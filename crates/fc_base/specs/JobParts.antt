@@ -12,12 +12,14 @@ has_block_size job = nat_le 512 job.bs && nat_le job.bs MAX_BLOCK_SIZE && (job.b
 -- A job has 1 to 65,536 blocks and writes 1 to 1,000,000 times.
 abbrev pub has_region : JobParts → Bool
 has_region job =
-    nat_le 1 job.blocks && nat_le job.blocks MAX_BLOCKS && (nat_le 1 job.total && nat_le job.total MAX_WRITES)
+    nat_le 1 job.blocks && nat_le job.blocks MAX_BLOCKS &&
+    (nat_le 1 job.total && nat_le job.total MAX_WRITES)
 
 -- At most 64 writes may be in flight, and the window is at least that number and at most 256.
 abbrev pub has_queue : JobParts → Bool
 has_queue job =
-    nat_le 1 job.depth && nat_le job.depth MAX_DEPTH && (nat_le job.depth job.window && nat_le job.window MAX_WINDOW)
+    nat_le 1 job.depth && nat_le job.depth MAX_DEPTH &&
+    (nat_le job.depth job.window && nat_le job.window MAX_WINDOW)
 
 -- Only a job that writes a pattern has one.
 abbrev pub has_pattern : JobParts → Bool

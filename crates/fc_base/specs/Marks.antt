@@ -11,7 +11,8 @@ use Rattle.fc_base.specs.Counted.{numbers_below}
 abbrev pub floor_of : ℕ → ℕ → ℕ
 floor_of window issued = issued - window
 
--- The word whose binary digits, the lowest first, say which of the 64 numbers from this one on pass.
+-- The word whose binary digits, the lowest first, say which of the 64 numbers from this one on
+-- pass.
 unfoldable pub word_of : (ℕ → Bool) → ℕ → ℕ
 word_of passes first = mask_l (map passes (range_with_len first 64))
 
@@ -32,7 +33,8 @@ ends_by n marks = list_all (λ i. not (is_marked marks i)) (range_with_len n (MA
 -- How many bits are set.
 abbrev pub marked_count : List ℕ → ℕ
 marked_count marks =
-    count_ones (slice_index marks 0) + count_ones (slice_index marks 1) + count_ones (slice_index marks 2)
+    count_ones (slice_index marks 0) + count_ones (slice_index marks 1) + count_ones
+    (slice_index marks 2)
     + count_ones (slice_index marks 3)
 
 -- A write counts by the marks where it lies below the floor, or its bit is set.

@@ -13,7 +13,8 @@ has_counts r = nat_le r.faults r.checked && nat_le r.checked MAX_BLOCKS
 
 -- The first 32 faulty blocks are listed, ascending.
 abbrev pub has_list : ReportParts → Bool
-has_list r = (length r.first == min r.faults MAX_LISTED) && list_all is_block r.first && ascends r.first
+has_list r = (length r.first == min r.faults MAX_LISTED) && list_all is_block r.first
+    && ascends r.first
 
 -- A check that ends at a fault has found one, and a read fault is at a block.
 abbrev pub has_end : ReportParts → Bool

@@ -30,7 +30,8 @@ jobs_by_server first (count ∷ counts) = jobs_of first count ++ jobs_by_server 
 -- Of the reports that came, that of this attempt, server and job, if it came.
 abbrev pub report_of : List Received → ℕ → ℕ → ℕ → Option ReportParts
 report_of came attempt server job =
-    option_map (λ r. r.report) (find (λ r. (r.attempt == attempt) && ((r.server == server) && (r.job == job))) came)
+    option_map (λ r. r.report) (find
+    (λ r. (r.attempt == attempt) && ((r.server == server) && (r.job == job))) came)
 
 -- The jobs of a server's open check, none where there is no check.
 abbrev pub jobs_checked : Opening → List Entry → List Job
@@ -44,8 +45,10 @@ IsAt cells server Holds = (cell : ServerLog) × (slice_get cells server ≡ Some
 pub record Checks (attempt count : ℕ) (cell : ServerLog) : Type 0 where
   pub past : List FrameEntry
   pub replay : IsReplay cell past
-  pub attempt_is : (status cell.opening (shown_entries (packets_heard cell.opening past))).attempt ≡ attempt
-  pub jobs_are : min MAX_JOBS (length (jobs_checked cell.opening (shown_entries (packets_heard cell.opening past)))) ≡ count
+  pub attempt_is : (status cell.opening (shown_entries (packets_heard cell.opening past))).attempt
+      ≡ attempt
+  pub jobs_are : min MAX_JOBS (length
+      (jobs_checked cell.opening (shown_entries (packets_heard cell.opening past)))) ≡ count
   pub some : 1 ≤ count
 
 -- By its history, a server has refused the state that came for a job of its open check.
@@ -53,11 +56,13 @@ pub record Refuses (job : ℕ) (cell : ServerLog) : Type 0 where
   pub past : List FrameEntry
   pub replay : IsReplay cell past
   pub fault : ℕ
-  pub is_refused : progress cell.opening (shown_entries (packets_heard cell.opening past)) job ≡ Some (Refused fault)
+  pub is_refused : progress cell.opening (shown_entries (packets_heard cell.opening past)) job
+      ≡ Some (Refused fault)
 
--- The end of a server's job has the report that came of it in this attempt; where none came, the server
--- has refused its state.
-pub record IsEndAt (cell : ServerLog) (came : List Received) (attempt : ℕ) (end : CheckEnd) : Type 0 where
+-- The end of a server's job has the report that came of it in this attempt; where none came, the
+-- server has refused its state.
+pub record IsEndAt (cell : ServerLog) (came : List Received) (attempt : ℕ)
+    (end : CheckEnd) : Type 0 where
   pub report_is : end.report ≡ report_of came attempt end.server end.job
   pub none_is : IfNone end.report (Refuses end.job cell)
 
@@ -65,17 +70,20 @@ pub record IsEndAt (cell : ServerLog) (came : List Received) (attempt : ℕ) (en
 abbrev pub IsEnd : List ServerLog → List Received → ℕ → CheckEnd → Type 0
 IsEnd cells came attempt end = IsAt cells end.server (λ cell. IsEndAt cell came attempt end)
 
--- The ends are those of so many of these servers, server by server: of each job that a server checks in
--- this attempt.
-pub record AreEnds (cells : List ServerLog) (came : List Received) (attempt servers : ℕ) (ends : List CheckEnd) : Type 0 where
+-- The ends are those of so many of these servers, server by server: of each job that a server
+-- checks in this attempt.
+pub record AreEnds (cells : List ServerLog) (came : List Received) (attempt servers : ℕ)
+    (ends : List CheckEnd) : Type 0 where
   pub counts : List ℕ
   pub servers_are : length counts ≡ servers
-  pub jobs_are : (server count : ℕ) → slice_get counts server ≡ Some count → IsAt cells server (Checks attempt count)
+  pub jobs_are : (server count : ℕ) → slice_get counts server ≡ Some count
+      → IsAt cells server (Checks attempt count)
   pub places : map place_of ends ≡ jobs_by_server 0 counts
   pub ends_are : All (IsEnd cells came attempt) ends
 
 -- The ends of one server more were added.
-pub record AddsEnds (cells : List ServerLog) (came : List Received) (attempt server : ℕ) (before after : List CheckEnd) : Type 0 where
+pub record AddsEnds (cells : List ServerLog) (came : List Received) (attempt server : ℕ)
+    (before after : List CheckEnd) : Type 0 where
   pub count : ℕ
   pub jobs_are : IsAt cells server (Checks attempt count)
   pub places : map place_of after ≡ map place_of before ++ jobs_of server count

@@ -16,8 +16,10 @@ use Rattle.fleet.specs.OneRun.{IsOneRun}
 pub record HasHeard (client : ClientLog) (attempt : ℕ) (came : List Received) : Type 0 where
   pub past : List FrameEntry
   pub replay : IsReplay client past
-  pub attempt_is : attempt ≡ (words_noted client.opening (shown_entries (packets_heard client.opening past))).attempts
-  pub reports_are : came ≡ reports (life client.opening (shown_entries (packets_heard client.opening past)))
+  pub attempt_is : attempt ≡ (words_noted client.opening
+      (shown_entries (packets_heard client.opening past))).attempts
+  pub reports_are : came ≡ reports (life client.opening
+      (shown_entries (packets_heard client.opening past)))
 
 -- The ends of so many servers are what the client that is left has heard in its last attempt.
 pub record AreHeard (left : FleetLeft) (servers : ℕ) (ends : List CheckEnd) : Type 0 where
@@ -26,8 +28,8 @@ pub record AreHeard (left : FleetLeft) (servers : ℕ) (ends : List CheckEnd) : 
   pub heard : HasHeard left.client attempt came
   pub ends_are : AreEnds left.servers.items came attempt servers ends
 
--- The ends of so many servers are what the client has heard in one run, which it was asked to begin and to
--- verify by these texts.
+-- The ends of so many servers are what the client has heard in one run, which it was asked to begin
+-- and to verify by these texts.
 pub record AreOfOneRun (servers : ℕ) (write read : List ℕ) (ends : List CheckEnd) : Type 0 where
   pub left : FleetLeft
   pub one_run : IsOneRun left

@@ -1,5 +1,6 @@
 -- The first line of a text, and the lines behind it.
-use Rattle.std.proofs.Common.{◌≡◌, ◌==◌, ℕ, ◌+◌, ◌<◌, Bool, true, false, cond, ◌||◌, List, [], ◌∷◌, length, take, drop, Some, None, position, refl, ◌∙◌, ap, ltb, arith}
+use Rattle.std.proofs.Common.{◌≡◌, ◌==◌, ℕ, ◌+◌, ◌<◌, Bool, true, false, cond, ◌||◌, List, [], ◌∷◌}
+use Rattle.std.proofs.Common.{length, take, drop, Some, None, position, refl, ◌∙◌, ap, ltb, arith}
 use Rattle.std.specs.List.{list_any, slice_split, onto_first, position_or_len}
 use Rattle.std.specs.Str.Lines.{lines, lines_of_parts, strip_carriage_return}
 use Rattle.std.proofs.lemmas.Bool.Decides.{nat_tests}
@@ -26,12 +27,14 @@ split_whole (x ∷ xs) none =
     ap (λ b. cond b ([] ∷ slice_split is_line_feed xs) (onto_first x (slice_split is_line_feed xs))) parts.0 ∙ ap (onto_first x) (split_whole xs parts.1)
 
 -- The first line ends at the first line feed.
-pub first_of_lines : (text : List ℕ) (end : ℕ) → position is_line_feed text ≡ Some end → lines text ≡ strip_carriage_return (take end text) ∷ lines (drop (end + 1) text)
+pub first_of_lines : (text : List ℕ) (end : ℕ) → position is_line_feed text ≡ Some end
+    → lines text ≡ strip_carriage_return (take end text) ∷ lines (drop (end + 1) text)
 first_of_lines text end is =
     let found = found_at (ltb (position_or_len is_line_feed text) (length text)) (position_or_len is_line_feed text) end is in
     let within : position_or_len is_line_feed text < length text = grind (arith, nat_tests) in
     let rest = slice_split is_line_feed (drop (end + 1) text) in
-    let parts : slice_split is_line_feed text ≡ take end text ∷ rest = slice_split_first is_line_feed text 0 within ∙ ap (λ n. take n text ∷ slice_split is_line_feed (drop (n + 1) text)) found.1 in
+    let parts : slice_split is_line_feed text ≡ take end text ∷ rest =
+    slice_split_first is_line_feed text 0 within ∙ ap (λ n. take n text ∷ slice_split is_line_feed (drop (n + 1) text)) found.1 in
     ap lines_of_parts parts ∙ lines_of_parts_more (take end text) rest (omega (arith, length-slice_split is_line_feed (drop (end + 1) text)))
 
 whole_line : (n : ℕ) (xs : List ℕ) → 0 < n → cond (n == 0) [] (xs ∷ []) ≡ xs ∷ []

@@ -1,5 +1,6 @@
 -- The jobs of a text without faults are within the limits.
-use Rattle.std.proofs.Common.{◌≡◌, ◌==◌, ℕ, ◌+◌, ◌≤◌, Bool, true, false, not, ◌||◌, nat_lt, List, [], ◌∷◌, ◌++◌, length, replicate, None, slice_get, refl, ◌∙◌, arith, length-append}
+use Rattle.std.proofs.Common.{◌≡◌, ◌==◌, ℕ, ◌+◌, ◌≤◌, Bool, true, false, not, ◌||◌, nat_lt, List, [], ◌∷◌}
+use Rattle.std.proofs.Common.{◌++◌, length, replicate, None, slice_get, refl, ◌∙◌, arith, length-append}
 use Rattle.std.specs.List.{AllByRecursion}
 use Rattle.std.proofs.lemmas.Bool.Decides.{nat_tests}
 use Rattle.std.proofs.lemmas.List.{length-replicate}
@@ -10,7 +11,8 @@ use Rattle.job_file.specs.declared.draft.Draft.{Draft}
 use Rattle.job_file.specs.declared.fault.JobFault.{JobFault}
 use Rattle.job_file.specs.declared.fault.JobFault.TheVariants.{NoJobs, TooManyJobs, NoSize, OutOfLimits}
 use Rattle.job_file.specs.declared.job.Job.{Job}
-use Rattle.job_file.specs.Draft.{copies_of, count_of, with_copies, parts_of, is_past_limits, lacks_pattern_under, verify_of, size_of, draft_faults, jobs_from, faults_from}
+use Rattle.job_file.specs.Draft.{copies_of, count_of, with_copies, parts_of, is_past_limits}
+use Rattle.job_file.specs.Draft.{lacks_pattern_under, verify_of, size_of, draft_faults, jobs_from, faults_from}
 use Rattle.job_file.specs.Fault.{when}
 use Rattle.job_file.specs.JobSet.{byte_faults, line_faults, count_faults, set_faults, faults_of}
 use Rattle.job_file.specs.Line.{lines_of}
@@ -60,7 +62,13 @@ length-jobs_from number (d ∷ ds) = let rest = length-jobs_from (number + 1) ds
 length-with_copies : (ds : List Draft) → length (with_copies ds) ≡ count_of ds
 length-with_copies [] = refl
 length-with_copies (d ∷ ds) =
-    omega (arith, length-append (replicate (copies_of d) d) (with_copies ds), length-replicate (copies_of d) d, length-with_copies ds, sum_by-cons copies_of d ds)
+    omega (
+      arith,
+      length-append (replicate (copies_of d) d) (with_copies ds),
+      length-replicate (copies_of d) d,
+      length-with_copies ds,
+      sum_by-cons copies_of d ds,
+    )
 
 count_is : (ds : List Draft) → length (jobs_from 0 (with_copies ds)) ≡ count_of ds
 count_is ds = length-jobs_from 0 (with_copies ds) ∙ length-with_copies ds
@@ -76,7 +84,8 @@ set_within ds none =
     let counted = front_none (count_faults ds) _ none in
     let jobs = front_none (faults_from 0 (with_copies ds)) _ (rest_none (count_faults ds) _ none) in
     let some = at_least (count_of ds) (not_when (count_of ds == 0) NoJobs (front_none _ _ counted)) in
-    let few : count_of ds ≤ MAX_JOBS = at_most (count_of ds) (not_when (nat_lt MAX_JOBS (count_of ds)) TooManyJobs (rest_none (when (count_of ds == 0) NoJobs) _ counted)) in
+    let few : count_of ds ≤ MAX_JOBS =
+    at_most (count_of ds) (not_when (nat_lt MAX_JOBS (count_of ds)) TooManyJobs (rest_none (when (count_of ds == 0) NoJobs) _ counted)) in
     record {
       some = omega (arith, some, count_is ds);
       few = omega (arith, few, count_is ds);

@@ -1,5 +1,6 @@
 -- What the digits that are left come to, and when a numeral is none.
-use Rattle.std.proofs.Common.{◌≡◌, ℕ, ◌+◌, ◌*◌, ◌^◌, ◌<◌, ◌≤◌, Bool, true, false, cond, ◌&&◌, List, [], ◌∷◌, length, get_or, drop, None, refl, sym, ◌∙◌, ap, inl, inr, ◌⊎◌, arith}
+use Rattle.std.proofs.Common.{◌≡◌, ℕ, ◌+◌, ◌*◌, ◌^◌, ◌<◌, ◌≤◌, Bool, true, false, cond, ◌&&◌, List, []}
+use Rattle.std.proofs.Common.{◌∷◌, length, get_or, drop, None, refl, sym, ◌∙◌, ap, inl, inr, ◌⊎◌, arith}
 use Rattle.std.specs.Char.{is_digit, digit_value}
 use Rattle.std.specs.List.{list_all}
 use Rattle.std.specs.Str.Parse.{digits_value, digits_value_after}
@@ -37,7 +38,8 @@ none_added false m none = inl refl
 none_added true m none = inr (fitting_none m none)
 
 -- A digit that can't be added leaves no number.
-pub numeral_stops : (radix : ℕ) (ds : List ℕ) (i n : ℕ) → 1 ≤ radix → i < length ds → IsSoFar radix ds i n → with_digit n radix (get_or ds i 0) ≡ None → numeral radix ds ≡ None
+pub numeral_stops : (radix : ℕ) (ds : List ℕ) (i n : ℕ) → 1 ≤ radix → i < length ds → IsSoFar radix ds i n → with_digit n radix (get_or ds i 0) ≡ None
+    → numeral radix ds ≡ None
 numeral_stops radix ds i n low more so_far none =
     let c = get_or ds i 0 in
     let all = at_drop_more (list_all (λ d. is_digit d radix)) ds i 0 more in

@@ -9,7 +9,9 @@ use Rattle.job_file.specs.declared.option.Setting.{Setting}
 use Rattle.job_file.specs.declared.settings.Settings.{Settings}
 use Rattle.job_file.specs.declared.draft.Draft.{Draft}
 use Rattle.job_file.specs.Section.{Section, own_options, sections_of, defaults_in, global_options, drafts_below, drafts_of}
-use Rattle.job_file.specs.Settings.{last_in, value_of, read_write_in, block_size_in, size_in, io_size_in, number_ios_in, io_depth_in, x_window_in, num_jobs_in, rand_seed_in, no_random_map_in, verify_in, verify_pattern_in, verify_fatal_in, verify_state_save_in, verify_state_load_in, filename_in, settings_of, none_set, with_setting}
+use Rattle.job_file.specs.Settings.{last_in, value_of, read_write_in, block_size_in, size_in, io_size_in, number_ios_in, io_depth_in}
+use Rattle.job_file.specs.Settings.{x_window_in, num_jobs_in, rand_seed_in, no_random_map_in, verify_in, verify_pattern_in, verify_fatal_in}
+use Rattle.job_file.specs.Settings.{verify_state_save_in, verify_state_load_in, filename_in, settings_of, none_set, with_setting}
 use Rattle.job_file.specs.Reader.{with_all, drafts_with}
 
 option_or_assoc : {X : Type 0} (a b c : Option X) → option_or a (option_or b c) ≡ option_or (option_or a b) c
@@ -21,16 +23,21 @@ option_or_none None = refl
 option_or_none (Some x) = refl
 
 -- An option that each line sets anew has its last value.
-value_after : {X : Type 0} (gives : Setting → Option X) (get : Settings → Option X) → ((s : Settings) (x : Setting) → get (with_setting s x) ≡ option_or (gives x) (get s)) → (s : Settings) (xs : List Setting) → get (with_all s xs) ≡ option_or (last_in gives xs) (get s)
+value_after : {X : Type 0} (gives : Setting → Option X) (get : Settings → Option X)
+    → ((s : Settings) (x : Setting) → get (with_setting s x) ≡ option_or (gives x) (get s)) → (s : Settings) (xs : List Setting)
+    → get (with_all s xs) ≡ option_or (last_in gives xs) (get s)
 value_after gives get step s [] = refl
 value_after gives get step s (x ∷ xs) =
     value_after gives get step (with_setting s x) xs ∙ ap (option_or (last_in gives xs)) (step s x) ∙ option_or_assoc (last_in gives xs) (gives x) (get s)
 
 -- The lines of the job's own section are read after those of the global sections.
-value_is : {X : Type 0} (gives : Setting → Option X) (get : Settings → Option X) → ((s : Settings) (x : Setting) → get (with_setting s x) ≡ option_or (gives x) (get s)) → get none_set ≡ None → (own above : List Setting) → get (with_all (with_all none_set above) own) ≡ value_of gives own above
+value_is : {X : Type 0} (gives : Setting → Option X) (get : Settings → Option X)
+    → ((s : Settings) (x : Setting) → get (with_setting s x) ≡ option_or (gives x) (get s)) → get none_set ≡ None → (own above : List Setting)
+    → get (with_all (with_all none_set above) own) ≡ value_of gives own above
 value_is gives get step none own above =
     value_after gives get step (with_all none_set above) own
-    ∙ ap (option_or (last_in gives own)) (value_after gives get step none_set above ∙ ap (option_or (last_in gives above)) none ∙ option_or_none (last_in gives above))
+    ∙ ap (option_or (last_in gives own)) (value_after gives get step none_set above ∙ ap (option_or (last_in gives above)) none
+    ∙ option_or_none (last_in gives above))
 
 settings_are : (own above : List Setting) → with_all (with_all none_set above) own ≡ settings_of own above
 settings_are own above =
@@ -79,7 +86,8 @@ drafts_are above [] = refl
 drafts_are above (Blank ∷ ls) = drafts_are above ls
 drafts_are above (Global ∷ ls) =
     let s : Section = record { job = None; options = own_options ls } in
-    let options = flat_map-append (λ (t : Section). defaults_in t.job t.options) above (s ∷ []) ∙ ap (λ os. global_options above ++ os) (append-nil (own_options ls)) in
+    let options =
+    flat_map-append (λ (t : Section). defaults_in t.job t.options) above (s ∷ []) ∙ ap (λ os. global_options above ++ os) (append-nil (own_options ls)) in
     ap (λ d. drafts_with d ls) (sym (ap (with_all none_set) options ∙ fold-append with_setting none_set (global_options above) (own_options ls)))
     ∙ drafts_are (above ++ s ∷ []) ls
 drafts_are above (Job n ∷ ls) =
@@ -88,7 +96,8 @@ drafts_are above (Job n ∷ ls) =
     let own = settings_are (own_options ls) (global_options above) in
     let first : Settings → Draft = λ d. record { name = n; settings = d } in
     ap (λ d. first d ∷ drafts_with (with_all none_set (global_options above)) ls) own
-    ∙ ap (λ rest. first (settings_of (own_options ls) (global_options above)) ∷ rest) (ap (λ d. drafts_with (with_all none_set d) ls) (sym options) ∙ drafts_are (above ++ s ∷ []) ls)
+    ∙ ap (λ rest. first (settings_of (own_options ls) (global_options above)) ∷ rest)
+    (ap (λ d. drafts_with (with_all none_set d) ls) (sym options) ∙ drafts_are (above ++ s ∷ []) ls)
 drafts_are above (Set setting ∷ ls) = drafts_are above ls
 drafts_are above (Ignored name ∷ ls) = drafts_are above ls
 drafts_are above (Faulty fault ∷ ls) = drafts_are above ls

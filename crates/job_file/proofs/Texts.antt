@@ -1,5 +1,6 @@
 -- Which bytes names have, and where a line's `=` stands.
-use Rattle.std.proofs.Common.{◌≡◌, ℕ, ◌+◌, ◌<◌, Bool, true, false, cond, not, ◌&&◌, ◌||◌, zero, suc, List, [], ◌∷◌, length, drop, Some, None, position, refl, sym, ◌∙◌, ap, ltb, arith, lit<}
+use Rattle.std.proofs.Common.{◌≡◌, ℕ, ◌+◌, ◌<◌, Bool, true, false, cond, not, ◌&&◌, ◌||◌, zero, suc, List, []}
+use Rattle.std.proofs.Common.{◌∷◌, length, drop, Some, None, position, refl, sym, ◌∙◌, ap, ltb, arith, lit<}
 use Rattle.std.specs.List.{list_all, list_any, position_or_len}
 use Rattle.std.specs.Str.{IsAscii, IsUtf8}
 use Rattle.std.proofs.lemmas.Bool.Decides.{nat_tests}
@@ -45,7 +46,8 @@ pub list_any_is : {X : Type 0} (p : X → Bool) (xs : List X) → list_any p xs 
 list_any_is p [] = refl
 list_any_is p (x ∷ xs) = by_head (p x) (list_any_is p xs)
   where
-    by_head : (b : Bool) → list_any p xs ≡ ltb (position_or_len p xs) (length xs) → (b || list_any p xs) ≡ ltb (cond (not b) (1 + position_or_len p xs) 0) (suc (length xs))
+    by_head : (b : Bool) → list_any p xs ≡ ltb (position_or_len p xs) (length xs)
+        → (b || list_any p xs) ≡ ltb (cond (not b) (1 + position_or_len p xs) 0) (suc (length xs))
     by_head true rest = sym (first_is_within (length xs))
     by_head false rest = rest ∙ sym (next_is_within (position_or_len p xs) (length xs))
 

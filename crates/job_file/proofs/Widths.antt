@@ -1,5 +1,6 @@
 -- The seeds and patterns of a text's jobs fit into their widths.
-use Rattle.std.proofs.Common.{◌≡◌, refl, ℕ, zero, suc, ◌+◌, ◌^◌, ◌<◌, ◌≤◌, arith, mod-lt, Bool, true, false, ◌&&◌, List, [], ◌∷◌, ◌++◌, length, drop, Option, None, Some}
+use Rattle.std.proofs.Common.{◌≡◌, refl, ℕ, zero, suc, ◌+◌, ◌^◌, ◌<◌, ◌≤◌, arith, mod-lt, Bool, true}
+use Rattle.std.proofs.Common.{false, ◌&&◌, List, [], ◌∷◌, ◌++◌, length, drop, Option, None, Some}
 use Rattle.std.specs.Prelude.{if◌then◌else◌, not, nat_lt, nat_le, nat_eq, map, replicate, option_map, bytes_eq, codes, take, ◌-◌}
 use Rattle.std.specs.Option.{option_or}
 use Rattle.std.specs.List.{AllByRecursion, flat_map, list_all, starts_with, ends_with}
@@ -19,9 +20,11 @@ use Rattle.job_file.specs.declared.option.OptionName.TheVariants as names
 use Rattle.job_file.specs.declared.option.Setting.{Setting}
 use Rattle.job_file.specs.declared.option.Setting.TheVariants as set
 use Rattle.job_file.specs.Number.{numeral, fitting, is_hexadecimal, number_of}
-use Rattle.job_file.specs.Setting.{read_write_of, switch_or_on, copies_of, verify_of, pattern_of, filename_of, required_value, setting_of, option_named, is_ignored}
+use Rattle.job_file.specs.Setting.{read_write_of, switch_or_on, copies_of, verify_of, pattern_of}
+use Rattle.job_file.specs.Setting.{filename_of, required_value, setting_of, option_named, is_ignored}
 use Rattle.job_file.specs.Settings.{verify_pattern_in, last_in}
-use Rattle.job_file.specs.Line.{is_skipped, is_section_name, section_named, section_of, is_option_name, name_in, value_in, with_setting, with_option, option_of, content_of, line_of, lines_of}
+use Rattle.job_file.specs.Line.{is_skipped, is_section_name, section_named, section_of, is_option_name, name_in}
+use Rattle.job_file.specs.Line.{value_in, with_setting, with_option, option_of, content_of, line_of, lines_of}
 use Rattle.job_file.specs.Bytes.{trimmed}
 use Rattle.job_file.specs.Section.{Section, own_options, sections_of, defaults_in, global_options, drafts_below, drafts_of}
 use Rattle.job_file.specs.Draft as drafts
@@ -34,7 +37,8 @@ all_append : {X : Type 0} (P : X → Type 0) (xs ys : List X) → AllByRecursion
 all_append P [] ys a b = b
 all_append P (x ∷ xs) ys a b = (a.0, all_append P xs ys a.1 b)
 
-all_flat : {X Y : Type 0} (Q : X → Type 0) (P : Y → Type 0) (f : X → List Y) (xs : List X) → ((x : X) → Q x → AllByRecursion P (f x)) → AllByRecursion Q xs → AllByRecursion P (flat_map f xs)
+all_flat : {X Y : Type 0} (Q : X → Type 0) (P : Y → Type 0) (f : X → List Y) (xs : List X) → ((x : X) → Q x → AllByRecursion P (f x)) → AllByRecursion Q xs
+    → AllByRecursion P (flat_map f xs)
 all_flat Q P f [] h a = tt
 all_flat Q P f (x ∷ xs) h a = all_append P (f x) (flat_map f xs) (h x a.0) (all_flat Q P f xs h a.1)
 
@@ -103,7 +107,8 @@ mapped : {X : Type 0} (f : X → Setting) (x : Option X) → ((v : X) → Settin
 mapped f None h = tt
 mapped f (Some v) h = h v
 
-needed_fits : {X : Type 0} (of : List ℕ → Option X) (f : X → Setting) (value : Option (List ℕ)) → ((v : X) → SettingFits (f v)) → SomeFits (required_value of f value)
+needed_fits : {X : Type 0} (of : List ℕ → Option X) (f : X → Setting) (value : Option (List ℕ)) → ((v : X) → SettingFits (f v))
+    → SomeFits (required_value of f value)
 needed_fits of f None h = tt
 needed_fits of f (Some value) h = mapped f (of value) h
 
@@ -154,7 +159,8 @@ named_fits : (name : List ℕ) → LineFits (section_named name)
 named_fits name = either (not (is_section_name name)) (Faulty BadLine) _ tt (either (bytes_eq name (codes "global")) Global (Job name) tt tt)
 
 section_fits : (rest : List ℕ) → LineFits (section_of rest)
-section_fits rest = either (ends_with nat_eq rest (codes "]")) (section_named (take (length rest - 1) rest)) (Faulty BadLine) (named_fits (take (length rest - 1) rest)) tt
+section_fits rest =
+    either (ends_with nat_eq rest (codes "]")) (section_named (take (length rest - 1) rest)) (Faulty BadLine) (named_fits (take (length rest - 1) rest)) tt
 
 content_fits : (line : List ℕ) → LineFits (content_of line)
 content_fits line =
@@ -198,7 +204,8 @@ last_fits (s ∷ ss) h = or_fits (last_in verify_pattern_in ss) (verify_pattern_
 abbrev DraftFits : Draft → Type 0
 DraftFits d = PatternFits d.settings.verify_pattern
 
-drafts_fit : (above : List Section) (below : List Line) → AllByRecursion SectionFits above → AllByRecursion LineFits below → AllByRecursion DraftFits (drafts_below above (sections_of below))
+drafts_fit : (above : List Section) (below : List Line) → AllByRecursion SectionFits above → AllByRecursion LineFits below
+    → AllByRecursion DraftFits (drafts_below above (sections_of below))
 drafts_fit above [] a h = tt
 drafts_fit above (Blank ∷ ls) a h = drafts_fit above ls a h.1
 drafts_fit above (Global ∷ ls) a h =
@@ -206,7 +213,8 @@ drafts_fit above (Global ∷ ls) a h =
     drafts_fit (above ++ s ∷ []) ls (all_append SectionFits above (s ∷ []) a (own_fit ls h.1, tt)) h.1
 drafts_fit above (Job name ∷ ls) a h =
     let s : Section = record { job = Some name; options = own_options ls } in (
-      or_fits (last_in verify_pattern_in (own_options ls)) (last_in verify_pattern_in (global_options above)) (last_fits (own_options ls) (own_fit ls h.1)) (last_fits (global_options above) (globals_fit above a)),
+      or_fits (last_in verify_pattern_in (own_options ls)) (last_in verify_pattern_in (global_options above)) (last_fits (own_options ls) (own_fit ls h.1))
+          (last_fits (global_options above) (globals_fit above a)),
       drafts_fit (above ++ s ∷ []) ls (all_append SectionFits above (s ∷ []) a (own_fit ls h.1, tt)) h.1,
     )
 drafts_fit above (Set s ∷ ls) a h = drafts_fit above ls a h.1
@@ -234,4 +242,5 @@ numbered_fit n [] h = tt
 numbered_fit n (d ∷ ds) h = (job_fits n d h.0, numbered_fit (n + 1) ds h.1)
 
 pub jobs_fit : JobsFit
-jobs_fit text = numbered_fit 0 (with_copies (drafts_of (lines_of text))) (copies_fit (drafts_of (lines_of text)) (drafts_fit [] (lines_of text) tt (lines_fit text)))
+jobs_fit text =
+    numbered_fit 0 (with_copies (drafts_of (lines_of text))) (copies_fit (drafts_of (lines_of text)) (drafts_fit [] (lines_of text) tt (lines_fit text)))

@@ -1,5 +1,6 @@
 -- What the options of a job come to.
-use Rattle.std.specs.Prelude.{ℕ, ◌+◌, ◌/◌, ◌%◌, ◌^◌, min, Bool, true, false, not, ◌||◌, ◌==◌, List, [], ◌∷◌, ◌++◌, Option, is_none, unwrap_or, replicate, if◌then◌else◌}
+use Rattle.std.specs.Prelude.{ℕ, ◌+◌, ◌/◌, ◌%◌, ◌^◌, min, Bool, true, false, not, ◌||◌, ◌==◌, List}
+use Rattle.std.specs.Prelude.{[], ◌∷◌, ◌++◌, Option, is_none, unwrap_or, replicate, if◌then◌else◌}
 use Rattle.std.specs.List.{flat_map, sum_by}
 use Rattle.fc_base.specs.declared.record.JobParts.{JobParts}
 use Rattle.fc_base.specs.declared.record.Kind.{Kind}
@@ -52,7 +53,8 @@ size_of settings = unwrap_or settings.size 0
 
 -- The bytes to write: those of the region, where the option says 0 or nothing.
 abbrev pub io_size_of : Settings → ℕ
-io_size_of settings = if unwrap_or settings.io_size 0 == 0 then size_of settings else unwrap_or settings.io_size 0
+io_size_of settings =
+    if unwrap_or settings.io_size 0 == 0 then size_of settings else unwrap_or settings.io_size 0
 
 -- The whole blocks of the region.
 abbrev pub blocks_of : Settings → ℕ
@@ -60,11 +62,14 @@ blocks_of settings = size_of settings / block_size_of settings
 
 -- A smaller number of writes that is asked for; 0 asks for nothing.
 abbrev pub fewer : ℕ → ℕ → ℕ
-fewer writes_asked writes_whole = if writes_asked == 0 then writes_whole else min writes_whole writes_asked
+fewer writes_asked writes_whole =
+    if writes_asked == 0 then writes_whole else min writes_whole writes_asked
 
--- The writes: as many as the bytes to write have whole blocks, or a smaller number that is asked for.
+-- The writes: as many as the bytes to write have whole blocks, or a smaller number that is asked
+-- for.
 abbrev pub total_of : Settings → ℕ
-total_of settings = fewer (unwrap_or settings.number_ios 0) (io_size_of settings / block_size_of settings)
+total_of settings =
+    fewer (unwrap_or settings.number_ios 0) (io_size_of settings / block_size_of settings)
 
 -- Each job of a text has a seed of its own.
 abbrev pub seed_of : ℕ → Settings → ℕ
@@ -120,12 +125,14 @@ job_of number draft = record {
 -- A job is past a limit, or writes a pattern that it doesn't have.
 abbrev pub is_past_limits : ℕ → Settings → Bool
 is_past_limits number settings =
-    not (is_within_limits (parts_of number settings)) || lacks_pattern_under (verify_of settings) settings.verify_pattern
+    not (is_within_limits (parts_of number settings)) || lacks_pattern_under
+    (verify_of settings) settings.verify_pattern
 
 -- A job has a size, and is within the limits.
 abbrev pub draft_faults : ℕ → Draft → List JobFault
 draft_faults number draft =
-    when (size_of draft.settings == 0) (NoSize number) ++ when (is_past_limits number draft.settings) (OutOfLimits number)
+    when (size_of draft.settings == 0) (NoSize number)
+    ++ when (is_past_limits number draft.settings) (OutOfLimits number)
 
 -- How many jobs a section makes.
 abbrev pub copies_of : Draft → ℕ

@@ -3,7 +3,8 @@ use Rattle.std.specs.Prelude.{◌≡◌, ◌⊎◌, ℕ, Bool, List, [], ◌∷�
 use Rattle.fc_base.specs.declared.fault.Fault.{Fault}
 use Rattle.fc_base.specs.declared.fault.Fault.TheVariants as base
 use Rattle.job_file.specs.declared.fault.JobFault.{JobFault}
-use Rattle.job_file.specs.declared.fault.JobFault.TheVariants.{TooLong, NotAscii, BadLine, UnknownOption, BadValue, NoJobs, TooManyJobs, NoSize, OutOfLimits, SharedFile, MixedPhases, NoMemory}
+use Rattle.job_file.specs.declared.fault.JobFault.TheVariants.{TooLong, NotAscii, BadLine, UnknownOption, BadValue, NoJobs}
+use Rattle.job_file.specs.declared.fault.JobFault.TheVariants.{TooManyJobs, NoSize, OutOfLimits, SharedFile, MixedPhases, NoMemory}
 
 -- Each refusal of a job file is a row of the table.
 abbrev pub fault_of : JobFault → Fault

@@ -1,9 +1,11 @@
 -- The set of jobs of a text, or its first fault.
-use Rattle.std.specs.Prelude.{◌≡◌, ◌⊎◌, ℕ, ◌+◌, Bool, true, false, ◌&&◌, ◌||◌, not, ◌==◌, nat_lt, List, [], ◌∷◌, ◌++◌, length, bytes_eq, Option, Some, None, Result, Ok, Err, slice_get, if◌then◌else◌}
+use Rattle.std.specs.Prelude.{◌≡◌, ◌⊎◌, ℕ, ◌+◌, Bool, true, false, ◌&&◌, ◌||◌, not, ◌==◌, nat_lt, List, [], ◌∷◌}
+use Rattle.std.specs.Prelude.{◌++◌, length, bytes_eq, Option, Some, None, Result, Ok, Err, slice_get, if◌then◌else◌}
 use Rattle.std.specs.List.{list_all, list_any}
 use Rattle.fc_base.specs.declared.limits.TheConstants.{MAX_JOBS, MAX_TEXT}
 use Rattle.job_file.specs.declared.fault.JobFault.{JobFault}
-use Rattle.job_file.specs.declared.fault.JobFault.TheVariants.{TooLong, NotAscii, BadLine, UnknownOption, BadValue, NoJobs, TooManyJobs, SharedFile, MixedPhases, NoMemory}
+use Rattle.job_file.specs.declared.fault.JobFault.TheVariants.{TooLong, NotAscii, BadLine, UnknownOption, BadValue}
+use Rattle.job_file.specs.declared.fault.JobFault.TheVariants.{NoJobs, TooManyJobs, SharedFile, MixedPhases, NoMemory}
 use Rattle.job_file.specs.declared.job.Job.{Job}
 use Rattle.job_file.specs.declared.job.JobSet.{JobSet}
 use Rattle.job_file.specs.declared.job.LineNote.{LineNote}
@@ -35,7 +37,8 @@ fault_at number broken.BadValue = BadValue number
 abbrev pub faults_in : ℕ → Bool → Line → List JobFault
 faults_in number inside (line.Set setting) = when (not inside) (BadLine number)
 faults_in number inside (line.Ignored name) = when (not inside) (BadLine number)
-faults_in number inside (line.Faulty fault) = (if inside then fault_at number fault else BadLine number) ∷ []
+faults_in number inside (line.Faulty fault) =
+    (if inside then fault_at number fault else BadLine number) ∷ []
 faults_in number inside _ = []
 
 -- The line opens a section.
@@ -47,7 +50,8 @@ opens _ = false
 -- The faults of lines, numbered on from a number, inside a section or before the first.
 abbrev pub line_faults : ℕ → Bool → List Line → List JobFault
 line_faults number inside [] = []
-line_faults number inside (l ∷ ls) = faults_in number inside l ++ line_faults (number + 1) (inside || opens l) ls
+line_faults number inside (l ∷ ls) =
+    faults_in number inside l ++ line_faults (number + 1) (inside || opens l) ls
 
 -- A line whose option has no effect gives a note.
 abbrev pub note_in : ℕ → Line → List LineNote
@@ -61,7 +65,8 @@ notes_from number (l ∷ ls) = note_in number l ++ notes_from (number + 1) ls
 
 -- There are 1 to 16 jobs.
 abbrev pub count_faults : List Draft → List JobFault
-count_faults drafts = when (count_of drafts == 0) NoJobs ++ when (nat_lt MAX_JOBS (count_of drafts)) TooManyJobs
+count_faults drafts =
+    when (count_of drafts == 0) NoJobs ++ when (nat_lt MAX_JOBS (count_of drafts)) TooManyJobs
 
 -- Two jobs that have a file have the same one.
 abbrev pub same_file : Option (List ℕ) → Option (List ℕ) → Bool
@@ -76,7 +81,8 @@ shares_file earlier job = list_any (λ other. same_file other.filename job.filen
 -- The jobs whose file an earlier job has, with the jobs that stand before them.
 abbrev pub file_faults : List Job → List Job → List JobFault
 file_faults earlier [] = []
-file_faults earlier (j ∷ js) = when (shares_file earlier j) (SharedFile (length earlier)) ++ file_faults (earlier ++ j ∷ []) js
+file_faults earlier (j ∷ js) = when (shares_file earlier j) (SharedFile (length earlier))
+    ++ file_faults (earlier ++ j ∷ []) js
 
 -- Some of the jobs write.
 abbrev pub some_write : List Draft → Bool
@@ -94,12 +100,14 @@ phase_faults drafts =
 -- The faults of the jobs as a whole and one by one.
 abbrev pub set_faults : List Draft → List JobFault
 set_faults drafts =
-    count_faults drafts ++ (faults_from 0 (with_copies drafts) ++ (file_faults [] (jobs_from 0 (with_copies drafts)) ++ phase_faults drafts))
+    count_faults drafts ++ (faults_from 0 (with_copies drafts)
+    ++ (file_faults [] (jobs_from 0 (with_copies drafts)) ++ phase_faults drafts))
 
 -- All faults of a text, in the order in which they are looked for.
 abbrev pub faults_of : List ℕ → List JobFault
 faults_of text =
-    byte_faults text ++ (line_faults 1 false (lines_of text) ++ set_faults (drafts_of (lines_of text)))
+    byte_faults text ++ (line_faults 1 false (lines_of text)
+    ++ set_faults (drafts_of (lines_of text)))
 
 -- The jobs write where one of them does.
 abbrev pub phase_of : List Draft → Phase

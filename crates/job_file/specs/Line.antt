@@ -1,5 +1,6 @@
 -- What the lines of a job file say.
-use Rattle.std.specs.Prelude.{ℕ, ◌-◌, Bool, ◌&&◌, ◌||◌, not, ◌==◌, nat_eq, nat_lt, nat_le, List, length, take, drop, map, Option, Some, None, bytes_eq, codes, if◌then◌else◌}
+use Rattle.std.specs.Prelude.{ℕ, ◌-◌, Bool, ◌&&◌, ◌||◌, not, ◌==◌, nat_eq, nat_lt, nat_le, List, length}
+use Rattle.std.specs.Prelude.{take, drop, map, Option, Some, None, bytes_eq, codes, if◌then◌else◌}
 use Rattle.std.specs.List.{list_all, list_any, before_first, after_first, starts_with, ends_with}
 use Rattle.std.specs.Char.{is_ascii_alphanumeric}
 use Rattle.std.specs.Str.Lines.{lines}
@@ -22,7 +23,8 @@ is_section_byte b = is_text_byte b && not (b == 91) && not (b == 93)
 
 -- A section's name has 1 to 64 characters.
 abbrev pub is_section_name : List ℕ → Bool
-is_section_name name = nat_le 1 (length name) && nat_le (length name) 64 && list_all is_section_byte name
+is_section_name name =
+    nat_le 1 (length name) && nat_le (length name) 64 && list_all is_section_byte name
 
 -- The section of a name: `global` is a word of its own.
 abbrev pub section_named : List ℕ → Line
@@ -33,7 +35,8 @@ section_named name =
 -- A section's line, from behind its opening bracket: the name, and the closing bracket.
 abbrev pub section_of : List ℕ → Line
 section_of rest =
-    if ends_with nat_eq rest (codes "]") then section_named (take (length rest - 1) rest) else Faulty BadLine
+    if ends_with nat_eq rest (codes "]") then section_named (take (length rest - 1) rest)
+    else Faulty BadLine
 
 -- A character of an option's name.
 abbrev pub is_option_byte : ℕ → Bool
@@ -53,7 +56,8 @@ name_in line = trimmed (before_first is_equals line)
 
 -- What stands behind the first `=`.
 abbrev pub value_in : List ℕ → Option (List ℕ)
-value_in line = if list_any is_equals line then Some (trimmed (after_first is_equals line)) else None
+value_in line =
+    if list_any is_equals line then Some (trimmed (after_first is_equals line)) else None
 
 -- A setting, where the option takes the value.
 abbrev pub with_setting : Option Setting → Line
@@ -69,7 +73,8 @@ with_option (Some option) value = with_setting (setting_of option value)
 abbrev pub option_of : List ℕ → Line
 option_of line =
     if not (is_option_name (name_in line)) then Faulty BadLine else (
-    if is_ignored (name_in line) then Ignored (name_in line) else with_option (option_named (name_in line)) (value_in line))
+    if is_ignored (name_in line) then Ignored (name_in line)
+    else with_option (option_named (name_in line)) (value_in line))
 
 -- What a line says that has no blanks at its ends.
 abbrev pub content_of : List ℕ → Line

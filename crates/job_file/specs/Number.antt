@@ -16,11 +16,13 @@ with_digit n radix c = if is_digit c radix then fitting (n * radix + digit_value
 -- The value of one digit or more in a base.
 abbrev pub numeral : ℕ → List ℕ → Option ℕ
 numeral radix digits =
-    if nat_lt 0 (length digits) && list_all (λ c. is_digit c radix) digits then fitting (digits_value radix digits) else None
+    if nat_lt 0 (length digits) && list_all (λ c. is_digit c radix) digits
+    then fitting (digits_value radix digits) else None
 
 -- The suffix is one of two words, in any case of its letters.
 abbrev pub is_either : List ℕ → List ℕ → List ℕ → Bool
-is_either suffix short long = str_eq_ignore_ascii_case suffix short || str_eq_ignore_ascii_case suffix long
+is_either suffix short long =
+    str_eq_ignore_ascii_case suffix short || str_eq_ignore_ascii_case suffix long
 
 -- What k, m and g stand for, which may have a `b` behind them; a `b` alone changes nothing.
 abbrev pub unit_of : List ℕ → Option ℕ
@@ -34,7 +36,8 @@ unit_of suffix =
 abbrev pub decimal : List ℕ → Option ℕ
 decimal value =
     let digits = prefix_len is_ascii_digit value in
-    option_and_then (λ n. option_and_then (λ unit. fitting (n * unit)) (unit_of (drop digits value))) (numeral 10 (take digits value))
+    option_and_then (λ n. option_and_then (λ unit. fitting (n * unit))
+    (unit_of (drop digits value))) (numeral 10 (take digits value))
 
 -- The value begins with `0x` or `0X`.
 abbrev pub is_hexadecimal : List ℕ → Bool

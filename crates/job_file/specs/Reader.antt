@@ -1,4 +1,5 @@
--- What the reader carries from line to line, and what a text comes to by it. No public contract cites this.
+-- What the reader carries from line to line, and what a text comes to by it. No public contract
+-- cites this.
 use Rattle.std.specs.Prelude.{Bool, true, false, List, [], ◌∷◌, ◌++◌}
 use Rattle.std.specs.List.{fold}
 use Rattle.job_file.specs.declared.line.Line.{Line}
@@ -34,7 +35,8 @@ drafts_with defaults [] = []
 drafts_with defaults (Blank ∷ below) = drafts_with defaults below
 drafts_with defaults (Global ∷ below) = drafts_with (with_all defaults (own_options below)) below
 drafts_with defaults (Job job_name ∷ below) =
-    (record { name = job_name; settings = with_all defaults (own_options below) }) ∷ drafts_with defaults below
+    (record { name = job_name; settings = with_all defaults (own_options below) })
+    ∷ drafts_with defaults below
 drafts_with defaults (Set setting ∷ below) = drafts_with defaults below
 drafts_with defaults (Ignored name ∷ below) = drafts_with defaults below
 drafts_with defaults (Faulty fault ∷ below) = drafts_with defaults below
@@ -45,7 +47,8 @@ drafts_after scope.Outside defaults drafts below = drafts ++ drafts_with default
 drafts_after scope.Global defaults drafts below =
     drafts ++ drafts_with (with_all defaults (own_options below)) below
 drafts_after (scope.Job draft) defaults drafts below =
-    drafts ++ (record draft { settings = with_all draft.settings (own_options below) } ∷ drafts_with defaults below)
+    drafts ++ (record draft { settings = with_all draft.settings (own_options below) }
+    ∷ drafts_with defaults below)
 
 -- The same of all that the reader keeps.
 abbrev pub drafts_coming : Reader → List Line → List Draft

@@ -26,8 +26,10 @@ own_options (Faulty fault ∷ below) = own_options below
 abbrev pub sections_of : List Line → List Section
 sections_of [] = []
 sections_of (Blank ∷ below) = sections_of below
-sections_of (Global ∷ below) = record { job = None; options = own_options below } ∷ sections_of below
-sections_of (Job name ∷ below) = record { job = Some name; options = own_options below } ∷ sections_of below
+sections_of (Global ∷ below) =
+    record { job = None; options = own_options below } ∷ sections_of below
+sections_of (Job name ∷ below) =
+    record { job = Some name; options = own_options below } ∷ sections_of below
 sections_of (Set setting ∷ below) = sections_of below
 sections_of (Ignored name ∷ below) = sections_of below
 sections_of (Faulty fault ∷ below) = sections_of below
@@ -48,7 +50,8 @@ drafts_below above (s ∷ below) = drafts_in s.job s.options ++ drafts_below (ab
   where
     drafts_in : Option (List ℕ) → List Setting → List Draft
     drafts_in None options = []
-    drafts_in (Some job_name) options = record { name = job_name; settings = settings_of options (global_options above) } ∷ []
+    drafts_in (Some job_name) options =
+        record { name = job_name; settings = settings_of options (global_options above) } ∷ []
 
 -- The jobs of the lines.
 abbrev pub drafts_of : List Line → List Draft

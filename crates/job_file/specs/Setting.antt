@@ -1,11 +1,13 @@
 -- The options of the profile: their names, and the values that they take.
-use Rattle.std.specs.Prelude.{ℕ, Bool, true, false, ◌&&◌, ◌||◌, nat_lt, nat_le, List, length, drop, Option, Some, None, option_map, option_and_then, bytes_eq, codes, if◌then◌else◌}
+use Rattle.std.specs.Prelude.{ℕ, Bool, true, false, ◌&&◌, ◌||◌, nat_lt, nat_le, List, length, drop, Option}
+use Rattle.std.specs.Prelude.{Some, None, option_map, option_and_then, bytes_eq, codes, if◌then◌else◌}
 use Rattle.std.specs.Option.{option_or}
 use Rattle.std.specs.List.{list_all}
 use Rattle.fc_base.specs.declared.record.Verify as verifies
 use Rattle.fc_base.specs.declared.record.Verify.TheVariants.{Stamp, Pattern}
 use Rattle.job_file.specs.declared.option.OptionName.{OptionName}
-use Rattle.job_file.specs.declared.option.OptionName.TheVariants.{ReadWrite, BlockSize, Size, IoSize, NumberIos, IoDepth, XWindow, NumJobs, RandSeed, NoRandomMap, Verify, VerifyPattern, VerifyFatal, VerifyStateSave, VerifyStateLoad, Filename}
+use Rattle.job_file.specs.declared.option.OptionName.TheVariants.{ReadWrite, BlockSize, Size, IoSize, NumberIos, IoDepth, XWindow, NumJobs, RandSeed}
+use Rattle.job_file.specs.declared.option.OptionName.TheVariants.{NoRandomMap, Verify, VerifyPattern, VerifyFatal, VerifyStateSave, VerifyStateLoad, Filename}
 use Rattle.job_file.specs.declared.option.ReadWrite as values
 use Rattle.job_file.specs.declared.option.ReadWrite.TheVariants.{Read, Write, RandRead, RandWrite}
 use Rattle.job_file.specs.declared.option.Setting.{Setting}
@@ -43,17 +45,20 @@ verify_option name =
 
 -- The option of a name: some have two spellings.
 abbrev pub option_named : List ℕ → Option OptionName
-option_named name = option_or (size_option name) (option_or (order_option name) (verify_option name))
+option_named name =
+    option_or (size_option name) (option_or (order_option name) (verify_option name))
 
 -- Options of fio's engines, which have no effect here.
 abbrev pub is_engine_option : List ℕ → Bool
 is_engine_option name =
-    bytes_eq name (codes "ioengine") || bytes_eq name (codes "direct") || bytes_eq name (codes "thread") || bytes_eq name (codes "serialize_overlap")
+    bytes_eq name (codes "ioengine") || bytes_eq name (codes "direct") || bytes_eq name
+    (codes "thread") || bytes_eq name (codes "serialize_overlap")
 
 -- Options of fio's reports, and one that says what is always so here.
 abbrev pub is_report_option : List ℕ → Bool
 is_report_option name =
-    bytes_eq name (codes "group_reporting") || bytes_eq name (codes "description") || bytes_eq name (codes "do_verify")
+    bytes_eq name (codes "group_reporting") || bytes_eq name (codes "description") || bytes_eq name
+    (codes "do_verify")
 
 -- The options that are accepted and have no effect.
 abbrev pub is_ignored : List ℕ → Bool
@@ -85,14 +90,17 @@ copies_of value = option_and_then (λ n. if nat_lt 0 n then Some n else None) (n
 -- The names of fio's cyclic checksums.
 abbrev pub is_crc : List ℕ → Bool
 is_crc value =
-    bytes_eq value (codes "crc64") || bytes_eq value (codes "crc32c") || bytes_eq value (codes "crc32c-intel")
-    || (bytes_eq value (codes "crc32") || bytes_eq value (codes "crc16") || bytes_eq value (codes "crc7"))
+    bytes_eq value (codes "crc64") || bytes_eq value (codes "crc32c") || bytes_eq value
+    (codes "crc32c-intel")
+    || (bytes_eq value (codes "crc32") || bytes_eq value (codes "crc16") || bytes_eq value
+    (codes "crc7"))
 
 -- The names of fio's other checksums.
 abbrev pub is_digest : List ℕ → Bool
 is_digest value =
     bytes_eq value (codes "md5") || bytes_eq value (codes "xxhash") || bytes_eq value (codes "meta")
-    || (bytes_eq value (codes "sha512") || bytes_eq value (codes "sha256") || bytes_eq value (codes "sha1"))
+    || (bytes_eq value (codes "sha512") || bytes_eq value (codes "sha256") || bytes_eq value
+    (codes "sha1"))
 
 -- What `verify` asks for: a pattern, or by any checksum's name the stamp.
 abbrev pub verify_of : List ℕ → Option verifies.Verify
@@ -102,14 +110,17 @@ verify_of value =
 
 -- A pattern is `0x` and one or two hexadecimal digits.
 abbrev pub pattern_of : List ℕ → Option ℕ
-pattern_of value = if is_hexadecimal value && nat_le (length value) 4 then numeral 16 (drop 2 value) else None
+pattern_of value =
+    if is_hexadecimal value && nat_le (length value) 4 then numeral 16 (drop 2 value) else None
 
 -- A file's name is any text.
 abbrev pub filename_of : List ℕ → Option (List ℕ)
-filename_of value = if nat_lt 0 (length value) && list_all is_text_byte value then Some value else None
+filename_of value =
+    if nat_lt 0 (length value) && list_all is_text_byte value then Some value else None
 
 -- A value that an option has to have.
-abbrev pub required_value : {X : Type 0} → (List ℕ → Option X) → (X → Setting) → Option (List ℕ) → Option Setting
+abbrev pub required_value : {X : Type 0} → (List ℕ → Option X) → (X → Setting) → Option (List ℕ)
+    → Option Setting
 required_value value_of setting None = None
 required_value value_of setting (Some value) = option_map setting (value_of value)
 

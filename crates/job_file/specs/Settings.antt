@@ -12,8 +12,8 @@ abbrev pub last_in : {X : Type 0} → (Setting → Option X) → List Setting �
 last_in gives [] = None
 last_in gives (s ∷ ss) = option_or (last_in gives ss) (gives s)
 
--- The value of an option is that of its last line in the job's own section, else that of its last line in
--- the global sections above the job.
+-- The value of an option is that of its last line in the job's own section, else that of its last
+-- line in the global sections above the job.
 abbrev pub value_of : {X : Type 0} → (Setting → Option X) → List Setting → List Setting → Option X
 value_of gives own above = option_or (last_in gives own) (last_in gives above)
 
@@ -22,67 +22,83 @@ abbrev pub read_write_in : Setting → Option ReadWrite
 read_write_in (set.ReadWrite value) = Some value
 read_write_in _ = None
 
+-- The block size that a setting gives.
 abbrev pub block_size_in : Setting → Option ℕ
 block_size_in (set.BlockSize value) = Some value
 block_size_in _ = None
 
+-- The size that it gives.
 abbrev pub size_in : Setting → Option ℕ
 size_in (set.Size value) = Some value
 size_in _ = None
 
+-- How many bytes it has written in all.
 abbrev pub io_size_in : Setting → Option ℕ
 io_size_in (set.IoSize value) = Some value
 io_size_in _ = None
 
+-- How many writes it asks for.
 abbrev pub number_ios_in : Setting → Option ℕ
 number_ios_in (set.NumberIos value) = Some value
 number_ios_in _ = None
 
+-- The depth that it gives.
 abbrev pub io_depth_in : Setting → Option ℕ
 io_depth_in (set.IoDepth value) = Some value
 io_depth_in _ = None
 
+-- The window that it gives.
 abbrev pub x_window_in : Setting → Option ℕ
 x_window_in (set.XWindow value) = Some value
 x_window_in _ = None
 
+-- How many jobs it makes of one section.
 abbrev pub num_jobs_in : Setting → Option ℕ
 num_jobs_in (set.NumJobs value) = Some value
 num_jobs_in _ = None
 
+-- The seed that it gives.
 abbrev pub rand_seed_in : Setting → Option ℕ
 rand_seed_in (set.RandSeed value) = Some value
 rand_seed_in _ = None
 
+-- Whether blocks may repeat before all were written.
 abbrev pub no_random_map_in : Setting → Option Bool
 no_random_map_in (set.NoRandomMap value) = Some value
 no_random_map_in _ = None
 
+-- How blocks are filled and verified.
 abbrev pub verify_in : Setting → Option Verify
 verify_in (set.Verify value) = Some value
 verify_in _ = None
 
+-- The byte of a pattern.
 abbrev pub verify_pattern_in : Setting → Option ℕ
 verify_pattern_in (set.VerifyPattern value) = Some value
 verify_pattern_in _ = None
 
+-- Whether a check ends at the first fault.
 abbrev pub verify_fatal_in : Setting → Option Bool
 verify_fatal_in (set.VerifyFatal value) = Some value
 verify_fatal_in _ = None
 
+-- Whether a verify state is saved.
 abbrev pub verify_state_save_in : Setting → Option Bool
 verify_state_save_in (set.VerifyStateSave value) = Some value
 verify_state_save_in _ = None
 
+-- Whether a verify state is loaded.
 abbrev pub verify_state_load_in : Setting → Option Bool
 verify_state_load_in (set.VerifyStateLoad value) = Some value
 verify_state_load_in _ = None
 
+-- The name of the file.
 abbrev pub filename_in : Setting → Option (List ℕ)
 filename_in (set.Filename value) = Some value
 filename_in _ = None
 
--- The options that hold for a job, by the options of its own section and those of the global sections above.
+-- The options that hold for a job, by the options of its own section and those of the global
+-- sections above.
 abbrev pub settings_of : List Setting → List Setting → Settings
 settings_of own above = record {
   read_write = value_of read_write_in own above;

@@ -20,8 +20,10 @@ use Rattle.live.specs.Texts.{AreTexts}
 
 -- The words of what came of a job: its report, or that its state doesn't fit.
 abbrev pub end_words : CheckEnd → Option ReportParts → List (List ℕ)
-end_words end (Some report) = codes "report" ∷ decimal end.server ∷ decimal end.job ∷ report_words report
-end_words end None = codes "refused" ∷ decimal end.server ∷ decimal end.job ∷ decimal (number_of Misfit) ∷ name_of Misfit ∷ []
+end_words end (Some report) =
+    codes "report" ∷ decimal end.server ∷ decimal end.job ∷ report_words report
+end_words end None = codes "refused" ∷ decimal end.server ∷ decimal end.job ∷ decimal
+    (number_of Misfit) ∷ name_of Misfit ∷ []
 
 -- The line of what came of a job.
 abbrev pub end_line : CheckEnd → List ℕ
@@ -57,7 +59,8 @@ is_faulty ends = list_any (λ end. counts_faults end.report) ends
 abbrev pub ends_status : List CheckEnd → ℕ
 ends_status ends = if has_misfit ends then 2 else if is_faulty ends then 1 else 0
 
--- A fault of a fleet is the one by which it was refused; one that is astray is told as nodes that are unlike.
+-- A fault of a fleet is the one by which it was refused; one that is astray is told as nodes that
+-- are unlike.
 abbrev pub of_fleet : FleetFault → PrintedRefusal
 of_fleet (Refused fault) = plain fault
 of_fleet _ = plain Unlike
@@ -72,27 +75,29 @@ pub record IsOfOther (phase : Phase) (text : List ℕ) : Type 0 where
   pub sound : refusal_of text ≡ None
   pub other : phase_in text ≡ phase → ⊥
 
--- Why a text isn't taken: its first fault; or its jobs do the other; or there was no memory for them.
+-- Why a text isn't taken: its first fault; or its jobs do the other; or there was no memory for
+-- them.
 abbrev pub IsUnfit : Phase → List ℕ → PrintedRefusal → Type 0
 IsUnfit phase text refusal =
     RefusesText refusal text
     ⊎ ((IsOfOther phase text × (refusal ≡ plain WrongPhase)) ⊎ (refusal ≡ plain JobNoMemory))
 
--- Why two texts don't come to a report: the writing text isn't taken; or, where it is sound, the reading
--- text isn't; or, where both are, the fleet that ran them ended with a fault.
+-- Why two texts don't come to a report: the writing text isn't taken; or, where it is sound, the
+-- reading text isn't; or, where both are, the fleet that ran them ended with a fault.
 abbrev pub IsRefusedFor : List ℕ → List ℕ → PrintedRefusal → Type 0
 IsRefusedFor writing reading refusal =
     IsUnfit Write writing refusal
     ⊎ (IsSound Write writing × (IsUnfit Read reading refusal
     ⊎ (IsSound Read reading × ((fault : FleetFault) × (refusal ≡ of_fleet fault)))))
 
--- Why an input comes to no reports: it couldn't be read, or there was no memory to read it; or it is too
--- long; or else one of its texts, or their run, is refused.
+-- Why an input comes to no reports: it couldn't be read, or there was no memory to read it; or it
+-- is too long; or else one of its texts, or their run, is refused.
 abbrev pub IsLiveRefusal : List ℕ → PrintedRefusal → Type 0
 IsLiveRefusal input refusal =
     ((refusal ≡ plain ReadError) ⊎ (refusal ≡ plain JobNoMemory))
     ⊎ (((MAX_INPUT < length input) × (refusal ≡ plain JobTooLong))
-    ⊎ ((length input ≤ MAX_INPUT) × ((writing : List ℕ) × (reading : List ℕ) × AreTexts input writing reading × IsRefusedFor writing reading refusal)))
+    ⊎ ((length input ≤ MAX_INPUT) × ((writing : List ℕ) × (reading : List ℕ)
+    × AreTexts input writing reading × IsRefusedFor writing reading refusal)))
 
 -- An input isn't too long, and both of its texts are sound.
 pub record HasSoundTexts (input : List ℕ) : Type 0 where
@@ -108,9 +113,10 @@ pub record RunsTexts (servers : ℕ) (input : List ℕ) (ends : List CheckEnd) :
   pub sound : HasSoundTexts input
   pub are_ends : AreOfOneRun servers sound.writing sound.reading ends
 
--- The texts have run at so many servers: a line is written for each job that is checked, by server and job,
--- with what the client of that run has heard of it, and the status is theirs.
-pub record WritesEnds (servers : ℕ) (input : List ℕ) (old new : Option (List ℕ)) (status : ℕ) : Type 0 where
+-- The texts have run at so many servers: a line is written for each job that is checked, by server
+-- and job, with what the client of that run has heard of it, and the status is theirs.
+pub record WritesEnds (servers : ℕ) (input : List ℕ) (old new : Option (List ℕ))
+    (status : ℕ) : Type 0 where
   pub ends : List CheckEnd
   pub runs : RunsTexts servers input ends
   pub finishes : Finishes (ends_text ends) (ends_status ends) old new status
@@ -123,4 +129,5 @@ pub record WritesRefusal (input : List ℕ) (old new : Option (List ℕ)) (statu
 
 -- What is answered to an input.
 abbrev pub AnswersLive : ℕ → List ℕ → Option (List ℕ) → Option (List ℕ) → ℕ → Type 0
-AnswersLive servers input old new status = WritesEnds servers input old new status ⊎ WritesRefusal input old new status
+AnswersLive servers input old new status =
+    WritesEnds servers input old new status ⊎ WritesRefusal input old new status

@@ -25,7 +25,8 @@ pub record Looked (sent : List Frame) (i : ℕ) (looked : Option FrameLook) : Ty
 contained : (sent : List Frame) (i : ℕ) (f : Frame) → slice_get sent i ≡ Some f → Contains sent f
 contained sent i f at = subst (Contains sent) (get_or_from_slice_get sent i f f at) (Contains-get_or sent i f (slice_get_within sent i f at))
 
-pub looked_at : SentAreFrames → (setup : Setup) (before : List Happening) → setup.servers ≤ MAX_SERVERS → (kept : List (List ℕ)) → kept ≡ frames setup (world setup before)
+pub looked_at : SentAreFrames → (setup : Setup) (before : List Happening) → setup.servers ≤ MAX_SERVERS → (kept : List (List ℕ))
+    → kept ≡ frames setup (world setup before)
     → (i : ℕ) (bytes : List ℕ) → slice_get kept i ≡ Some bytes → (looked : Option FrameLook) → LooksAtFrames bytes looked
     → Looked (frames_sent setup (steps (world setup before))) i looked
 looked_at law setup before few kept kept_is i bytes at looked looks = with_frame (slice_get sent i) refl

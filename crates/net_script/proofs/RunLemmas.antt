@@ -68,7 +68,8 @@ command_run setup before all left w new old mid now faults more_faults line comm
       ∙ or_assoc faults (finds_fault setup s.behind e) (some_faults setup (e ∷ s.behind) more)
       ∙ ap (λ b. (faults || b) || some_faults setup (e ∷ s.behind) more) (sym come.2);
   written = subst (Appends old now)
-      (sym (flat_map-append with_line_feed (lines_in setup before s.asked) (lines_at setup (world setup s.behind) e)) ∙ ap (flat_map with_line_feed) (sym asked_lines))
+      (sym (flat_map-append with_line_feed (lines_in setup before s.asked) (lines_at setup (world setup s.behind) e))
+      ∙ ap (flat_map with_line_feed) (sym asked_lines))
       (Appends-trans old mid now _ _ s.written come.0);
 }
   where
@@ -82,8 +83,10 @@ command_run setup before all left w new old mid now faults more_faults line comm
     asked_lines = s.lines (o ∷ []) ∙ ap (λ l. lines_in setup before s.asked ++ l) (append-nil (lines_at setup (world setup s.behind) e))
 
 -- Memory ran out at a command.
-pub lacks : (setup : Setup) (before : List Happening) (all left : List Order) (w : World) (old mid now : Option (List ℕ)) (faults : Bool) (status line : ℕ) (command : Command) (text : List ℕ) (rest : List Order)
-    → (s : RunSoFar setup before all left w old mid faults) → left ≡ Asks line command text ∷ rest → Appends mid now (with_line_feed (refusal_line NoMemory)) → status ≡ 2
+pub lacks : (setup : Setup) (before : List Happening) (all left : List Order) (w : World) (old mid now : Option (List ℕ)) (faults : Bool) (status line : ℕ)
+    (command : Command) (text : List ℕ) (rest : List Order)
+    → (s : RunSoFar setup before all left w old mid faults) → left ≡ Asks line command text ∷ rest → Appends mid now (with_line_feed (refusal_line NoMemory))
+    → status ≡ 2
     → RunOrders (lines_in setup before) are_commands (status_in setup before) all old now status
 lacks setup before all left w old mid now faults status line command text rest s next wrote ends = inr (record {
   before = s.asked;

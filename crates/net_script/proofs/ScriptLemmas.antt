@@ -1,5 +1,6 @@
 -- A script's run from its first order on, and the script that was read.
-use Rattle.std.proofs.Common.{◌≡◌, inl, inr, ◌≤◌, ◌<◌, ℕ, true, false, cond, List, [], ◌∷◌, ◌++◌, length, Option, Some, None, IfSome, Result, Ok, Err, OnOk, IfOk, codes, append-nil, length-append, refl, sym, ◌∙◌, ap, subst, arith}
+use Rattle.std.proofs.Common.{◌≡◌, inl, inr, ◌≤◌, ◌<◌, ℕ, true, false, cond, List, [], ◌∷◌, ◌++◌, length, Option, Some, None, IfSome}
+use Rattle.std.proofs.Common.{Result, Ok, Err, OnOk, IfOk, codes, append-nil, length-append, refl, sym, ◌∙◌, ap, subst, arith}
 use Rattle.std.specs.List.{flat_map}
 use Rattle.std.specs.Io.KnownBytes.{Appends, Keeps}
 use Rattle.std.proofs.KnownBytes.{Appends-trans, Appends-kept}
@@ -62,9 +63,13 @@ text_of_long script long = ap (λ b. cond b (codes "too long\n") (flat_map with_
 status_of_long : (script : List ℕ) → 1048576 < length script → status_of script ≡ 2
 status_of_long script long = ap (λ b. cond b 2 (status_of_orders (orders_of script))) (is_long script long)
 
-long_answered : (bytes script : List ℕ) (old new : Option (List ℕ)) (status : ℕ) → 1048576 < length bytes → 1048576 < length script → HasRun bytes old new status → HasRun script old new status
+long_answered : (bytes script : List ℕ) (old new : Option (List ℕ)) (status : ℕ) → 1048576 < length bytes → 1048576 < length script
+    → HasRun bytes old new status → HasRun script old new status
 long_answered bytes script old new status long longer (inl ran) =
-    inl (subst (Appends old new) (text_of_long bytes long ∙ sym (text_of_long script longer)) ran.0, ran.1 ∙ status_of_long bytes long ∙ sym (status_of_long script longer))
+    inl (
+      subst (Appends old new) (text_of_long bytes long ∙ sym (text_of_long script longer)) ran.0,
+      ran.1 ∙ status_of_long bytes long ∙ sym (status_of_long script longer),
+    )
 long_answered bytes script old new status long longer (inr soon) = let never : false ≡ true = sym soon.0 ∙ is_long bytes long in absurd cc
 
 kept_run : (script : List ℕ) (old mid new : Option (List ℕ)) (status : ℕ) → HasRun script old mid status → Keeps mid new → HasRun script old new status

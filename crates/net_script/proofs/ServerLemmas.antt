@@ -11,7 +11,8 @@ use Rattle.net_script.specs.declared.line.ScriptLine.{ScriptLine}
 use Rattle.net_script.specs.declared.line.ScriptLine.TheVariants.{Servers, Asks, Unread}
 use Rattle.net_script.specs.Words.{number_of}
 use Rattle.net_script.specs.Arguments.{read_as, alone, maybe, numbers, numbers_of, one, two, three, four, node, node_of, place, sectors_of}
-use Rattle.net_script.specs.Table.{Row, read_by_row, or_unread, by_table, act_of, trigger_line, trigger, land, rot, world_of, servers, saving_rows, asking_rows, job_rows, cut_rows, table, AsksFew}
+use Rattle.net_script.specs.Table.{Row, read_by_row, or_unread, by_table, act_of, trigger_line, trigger, land, rot}
+use Rattle.net_script.specs.Table.{world_of, servers, saving_rows, asking_rows, job_rows, cut_rows, table, AsksFew}
 
 -- So it is with each row.
 abbrev EachAsksFew : List Row → Type 0
@@ -60,7 +61,8 @@ node_few line few (word ∷ next ∷ words) = tt
 world_few : (n : ℕ) (mirror : Bool) → AsksFew (world_of n mirror)
 world_few n mirror = by_bounds (nat_le 1 n) (nat_le n MAX_SERVERS) refl refl
   where
-    by_bounds : (low high : Bool) → nat_le 1 n ≡ low → nat_le n MAX_SERVERS ≡ high → AsksFew (cond (low && high) (Servers (record { servers = n; mirror = mirror })) Unread)
+    by_bounds : (low high : Bool) → nat_le 1 n ≡ low → nat_le n MAX_SERVERS ≡ high
+        → AsksFew (cond (low && high) (Servers (record { servers = n; mirror = mirror })) Unread)
     by_bounds true true some few = (grind (arith, nat_tests), grind (arith, nat_tests))
     by_bounds true false some few = tt
     by_bounds false high some few = tt
@@ -86,14 +88,16 @@ rot_few s j sector byte = by_bound (nat_le byte 255)
 land_few : (words : List (List ℕ)) → AsksFew (land words)
 land_few words =
     read_few (λ mask. numbers (three (λ s j k. Asks (Land (place s) (place j) k mask))) (take 3 words))
-    (λ mask. read_few (three (λ s j k. Asks (Land (place s) (place j) k mask))) (three_few (λ s j k. Asks (Land (place s) (place j) k mask)) (λ s j k. tt)) (numbers_of (take 3 words)))
+    (λ mask. read_few (three (λ s j k. Asks (Land (place s) (place j) k mask))) (three_few (λ s j k. Asks (Land (place s) (place j) k mask)) (λ s j k. tt))
+    (numbers_of (take 3 words)))
     (sectors_of (drop 3 words))
 
 named_few : (rows : List Row) → EachAsksFew rows → (word : List ℕ) (behind : List (List ℕ)) → AsksFew (or_unread (read_by_row rows word behind))
 named_few [] few word behind = tt
 named_few (r ∷ rows) few word behind = by_word (bytes_eq word r.word) (named_few rows few.1 word behind)
   where
-    by_word : (is : Bool) → AsksFew (or_unread (read_by_row rows word behind)) → AsksFew (or_unread (cond is (Some (r.reads behind)) (read_by_row rows word behind)))
+    by_word : (is : Bool) → AsksFew (or_unread (read_by_row rows word behind))
+        → AsksFew (or_unread (cond is (Some (r.reads behind)) (read_by_row rows word behind)))
     by_word true rest = few.0 behind
     by_word false rest = rest
 
@@ -144,9 +148,11 @@ jobs_few = (
   (
     land_few,
     (
-      (λ ws. read_few (three (λ s j k. Asks (Done (place s) (place j) k))) (three_few (λ s j k. Asks (Done (place s) (place j) k)) (λ s j k. tt)) (numbers_of ws)),
+      (λ ws. read_few (three (λ s j k. Asks (Done (place s) (place j) k))) (three_few (λ s j k. Asks (Done (place s) (place j) k)) (λ s j k. tt))
+          (numbers_of ws)),
       (
-        (λ ws. read_few (three (λ s j k. Asks (Fail (place s) (place j) k))) (three_few (λ s j k. Asks (Fail (place s) (place j) k)) (λ s j k. tt)) (numbers_of ws)),
+        (λ ws. read_few (three (λ s j k. Asks (Fail (place s) (place j) k))) (three_few (λ s j k. Asks (Fail (place s) (place j) k)) (λ s j k. tt))
+            (numbers_of ws)),
         (
           (λ ws. read_few (four rot) (four_few rot rot_few) (numbers_of ws)),
           (
@@ -176,7 +182,8 @@ cuts_few = (
 
 table_few : EachAsksFew table
 unfolding table
-table_few = both_few (saving_rows Saves) (asking_rows ++ (job_rows ++ cut_rows)) (saving_few Saves) (both_few asking_rows (job_rows ++ cut_rows) asking_few (both_few job_rows cut_rows jobs_few cuts_few))
+table_few = both_few (saving_rows Saves) (asking_rows ++ (job_rows ++ cut_rows)) (saving_few Saves)
+    (both_few asking_rows (job_rows ++ cut_rows) asking_few (both_few job_rows cut_rows jobs_few cuts_few))
 
 -- Each row of the table asks for 1 to 8 servers, where it asks for any.
 pub few_by_table : (words : List (List ℕ)) → AsksFew (by_table table words)

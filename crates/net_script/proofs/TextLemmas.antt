@@ -1,5 +1,6 @@
 -- The text of the lines below a command, as far as it is read.
-use Rattle.std.proofs.Common.{◌≡◌, ◌⊎◌, inl, inr, ℕ, ◌+◌, true, false, cond, not, ◌||◌, List, [], ◌∷◌, ◌++◌, take, append_assoc, append-nil, sym, ◌∙◌, ap, suc, arith}
+use Rattle.std.proofs.Common.{◌≡◌, ◌⊎◌, inl, inr, ℕ, ◌+◌, true, false, cond, not, ◌||◌, List, []}
+use Rattle.std.proofs.Common.{◌∷◌, ◌++◌, take, append_assoc, append-nil, sym, ◌∙◌, ap, suc, arith}
 use Rattle.std.specs.List.{list_any, flat_map, position_or_len}
 use Rattle.net_script.specs.Words.{lines_of}
 use Rattle.printed.specs.Words.{with_line_feed}

@@ -1,5 +1,6 @@
 -- What is told of what happens says the lines that are printed of it.
-use Rattle.std.proofs.Common.{◌≡◌, ◌≤◌, ℕ, false, List, [], ◌∷◌, ◌++◌, length, map, take, drop, Option, Ok, Err, append-nil, refl, sym, ◌∙◌, ap, subst, Contains, arith}
+use Rattle.std.proofs.Common.{◌≡◌, ◌≤◌, ℕ, false, List, [], ◌∷◌, ◌++◌, length, map, take, drop}
+use Rattle.std.proofs.Common.{Option, Ok, Err, append-nil, refl, sym, ◌∙◌, ap, subst, Contains, arith}
 use Rattle.std.specs.List.{flat_map}
 use Rattle.std.specs.Io.KnownBytes.{Appends}
 use Rattle.std.proofs.lemmas.List.{drop_at, map-append, take_all, length-map}
@@ -30,7 +31,8 @@ use Rattle.net_script.specs.Told.{AreBytesOf}
 use Rattle.net_script.specs.Running.{HasCome, refused_by}
 
 -- The frames of a change stand behind those that were sent before.
-sent_with : (setup : Setup) (past : List Change) (change : Change) → frames_sent setup (steps (change ∷ past)) ≡ frames_sent setup (steps past) ++ frames_of_change setup past change
+sent_with : (setup : Setup) (past : List Change) (change : Change)
+    → frames_sent setup (steps (change ∷ past)) ≡ frames_sent setup (steps past) ++ frames_of_change setup past change
 unfolding frames_sent
 sent_with setup past (Met step) = refl
 sent_with setup past (Landed s j k mask) = sym (append-nil (frames_sent setup (steps past)))
@@ -51,7 +53,8 @@ bytes_of setup past change kept each is = record {
   bytes =
       ap (λ k. take (worlds.frame_count setup past change) (drop (length older) k))
       (is ∙ ap (map frame_spelling) (sent_with setup past change) ∙ map-append frame_spelling older newer)
-      ∙ ap (take (worlds.frame_count setup past change)) (drop_at (map frame_spelling older) (map frame_spelling newer) (length older) (length-map older frame_spelling))
+      ∙ ap (take (worlds.frame_count setup past change))
+      (drop_at (map frame_spelling older) (map frame_spelling newer) (length older) (length-map older frame_spelling))
       ∙ take_all (worlds.frame_count setup past change) (map frame_spelling newer) (omega (arith, counted setup past change, length-map newer frame_spelling));
 }
   where
@@ -75,7 +78,12 @@ prints law setup before e (Refuses fault) t kept few is told_so kept_is = absurd
 prints law setup before e (Drops step) t kept few is told_so kept_is = absurd cc
 prints law setup before e (Does change) t kept few is told_so kept_is =
     let past = world setup before in
-    let same : ◌≡◌ {A = Told} (record { answer = answer setup past e; first = length (frames_sent setup (steps past)); sent = worlds.frame_count setup past change; act = act setup past change }) t = cc in
+    let same : ◌≡◌ {A = Told} (record {
+      answer = answer setup past e;
+      first = length (frames_sent setup (steps past));
+      sent = worlds.frame_count setup past change;
+      act = act setup past change;
+    }) t = cc in
     let later : world setup (e ∷ before) ≡ change ∷ past = ap (λ y. and_outcome y past) is in
     subst (λ told. Prints setup past e (Does change) told kept) same (record {
       sent = frames_of_change setup past change;

@@ -22,7 +22,8 @@ first_part : (bs : List ℕ) → slice_split is_blank bs ≡ take (position_or_l
 first_part [] = refl
 first_part (b ∷ bs) = by_head (first_part bs) (is_blank b)
   where
-    by_head : slice_split is_blank bs ≡ take (position_or_len is_blank bs) bs ∷ behind (drop (position_or_len is_blank bs) bs) → (t : Bool) → cond t ([] ∷ slice_split is_blank bs) (onto_first b (slice_split is_blank bs))
+    by_head : slice_split is_blank bs ≡ take (position_or_len is_blank bs) bs ∷ behind (drop (position_or_len is_blank bs) bs) → (t : Bool)
+        → cond t ([] ∷ slice_split is_blank bs) (onto_first b (slice_split is_blank bs))
         ≡ take (cond (not t) (1 + position_or_len is_blank bs) 0) (b ∷ bs) ∷ behind (drop (cond (not t) (1 + position_or_len is_blank bs) 0) (b ∷ bs))
     by_head rest true = refl
     by_head rest false =
@@ -52,7 +53,8 @@ pub skip_blanks : (bs : List ℕ) → words_of bs ≡ words_of (drop (prefix_len
 skip_blanks [] = refl
 skip_blanks (b ∷ bs) = by_head (skip_blanks bs) (is_blank b) refl
   where
-    by_head : words_of bs ≡ words_of (drop (prefix_len is_blank bs) bs) → (t : Bool) → is_blank b ≡ t → words_of (b ∷ bs) ≡ words_of (drop (cond t (1 + prefix_len is_blank bs) 0) (b ∷ bs))
+    by_head : words_of bs ≡ words_of (drop (prefix_len is_blank bs) bs) → (t : Bool) → is_blank b ≡ t
+        → words_of (b ∷ bs) ≡ words_of (drop (cond t (1 + prefix_len is_blank bs) 0) (b ∷ bs))
     by_head rest true is = skip_blank b bs is ∙ rest ∙ ap words_of (sym (drop_more (prefix_len is_blank bs) b bs))
     by_head rest false is = refl
 
@@ -76,12 +78,14 @@ first_is_kept b bs parts = ap (λ t. cond t ((b ∷ bs) ∷ filter is_word parts
     some n = grind (arith, nat_tests)
 
 -- The first word, and those behind it.
-pub first_word : (bs : List ℕ) → 0 < position_or_len is_blank bs → words_of bs ≡ take (position_or_len is_blank bs) bs ∷ words_of (drop (position_or_len is_blank bs) bs)
+pub first_word : (bs : List ℕ) → 0 < position_or_len is_blank bs
+    → words_of bs ≡ take (position_or_len is_blank bs) bs ∷ words_of (drop (position_or_len is_blank bs) bs)
 first_word [] some = absurd (omega (arith, some))
 first_word (b ∷ bs) some = by_head (is_blank b) refl some
   where
     by_head : (t : Bool) → is_blank b ≡ t → 0 < cond (not t) (1 + position_or_len is_blank bs) 0
-        → words_of (b ∷ bs) ≡ take (cond (not t) (1 + position_or_len is_blank bs) 0) (b ∷ bs) ∷ words_of (drop (cond (not t) (1 + position_or_len is_blank bs) 0) (b ∷ bs))
+        → words_of (b ∷ bs) ≡ take (cond (not t) (1 + position_or_len is_blank bs) 0) (b ∷ bs) ∷ words_of
+        (drop (cond (not t) (1 + position_or_len is_blank bs) 0) (b ∷ bs))
     by_head true is some = absurd (omega (arith, some))
     by_head false is some =
         ap (λ t. filter is_word (cond t ([] ∷ slice_split is_blank bs) (onto_first b (slice_split is_blank bs)))) is

@@ -1,5 +1,6 @@
 -- The words behind a command's own.
-use Rattle.std.specs.Prelude.{ℕ, Bool, true, false, ◌-◌, ◌^◌, min, List, [], ◌∷◌, Option, Some, None, option_map, option_and_then, bytes_eq, codes, if◌then◌else◌}
+use Rattle.std.specs.Prelude.{ℕ, Bool, true, false, ◌-◌, ◌^◌, min, List, [], ◌∷◌, Option, Some}
+use Rattle.std.specs.Prelude.{None, option_map, option_and_then, bytes_eq, codes, if◌then◌else◌}
 use Rattle.messages.specs.declared.node.Node.{Node}
 use Rattle.messages.specs.declared.node.Node.TheVariants.{Server, Client, Mirror}
 use Rattle.net_script.specs.declared.line.ScriptLine.{ScriptLine}
@@ -38,14 +39,17 @@ abbrev pub one : (ℕ → ScriptLine) → List ℕ → ScriptLine
 one line (a ∷ []) = line a
 one line _ = Unread
 
+-- A line of two numbers, or one that can't be read.
 abbrev pub two : (ℕ → ℕ → ScriptLine) → List ℕ → ScriptLine
 two line (a ∷ b ∷ []) = line a b
 two line _ = Unread
 
+-- A line of three numbers, likewise.
 abbrev pub three : (ℕ → ℕ → ℕ → ScriptLine) → List ℕ → ScriptLine
 three line (a ∷ b ∷ c ∷ []) = line a b c
 three line _ = Unread
 
+-- A line of four numbers, likewise.
 abbrev pub four : (ℕ → ℕ → ℕ → ℕ → ScriptLine) → List ℕ → ScriptLine
 four line (a ∷ b ∷ c ∷ d ∷ []) = line a b c d
 four line _ = Unread

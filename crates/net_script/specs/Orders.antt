@@ -12,8 +12,8 @@ use Rattle.net_script.specs.declared.line.ScriptLine.TheVariants as lines
 use Rattle.net_script.specs.Words.{lines_of}
 use Rattle.net_script.specs.Table.{line_of}
 
--- An order, with the number of its line: a world of this setup; a command, with its text if it has one; or
--- a bad line, by the number that is printed.
+-- An order, with the number of its line: a world of this setup; a command, with its text if it has
+-- one; or a bad line, by the number that is printed.
 pub data Order : Type 0 where
   Opens : ℕ → Setup → Order
   Asks : ℕ → Command → List ℕ → Order
@@ -44,8 +44,8 @@ abbrev pub opens_text : ScriptLine → Bool
 opens_text (lines.Asks command) = has_text command
 opens_text _ = false
 
--- A command with the text of the lines below it. Where that isn't closed the line is bad, by the number
--- of the last line.
+-- A command with the text of the lines below it. Where that isn't closed the line is bad, by the
+-- number of the last line.
 abbrev pub with_text : ℕ → Command → List (List ℕ) → Order
 with_text number command below =
     if list_any closes below then Asks number command (text_in below)
@@ -59,8 +59,8 @@ order_of number (lines.Asks command) below =
     (if has_text command then with_text number command below else Asks number command []) ∷ []
 order_of number lines.Unread below = Fails number number ∷ []
 
--- The orders of lines, numbered on from a number: those of a text give none, up to the one that closes
--- it.
+-- The orders of lines, numbered on from a number: those of a text give none, up to the one that
+-- closes it.
 abbrev pub orders_from : ℕ → Bool → List (List ℕ) → List Order
 orders_from number inside [] = []
 orders_from number true (line ∷ below) = orders_from (number + 1) (not (closes line)) below

@@ -27,7 +27,8 @@ use Rattle.fc_base.specs.declared.fault.Fault.TheVariants.{FrameBadField}
 
 -- What a worker is told that asks for a write.
 abbrev pub issue_words : Issue → List (List ℕ)
-issue_words (Write ticket) = codes "write" ∷ decimal ticket.seq ∷ codes "block" ∷ decimal ticket.block ∷ []
+issue_words (Write ticket) =
+    codes "write" ∷ decimal ticket.seq ∷ codes "block" ∷ decimal ticket.block ∷ []
 issue_words Full = codes "full" ∷ []
 issue_words Held = codes "held" ∷ []
 issue_words Overlap = codes "overlap" ∷ []
@@ -71,9 +72,11 @@ node_word Mirror = codes "mirror"
 -- The line of a frame that was sent: its number, the nodes, its kind and its length.
 abbrev pub frame_line : ℕ → FrameLook → ℕ → List ℕ
 frame_line i look len =
-    with_blanks_between (codes "sent" ∷ decimal i ∷ node_word look.from ∷ node_word look.to ∷ sort_name look.kind
+    with_blanks_between (codes "sent" ∷ decimal i ∷ node_word look.from ∷ node_word look.to
+    ∷ sort_name look.kind
     ∷ decimal len ∷ [])
 
+-- The line of a frame at a position, by how it looks and how long it is.
 abbrev pub sent_line : ℕ → Frame → List ℕ
 sent_line i f = frame_line i (look_of f) (length (frame_spelling f))
 
@@ -108,7 +111,8 @@ abbrev pub lines_by : Setup → List Change → Happening → Outcome → List (
 lines_by setup past e (Refuses fault) = refusal_line fault ∷ []
 lines_by setup past e (Drops step) = refusal_line FrameBadField ∷ []
 lines_by setup past e (Does change) =
-    (answer_line (answer setup past e) ∷ sent_lines (length (frames_sent setup (steps past))) (frames_of_change setup past change))
+    (answer_line (answer setup past e) ∷ sent_lines (length (frames_sent setup (steps past)))
+    (frames_of_change setup past change))
     ++ act_lines (addressee setup past e) (act setup past change)
 
 -- The lines of what happens.

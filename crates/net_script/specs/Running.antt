@@ -16,14 +16,16 @@ use Rattle.printed.specs.Words.{with_line_feed}
 use Rattle.net_script.specs.Printed.{lines_at, refusal_line}
 use Rattle.net_script.specs.Script.{finds_fault}
 
--- What has come of this happening behind those before it: its lines are written, and the world stands for
--- the list with it; or memory ran out, which one line says.
-abbrev pub HasCome : Setup → List Happening → Happening → World → Option (List ℕ) → Option (List ℕ) → Ran → Type 0
+-- What has come of this happening behind those before it: its lines are written, and the world
+-- stands for the list with it; or memory ran out, which one line says.
+abbrev pub HasCome : Setup → List Happening → Happening → World → Option (List ℕ) → Option (List ℕ)
+    → Ran → Type 0
 HasCome setup before e new old_text new_text (Answered faults) =
     Appends old_text new_text (flat_map with_line_feed (lines_at setup (world setup before) e))
     × StandsFor setup (world setup (e ∷ before)) new
     × (faults ≡ finds_fault setup before e)
-HasCome setup before e new old_text new_text Lacked = Appends old_text new_text (with_line_feed (refusal_line NoMemory))
+HasCome setup before e new old_text new_text Lacked =
+    Appends old_text new_text (with_line_feed (refusal_line NoMemory))
 
 -- What comes of a command that is refused, by the sort of the fault.
 abbrev pub refused_by : FaultSort → Ran

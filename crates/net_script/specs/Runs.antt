@@ -12,18 +12,21 @@ use Rattle.net_script.specs.Orders.{Order, orders_of}
 use Rattle.net_script.specs.Printed.{refusal_line}
 use Rattle.net_script.specs.Script.{lines_of_orders, reads_well, text_of, status_of, is_too_long}
 
--- Memory ran out at an order, up to which none is bad: behind the lines of those before it one says so, and
--- it is the last.
-pub record EndedSoon (lines : List Order → List (List ℕ)) (reads : List Order → Bool) (orders : List Order) (old new : Option (List ℕ)) (status : ℕ) : Type 0 where
+-- Memory ran out at an order, up to which none is bad: behind the lines of those before it one says
+-- so, and it is the last.
+pub record EndedSoon (lines : List Order → List (List ℕ)) (reads : List Order → Bool)
+    (orders : List Order) (old new : Option (List ℕ)) (status : ℕ) : Type 0 where
   pub before : List Order
   pub lacking : Order
   pub rest : List Order
   pub split : orders ≡ before ++ (lacking ∷ rest)
   pub lacks : IsTrue (reads (before ++ lacking ∷ []))
-  pub finishes : Finishes (flat_map with_line_feed (lines before) ++ with_line_feed (refusal_line NoMemory)) 2 old new status
+  pub finishes : Finishes (flat_map with_line_feed (lines before)
+      ++ with_line_feed (refusal_line NoMemory)) 2 old new status
 
 -- Orders have run: all of their lines are written, and the status is theirs; or memory ran out.
-abbrev pub RunOrders : (List Order → List (List ℕ)) → (List Order → Bool) → (List Order → ℕ) → List Order → Option (List ℕ) → Option (List ℕ) → ℕ → Type 0
+abbrev pub RunOrders : (List Order → List (List ℕ)) → (List Order → Bool) → (List Order → ℕ)
+    → List Order → Option (List ℕ) → Option (List ℕ) → ℕ → Type 0
 RunOrders lines reads wanted orders old new status =
     Finishes (flat_map with_line_feed (lines orders)) (wanted orders) old new status
     ⊎ EndedSoon lines reads orders old new status
@@ -32,7 +35,8 @@ RunOrders lines reads wanted orders old new status =
 abbrev pub HasRun : List ℕ → Option (List ℕ) → Option (List ℕ) → ℕ → Type 0
 HasRun script old new status =
     Finishes (text_of script) (status_of script) old new status
-    ⊎ ((is_too_long script ≡ false) × EndedSoon lines_of_orders reads_well (orders_of script) old new status)
+    ⊎ ((is_too_long script ≡ false)
+    × EndedSoon lines_of_orders reads_well (orders_of script) old new status)
 
 -- A run of a script by a reader and a writer: nothing is written before all is read.
 abbrev pub Runs : List ℕ → Option (List ℕ) → Option (List ℕ) → Result ℕ ScriptFault → Type 0

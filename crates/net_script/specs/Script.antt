@@ -48,7 +48,8 @@ tells_faults answer (Drops step) = false
 
 -- What happens in a world of this setup behind these happenings tells of faults.
 abbrev pub finds_fault : Setup → List Happening → Happening → Bool
-finds_fault setup before e = tells_faults (answer setup (world setup before) e) (outcome setup (world setup before) e)
+finds_fault setup before e =
+    tells_faults (answer setup (world setup before) e) (outcome setup (world setup before) e)
 
 -- Some command tells of faults.
 abbrev pub some_faults : Setup → List Happening → List Order → Bool

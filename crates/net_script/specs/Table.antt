@@ -1,5 +1,6 @@
 -- The table of commands.
-use Rattle.std.specs.Prelude.{◌≤◌, ℕ, Bool, true, false, ◌&&◌, nat_eq, nat_le, List, [], ◌∷◌, ◌++◌, Option, Some, None, option_map, take, drop, bytes_eq, codes, if◌then◌else◌}
+use Rattle.std.specs.Prelude.{◌≤◌, ℕ, Bool, true, false, ◌&&◌, nat_eq, nat_le, List, [], ◌∷◌, ◌++◌}
+use Rattle.std.specs.Prelude.{Option, Some, None, option_map, take, drop, bytes_eq, codes, if◌then◌else◌}
 use Rattle.std.specs.List.{starts_with}
 use Rattle.fc_base.specs.declared.limits.TheConstants.{MAX_SERVERS}
 use Rattle.messages.specs.declared.refusal.Act.{Act}
@@ -65,13 +66,15 @@ rot s j sector byte = if nat_le byte 255 then Asks (Rot (place s) (place j) sect
 -- A world of so many servers, 1 to 8, with a mirror or without.
 abbrev pub world_of : ℕ → Bool → ScriptLine
 world_of n mirror =
-    if nat_le 1 n && nat_le n MAX_SERVERS then Servers (record { servers = n; mirror = mirror }) else Unread
+    if nat_le 1 n && nat_le n MAX_SERVERS then Servers (record { servers = n; mirror = mirror })
+    else Unread
 
 -- `servers N`, `servers N mirror`.
 abbrev pub servers : List (List ℕ) → ScriptLine
 servers [] = Unread
 servers (count ∷ behind) =
-    read_as (λ n. read_as (λ mirror. world_of n mirror) (maybe (codes "mirror") behind)) (number_of count)
+    read_as (λ n. read_as (λ mirror. world_of n mirror) (maybe (codes "mirror") behind))
+    (number_of count)
 
 -- The commands in which a node may save, each asked for as it is or cut short.
 abbrev pub saving_rows : (Saving → Command) → List Row

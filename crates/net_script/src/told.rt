@@ -34,7 +34,8 @@ pub(crate) fn write_told<W: Write>(
         AreBytesOf sent told.now.first told.now.sent (sent_in frames.now) →
         OnOk result (Appends (W.contents writer.old) (W.contents writer.new)
         (flat_map with_line_feed
-        ((answer_line told.now.answer ∷ sent_lines told.now.first sent) ++ act_lines addressee told.now.act))) }
+        ((answer_line told.now.answer ∷ sent_lines told.now.first sent)
+        ++ act_lines addressee told.now.act))) }
 {
     write_answer(writer, &told.answer)?;
     write_sent(writer, frames, told.first, told.sent)?;

@@ -9,7 +9,8 @@ use Rattle.parallel_checks.specs.declared.slot.Slot.{Slot}
 use Rattle.parallel_checks.specs.Tasks.{Answers}
 
 -- The slot holds an answer to this task.
-pub record IsAnswered {T : Type 0} (file : T → File) (task : CheckTask T) (slot : Slot T) : Type 0 where
+pub record IsAnswered {T : Type 0} (file : T → File) (task : CheckTask T)
+    (slot : Slot T) : Type 0 where
   pub answer : Result ReportParts Fault
   pub held : slot.answer ≡ Some answer
   pub answers : Answers file task answer

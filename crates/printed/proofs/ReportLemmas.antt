@@ -28,11 +28,13 @@ blocks_behind : (d f b c : List ℕ) (blocks : List (List ℕ))
     ≡ d ++ (b ++ (f ++ (c ++ with_blanks_between (codes "first" ∷ blocks))))
 blocks_behind d f b c blocks =
     two_behind d f b (c ++ codes "first") (flat_map blank_before blocks)
-    ∙ ap (λ l. d ++ (b ++ (f ++ l))) (append_assoc c (codes "first") (flat_map blank_before blocks) ∙ ap (λ l. c ++ l) (sym (words_text (codes "first") blocks)))
+    ∙ ap (λ l. d ++ (b ++ (f ++ l))) (append_assoc c (codes "first") (flat_map blank_before blocks)
+    ∙ ap (λ l. c ++ l) (sym (words_text (codes "first") blocks)))
 
 -- The words of a report.
 pub report_text : (checked faults : ℕ) (end : ReportEnd) (blocks : List (List ℕ))
-    → (codes "checked " ++ (decimal checked ++ (codes " faults " ++ (decimal faults ++ (codes " end " ++ (with_blanks_between (end_words end) ++ codes " first"))))))
+    → (codes "checked " ++ (decimal checked ++ (codes " faults "
+    ++ (decimal faults ++ (codes " end " ++ (with_blanks_between (end_words end) ++ codes " first"))))))
     ++ flat_map blank_before blocks
     ≡ with_blanks_between (codes "checked" ∷ decimal checked ∷ codes "faults" ∷ decimal faults ∷ codes "end" ∷ (end_words end ++ (codes "first" ∷ blocks)))
 report_text checked faults Whole blocks =
@@ -42,6 +44,7 @@ report_text checked faults AtFault blocks =
 report_text checked faults (ReadFault block) blocks =
     ap (λ l. codes "checked " ++ ((decimal checked ++ (codes " faults " ++ (decimal faults ++ (codes " end read " ++ l)))) ++ flat_map blank_before blocks))
     (sym (append_assoc (decimal block) (codes " ") (codes "first")))
-    ∙ ap (λ l. codes "checked " ++ l) (blocks_behind (decimal checked) (decimal faults) (codes " faults ") (codes " end read " ++ (decimal block ++ codes " ")) blocks)
+    ∙ ap (λ l. codes "checked " ++ l) (blocks_behind (decimal checked) (decimal faults) (codes " faults ")
+    (codes " end read " ++ (decimal block ++ codes " ")) blocks)
     ∙ ap (λ l. codes "checked " ++ (decimal checked ++ (codes " faults " ++ (decimal faults ++ (codes " end read " ++ l)))))
     (append_assoc (decimal block) (codes " ") (with_blanks_between (codes "first" ∷ blocks)))

@@ -32,7 +32,8 @@ number_words (Some number) = decimal number ∷ []
 -- The line of a refusal: its number, its name, and its line or job where it has one.
 abbrev pub refusal_line : PrintedRefusal → List ℕ
 refusal_line refusal =
-    with_blanks_between (codes "refused" ∷ decimal (number_of refusal.fault) ∷ name_of refusal.fault ∷ number_words refusal.line_or_job)
+    with_blanks_between (codes "refused" ∷ decimal (number_of refusal.fault) ∷ name_of refusal.fault
+    ∷ number_words refusal.line_or_job)
 
 -- The refusal is that of the first fault of a text.
 pub record RefusesText (refusal : PrintedRefusal) (text : List ℕ) : Type 0 where

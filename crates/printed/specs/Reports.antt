@@ -18,5 +18,6 @@ end_words (ReadFault block) = codes "read" ∷ decimal block ∷ []
 -- The words of a report.
 abbrev pub report_words : ReportParts → List (List ℕ)
 report_words report =
-    (codes "checked" ∷ decimal report.checked ∷ codes "faults" ∷ decimal report.faults ∷ codes "end" ∷ [])
+    (codes "checked" ∷ decimal report.checked ∷ codes "faults" ∷ decimal report.faults ∷ codes "end"
+    ∷ [])
     ++ (end_words report.end ++ (codes "first" ∷ block_words report.first))

@@ -1,5 +1,6 @@
 -- A disk, block by block.
-use Rattle.std.proofs.Common.{◌≡◌, ℕ, zero, suc, ◌+◌, ◌-◌, ◌<◌, ◌≤◌, Bool, true, false, List, [], ◌∷◌, ◌++◌, length, filter, refl, sym, ap, subst, ◌∙◌, inl, inr, arith, add-zero, zero-add}
+use Rattle.std.proofs.Common.{◌≡◌, ℕ, zero, suc, ◌+◌, ◌-◌, ◌<◌, ◌≤◌, Bool, true, false, List, [], ◌∷◌, ◌++◌}
+use Rattle.std.proofs.Common.{length, filter, refl, sym, ap, subst, ◌∙◌, inl, inr, arith, add-zero, zero-add}
 use Rattle.std.specs.Prelude.{IsSome, nat_lt}
 use Rattle.std.specs.List.{range_with_len}
 use Rattle.std.proofs.lemmas.Bool.{ltb-true, and_parts, cases_lt}
@@ -14,7 +15,8 @@ use Rattle.recheck.specs.DiskSteps.{IsSeen}
 use Rattle.recheck.proofs.ReportLemmas.{seen_more, through_some}
 
 -- A block that isn't checked may hold anything.
-pub skipped : (check : Check) (block : ℕ) (file : File) → has_ended check ≡ false → is_checked check.expected block ≡ false → check.next ≤ block → IsSeen check check block file file
+pub skipped : (check : Check) (block : ℕ) (file : File) → has_ended check ≡ false → is_checked check.expected block ≡ false → check.next ≤ block
+    → IsSeen check check block file file
 skipped check block file open_check out next = record {
   expected = refl;
   fatal = refl;
@@ -35,23 +37,28 @@ range_more : (n : ℕ) → range_with_len 0 (n + 1) ≡ range_with_len 0 n ++ n 
 range_more n = range_append 0 n 1 ∙ ap (λ k. range_with_len 0 n ++ k ∷ []) (zero-add n)
 
 -- One block more is seen.
-pub seen_on : (e : Expected) (check new_check : Check) (block : ℕ) (start old new : File) → IsSeen check new_check block old new → old ≡ start → check.expected ≡ e → HasSeen check (held_by start e.job) (range_with_len 0 block) → HasSeen new_check (held_by start e.job) (range_with_len 0 (block + 1))
+pub seen_on : (e : Expected) (check new_check : Check) (block : ℕ) (start old new : File) → IsSeen check new_check block old new → old ≡ start
+    → check.expected ≡ e → HasSeen check (held_by start e.job) (range_with_len 0 block) → HasSeen new_check (held_by start e.job) (range_with_len 0 (block + 1))
 seen_on e check new_check block start old new step same expected seen =
-    let held : held_by old check.expected.job ≡ held_by start e.job = ap (λ (f : File). held_by f check.expected.job) same ∙ ap (λ (x : Expected). held_by start x.job) expected in
-    let before : HasSeen check (held_by old check.expected.job) (range_with_len 0 block) = subst (λ (h : ℕ → List ℕ). HasSeen check h (range_with_len 0 block)) (sym held) seen in
+    let held : held_by old check.expected.job ≡ held_by start e.job =
+    ap (λ (f : File). held_by f check.expected.job) same ∙ ap (λ (x : Expected). held_by start x.job) expected in
+    let before : HasSeen check (held_by old check.expected.job) (range_with_len 0 block) =
+    subst (λ (h : ℕ → List ℕ). HasSeen check h (range_with_len 0 block)) (sym held) seen in
     let after : HasSeen new_check (held_by old check.expected.job) (range_with_len 0 block ++ block ∷ []) = step.seen (range_with_len 0 block) before in
     subst (λ (h : ℕ → List ℕ). HasSeen new_check h (range_with_len 0 (block + 1))) held
     (subst (λ (xs : List ℕ). HasSeen new_check (held_by old check.expected.job) xs) (sym (range_more block)) after)
 
 -- A block that is counted was read.
-pub power_on : (check new_check : Check) (block : ℕ) (start old new : File) → IsSeen check new_check block old new → old ≡ start → (0 < check.found.checked → IsSome start.power) → 0 < new_check.found.checked → IsSome start.power
+pub power_on : (check new_check : Check) (block : ℕ) (start old new : File) → IsSeen check new_check block old new → old ≡ start
+    → (0 < check.found.checked → IsSome start.power) → 0 < new_check.found.checked → IsSome start.power
 power_on check new_check block start old new step same before some = elim (cases_lt check.found.checked new_check.found.checked) [
   | inl more ↦ subst (λ (f : File). IsSome f.power) same (step.power more)
   | inr none ↦ before (omega arith)
 ]
 
 -- Where a check has ended, the report of the blocks seen is that of all.
-pub ended_report : (fatal : Bool) (e : Expected) (held : ℕ → List ℕ) (check : Check) (n m : ℕ) → has_ended check ≡ true → check.fatal ≡ fatal → check.expected ≡ e → n ≤ m → HasSeen check held (range_with_len 0 n) → report fatal e held (range_with_len 0 n) ≡ report fatal e held (range_with_len 0 m)
+pub ended_report : (fatal : Bool) (e : Expected) (held : ℕ → List ℕ) (check : Check) (n m : ℕ) → has_ended check ≡ true → check.fatal ≡ fatal
+    → check.expected ≡ e → n ≤ m → HasSeen check held (range_with_len 0 n) → report fatal e held (range_with_len 0 n) ≡ report fatal e held (range_with_len 0 m)
 ended_report fatal e held check n m ended same_fatal same_expected le seen =
     let parts = and_parts check.fatal (nat_lt 0 check.found.faults) ended in
     let is_fatal : fatal ≡ true = sym same_fatal ∙ parts.0 in
@@ -65,7 +72,10 @@ ended_report fatal e held check n m ended same_fatal same_expected le seen =
     ap (λ xs. report_of fatal (tally e held xs)) (sym cut)
 
 -- The report of a check that has ended at a fault.
-pub ended_whole : (e : Expected) (fatal : Bool) (check : Check) (n : ℕ) (start now : File) (r : ReportParts) → has_ended check ≡ true → check.fatal ≡ fatal → check.expected ≡ e → n ≤ e.job.blocks → HasSeen check (held_by start e.job) (range_with_len 0 n) → r ≡ report_of check.fatal check.found → r ≡ report check.fatal check.expected (held_by start e.job) (range_with_len 0 n) → (0 < check.found.checked → IsSome start.power) → now ≡ start → IsWhole e fatal start now r
+pub ended_whole : (e : Expected) (fatal : Bool) (check : Check) (n : ℕ) (start now : File) (r : ReportParts) → has_ended check ≡ true → check.fatal ≡ fatal
+    → check.expected ≡ e → n ≤ e.job.blocks → HasSeen check (held_by start e.job) (range_with_len 0 n) → r ≡ report_of check.fatal check.found
+    → r ≡ report check.fatal check.expected (held_by start e.job) (range_with_len 0 n) → (0 < check.found.checked → IsSome start.power) → now ≡ start
+    → IsWhole e fatal start now r
 ended_whole e fatal check n start now r ended same_fatal same_expected le seen counted told power same = record {
   report = told ∙ (rw (same_fatal, same_expected) (ended_report fatal e (held_by start e.job) check n e.job.blocks ended same_fatal same_expected le seen));
   power = λ some. power (subst (λ k. 0 < k) (ap (λ p. p.checked) counted) some);

@@ -1,5 +1,6 @@
 -- A check that ends at a fault tells all.
-use Rattle.std.proofs.Common.{◌≡◌, ℕ, zero, suc, ◌+◌, ◌-◌, ◌<◌, ◌≤◌, Bool, true, false, ◌&&◌, List, [], ◌∷◌, ◌++◌, length, filter, refl, sym, ap, ◌∙◌, inl, inr, arith}
+use Rattle.std.proofs.Common.{◌≡◌, ℕ, zero, suc, ◌+◌, ◌-◌, ◌<◌, ◌≤◌, Bool, true, false, ◌&&◌, List}
+use Rattle.std.proofs.Common.{[], ◌∷◌, ◌++◌, length, filter, refl, sym, ap, ◌∙◌, inl, inr, arith}
 use Rattle.std.specs.Prelude.{nat_lt, if◌then◌else◌}
 use Rattle.std.specs.List.{range_with_len}
 use Rattle.std.proofs.lemmas.Bool.{and_parts, cases_Bool, cases_lt, ltb-true}
@@ -42,7 +43,8 @@ faults_end fatal e held n m le ended =
           ap (λ xs. report_of fatal (tally e held xs)) cut
       | inr none ↦
           let none_is : length (filter (is_fault e held) (range_with_len 0 n)) ≡ 0 = omega (arith, none) in
-          let all : looked_at fatal e held (range_with_len 0 n) ≡ range_with_len 0 n = rw is_fatal (through_all (is_fault e held) (range_with_len 0 n) none_is) in
+          let all : looked_at fatal e held (range_with_len 0 n) ≡ range_with_len 0 n =
+          rw is_fatal (through_all (is_fault e held) (range_with_len 0 n) none_is) in
           let faults_are : found.faults ≡ 0 = ap (λ xs. length (filter (is_fault e held) xs)) all ∙ none_is in
           absurd (omega (arith, faults_are, ltb-true 0 found.faults parts.1))
     ]

@@ -39,7 +39,8 @@ issued_fits (Some s) key job fits =
     leb-true s.issued job.total (and_parts (is_of_kind s.job job && is_of_region s.job job) (nat_le s.issued job.total) of_job).1
 
 -- A misfit is one of three.
-pub starts_not : (state : Option State) (key : Key) (job : JobParts) (fatal : Bool) (f : Fault) → FitsIfAny state key job (Err f) → Starts (Err f) key job state fatal
+pub starts_not : (state : Option State) (key : Key) (job : JobParts) (fatal : Bool) (f : Fault) → FitsIfAny state key job (Err f)
+    → Starts (Err f) key job state fatal
 unfolding misfit
 starts_not None key job fatal f fits = absurd fits
 starts_not (Some s) key job fatal f fits =

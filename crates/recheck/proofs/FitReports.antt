@@ -20,7 +20,8 @@ lower : (a b high : ℕ) (xs : List ℕ) → a ≤ b → Rising b high xs → Ri
 lower a b high [] l r = tt
 lower a b high (x ∷ xs) l r = (let p = r.0 in omega (arith, l), r.1, r.2)
 
-filter_one : (p : ℕ → Bool) (low high x : ℕ) (xs : List ℕ) (b : Bool) → p x ≡ b → low ≤ x → x < high → Rising (x + 1) high (filter p xs) → Rising low high (filter p (x ∷ xs))
+filter_one : (p : ℕ → Bool) (low high x : ℕ) (xs : List ℕ) (b : Bool) → p x ≡ b → low ≤ x → x < high → Rising (x + 1) high (filter p xs)
+    → Rising low high (filter p (x ∷ xs))
 filter_one p low high x xs true e l h r = rw e (l, h, r)
 filter_one p low high x xs false e l h r = rw e (lower low (x + 1) high (filter p xs) (omega (arith, l)) r)
 
@@ -33,7 +34,8 @@ rising_take zero low high xs r = tt
 rising_take (suc n) low high [] r = tt
 rising_take (suc n) low high (x ∷ xs) r = (r.0, r.1, rising_take n (x + 1) high xs r.2)
 
-through_first : (p : ℕ → Bool) (low high x : ℕ) (xs : List ℕ) (b : Bool) → p x ≡ b → low ≤ x → x < high → Rising (x + 1) high (up_to_first p xs) → Rising low high (up_to_first p (x ∷ xs))
+through_first : (p : ℕ → Bool) (low high x : ℕ) (xs : List ℕ) (b : Bool) → p x ≡ b → low ≤ x → x < high → Rising (x + 1) high (up_to_first p xs)
+    → Rising low high (up_to_first p (x ∷ xs))
 through_first p low high x xs true e l h r = rw e (l, h, tt)
 through_first p low high x xs false e l h r = rw e (l, h, r)
 
@@ -59,7 +61,8 @@ rising_blocks low high [] l r = refl
 rising_blocks low high (x ∷ xs) l r = let below = r.1 in rw (lt-ltb x MAX_BLOCKS (omega (arith, l))) (rising_blocks (x + 1) high xs l r.2)
 
 -- No more numbers pass two tests than one.
-fewer_one : (p q : ℕ → Bool) (x : ℕ) (xs : List ℕ) (a b : Bool) → p x ≡ a → q x ≡ b → length (filter (λ y. p y && q y) xs) ≤ length (filter p xs) → length (filter (λ y. p y && q y) (x ∷ xs)) ≤ length (filter p (x ∷ xs))
+fewer_one : (p q : ℕ → Bool) (x : ℕ) (xs : List ℕ) (a b : Bool) → p x ≡ a → q x ≡ b → length (filter (λ y. p y && q y) xs) ≤ length (filter p xs)
+    → length (filter (λ y. p y && q y) (x ∷ xs)) ≤ length (filter p (x ∷ xs))
 fewer_one p q x xs true true e f rest = rw (e, f) (omega (arith, rest))
 fewer_one p q x xs true false e f rest = rw (e, f) (omega (arith, rest))
 fewer_one p q x xs false true e f rest = rw e rest
@@ -116,7 +119,12 @@ reports_fit fatal e held n l =
     let all = no_more (is_checked e) seen in
     let most = length_rising 0 MAX_BLOCKS seen r in
     let counts : has_counts (report fatal e held (range_with_len 0 n)) ≡ true =
-    rw (le-leb (length faulty) (length (filter (is_checked e) seen)) some, le-leb (length (filter (is_checked e) seen)) MAX_BLOCKS (omega (arith, all, most))) refl in
+    rw (le-leb (length faulty) (length (filter (is_checked e) seen)) some, le-leb (length (filter (is_checked e) seen)) MAX_BLOCKS (omega (arith, all, most)))
+    refl in
     let list : has_list (report fatal e held (range_with_len 0 n)) ≡ true =
-    rw (eq-eqb (length (take MAX_LISTED faulty)) (min (length faulty) MAX_LISTED) (length_take MAX_LISTED faulty), rising_blocks 0 MAX_BLOCKS (take MAX_LISTED faulty) (omega arith) first, rising_ascends 0 MAX_BLOCKS (take MAX_LISTED faulty) first) refl in
+    rw (
+      eq-eqb (length (take MAX_LISTED faulty)) (min (length faulty) MAX_LISTED) (length_take MAX_LISTED faulty),
+      rising_blocks 0 MAX_BLOCKS (take MAX_LISTED faulty) (omega arith) first,
+      rising_ascends 0 MAX_BLOCKS (take MAX_LISTED faulty) first,
+    ) refl in
     rw (counts, list, ends_well fatal e held n) refl

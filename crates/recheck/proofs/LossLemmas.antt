@@ -1,5 +1,6 @@
 -- Which blocks have lost their writes.
-use Rattle.std.proofs.Common.{◌≡◌, ◌⊎◌, ◌↔◌, ℕ, zero, suc, ◌<◌, ◌≤◌, Bool, true, false, ◌&&◌, ◌||◌, not, eqb, List, [], ◌∷◌, ◌++◌, map, filter, refl, sym, ap, subst, inl, inr, ◌∙◌, arith}
+use Rattle.std.proofs.Common.{◌≡◌, ◌⊎◌, ◌↔◌, ℕ, zero, suc, ◌<◌, ◌≤◌, Bool, true, false, ◌&&◌, ◌||◌, not, eqb}
+use Rattle.std.proofs.Common.{List, [], ◌∷◌, ◌++◌, map, filter, refl, sym, ap, subst, inl, inr, ◌∙◌, arith}
 use Rattle.std.specs.Prelude.{Option, Some, None, IsTrue}
 use Rattle.std.specs.List.{list_any}
 use Rattle.std.proofs.lemmas.Bool.{and_parts, eq-eqb, eqb-true, cases_eq, false_from_ne_true, or_left, or_right}
@@ -61,7 +62,8 @@ greatest_none test (suc n) j e lt passes = by (test n) refl (greatest_none test 
 abbrev flight : JobParts → Option State → ℕ → List Placed
 flight job state n = map (placed_write job) (filter (λ k. not (counts state k)) (numbers_below n))
 
-flight_next : (job : JobParts) (state : Option State) (n : ℕ) → counts state n ≡ false → flight job state (suc n) ≡ flight job state n ++ placed_write job n ∷ []
+flight_next : (job : JobParts) (state : Option State) (n : ℕ) → counts state n ≡ false
+    → flight job state (suc n) ≡ flight job state n ++ placed_write job n ∷ []
 flight_next job state n out =
     ap (map (placed_write job)) (filter_next (λ k. not (counts state k)) n (ap not out))
     ∙ map-append (placed_write job) (filter (λ k. not (counts state k)) (numbers_below n)) (n ∷ [])
@@ -80,7 +82,8 @@ record Passes (job : JobParts) (state : Option State) (test : ℕ → Bool) (blo
 abbrev goes_to : (ℕ → Bool) → ℕ → Placed → Bool
 goes_to test block w = eqb w.block block && test w.seq
 
-some_passes : (job : JobParts) (state : Option State) (test : ℕ → Bool) (block n : ℕ) → list_any (goes_to test block) (flight job state n) ≡ true → Passes job state test block n
+some_passes : (job : JobParts) (state : Option State) (test : ℕ → Bool) (block n : ℕ) → list_any (goes_to test block) (flight job state n) ≡ true
+    → Passes job state test block n
 some_passes job state test block zero e = absurd cc
 some_passes job state test block (suc n) e = by (counts state n) refl (some_passes job state test block n)
   where
@@ -93,7 +96,9 @@ some_passes job state test block (suc n) e = by (counts state n) refl (some_pass
       passes = p.passes;
     }
 
-    at_last : (b : Bool) → goes_to test block (placed_write job n) ≡ b → counts state n ≡ false → (list_any (goes_to test block) (flight job state n) || (b || false)) ≡ true → (list_any (goes_to test block) (flight job state n) ≡ true → Passes job state test block n) → Passes job state test block (suc n)
+    at_last : (b : Bool) → goes_to test block (placed_write job n) ≡ b → counts state n ≡ false
+        → (list_any (goes_to test block) (flight job state n) || (b || false)) ≡ true
+        → (list_any (goes_to test block) (flight job state n) ≡ true → Passes job state test block n) → Passes job state test block (suc n)
     at_last true is out any ih =
         let parts = and_parts (eqb (block_of job n) block) (test n) is in
         record { write = n; below = omega arith; uncounted = out; goes = eqb-true (block_of job n) block parts.0; passes = parts.1 }
@@ -103,13 +108,16 @@ some_passes job state test block (suc n) e = by (counts state n) refl (some_pass
         or_none true f = refl
         or_none false f = f
 
-    by : (b : Bool) → counts state n ≡ b → (list_any (goes_to test block) (flight job state n) ≡ true → Passes job state test block n) → Passes job state test block (suc n)
+    by : (b : Bool) → counts state n ≡ b → (list_any (goes_to test block) (flight job state n) ≡ true → Passes job state test block n)
+        → Passes job state test block (suc n)
     by true is ih = one_more (ih (ap (list_any (goes_to test block)) (sym (flight_not_next job state n is)) ∙ e))
     by false is ih =
         at_last (goes_to test block (placed_write job n)) refl is
-        (sym (list_any-append (goes_to test block) (flight job state n) (placed_write job n ∷ [])) ∙ ap (list_any (goes_to test block)) (sym (flight_next job state n is)) ∙ e) ih
+        (sym (list_any-append (goes_to test block) (flight job state n) (placed_write job n ∷ []))
+        ∙ ap (list_any (goes_to test block)) (sym (flight_next job state n is)) ∙ e) ih
 
-passes_some : (job : JobParts) (state : Option State) (test : ℕ → Bool) (block n k : ℕ) → k < n → counts state k ≡ false → block_of job k ≡ block → test k ≡ true → list_any (goes_to test block) (flight job state n) ≡ true
+passes_some : (job : JobParts) (state : Option State) (test : ℕ → Bool) (block n k : ℕ) → k < n → counts state k ≡ false → block_of job k ≡ block
+    → test k ≡ true → list_any (goes_to test block) (flight job state n) ≡ true
 passes_some job state test block zero k lt out at passes = absurd (omega arith)
 passes_some job state test block (suc n) k lt out at passes =
     by (counts state n) refl (passes_some job state test block n k)
@@ -117,13 +125,15 @@ passes_some job state test block (suc n) k lt out at passes =
     here : k ≡ n → goes_to test block (placed_write job n) ≡ true
     here same = rw (← same, eq-eqb (block_of job k) block at, passes) refl
 
-    by : (b : Bool) → counts state n ≡ b → (k < n → counts state k ≡ false → block_of job k ≡ block → test k ≡ true → list_any (goes_to test block) (flight job state n) ≡ true) → list_any (goes_to test block) (flight job state (suc n)) ≡ true
+    by : (b : Bool) → counts state n ≡ b → (k < n → counts state k ≡ false → block_of job k ≡ block → test k ≡ true
+        → list_any (goes_to test block) (flight job state n) ≡ true) → list_any (goes_to test block) (flight job state (suc n)) ≡ true
     by true is ih = elim (cases_eq k n) [
       | inl same ↦ let both : true ≡ false = sym is ∙ ap (counts state) (sym same) ∙ out in absurd cc
       | inr other ↦ ap (list_any (goes_to test block)) (flight_not_next job state n is) ∙ ih (omega arith) out at passes
     ]
     by false is ih =
-        let split = ap (list_any (goes_to test block)) (flight_next job state n is) ∙ list_any-append (goes_to test block) (flight job state n) (placed_write job n ∷ []) in
+        let split = ap (list_any (goes_to test block)) (flight_next job state n is)
+        ∙ list_any-append (goes_to test block) (flight job state n) (placed_write job n ∷ []) in
         elim (cases_eq k n) [
           | inl same ↦
               let last : (goes_to test block (placed_write job n) || false) ≡ true = ap (λ b. b || false) (here same) in
@@ -134,13 +144,16 @@ passes_some job state test block (suc n) k lt out at passes =
 -- ---- faults and losses
 
 -- The bytes are those of a write.
-holds : (key : Key) (job : JobParts) (state : Option State) (held : ℕ → List ℕ) (block k : ℕ) → is_write (expected_by key job state) block (held block) k ≡ true → Holds key job held block k
+holds : (key : Key) (job : JobParts) (state : Option State) (held : ℕ → List ℕ) (block k : ℕ) → is_write (expected_by key job state) block (held block) k ≡ true
+    → Holds key job held block k
 holds key job state held block k = (bytes_eq-Decides (held block) (written_bytes key job k block)).0
 
-is_held : (key : Key) (job : JobParts) (state : Option State) (held : ℕ → List ℕ) (block k : ℕ) → Holds key job held block k → is_write (expected_by key job state) block (held block) k ≡ true
+is_held : (key : Key) (job : JobParts) (state : Option State) (held : ℕ → List ℕ) (block k : ℕ) → Holds key job held block k
+    → is_write (expected_by key job state) block (held block) k ≡ true
 is_held key job state held block k = (bytes_eq-Decides (held block) (written_bytes key job k block)).1
 
-last_write_is : (key : Key) (job : JobParts) (state : Option State) (block : ℕ) → block < job.blocks → last_write (expected_by key job state) block ≡ last_completed job state block
+last_write_is : (key : Key) (job : JobParts) (state : Option State) (block : ℕ) → block < job.blocks
+    → last_write (expected_by key job state) block ≡ last_completed job state block
 last_write_is key job state block within =
     get_or-map-range_with_len (last_completed job state) 0 job.blocks block block None within (omega arith)
 
@@ -148,7 +161,8 @@ last_write_is key job state block within =
 completes : (job : JobParts) (state : Option State) (block k : ℕ) → IsCompletedTo job state block k → (counts state k && eqb (block_of job k) block) ≡ true
 completes job state block k is = rw (is.counted, eq-eqb (block_of job k) block is.goes) refl
 
-completed : (job : JobParts) (state : Option State) (block k : ℕ) → k < issued_in job state → (counts state k && eqb (block_of job k) block) ≡ true → IsCompletedTo job state block k
+completed : (job : JobParts) (state : Option State) (block k : ℕ) → k < issued_in job state → (counts state k && eqb (block_of job k) block) ≡ true
+    → IsCompletedTo job state block k
 completed job state block k lt e =
     let parts = and_parts (counts state k) (eqb (block_of job k) block) e in
     record { issued = lt; counted = parts.0; goes = eqb-true (block_of job k) block parts.1 }
@@ -166,11 +180,13 @@ none_completed job state block k e is =
     greatest_none (λ j. counts state j && eqb (block_of job j) block) (issued_in job state) k e is.issued (completes job state block k is)
 
 -- Of the writes in flight to the block one passes.
-in_flight_passes : (key : Key) (job : JobParts) (state : Option State) (test : ℕ → Bool) (block : ℕ) → list_any test (writes_to block (expected_by key job state).in_flight) ≡ true → Passes job state test block (issued_in job state)
+in_flight_passes : (key : Key) (job : JobParts) (state : Option State) (test : ℕ → Bool) (block : ℕ)
+    → list_any test (writes_to block (expected_by key job state).in_flight) ≡ true → Passes job state test block (issued_in job state)
 in_flight_passes key job state test block e =
     some_passes job state test block (issued_in job state) (sym (any_to test block (flight job state (issued_in job state))) ∙ e)
 
-passes_in_flight : (key : Key) (job : JobParts) (state : Option State) (test : ℕ → Bool) (block k : ℕ) → IsInFlightTo job state block k → test k ≡ true → list_any test (writes_to block (expected_by key job state).in_flight) ≡ true
+passes_in_flight : (key : Key) (job : JobParts) (state : Option State) (test : ℕ → Bool) (block k : ℕ) → IsInFlightTo job state block k → test k ≡ true
+    → list_any test (writes_to block (expected_by key job state).in_flight) ≡ true
 passes_in_flight key job state test block k is passes =
     any_to test block (flight job state (issued_in job state))
     ∙ passes_some job state test block (issued_in job state) k is.issued is.uncounted is.goes passes
@@ -180,7 +196,8 @@ not_or true b e = absurd cc
 not_or false true e = absurd cc
 not_or false false e = (refl, refl)
 
-pub faults_are_losses : (key : Key) (job : JobParts) (state : Option State) (held : ℕ → List ℕ) (block : ℕ) → block < job.blocks → IsTrue (is_fault (expected_by key job state) held block) ↔ HasLost key job state held block
+pub faults_are_losses : (key : Key) (job : JobParts) (state : Option State) (held : ℕ → List ℕ) (block : ℕ) → block < job.blocks
+    → IsTrue (is_fault (expected_by key job state) held block) ↔ HasLost key job state held block
 faults_are_losses key job state held block within = by (last_completed job state block) refl
   where
     by : (o : Option ℕ) → last_completed job state block ≡ o → IsTrue (is_fault (expected_by key job state) held block) ↔ HasLost key job state held block
@@ -200,18 +217,21 @@ faults_are_losses key job state held block within = by (last_completed job state
             write = k;
             last = last;
             gone = λ same. (let both : true ≡ false = sym (is_held key job state held block k same) ∙ parts.0 in cc);
-            in_flight = λ j flying same. (let both : true ≡ false = sym (passes_in_flight key job state test block j flying (is_held key job state held block j same)) ∙ parts.1 in cc);
+            in_flight = λ j flying same. (let both : true ≡ false =
+                sym (passes_in_flight key job state test block j flying (is_held key job state held block j same)) ∙ parts.1 in cc);
           }),
           λ lost. (
               let one : lost.write ≡ k = omega (arith, lost.last.last k last.completed, last.last lost.write lost.last.completed) in
-              let gone : test k ≡ false = false_from_ne_true (test k) (λ t. lost.gone (subst (Holds key job held block) (sym one) (holds key job state held block k t))) in
+              let gone : test k ≡ false =
+              false_from_ne_true (test k) (λ t. lost.gone (subst (Holds key job held block) (sym one) (holds key job state held block k t))) in
               let none : list_any test open_writes ≡ false = false_from_ne_true _ (λ t.
               let p = in_flight_passes key job state test block t in
               lost.in_flight p.write (record { issued = p.below; uncounted = p.uncounted; goes = p.goes }) (holds key job state held block p.write p.passes)) in
               is ∙ ap (λ b. not b) (ap (λ b. b || list_any test open_writes) gone ∙ none)),
         )
 
-pub holders_are_no_faults : (key : Key) (job : JobParts) (state : Option State) (held : ℕ → List ℕ) (block : ℕ) → block < job.blocks → (k : ℕ) → IsLastCompleted job state block k ⊎ IsInFlightTo job state block k → Holds key job held block k → is_fault (expected_by key job state) held block ≡ false
+pub holders_are_no_faults : (key : Key) (job : JobParts) (state : Option State) (held : ℕ → List ℕ) (block : ℕ) → block < job.blocks → (k : ℕ)
+    → IsLastCompleted job state block k ⊎ IsInFlightTo job state block k → Holds key job held block k → is_fault (expected_by key job state) held block ≡ false
 holders_are_no_faults key job state held block within k wanted same =
     false_from_ne_true _ (λ f. by wanted ((faults_are_losses key job state held block within).0 f))
   where

@@ -1,5 +1,6 @@
 -- Reports, block by block.
-use Rattle.std.proofs.Common.{◌≡◌, ℕ, zero, suc, ◌<◌, Bool, true, false, ◌&&◌, List, [], ◌∷◌, ◌++◌, length, take, filter, refl, sym, ap, ◌∙◌, inl, inr, arith, append-nil}
+use Rattle.std.proofs.Common.{◌≡◌, ℕ, zero, suc, ◌<◌, Bool, true, false, ◌&&◌, List, [], ◌∷◌, ◌++◌}
+use Rattle.std.proofs.Common.{length, take, filter, refl, sym, ap, ◌∙◌, inl, inr, arith, append-nil}
 use Rattle.std.specs.Prelude.{nat_lt, if◌then◌else◌}
 use Rattle.std.proofs.lemmas.Bool.{lt-ltb, cases_lt, cases_Bool}
 use Rattle.std.proofs.lemmas.List.{length_push, take_all, take-append-le, length-take}
@@ -26,10 +27,12 @@ first_more xs x = elim (cases_lt (length xs) 32) [
 ]
 
 -- The tally of one block more.
-pub tally_more : (e : Expected) (held : ℕ → List ℕ) (xs : List ℕ) (x : ℕ) → tally e held (xs ++ x ∷ []) ≡ with_verdict (tally e held xs) x (verdict e x (held x))
+pub tally_more : (e : Expected) (held : ℕ → List ℕ) (xs : List ℕ) (x : ℕ)
+    → tally e held (xs ++ x ∷ []) ≡ with_verdict (tally e held xs) x (verdict e x (held x))
 tally_more e held xs x = by (is_checked e x) (is_expected e x (held x)) refl refl
   where
-    by : (c g : Bool) → is_checked e x ≡ c → is_expected e x (held x) ≡ g → tally e held (xs ++ x ∷ []) ≡ with_verdict (tally e held xs) x (if c then (if g then verdicts.Good else verdicts.Fault) else verdicts.Skipped)
+    by : (c g : Bool) → is_checked e x ≡ c → is_expected e x (held x) ≡ g
+        → tally e held (xs ++ x ∷ []) ≡ with_verdict (tally e held xs) x (if c then (if g then verdicts.Good else verdicts.Fault) else verdicts.Skipped)
     by false g c_is g_is =
         let sound : is_fault e held x ≡ false = rw c_is refl in
         rw (filter_out (is_checked e) xs x c_is, filter_out (is_fault e held) xs x sound) refl
@@ -38,7 +41,13 @@ tally_more e held xs x = by (is_checked e x) (is_expected e x (held x)) refl ref
         rw (filter_in (is_checked e) xs x c_is, filter_out (is_fault e held) xs x sound, length_push (filter (is_checked e) xs) x) refl
     by true false c_is g_is =
         let faulty : is_fault e held x ≡ true = rw (c_is, g_is) refl in
-        rw (filter_in (is_checked e) xs x c_is, filter_in (is_fault e held) xs x faulty, length_push (filter (is_checked e) xs) x, length_push (filter (is_fault e held) xs) x, first_more (filter (is_fault e held) xs) x) refl
+        rw (
+          filter_in (is_checked e) xs x c_is,
+          filter_in (is_fault e held) xs x faulty,
+          length_push (filter (is_checked e) xs) x,
+          length_push (filter (is_fault e held) xs) x,
+          first_more (filter (is_fault e held) xs) x,
+        ) refl
 
 -- Where none passes, nothing is cut behind the next one.
 pub through_none : (p : ℕ → Bool) (xs : List ℕ) (x : ℕ) → length (filter p xs) ≡ 0 → up_to_first p (xs ++ x ∷ []) ≡ xs ++ x ∷ []
@@ -65,7 +74,9 @@ no_faults fatal (suc n) open_check is =
     absurd cc
 
 -- A check that has seen blocks sees one more.
-pub seen_more : (check new : Check) (held : ℕ → List ℕ) (blocks : List ℕ) (block : ℕ) → has_ended check ≡ false → new.expected ≡ check.expected → new.fatal ≡ check.fatal → new.found ≡ with_verdict check.found block (verdict check.expected block (held block)) → HasSeen check held blocks → HasSeen new held (blocks ++ block ∷ [])
+pub seen_more : (check new : Check) (held : ℕ → List ℕ) (blocks : List ℕ) (block : ℕ) → has_ended check ≡ false → new.expected ≡ check.expected
+    → new.fatal ≡ check.fatal → new.found ≡ with_verdict check.found block (verdict check.expected block (held block)) → HasSeen check held blocks
+    → HasSeen new held (blocks ++ block ∷ [])
 seen_more check new held blocks block open_check same_expected same_fatal found seen = record {
   uncut = rw (same_expected, same_fatal) (elim (cases_Bool check.fatal) [
     | inl t ↦
@@ -74,5 +85,6 @@ seen_more check new held blocks block open_check same_expected same_fatal found 
         rw t (through_none (is_fault check.expected held) blocks block none)
     | inr f ↦ rw f refl
   ]);
-  found = rw (same_expected) (found ∙ ap (λ t. with_verdict t block (verdict check.expected block (held block))) seen.found ∙ sym (tally_more check.expected held blocks block));
+  found = rw (same_expected) (found ∙ ap (λ t. with_verdict t block (verdict check.expected block (held block))) seen.found
+      ∙ sym (tally_more check.expected held blocks block));
 }

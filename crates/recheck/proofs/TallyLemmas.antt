@@ -40,18 +40,21 @@ pub record Listed (faults next : ℕ) (first : List ℕ) : Type 0 where
   pub ascending : ascends first ≡ true
   pub below : list_all (λ b. nat_lt b next) first ≡ true
 
-pub listed_more : (faults next block : ℕ) (first : List ℕ) → next ≤ block → Listed faults next first → Listed (faults + 1) (block + 1) (take MAX_LISTED (first ++ block ∷ []))
+pub listed_more : (faults next block : ℕ) (first : List ℕ) → next ≤ block → Listed faults next first
+    → Listed (faults + 1) (block + 1) (take MAX_LISTED (first ++ block ∷ []))
 listed_more faults next block first le kept = elim (cases_lt (length first) MAX_LISTED) [
   | inl few ↦
       let whole = take_all MAX_LISTED (first ++ block ∷ []) (omega (arith, length_push first block)) in
       rw whole (record {
         listed = omega (arith, length_push first block, kept.listed);
         ascending = ascends_push first next block kept.ascending kept.below le;
-        below = list_all-append (λ b. nat_lt b (block + 1)) first (block ∷ []) ∙ rw (below_higher first next (block + 1) (omega arith) kept.below, lt-ltb block (block + 1) (omega arith)) refl;
+        below = list_all-append (λ b. nat_lt b (block + 1)) first (block ∷ [])
+            ∙ rw (below_higher first next (block + 1) (omega arith) kept.below, lt-ltb block (block + 1) (omega arith)) refl;
       })
   | inr many ↦
       let len : length first ≡ MAX_LISTED = omega (arith, kept.listed) in
-      let cut : take MAX_LISTED (first ++ block ∷ []) ≡ first = take-append-le MAX_LISTED first (block ∷ []) (omega arith) ∙ take_all MAX_LISTED first (omega arith) in
+      let cut : take MAX_LISTED (first ++ block ∷ []) ≡ first =
+      take-append-le MAX_LISTED first (block ∷ []) (omega arith) ∙ take_all MAX_LISTED first (omega arith) in
       rw cut (record {
         listed = omega (arith, kept.listed);
         ascending = kept.ascending;
@@ -66,8 +69,11 @@ told_whole found (ReadFault block) e = e
 
 -- A tally's numbers make a report.
 pub told_by : (noted : Noted) (next checked faults : ℕ) (first items : List ℕ) (end : ReportEnd) (answer : Result ReportParts ReportParts) →
-    record { next = next; found = record { checked = checked; faults = faults; first = items } } ≡ noted → first ≡ items → next ≤ MAX_BLOCKS → checked ≤ next → faults ≤ checked → Listed faults next items → can_end noted.found end ≡ true →
-    answer ≡ (if is_report (record { checked = checked; faults = faults; first = first; end = end }) then Ok (record { checked = checked; faults = faults; first = first; end = end }) else Err (record { checked = checked; faults = faults; first = first; end = end })) → answer ≡ Ok (report_with noted.found end)
+    record { next = next; found = record { checked = checked; faults = faults; first = items } } ≡ noted → first ≡ items → next ≤ MAX_BLOCKS → checked ≤ next →
+    faults ≤ checked → Listed faults next items → can_end noted.found end ≡ true →
+    answer ≡ (if is_report (record { checked = checked; faults = faults; first = first; end = end })
+    then Ok (record { checked = checked; faults = faults; first = first; end = end })
+    else Err (record { checked = checked; faults = faults; first = first; end = end })) → answer ≡ Ok (report_with noted.found end)
 told_by noted next checked faults first items end answer is same below few fewer listed can made =
     let parts : ReportParts = record { checked = checked; faults = faults; first = items; end = end } in
     let found : Tally = record { checked = checked; faults = faults; first = items } in

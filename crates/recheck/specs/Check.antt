@@ -12,8 +12,8 @@ use Rattle.recheck.specs.declared.verdict.Verdict.TheVariants as verdicts
 use Rattle.recheck.specs.Expected.{Expected, expected_by}
 use Rattle.recheck.specs.Report.{Tally, tally, looked_at}
 
--- What the blocks are checked against, whether a fault is fatal, the first block that may come next,
--- and the tally of the blocks that came.
+-- What the blocks are checked against, whether a fault is fatal, the first block that may come
+-- next, and the tally of the blocks that came.
 pub record Check : Type 0 where
   pub expected : Expected
   pub fatal : Bool
@@ -47,7 +47,8 @@ with_block_checked check block seen =
 abbrev pub has_ended : Check → Bool
 has_ended check = check.fatal && nat_lt 0 check.found.faults
 
--- These blocks of this content came to the check, and none behind the first fault where a fault is fatal.
+-- These blocks of this content came to the check, and none behind the first fault where a fault is
+-- fatal.
 pub record HasSeen (check : Check) (held : ℕ → List ℕ) (blocks : List ℕ) : Type 0 where
   pub uncut : looked_at check.fatal check.expected held blocks ≡ blocks
   pub found : check.found ≡ tally check.expected held blocks

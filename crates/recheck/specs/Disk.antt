@@ -18,8 +18,8 @@ use Rattle.recheck.specs.Check.{FitsIfAny}
 abbrev pub held_by : File → JobParts → ℕ → List ℕ
 held_by file job block = block_bytes file.content job.bs block
 
--- The report of all blocks. Each checked block was read, for which the disk has to be on, and nothing
--- has changed.
+-- The report of all blocks. Each checked block was read, for which the disk has to be on, and
+-- nothing has changed.
 pub record IsWhole (e : Expected) (fatal : Bool) (old new : File) (r : ReportParts) : Type 0 where
   pub report : r ≡ report fatal e (held_by old e.job) (range_with_len 0 e.job.blocks)
   pub power : 0 < r.checked → IsSome old.power
@@ -27,24 +27,28 @@ pub record IsWhole (e : Expected) (fatal : Bool) (old new : File) (r : ReportPar
 
 -- The report of the blocks before the first that could not be read. That is a checked one, and no
 -- fault before it has ended the check. Nothing has changed but the count of failures.
-pub record IsCut (e : Expected) (fatal : Bool) (old new : File) (r : ReportParts) (block : ℕ) : Type 0 where
+pub record IsCut (e : Expected) (fatal : Bool) (old new : File) (r : ReportParts)
+    (block : ℕ) : Type 0 where
   pub checked : IsTrue (is_checked e block)
   pub power : IsSome old.power
   pub failed : old.failures < new.failures
   pub file : new ≡ record old { failures = new.failures }
   pub unended : (report fatal e (held_by old e.job) (range_with_len 0 block)).end ≡ Whole
-  pub report : r ≡ record (report fatal e (held_by old e.job) (range_with_len 0 block)) { end = ReadFault block }
+  pub report : r ≡ record (report fatal e (held_by old e.job) (range_with_len 0 block))
+      { end = ReadFault block }
 
 -- Some block is checked.
 abbrev pub ChecksSome : Expected → Type 0
 ChecksSome e = (block : ℕ) × ((block < e.job.blocks) × IsTrue (is_checked e block))
 
--- What the check of a disk answers, and what it leaves. It is refused by a state that doesn't fit, for
--- want of memory, and where the disk is off and some block would have to be read.
-abbrev pub ChecksDisk : Result ReportParts Fault → Key → JobParts → Option State → Bool → File → File → Type 0
+-- What the check of a disk answers, and what it leaves. It is refused by a state that doesn't fit,
+-- for want of memory, and where the disk is off and some block would have to be read.
+abbrev pub ChecksDisk : Result ReportParts Fault → Key → JobParts → Option State → Bool → File
+    → File → Type 0
 ChecksDisk (Ok r) key job state fatal old new =
     FitsIfAny state key job (Ok tt)
-    × (IsWhole (expected_by key job state) fatal old new r ⊎ ((block : ℕ) × IsCut (expected_by key job state) fatal old new r block))
+    × (IsWhole (expected_by key job state) fatal old new r
+    ⊎ ((block : ℕ) × IsCut (expected_by key job state) fatal old new r block))
 ChecksDisk (Err faults.OtherKey) key job state fatal old new =
     FitsIfAny state key job (Err faults.OtherKey) × (new ≡ old)
 ChecksDisk (Err faults.OtherJob) key job state fatal old new =
@@ -53,5 +57,6 @@ ChecksDisk (Err faults.OtherPlace) key job state fatal old new =
     FitsIfAny state key job (Err faults.OtherPlace) × (new ≡ old)
 ChecksDisk (Err faults.NoMemory) key job state fatal old new = new ≡ old
 ChecksDisk (Err faults.Off) key job state fatal old new =
-    FitsIfAny state key job (Ok tt) × ChecksSome (expected_by key job state) × IsNone old.power × (new ≡ old)
+    FitsIfAny state key job (Ok tt) × ChecksSome (expected_by key job state) × IsNone old.power
+    × (new ≡ old)
 ChecksDisk (Err _) key job state fatal old new = ⊥

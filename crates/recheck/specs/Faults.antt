@@ -1,5 +1,5 @@
--- Which blocks are checked, what they may hold, and which are faulty. `held` gives the bytes of each
--- block.
+-- Which blocks are checked, what they may hold, and which are faulty. `held` gives the bytes of
+-- each block.
 use Rattle.std.specs.Prelude.{ℕ, Bool, not, ◌&&◌, ◌==◌, List, [], ◌∷◌, filter, map, Option, Some, None, is_some, slice_index_or, if◌then◌else◌}
 use Rattle.std.specs.List.{list_any}
 use Rattle.std.specs.Str.{bytes_eq}
@@ -44,4 +44,5 @@ is_fault e held block = is_checked e block && not (is_expected e block (held blo
 -- What is found at a block that holds these bytes.
 abbrev pub verdict : Expected → ℕ → List ℕ → Verdict
 verdict e block bytes =
-    if is_checked e block then (if is_expected e block bytes then verdicts.Good else verdicts.Fault) else verdicts.Skipped
+    if is_checked e block then (if is_expected e block bytes then verdicts.Good else verdicts.Fault)
+    else verdicts.Skipped

@@ -34,7 +34,8 @@ Holds key job held block k = held block ≡ written_bytes key job k block
 
 -- The block has lost its writes: some write to it has completed, and it holds neither what the last
 -- of these put there, nor what any write in flight to it does.
-pub record HasLost (key : Key) (job : JobParts) (state : Option State) (held : ℕ → List ℕ) (block : ℕ) : Type 0 where
+pub record HasLost (key : Key) (job : JobParts) (state : Option State) (held : ℕ → List ℕ)
+    (block : ℕ) : Type 0 where
   pub write : ℕ
   pub last : IsLastCompleted job state block write
   pub gone : Holds key job held block write → ⊥
@@ -43,21 +44,26 @@ pub record HasLost (key : Key) (job : JobParts) (state : Option State) (held : �
 -- The faults are the blocks that have lost their writes.
 abbrev pub FaultsAreLosses : Type 0
 FaultsAreLosses =
-    (key : Key) (job : JobParts) (state : Option State) (held : ℕ → List ℕ) (block : ℕ) → block < job.blocks →
+    (key : Key) (job : JobParts) (state : Option State) (held : ℕ → List ℕ) (block : ℕ) →
+    block < job.blocks →
     IsTrue (is_fault (expected_by key job state) held block) ↔ HasLost key job state held block
 
 -- A block that holds its last completed write, or one in flight to it, is no fault.
 abbrev pub HoldersAreNoFaults : Type 0
 HoldersAreNoFaults =
-    (key : Key) (job : JobParts) (state : Option State) (held : ℕ → List ℕ) (block : ℕ) → block < job.blocks →
-    (k : ℕ) → IsLastCompleted job state block k ⊎ IsInFlightTo job state block k → Holds key job held block k →
+    (key : Key) (job : JobParts) (state : Option State) (held : ℕ → List ℕ) (block : ℕ) →
+    block < job.blocks →
+    (k : ℕ) → IsLastCompleted job state block k ⊎ IsInFlightTo job state block k →
+    Holds key job held block k →
     is_fault (expected_by key job state) held block ≡ false
 
 -- Checks by two states that are the same tell the same of the same blocks.
 abbrev pub SameStatesCheckAlike : Type 0
 SameStatesCheckAlike =
-    (a b : State) → IsSame a b → (fatal : Bool) (key : Key) (job : JobParts) (held : ℕ → List ℕ) (blocks : List ℕ) →
-    report fatal (expected_by key job (Some a)) held blocks ≡ report fatal (expected_by key job (Some b)) held blocks
+    (a b : State) → IsSame a b → (fatal : Bool) (key : Key) (job : JobParts) (held : ℕ → List ℕ)
+    (blocks : List ℕ) →
+    report fatal (expected_by key job (Some a)) held blocks
+    ≡ report fatal (expected_by key job (Some b)) held blocks
 
 -- A check that ends at a fault tells of the blocks up to it what it tells of all.
 abbrev pub FaultsEndChecks : Type 0

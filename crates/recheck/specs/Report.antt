@@ -37,7 +37,8 @@ end_of fatal found = if fatal && nat_lt 0 found.faults then AtFault else Whole
 
 -- The report that tells this tally and this end.
 abbrev pub report_with : Tally → ReportEnd → ReportParts
-report_with found end = record { checked = found.checked; faults = found.faults; first = found.first; end = end }
+report_with found end =
+    record { checked = found.checked; faults = found.faults; first = found.first; end = end }
 
 -- The report of a tally.
 abbrev pub report_of : Bool → Tally → ReportParts
@@ -47,8 +48,8 @@ report_of fatal found = report_with found (end_of fatal found)
 abbrev pub report : Bool → Expected → (ℕ → List ℕ) → List ℕ → ReportParts
 report fatal e held blocks = report_of fatal (tally e held (looked_at fatal e held blocks))
 
--- An end that a report of this tally may tell: a check ends at its only fault, and a block that could
--- not be read is one.
+-- An end that a report of this tally may tell: a check ends at its only fault, and a block that
+-- could not be read is one.
 abbrev pub can_end : Tally → ReportEnd → Bool
 can_end found Whole = true
 can_end found AtFault = found.faults == 1

@@ -36,7 +36,12 @@ impl Model for Recheck {
 
     ghost Value = { Check };
 
-    ghost view = { λ r. record { expected = r.expected; fatal = r.fatal; next = r.tally.next; found = r.tally.found } };
+    ghost view = { λ r. record {
+      expected = r.expected;
+      fatal = r.fatal;
+      next = r.tally.next;
+      found = r.tally.found;
+    } };
 
     ghost invariant = { λ r. r.fatal ≡ true → r.tally.found.faults ≤ 1 };
 }

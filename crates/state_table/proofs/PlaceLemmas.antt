@@ -1,5 +1,6 @@
 -- The places of kept states.
-use Rattle.std.proofs.Common.{◌≡◌, refl, sym, ◌∙◌, ap, subst, ℕ, suc, ◌+◌, ◌<◌, ◌≤◌, arith, Bool, true, false, cond, List, [], ◌∷◌, ◌++◌, length, get_or, Option, None, Some, length-append}
+use Rattle.std.proofs.Common.{◌≡◌, refl, sym, ◌∙◌, ap, subst, ℕ, suc, ◌+◌, ◌<◌, ◌≤◌, arith, Bool, true, false}
+use Rattle.std.proofs.Common.{cond, List, [], ◌∷◌, ◌++◌, length, get_or, Option, None, Some, length-append}
 use Rattle.std.specs.Prelude.{if◌then◌else◌, is_some}
 use Rattle.std.specs.Option.{option_map}
 use Rattle.std.proofs.lemmas.Bool.{and_parts}
@@ -29,7 +30,8 @@ stands key [] i e = absurd cc
 stands key (s ∷ ss) i e = stands_here (is_same_key key s.key) s ss (place_of key ss) (kept_of key ss) i e (λ j f. stands key ss j f)
 
 -- A key has a place where it has a state.
-both_here : (b : Bool) (s : State) (place : Option ℕ) (found : Option State) → is_some place ≡ is_some found → is_some (if b then Some 0 else option_map suc place) ≡ is_some (if b then Some s else found)
+both_here : (b : Bool) (s : State) (place : Option ℕ) (found : Option State) → is_some place ≡ is_some found
+    → is_some (if b then Some 0 else option_map suc place) ≡ is_some (if b then Some s else found)
 both_here true s place found e = refl
 both_here false s None found e = e
 both_here false s (Some j) found e = e
@@ -54,7 +56,8 @@ no_place_of key ss e = no_place (place_of key ss) (both key ss ∙ ap (λ (o : O
 
 -- The places with one more state behind all others, of whose key there is none.
 another_key : (q : Key) (s k : State) → is_same_key s.key k.key ≡ false → is_same_key q k.key ≡ true → (c : Bool) → is_same_key s.key q ≡ c → c ≡ false
-another_key q s k other here true e = absurd (let same : is_same_key s.key k.key ≡ true = subst (λ (x : Key). is_same_key s.key x ≡ true) (same_key q k.key here) e in cc)
+another_key q s k other here true e =
+    absurd (let same : is_same_key s.key k.key ≡ true = subst (λ (x : Key). is_same_key s.key x ≡ true) (same_key q k.key here) e in cc)
 another_key q s k other here false e = refl
 
 moved : (c : Bool) (n : ℕ) (place : Option ℕ) → option_map suc (cond c (Some n) place) ≡ cond c (Some (suc n)) (option_map suc place)
@@ -74,7 +77,8 @@ alone : (c : Bool) → (if c then Some 0 else nowhere) ≡ cond c (Some 0) nowhe
 alone true = refl
 alone false = refl
 
-pub placed_last : (q : Key) (ss : List State) (s : State) → kept_of s.key ss ≡ None → place_of q (ss ++ s ∷ []) ≡ cond (is_same_key s.key q) (Some (length ss)) (place_of q ss)
+pub placed_last : (q : Key) (ss : List State) (s : State) → kept_of s.key ss ≡ None
+    → place_of q (ss ++ s ∷ []) ≡ cond (is_same_key s.key q) (Some (length ss)) (place_of q ss)
 placed_last q [] s e = rw (turned q s.key) (alone (is_same_key s.key q))
 placed_last q (k ∷ ss) s e =
     let p = not_here (is_same_key s.key k.key) k (kept_of s.key ss) e in
@@ -103,7 +107,8 @@ table_push ss s index new t none room put = record {
   few = let e : length (ss ++ s ∷ []) ≡ length ss + 1 = length-append ss (s ∷ []) in omega (arith, e, room);
 }
 
-taken_out : (q : Key) (ss : List State) (s : State) → kept_of s.key ss ≡ None → (c : Bool) → is_same_key s.key q ≡ c → cond c None (cond c (Some (length ss)) (place_of q ss)) ≡ place_of q ss
+taken_out : (q : Key) (ss : List State) (s : State) → kept_of s.key ss ≡ None → (c : Bool) → is_same_key s.key q ≡ c
+    → cond c None (cond c (Some (length ss)) (place_of q ss)) ≡ place_of q ss
 taken_out q ss s none true e = sym (subst (λ (x : Key). place_of x ss ≡ None) (same_key s.key q e) (no_place_of s.key ss none))
 taken_out q ss s none false e = refl
 
@@ -114,5 +119,6 @@ table_pop ss s index new t out =
     record {
       placed = λ q. out q ∙ ap (cond (is_same_key s.key q) None) (t.placed q ∙ placed_last q ss s none) ∙ taken_out q ss s none (is_same_key s.key q) refl;
       distinct = distinct_front ss (s ∷ []) t.distinct;
-      few = let e : length (ss ++ s ∷ []) ≡ length ss + 1 = length-append ss (s ∷ []) in let f : length (ss ++ s ∷ []) ≤ KEPT_LIMIT = t.few in omega (arith, e, f);
+      few = let e : length (ss ++ s ∷ []) ≡ length ss + 1 =
+          length-append ss (s ∷ []) in let f : length (ss ++ s ∷ []) ≤ KEPT_LIMIT = t.few in omega (arith, e, f);
     }

@@ -1,5 +1,6 @@
 -- States are read as their bytes say.
-use Rattle.std.proofs.Common.{◌≡◌, refl, sym, ◌∙◌, ap, subst, ℕ, zero, suc, ◌+◌, ◌-◌, ◌<◌, ◌≤◌, arith, Bool, true, false, List, [], ◌∷◌, ◌++◌, length, Option, None, Some, length-append, take, drop, get_or}
+use Rattle.std.proofs.Common.{◌≡◌, refl, sym, ◌∙◌, ap, subst, ℕ, zero, suc, ◌+◌, ◌-◌, ◌<◌, ◌≤◌, arith, Bool, true}
+use Rattle.std.proofs.Common.{false, List, [], ◌∷◌, ◌++◌, length, Option, None, Some, length-append, take, drop, get_or}
 use Rattle.std.specs.Prelude.{if◌then◌else◌, is_none, is_some, nat_lt, ◌^◌, slice_get}
 use Rattle.std.specs.List.{AllByRecursion, flat_map}
 use Rattle.std.specs.Int.{w32, from_be_bytes}
@@ -131,7 +132,8 @@ first_is ranges bytes rest s false e h g =
     let counted : bytes_of w32 (length p.0) ≡ take 4 bytes = ap (bytes_of w32) p.2 ∙ number in
     record {
       part = p.0;
-      spelled = sym (take-append-drop 4 bytes) ∙ (ap (λ l. take 4 bytes ++ l) p.1 ∙ (ap (λ l. l ++ (p.0 ++ rest)) (sym counted) ∙ sym (append_assoc (bytes_of w32 (length p.0)) p.0 rest)));
+      spelled = sym (take-append-drop 4 bytes) ∙ (ap (λ l. take 4 bytes ++ l) p.1
+          ∙ (ap (λ l. l ++ (p.0 ++ rest)) (sym counted) ∙ sym (append_assoc (bytes_of w32 (length p.0)) p.0 rest)));
       says = p.3;
       ranges = p.4;
     }
@@ -148,12 +150,15 @@ none_left [] [] h = (refl, refl)
 none_left [] (s ∷ states) h = cc
 none_left (b ∷ bytes) states h = cc
 
-one_more : (x : Option (List State)) (s : State) (states : List State) → option_map (λ ss. s ∷ ss) x ≡ Some states → (ss : List State) × (x ≡ Some ss) × (states ≡ s ∷ ss)
+one_more : (x : Option (List State)) (s : State) (states : List State) → option_map (λ ss. s ∷ ss) x ≡ Some states
+    → (ss : List State) × (x ≡ Some ss) × (states ≡ s ∷ ss)
 one_more None s states h = cc
 one_more (Some ss) s states h = (ss, refl, cc)
 
-found : SaysAState → (n : ℕ) (bytes : List ℕ) (states : List State) → AreBytes bytes → ((rest : List ℕ) (ss : List State) → AreBytes rest → states_at n rest ≡ Some ss → AreSpelled n rest ss)
-    → (s : State) (rest : List ℕ) → first_state bytes ≡ Some (s, rest) → option_map (λ ss. s ∷ ss) (states_at n rest) ≡ Some states → AreSpelled (suc n) bytes states
+found : SaysAState → (n : ℕ) (bytes : List ℕ) (states : List State) → AreBytes bytes
+    → ((rest : List ℕ) (ss : List State) → AreBytes rest → states_at n rest ≡ Some ss → AreSpelled n rest ss)
+    → (s : State) (rest : List ℕ) → first_state bytes ≡ Some (s, rest) → option_map (λ ss. s ∷ ss) (states_at n rest) ≡ Some states
+    → AreSpelled (suc n) bytes states
 found ranges n bytes states h ih s rest e k =
     let f = first_sound ranges bytes rest s h e in
     let m = one_more (states_at n rest) s states k in
@@ -166,8 +171,10 @@ found ranges n bytes states h ih s rest e k =
       ranges = subst (AllByRecursion IsState) (sym m.2) (f.ranges, a.ranges);
     }
 
-one_by_one : SaysAState → (n : ℕ) (bytes : List ℕ) (states : List State) → AreBytes bytes → ((rest : List ℕ) (ss : List State) → AreBytes rest → states_at n rest ≡ Some ss → AreSpelled n rest ss)
-    → (x : Option (State × List ℕ)) → first_state bytes ≡ x → option_and_then (λ first. option_map (λ states. first.0 ∷ states) (states_at n first.1)) x ≡ Some states → AreSpelled (suc n) bytes states
+one_by_one : SaysAState → (n : ℕ) (bytes : List ℕ) (states : List State) → AreBytes bytes
+    → ((rest : List ℕ) (ss : List State) → AreBytes rest → states_at n rest ≡ Some ss → AreSpelled n rest ss)
+    → (x : Option (State × List ℕ)) → first_state bytes ≡ x
+    → option_and_then (λ first. option_map (λ states. first.0 ∷ states) (states_at n first.1)) x ≡ Some states → AreSpelled (suc n) bytes states
 one_by_one ranges n bytes states h ih None e k = cc
 one_by_one ranges n bytes states h ih (Some x) e k = found ranges n bytes states h ih x.0 x.1 e k
 
@@ -175,7 +182,8 @@ pub read_were_spelled : SaysAState → ReadWereSpelled
 read_were_spelled ranges zero bytes states h g =
     let p = none_left bytes states g in
     record { parts = []; count = refl; spelled = p.0; says = subst (SayStates []) (sym p.1) tt; ranges = subst (AllByRecursion IsState) (sym p.1) tt }
-read_were_spelled ranges (suc n) bytes states h g = one_by_one ranges n bytes states h (λ rest ss k e. read_were_spelled ranges n rest ss k e) (first_state bytes) refl g
+read_were_spelled ranges (suc n) bytes states h g =
+    one_by_one ranges n bytes states h (λ rest ss k e. read_were_spelled ranges n rest ss k e) (first_state bytes) refl g
 
 -- ---- where nothing is read
 
@@ -201,21 +209,25 @@ no_state bytes f h =
 
 -- ---- one state after the other
 
-step_read : (n : ℕ) (bytes rest : List ℕ) (s : State) → first_state bytes ≡ Some (s, rest) → states_at (suc n) bytes ≡ option_map (λ ss. s ∷ ss) (states_at n rest)
+step_read : (n : ℕ) (bytes rest : List ℕ) (s : State) → first_state bytes ≡ Some (s, rest)
+    → states_at (suc n) bytes ≡ option_map (λ ss. s ∷ ss) (states_at n rest)
 step_read n bytes rest s e = rw e refl
 
-joined : (kept : List State) (s : State) (x : Option (List State)) → option_map (λ ss. kept ++ ss) (option_map (λ ss. s ∷ ss) x) ≡ option_map (λ ss. (kept ++ s ∷ []) ++ ss) x
+joined : (kept : List State) (s : State) (x : Option (List State))
+    → option_map (λ ss. kept ++ ss) (option_map (λ ss. s ∷ ss) x) ≡ option_map (λ ss. (kept ++ s ∷ []) ++ ss) x
 joined kept s None = refl
 joined kept s (Some ss) = ap Some (sym (append_assoc kept (s ∷ []) ss))
 
 abbrev With : List State → ℕ → List ℕ → Option (List State)
 With kept n rest = option_map (λ ss. kept ++ ss) (states_at n rest)
 
-one_read : (x : Option (List State)) (kept : List State) (count counter : ℕ) (rest after : List ℕ) (s : State) → counter < count → x ≡ option_map (λ ss. kept ++ ss) (states_at (count - counter) rest) → first_state rest ≡ Some (s, after)
+one_read : (x : Option (List State)) (kept : List State) (count counter : ℕ) (rest after : List ℕ) (s : State) → counter < count
+    → x ≡ option_map (λ ss. kept ++ ss) (states_at (count - counter) rest) → first_state rest ≡ Some (s, after)
     → x ≡ option_map (λ ss. (kept ++ s ∷ []) ++ ss) (states_at (count - (counter + 1)) after)
 one_read x kept count counter rest after s l h e =
     let n : count - counter ≡ suc (count - (counter + 1)) = omega arith in
-    h ∙ (ap (λ k. With kept k rest) n ∙ (ap (λ y. option_map (λ ss. kept ++ ss) y) (step_read (count - (counter + 1)) rest after s e) ∙ joined kept s (states_at (count - (counter + 1)) after)))
+    h ∙ (ap (λ k. With kept k rest) n ∙ (ap (λ y. option_map (λ ss. kept ++ ss) y) (step_read (count - (counter + 1)) rest after s e)
+    ∙ joined kept s (states_at (count - (counter + 1)) after)))
 
 absent_behind : (key : Key) (kept more : List State) (s : State) → kept_of key (kept ++ s ∷ more) ≡ None → is_same_key key s.key ≡ false
 absent_behind key [] more s h = here (is_same_key key s.key) h
@@ -232,11 +244,13 @@ apart (k ∷ kept) more s h =
     let other : is_same_key s.key k.key ≡ false = turned s.key k.key ∙ absent_behind k.key kept more s (none_of (kept_of k.key (kept ++ s ∷ more)) p.0) in
     rw other (apart kept more s p.1)
 
-put_in : (kept states : List State) (s : State) (x : Option (List State)) → option_map (λ ss. (kept ++ s ∷ []) ++ ss) x ≡ Some states → (ss : List State) × (states ≡ kept ++ s ∷ ss)
+put_in : (kept states : List State) (s : State) (x : Option (List State)) → option_map (λ ss. (kept ++ s ∷ []) ++ ss) x ≡ Some states
+    → (ss : List State) × (states ≡ kept ++ s ∷ ss)
 put_in kept states s None h = cc
 put_in kept states s (Some ss) h = (ss, let e : (kept ++ s ∷ []) ++ ss ≡ states = cc in sym e ∙ append_assoc kept (s ∷ []) ss)
 
-pub twice : (x : Option (List State)) (kept states : List State) (count counter : ℕ) (rest after : List ℕ) (s : State) → counter < count → x ≡ option_map (λ ss. kept ++ ss) (states_at (count - counter) rest) → first_state rest ≡ Some (s, after)
+pub twice : (x : Option (List State)) (kept states : List State) (count counter : ℕ) (rest after : List ℕ) (s : State) → counter < count
+    → x ≡ option_map (λ ss. kept ++ ss) (states_at (count - counter) rest) → first_state rest ≡ Some (s, after)
     → is_some (kept_of s.key kept) ≡ true → x ≡ Some states → has_distinct_keys states ≡ true → ⊥
 twice x kept states count counter rest after s l h e there g u =
     let a = put_in kept states s (states_at (count - (counter + 1)) after) (sym (one_read x kept count counter rest after s l h e) ∙ g) in
@@ -250,7 +264,8 @@ twice x kept states count counter rest after s l h e there g u =
 pub grown : (new kept : List State) (s : State) (n : ℕ) → new ≡ kept ++ s ∷ [] → length kept ≡ n → length new ≡ n + 1
 grown new kept s n e l = omega (arith, ap length e, length-append kept (s ∷ []), l)
 
-pub onward : (x : Option (List State)) (kept new : List State) (count counter : ℕ) (rest after : List ℕ) (s : State) → counter < count → x ≡ option_map (λ ss. kept ++ ss) (states_at (count - counter) rest) → first_state rest ≡ Some (s, after)
+pub onward : (x : Option (List State)) (kept new : List State) (count counter : ℕ) (rest after : List ℕ) (s : State) → counter < count
+    → x ≡ option_map (λ ss. kept ++ ss) (states_at (count - counter) rest) → first_state rest ≡ Some (s, after)
     → new ≡ kept ++ s ∷ [] → x ≡ option_map (λ ss. new ++ ss) (states_at (count - (counter + 1)) after)
 onward x kept new count counter rest after s l h e pushed =
     subst (λ k. x ≡ option_map (λ ss. k ++ ss) (states_at (count - (counter + 1)) after)) (sym pushed) (one_read x kept count counter rest after s l h e)

@@ -18,17 +18,20 @@ same_key a b h =
     let j = eqb-true a.job b.job q.1 in
     λ i. record { run = r i; server = s i; job = j i }
 
-found_on : (b : Bool) (here : State) (rest more : Option State) (s : State) → (rest ≡ Some s → more ≡ Some s) → (if b then Some here else rest) ≡ Some s → (if b then Some here else more) ≡ Some s
+found_on : (b : Bool) (here : State) (rest more : Option State) (s : State) → (rest ≡ Some s → more ≡ Some s) → (if b then Some here else rest) ≡ Some s
+    → (if b then Some here else more) ≡ Some s
 found_on true here rest more s f h = h
 found_on false here rest more s f h = f h
 
 -- what is found is found in a longer table
 pub stays_found : FoundStays
 stays_found key [] extra s h = cc
-stays_found key (k ∷ kept) extra s h = found_on (is_same_key key k.key) k (kept_of key kept) (kept_of key (kept ++ extra)) s (λ e. stays_found key kept extra s e) h
+stays_found key (k ∷ kept) extra s h =
+    found_on (is_same_key key k.key) k (kept_of key kept) (kept_of key (kept ++ extra)) s (λ e. stays_found key kept extra s e) h
 
 -- what is found after one more state was found before, or is that state
-found_here : (b : Bool) (here s : State) (before after : Option State) (A : Type 0) → (after ≡ Some s → (before ≡ Some s) ⊎ A) → (if b then Some here else after) ≡ Some s → ((if b then Some here else before) ≡ Some s) ⊎ A
+found_here : (b : Bool) (here s : State) (before after : Option State) (A : Type 0) → (after ≡ Some s → (before ≡ Some s) ⊎ A)
+    → (if b then Some here else after) ≡ Some s → ((if b then Some here else before) ≡ Some s) ⊎ A
 found_here true here s before after A f h = inl h
 found_here false here s before after A f h = f h
 
@@ -41,16 +44,19 @@ found_in_push key [] state s h =
     let p = last_found (is_same_key key state.key) state s h in
     inr (p.0, sym (same_key key state.key p.1))
 found_in_push key (k ∷ kept) state s h =
-    found_here (is_same_key key k.key) k s (kept_of key kept) (kept_of key (kept ++ state ∷ [])) ((state ≡ s) × (state.key ≡ key)) (λ e. found_in_push key kept state s e) h
+    found_here (is_same_key key k.key) k s (kept_of key kept) (kept_of key (kept ++ state ∷ [])) ((state ≡ s) × (state.key ≡ key))
+    (λ e. found_in_push key kept state s e) h
 
 -- the state that is found of a key has it
-key_here : (b : Bool) (here s : State) (rest : Option State) (key : Key) → (b ≡ true → here.key ≡ key) → (rest ≡ Some s → s.key ≡ key) → (if b then Some here else rest) ≡ Some s → s.key ≡ key
+key_here : (b : Bool) (here s : State) (rest : Option State) (key : Key) → (b ≡ true → here.key ≡ key) → (rest ≡ Some s → s.key ≡ key)
+    → (if b then Some here else rest) ≡ Some s → s.key ≡ key
 key_here true here s rest key f g h = let e : here ≡ s = cc in sym (ap (λ (x : State). x.key) e) ∙ f refl
 key_here false here s rest key f g h = g h
 
 pub key_of_found : FoundHasItsKey
 key_of_found key [] s h = cc
-key_of_found key (k ∷ kept) s h = key_here (is_same_key key k.key) k s (kept_of key kept) key (λ e. sym (same_key key k.key e)) (λ e. key_of_found key kept s e) h
+key_of_found key (k ∷ kept) s h =
+    key_here (is_same_key key k.key) k s (kept_of key kept) key (λ e. sym (same_key key k.key e)) (λ e. key_of_found key kept s e) h
 
 -- a key is its own
 pub own_key : (key : Key) → is_same_key key key ≡ true
@@ -60,12 +66,14 @@ own_key key =
     let j : (key.job == key.job) ≡ true = grind (arith, nat_tests) in
     rw (r, s, j) refl
 
-absent_here : (b : Bool) (found state : State) (rest more : Option State) → (if b then Some found else rest) ≡ None → (rest ≡ None → more ≡ Some state) → (if b then Some found else more) ≡ Some state
+absent_here : (b : Bool) (found state : State) (rest more : Option State) → (if b then Some found else rest) ≡ None → (rest ≡ None → more ≡ Some state)
+    → (if b then Some found else more) ≡ Some state
 absent_here true found state rest more h f = cc
 absent_here false found state rest more h f = f h
 
 -- a state that is added is found, where none of its key was there
-found_last : (key : Key) (kept : List State) (state : State) → is_same_key key state.key ≡ true → kept_of key kept ≡ None → kept_of key (kept ++ state ∷ []) ≡ Some state
+found_last : (key : Key) (kept : List State) (state : State) → is_same_key key state.key ≡ true → kept_of key kept ≡ None
+    → kept_of key (kept ++ state ∷ []) ≡ Some state
 found_last key [] state own h = rw own refl
 found_last key (k ∷ kept) state own h =
     absent_here (is_same_key key k.key) k state (kept_of key kept) (kept_of key (kept ++ state ∷ [])) h (λ e. found_last key kept state own e)
@@ -122,5 +130,6 @@ pub distinct_front : (kept extra : List State) → has_distinct_keys (kept ++ ex
 distinct_front [] extra h = refl
 distinct_front (k ∷ kept) extra h =
     let p = and_parts (is_none (kept_of k.key (kept ++ extra))) (has_distinct_keys (kept ++ extra)) h in
-    let n : is_none (kept_of k.key kept) ≡ true = is_absent (kept_of k.key kept) (front_absent k.key kept extra (none_of (kept_of k.key (kept ++ extra)) p.0)) in
+    let n : is_none (kept_of k.key kept) ≡ true =
+    is_absent (kept_of k.key kept) (front_absent k.key kept extra (none_of (kept_of k.key (kept ++ extra)) p.0)) in
     rw n (distinct_front kept extra p.1)

@@ -16,7 +16,8 @@ FoundStays =
 -- The state that is found of a key has it.
 abbrev pub FoundHasItsKey : Type 0
 FoundHasItsKey =
-    (key : Key) (states : List State) (state : State) → kept_of key states ≡ Some state → state.key ≡ key
+    (key : Key) (states : List State) (state : State) → kept_of key states ≡ Some state
+    → state.key ≡ key
 
 -- A state that comes last is found, where none of its key stood before it.
 abbrev pub LastIsFound : Type 0
@@ -24,7 +25,8 @@ LastIsFound =
     (states : List State) (state : State) → kept_of state.key states ≡ None →
     kept_of state.key (states ++ state ∷ []) ≡ Some state
 
--- The state that is found of a key was found before the last one came, or is the last one, of this key.
+-- The state that is found of a key was found before the last one came, or is the last one, of this
+-- key.
 abbrev pub FoundOrLast : Type 0
 FoundOrLast =
     (key : Key) (states : List State) (last state : State) →

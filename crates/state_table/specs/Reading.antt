@@ -17,7 +17,8 @@ unless_faulty (fault ∷ faults) state = None
 abbrev pub state_behind : ℕ → List ℕ → Option (State × List ℕ)
 state_behind n bytes =
     if nat_lt (length bytes) n then None
-    else option_map (λ state. (state, drop n bytes)) (unless_faulty (faults_of (take n bytes)) (state_in (take n bytes)))
+    else option_map (λ state. (state, drop n bytes))
+    (unless_faulty (faults_of (take n bytes)) (state_in (take n bytes)))
 
 -- The first state, whose length stands before it, and what stands behind it.
 unfoldable pub first_state : List ℕ → Option (State × List ℕ)
@@ -29,7 +30,8 @@ abbrev pub states_at : ℕ → List ℕ → Option (List State)
 states_at zero [] = Some []
 states_at zero (byte ∷ bytes) = None
 states_at (suc n) bytes =
-    option_and_then (λ first. option_map (λ states. first.0 ∷ states) (states_at n first.1)) (first_state bytes)
+    option_and_then (λ first. option_map (λ states. first.0 ∷ states) (states_at n first.1))
+    (first_state bytes)
 
 -- There is to be a state, and the first one is sound.
 abbrev pub HasFirst : ℕ → List ℕ → Type 0
@@ -37,6 +39,7 @@ HasFirst n bytes = (0 < n) × IsTrue (is_some (first_state bytes))
 
 -- A reader gives so many states, of different keys, and nothing where the bytes aren't that.
 abbrev pub ReadsStates : ℕ → List ℕ → Option (List State) → Type 0
-ReadsStates n bytes (Some states) = (states_at n bytes ≡ Some states) × IsTrue (has_distinct_keys states)
+ReadsStates n bytes (Some states) =
+    (states_at n bytes ≡ Some states) × IsTrue (has_distinct_keys states)
 ReadsStates n bytes None =
     (states : List State) → states_at n bytes ≡ Some states → IsTrue (has_distinct_keys states) → ⊥

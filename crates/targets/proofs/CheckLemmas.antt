@@ -1,5 +1,6 @@
 -- The check of a region, block by block as its bytes come.
-use Rattle.std.proofs.Common.{◌≡◌, ◌<◌, ◌≤◌, ◌*◌, ◌+◌, ℕ, zero, suc, Bool, true, false, List, [], ◌∷◌, ◌++◌, length, take, drop, Option, Some, None, IfSome, append_assoc, append-nil, length-append, refl, sym, ap, ◌∙◌, subst, inl, inr, arith, add-zero, zero-add}
+use Rattle.std.proofs.Common.{◌≡◌, ◌<◌, ◌≤◌, ◌*◌, ◌+◌, ℕ, zero, suc, Bool, true, false, List, [], ◌∷◌, ◌++◌, length, take, drop, Option, Some, None}
+use Rattle.std.proofs.Common.{IfSome, append_assoc, append-nil, length-append, refl, sym, ap, ◌∙◌, subst, inl, inr, arith, add-zero, zero-add}
 use Rattle.std.specs.List.{range_with_len}
 use Rattle.std.specs.Io.KnownBytes.{Consumes, IsAtEnd}
 use Rattle.std.proofs.KnownBytes.{Consumes-trans}
@@ -57,11 +58,13 @@ read_more e check new count first old now block so_far read own feeds = record {
       let known = known_rest whole first now (so_far.bytes ++ block) is (Consumes-trans first old now so_far.bytes block so_far.read read) in
       let held : block_in whole e.job.bs count ≡ block =
       block_behind so_far.bytes block known.0 whole count e.job.bs (known.2 ∙ append_assoc so_far.bytes block known.0) so_far.is own in
-      subst (HasSeen new (block_in whole e.job.bs)) (sym (range_more count)) (feeds (block_in whole e.job.bs) (range_with_len 0 count) held (so_far.seen whole is));
+      subst (HasSeen new (block_in whole e.job.bs)) (sym (range_more count))
+      (feeds (block_in whole e.job.bs) (range_with_len 0 count) held (so_far.seen whole is));
 }
 
 -- No more is read than there is.
-pub are_there : (e : Expected) (check : Check) (count : ℕ) (whole : List ℕ) (now : Option (List ℕ)) → HasRead e check count (Some whole) now → count * e.job.bs ≤ length whole
+pub are_there : (e : Expected) (check : Check) (count : ℕ) (whole : List ℕ) (now : Option (List ℕ)) → HasRead e check count (Some whole) now
+    → count * e.job.bs ≤ length whole
 are_there e check count whole now so_far =
     let known = known_rest whole (Some whole) now so_far.bytes refl so_far.read in
     omega (arith, so_far.is, ap length known.2, length-append so_far.bytes known.0)

@@ -51,20 +51,27 @@ begins_with number input rest asked reads =
       job = reads.is_asked.job;
       behind = left.0;
       leaves = left.1;
-      begins = record { text = reads.text; is_text = subst (λ r. IsText MAX_TEXT (Some input) r reads.text) left.1 reads.is_text; is_job = reads.is_asked.is_job };
+      begins = record {
+        text = reads.text;
+        is_text = subst (λ r. IsText MAX_TEXT (Some input) r reads.text) left.1 reads.is_text;
+        is_job = reads.is_asked.is_job;
+      };
       rec = reads.is_asked.rec;
       fatal = reads.is_asked.fatal;
       phase = reads.is_asked.phase;
     }
 
 -- A job that writes is run.
-pub ran : {E : Type 0} (run number : ℕ) (first rest : Option (List ℕ)) (asked : Asked) (r : Result ℕ E) (key : Key) (old new : Option (List ℕ)) → ReadsJob number first rest asked → asked.phase ≡ Write → key ≡ key_of run number
-    → IfSome rest (λ bytes. IfOk r (RunsRest (record { boot = 0; key = key; job = asked.rec }) bytes old new)) → IfSome first (λ input. IfOk r (WritesJob run number input old new))
+pub ran : {E : Type 0} (run number : ℕ) (first rest : Option (List ℕ)) (asked : Asked) (r : Result ℕ E) (key : Key) (old new : Option (List ℕ))
+    → ReadsJob number first rest asked → asked.phase ≡ Write → key ≡ key_of run number
+    → IfSome rest (λ bytes. IfOk r (RunsRest (record { boot = 0; key = key; job = asked.rec }) bytes old new))
+    → IfSome first (λ input. IfOk r (WritesJob run number input old new))
 ran run number None rest asked r key old new reads writes same runs = tt
 ran run number (Some input) rest asked (Err e) key old new reads writes same runs = tt
 ran run number (Some input) rest asked (Ok status) key old new reads writes same runs =
     let at = begins_with number input rest asked reads in
-    let known : RunsRest (record { boot = 0; key = key; job = asked.rec }) at.behind old new status = subst (λ r. IfSome r (λ bytes. RunsRest (record { boot = 0; key = key; job = asked.rec }) bytes old new status)) at.leaves runs in
+    let known : RunsRest (record { boot = 0; key = key; job = asked.rec }) at.behind old new status =
+    subst (λ r. IfSome r (λ bytes. RunsRest (record { boot = 0; key = key; job = asked.rec }) bytes old new status)) at.leaves runs in
     inl (record {
       job = at.job;
       behind = at.behind;
@@ -79,7 +86,8 @@ pub reads_only : (phase : Phase) → phase ≡ Read → phase ≡ Write → ⊥
 reads_only phase reads writes = let both : Read ≡ Write = sym reads ∙ writes in absurd cc
 
 -- A job that doesn't write isn't.
-pub wrong_phase : {E : Type 0} (run number : ℕ) (first rest : Option (List ℕ)) (asked : Asked) (r : Result ℕ E) (old new : Option (List ℕ)) → ReadsJob number first rest asked → (asked.phase ≡ Write → ⊥)
+pub wrong_phase : {E : Type 0} (run number : ℕ) (first rest : Option (List ℕ)) (asked : Asked) (r : Result ℕ E) (old new : Option (List ℕ))
+    → ReadsJob number first rest asked → (asked.phase ≡ Write → ⊥)
     → IfOk r (Refuses (plain WrongPhase) old new) → IfSome first (λ input. IfOk r (WritesJob run number input old new))
 wrong_phase run number None rest asked r old new reads other refuses = tt
 wrong_phase run number (Some input) rest asked (Err e) old new reads other refuses = tt
@@ -87,7 +95,8 @@ wrong_phase run number (Some input) rest asked (Ok status) old new reads other r
     inr (plain WrongPhase, inr (reads.text, rest, reads.is_text, reads.is_asked.is_job.sound, λ writes. other (reads.is_asked.phase ∙ writes), refl), refuses)
 
 -- Nor one that isn't there.
-pub no_job : {E : Type 0} (run number : ℕ) (first : Option (List ℕ)) (refusal : PrintedRefusal) (r : Result ℕ E) (old new : Option (List ℕ)) → GivesNoJob first number refusal
+pub no_job : {E : Type 0} (run number : ℕ) (first : Option (List ℕ)) (refusal : PrintedRefusal) (r : Result ℕ E) (old new : Option (List ℕ))
+    → GivesNoJob first number refusal
     → IfOk r (Refuses refusal old new) → IfSome first (λ input. IfOk r (WritesJob run number input old new))
 no_job run number None refusal r old new none refuses = tt
 no_job run number (Some input) refusal (Err e) old new none refuses = tt
@@ -102,14 +111,16 @@ state_leaves input new (Some state) (bytes, is, few, answers) = text_leaves MAX_
 
 -- What is checked is the input's.
 pub checked : (run number : ℕ) (first rest target : Option (List ℕ)) (asked : Asked) (state : Option State) (key : Key) (answer : Result ReportParts Fault)
-    → ReadsJob number first rest asked → IsStateIn rest target state → key ≡ key_of run number → IfSome target (λ bytes. Checks key asked.rec state asked.fatal bytes answer)
+    → ReadsJob number first rest asked → IsStateIn rest target state → key ≡ key_of run number
+    → IfSome target (λ bytes. Checks key asked.rec state asked.fatal bytes answer)
     → IfSome first (λ input. ChecksInput run number input answer)
 checked run number None rest target asked state key answer reads is same checks = tt
 checked run number (Some input) rest target asked state key answer reads is same checks =
     let at = begins_with number input rest asked reads in
     let of_it : IsStateIn (Some at.behind) target state = subst (λ r. IsStateIn r target state) at.leaves is in
     let left = state_leaves at.behind target state of_it in
-    let known : Checks key asked.rec state asked.fatal left.0 answer = subst (λ t. IfSome t (λ bytes. Checks key asked.rec state asked.fatal bytes answer)) left.1 checks in
+    let known : Checks key asked.rec state asked.fatal left.0 answer =
+    subst (λ t. IfSome t (λ bytes. Checks key asked.rec state asked.fatal bytes answer)) left.1 checks in
     record {
       job = at.job;
       state = state;
@@ -118,11 +129,13 @@ checked run number (Some input) rest target asked state key answer reads is same
       begins = at.begins;
       is_state = subst (λ t. IsStateIn (Some at.behind) t state) left.1 of_it;
       checks = subst (λ f. Checks (key_of run number) at.job.rec state f left.0 answer) at.fatal
-          (subst (λ j. Checks (key_of run number) j state asked.fatal left.0 answer) at.rec (subst (λ k. Checks k asked.rec state asked.fatal left.0 answer) same known));
+          (subst (λ j. Checks (key_of run number) j state asked.fatal left.0 answer) at.rec
+          (subst (λ k. Checks k asked.rec state asked.fatal left.0 answer) same known));
     }
 
 -- A state that isn't there.
-pub no_state : (run number : ℕ) (first rest : Option (List ℕ)) (asked : Asked) (fault : Fault) (refusal : PrintedRefusal) → ReadsJob number first rest asked → HasNoState rest fault → refusal ≡ plain fault
+pub no_state : (run number : ℕ) (first rest : Option (List ℕ)) (asked : Asked) (fault : Fault) (refusal : PrintedRefusal) → ReadsJob number first rest asked
+    → HasNoState rest fault → refusal ≡ plain fault
     → IfSome first (λ input. CannotCheck run number input refusal)
 no_state run number None rest asked fault refusal reads none is = tt
 no_state run number (Some input) rest asked fault refusal reads none is =
@@ -130,7 +143,8 @@ no_state run number (Some input) rest asked fault refusal reads none is =
     inr (inl (at.job, at.behind, fault, at.begins, subst (λ r. HasNoState r fault) at.leaves none, is))
 
 -- A check that is refused.
-pub not_checked : (run number : ℕ) (first : Option (List ℕ)) (fault : Fault) (refusal : PrintedRefusal) → IfSome first (λ input. ChecksInput run number input (Err fault)) → refusal ≡ plain fault
+pub not_checked : (run number : ℕ) (first : Option (List ℕ)) (fault : Fault) (refusal : PrintedRefusal)
+    → IfSome first (λ input. ChecksInput run number input (Err fault)) → refusal ≡ plain fault
     → IfSome first (λ input. CannotCheck run number input refusal)
 not_checked run number None fault refusal checks is = tt
 not_checked run number (Some input) fault refusal checks is = inr (inr (fault, checks, is))

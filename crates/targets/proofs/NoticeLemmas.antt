@@ -1,5 +1,6 @@
 -- The two numbers of 16 bytes say which notice they are.
-use Rattle.std.proofs.Common.{◌≡◌, ◌<◌, ◌≤◌, ◌^◌, sym, ◌∙◌, ap, subst, inl, inr, refl, ℕ, ◌+◌, arith, Bool, true, false, ◌&&◌, ◌==◌, List, ◌++◌, length, get_or, take, drop, Some, None}
+use Rattle.std.proofs.Common.{◌≡◌, ◌<◌, ◌≤◌, ◌^◌, sym, ◌∙◌, ap, subst, inl, inr, refl, ℕ, ◌+◌, arith, Bool}
+use Rattle.std.proofs.Common.{true, false, ◌&&◌, ◌==◌, List, ◌++◌, length, get_or, take, drop, Some, None}
 use Rattle.std.specs.Prelude.{if◌then◌else◌}
 use Rattle.std.specs.Int.{w64, to_be_bytes, from_be_bytes}
 use Rattle.std.proofs.lemmas.Bool.{cases_lt, eq-eqb, eqb-true}

@@ -1,5 +1,6 @@
 -- The writes that are ordered one after the other.
-use Rattle.std.proofs.Common.{◌≡◌, ◌<◌, ◌≤◌, ℕ, Bool, true, false, ◌||◌, nat_le, List, [], ◌∷◌, ◌++◌, Option, None, Some, IfOk, IfSome, Result, Ok, Err, append_assoc, append-nil, refl, sym, ap, ◌∙◌, subst, arith}
+use Rattle.std.proofs.Common.{◌≡◌, ◌<◌, ◌≤◌, ℕ, Bool, true, false, ◌||◌, nat_le, List, [], ◌∷◌, ◌++◌, Option, None, Some}
+use Rattle.std.proofs.Common.{IfOk, IfSome, Result, Ok, Err, append_assoc, append-nil, refl, sym, ap, ◌∙◌, subst, arith}
 use Rattle.std.specs.Prelude.{if◌then◌else◌}
 use Rattle.std.specs.Io.KnownBytes.{Appends}
 use Rattle.std.proofs.KnownBytes.{Appends-nil, Appends-trans, Consumes-nil}
@@ -52,12 +53,14 @@ one_more origin h running new first text now k key job some adds wrote same_key 
 }
 
 -- A write that is answered is the next, and there was one left.
-pub write_is : (origin : Origin) (stopped failed : Bool) (next : ℕ) (writes : List ℕ) (ticket : Ticket) → Write ticket ≡ answer_by origin stopped failed next writes
+pub write_is : (origin : Origin) (stopped failed : Bool) (next : ℕ) (writes : List ℕ) (ticket : Ticket)
+    → Write ticket ≡ answer_by origin stopped failed next writes
     → (ticket ≡ ticket_of origin next) × (next < origin.job.total)
 write_is origin stopped failed next writes ticket is = by (stopped || failed) (nat_le origin.job.total next) _ _ _ refl is
   where
     by : (a b c d e : Bool) → nat_le origin.job.total next ≡ b
-        → Write ticket ≡ (if a then Stopped else (if b then Finished else (if c then Full else (if d then Held else (if e then Overlap else Write (ticket_of origin next))))))
+        → Write ticket ≡ (if a then Stopped else (if b then Finished
+        else (if c then Full else (if d then Held else (if e then Overlap else Write (ticket_of origin next))))))
         → (ticket ≡ ticket_of origin next) × (next < origin.job.total)
     by true b c d e left is = absurd cc
     by false true c d e left is = absurd cc
@@ -67,7 +70,8 @@ write_is origin stopped failed next writes ticket is = by (stopped || failed) (n
     by false false false false false left is = let same : ticket ≡ ticket_of origin next = cc in (same, grind (arith, nat_tests))
 
 -- What is left once a write is issued.
-pub left_by_write : (running new : Running) (ticket : Ticket) → new ≡ after_answer running (Write ticket) → running.kept.issued < running.origin.job.total → steps_left new ≤ steps_left running
+pub left_by_write : (running new : Running) (ticket : Ticket) → new ≡ after_answer running (Write ticket) → running.kept.issued < running.origin.job.total
+    → steps_left new ≤ steps_left running
 left_by_write running new ticket is some =
     subst (λ r. steps_left r ≤ steps_left running) (sym is) (omega (arith, some, length_push running.kept.open_writes running.kept.issued))
 
@@ -111,7 +115,8 @@ all_ordered origin h running new first text answer some same going answers new_i
     )
 
 -- A write has ended, and all are ordered that can be then.
-ended_then : (origin : Origin) (h : List Event) (e : Event) (n : Notice) (new : Running) (old text : Option (List ℕ)) → OrdersAll origin (e ∷ h) new old text → new.origin ≡ origin
+ended_then : (origin : Origin) (h : List Event) (e : Event) (n : Notice) (new : Running) (old text : Option (List ℕ)) → OrdersAll origin (e ∷ h) new old text
+    → new.origin ≡ origin
     → ((later : List Event) → Issues origin (e ∷ h) later → Follows origin n h later) → issues (e ∷ h) ≡ issues h → GoesOn h n origin new old text
 ended_then origin h e n new old text (some, all) same follow quiet = record {
   history = some.history;
@@ -127,18 +132,21 @@ ended_then origin h e n new old text (some, all) same follow quiet = record {
   ordered = some.ordered ∙ ap (λ l. flat_map (order_bytes origin.key origin.job) l ++ some.bytes) quiet;
 }
 
-pub followed : (old mid new : Running) (h : List Event) (e : Event) (k : ℕ) (n : Notice) (is_open : Bool) (old_text text : Option (List ℕ)) → is_open ≡ true → Ends e k h mid is_open → mid.origin ≡ old.origin
+pub followed : (old mid new : Running) (h : List Event) (e : Event) (k : ℕ) (n : Notice) (is_open : Bool) (old_text text : Option (List ℕ)) → is_open ≡ true
+    → Ends e k h mid is_open → mid.origin ≡ old.origin
     → new.origin ≡ mid.origin → ((g : List Event) → StandsFor mid g → OrdersAll mid.origin g new old_text text)
     → ((later : List Event) → Issues old.origin (e ∷ h) later → Follows old.origin n h later) → issues (e ∷ h) ≡ issues h
     → (new.origin ≡ old.origin) × GoesOn h n old.origin new old_text text
 followed old mid new h e k n false old_text text is ends same_mid same_new ordered follow quiet = absurd cc
 followed old mid new h e k n true old_text text is ends same_mid same_new ordered follow quiet = (
   same_new ∙ same_mid,
-  ended_then old.origin h e n new old_text text (subst (λ o. OrdersAll o (e ∷ h) new old_text text) same_mid (ordered (e ∷ h) ends)) (same_new ∙ same_mid) follow quiet,
+  ended_then old.origin h e n new old_text text (subst (λ o. OrdersAll o (e ∷ h) new old_text text) same_mid (ordered (e ∷ h) ends))
+      (same_new ∙ same_mid) follow quiet,
 )
 
 -- A run that begins.
-pub begun : (origin : Origin) (running : Running) (input first text : Option (List ℕ)) → OrdersAll origin [] running first text → running.origin ≡ origin → SoFar running input input first text
+pub begun : (origin : Origin) (running : Running) (input first text : Option (List ℕ)) → OrdersAll origin [] running first text → running.origin ≡ origin
+    → SoFar running input input first text
 begun origin running input first text (some, all) same = record {
   notices = [];
   history = some.history;
@@ -150,11 +158,13 @@ begun origin running input first text (some, all) same = record {
     all = all;
   });
   told = Consumes-nil input;
-  written = subst (λ (o : Origin). Appends first text (orders o.key o.job some.history)) (sym same) (subst (Appends first text) (sym some.ordered) some.written);
+  written = subst (λ (o : Origin). Appends first text (orders o.key o.job some.history)) (sym same)
+      (subst (Appends first text) (sym some.ordered) some.written);
 }
 
 -- It ends as runs do.
-pub run_all : {E : Type 0} (origin : Origin) (running : Running) (r : Result RunEnd E) (input first old new : Option (List ℕ)) → IfOk r (RunsOn running input old new) → SoFar running input input first old
+pub run_all : {E : Type 0} (origin : Origin) (running : Running) (r : Result RunEnd E) (input first old new : Option (List ℕ))
+    → IfOk r (RunsOn running input old new) → SoFar running input input first old
     → running.origin ≡ origin → IfSome input (λ whole. IfOk r (Runs origin whole first new))
 run_all origin running r None first old new runs so_far same = tt
 run_all origin running (Err e) (Some whole) first old new runs so_far same = tt

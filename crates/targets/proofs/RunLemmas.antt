@@ -1,5 +1,6 @@
 -- A job that is written elsewhere, notice by notice.
-use Rattle.std.proofs.Common.{◌≡◌, ◌<◌, ◌≤◌, ℕ, Bool, true, false, ◌==◌, List, [], ◌∷◌, ◌++◌, length, length-append, take, Option, Some, None, Result, Ok, Err, IfOk, IfSome, OnOk, append-nil, refl, sym, ap, ◌∙◌, subst, inl, inr, arith}
+use Rattle.std.proofs.Common.{◌≡◌, ◌<◌, ◌≤◌, ℕ, Bool, true, false, ◌==◌, List, [], ◌∷◌, ◌++◌, length, length-append, take, Option}
+use Rattle.std.proofs.Common.{Some, None, Result, Ok, Err, IfOk, IfSome, OnOk, append-nil, refl, sym, ap, ◌∙◌, subst, inl, inr, arith}
 use Rattle.std.specs.Prelude.{if◌then◌else◌}
 use Rattle.std.specs.Int.{w64}
 use Rattle.std.specs.Io.KnownBytes.{Appends, Consumes, IsAtEnd, Keeps}
@@ -46,7 +47,8 @@ kept_appends (Some x) (Some y) None bytes kept appends = absurd appends
 kept_appends (Some x) (Some y) (Some z) bytes kept appends = appends ∙ ap (λ l. l ++ bytes) kept
 
 -- A flush before a notice is followed leaves what is said of that.
-pub flushed : (n : Notice) (h : List Event) (old new : Running) (first mid text : Option (List ℕ)) (end : Option RunEnd) → Keeps first mid → FollowsBy n h old new mid text end → FollowsBy n h old new first text end
+pub flushed : (n : Notice) (h : List Event) (old new : Running) (first mid text : Option (List ℕ)) (end : Option RunEnd) → Keeps first mid
+    → FollowsBy n h old new mid text end → FollowsBy n h old new first text end
 flushed n h old new first mid text None kept (same, more) = (
   same,
   record {
@@ -69,11 +71,13 @@ orders_more key job k h =
 
 -- The order of a write, in three parts.
 pub order_written : (old first second new : Option (List ℕ)) (key : Key) (job : JobParts) (k : ℕ) (numbers blocks bytes : List ℕ)
-    → Appends old first numbers → numbers ≡ bytes_of w64 k → Appends first second blocks → blocks ≡ bytes_of w64 (block_of job k) → Appends second new bytes → bytes ≡ stamps.bytes_of key job k
+    → Appends old first numbers → numbers ≡ bytes_of w64 k → Appends first second blocks → blocks ≡ bytes_of w64 (block_of job k) → Appends second new bytes
+    → bytes ≡ stamps.bytes_of key job k
     → Appends old new (order_bytes key job k)
 order_written old first second new key job k numbers blocks bytes a a_is b b_is c c_is =
     Appends-trans old first new (bytes_of w64 k) (bytes_of w64 (block_of job k) ++ stamps.bytes_of key job k) (subst (Appends old first) a_is a)
-    (Appends-trans first second new (bytes_of w64 (block_of job k)) (stamps.bytes_of key job k) (subst (Appends first second) b_is b) (subst (Appends second new) c_is c))
+    (Appends-trans first second new (bytes_of w64 (block_of job k)) (stamps.bytes_of key job k) (subst (Appends first second) b_is b)
+    (subst (Appends second new) c_is c))
 
 -- A run with one more notice.
 pub goes_on : (running new : Running) (n : Notice) (first_input old_input input first_text old_text text : Option (List ℕ))
@@ -86,11 +90,13 @@ goes_on running new n first_input old_input input first_text old_text text so_fa
   stands = more.stands;
   is_history = subst (λ o. IsHistory o (n ∷ so_far.notices) more.history) (sym same) (so_far.history, so_far.is_history, more.follows);
   told = Consumes-trans first_input old_input input (told_bytes so_far.notices) (notice_bytes n) so_far.told told;
-  written = subst (Appends first_text text) (sym (ap (λ (o : Origin). orders o.key o.job more.history) same ∙ more.ordered)) (Appends-trans first_text old_text text _ more.bytes so_far.written more.written);
+  written = subst (Appends first_text text) (sym (ap (λ (o : Origin). orders o.key o.job more.history) same ∙ more.ordered))
+      (Appends-trans first_text old_text text _ more.bytes so_far.written more.written);
 }
 
 -- What is left of known bytes.
-known_rest : (whole : List ℕ) (input : Option (List ℕ)) (bytes : List ℕ) → Consumes (Some whole) input bytes → (rest : List ℕ) × (input ≡ Some rest) × (whole ≡ bytes ++ rest)
+known_rest : (whole : List ℕ) (input : Option (List ℕ)) (bytes : List ℕ) → Consumes (Some whole) input bytes
+    → (rest : List ℕ) × (input ≡ Some rest) × (whole ≡ bytes ++ rest)
 known_rest whole None bytes told = absurd told
 known_rest whole (Some rest) bytes told = (rest, refl, told)
 
@@ -116,7 +122,8 @@ takes_next rest input new is told =
     let known = known_rest rest new (notice_bytes Take) (subst (λ i. Consumes i new (notice_bytes Take)) is told) in
     record { rest = known.0; take = known.2 }
 
-ends_none : (n : Notice) (rest : List ℕ) (h : List Event) (input new : Option (List ℕ)) → input ≡ Some rest → Consumes input new (notice_bytes n) → EndsNothing n h → EndsNone rest h
+ends_none : (n : Notice) (rest : List ℕ) (h : List Event) (input new : Option (List ℕ)) → input ≡ Some rest → Consumes input new (notice_bytes n)
+    → EndsNothing n h → EndsNone rest h
 ends_none (Done k) rest h input new is told none =
     let known = known_rest rest new (notice_bytes (Done k)) (subst (λ i. Consumes i new (notice_bytes (Done k))) is told) in
     record { write = k; rest = known.0; told = inl known.2; none = none }
@@ -205,7 +212,8 @@ without_less k (x ∷ xs) h = elim (cases_Bool (x == k)) [
     ]
 
 -- A ticket is there where the write is open.
-pub open_is : (origin : Origin) (writes : List ℕ) (k : ℕ) (ticket : Ticket) → open_ticket origin writes k ≡ Some ticket → (has writes k ≡ true) × (ticket.seq ≡ k)
+pub open_is : (origin : Origin) (writes : List ℕ) (k : ℕ) (ticket : Ticket) → open_ticket origin writes k ≡ Some ticket
+    → (has writes k ≡ true) × (ticket.seq ≡ k)
 open_is origin writes k ticket h = by (has writes k) refl h
   where
     by : (b : Bool) → has writes k ≡ b → (if b then Some (ticket_of origin k) else None) ≡ Some ticket → (has writes k ≡ true) × (ticket.seq ≡ k)
@@ -213,13 +221,15 @@ open_is origin writes k ticket h = by (has writes k) refl h
     by false e is = absurd cc
 
 -- Less is left once a write has ended.
-pub less_by_done : (running new : Running) (k seq : ℕ) (ok : Bool) → ok ≡ true → new ≡ (if ok then after_done running seq else running) → seq ≡ k → has running.kept.open_writes k ≡ true
+pub less_by_done : (running new : Running) (k seq : ℕ) (ok : Bool) → ok ≡ true → new ≡ (if ok then after_done running seq else running) → seq ≡ k
+    → has running.kept.open_writes k ≡ true
     → steps_left new < steps_left running
 less_by_done running new k seq ok is new_is same h =
     let done_is : new ≡ after_done running k = new_is ∙ ap (λ b. if b then after_done running seq else running) is ∙ ap (after_done running) same in
     subst (λ r. steps_left r < steps_left running) (sym done_is) (omega (arith, without_less k running.kept.open_writes h))
 
-pub less_by_fail : (running new : Running) (k seq : ℕ) (ok : Bool) → ok ≡ true → new ≡ (if ok then after_fail running seq else running) → seq ≡ k → has running.kept.open_writes k ≡ true
+pub less_by_fail : (running new : Running) (k seq : ℕ) (ok : Bool) → ok ≡ true → new ≡ (if ok then after_fail running seq else running) → seq ≡ k
+    → has running.kept.open_writes k ≡ true
     → steps_left new < steps_left running
 less_by_fail running new k seq ok is new_is same h =
     let fail_is : new ≡ after_fail running k = new_is ∙ ap (λ b. if b then after_fail running seq else running) is ∙ ap (after_fail running) same in

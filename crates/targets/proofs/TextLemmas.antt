@@ -12,7 +12,8 @@ use Rattle.bounded_input.specs.Input.{IsRead}
 use Rattle.targets.specs.Texts.{IsText, HasNoText, FillsAll}
 
 -- A buffer that is filled holds what was read.
-pub filled : (old new : Option (List ℕ)) (buffer : List ℕ) (count : ℕ) → count ≡ length buffer → IsRead (length buffer) old new (take count buffer) → Consumes old new buffer
+pub filled : (old new : Option (List ℕ)) (buffer : List ℕ) (count : ℕ) → count ≡ length buffer → IsRead (length buffer) old new (take count buffer)
+    → Consumes old new buffer
 filled old new buffer count is read = subst (Consumes old new) (take_all count buffer (omega (arith, is))) read.taken
 
 -- One that isn't holds all that there was.
@@ -28,7 +29,8 @@ unfolding bytes_of number_in
 length_bytes bytes n h len is = sym (be_bytes_4 bytes n len h (is ∙ ap (from_be_bytes w32) (take_all 4 bytes (omega (arith, len)))))
 
 -- A text behind its length.
-pub is_text : (most n : ℕ) (old mid new : Option (List ℕ)) (told text : List ℕ) → Consumes old mid told → told ≡ bytes_of w32 n → Consumes mid new text → length text ≡ min n (most + 1)
+pub is_text : (most n : ℕ) (old mid new : Option (List ℕ)) (told text : List ℕ) → Consumes old mid told → told ≡ bytes_of w32 n → Consumes mid new text
+    → length text ≡ min n (most + 1)
     → IsText most old new text
 is_text most n old mid new told text first is second len = record {
   told = n;
@@ -42,7 +44,8 @@ all_that input None bytes read end = absurd read
 all_that input (Some rest) bytes read end = read ∙ ap (λ l. bytes ++ l) end ∙ append-nil bytes
 
 -- Nor where the text isn't.
-pub no_text : (most n : ℕ) (old mid new : Option (List ℕ)) (told buffer : List ℕ) (fault : Fault) → Consumes old mid told → told ≡ bytes_of w32 n → length buffer ≡ min n (most + 1)
+pub no_text : (most n : ℕ) (old mid new : Option (List ℕ)) (told buffer : List ℕ) (fault : Fault) → Consumes old mid told → told ≡ bytes_of w32 n
+    → length buffer ≡ min n (most + 1)
     → FillsAll mid new buffer (Err fault) → HasNoText most old fault
 no_text most n None mid new told buffer faults.EndOfInput first is len why = tt
 no_text most n (Some input) mid new told buffer faults.EndOfInput first is len (bytes, read, short, end) =

@@ -27,18 +27,21 @@ pub record IsJobOf (text : List ℕ) (number : ℕ) (job : Job) : Type 0 where
   pub sound : refusal_of text ≡ None
   pub is : slice_get (jobs_of text) number ≡ Some job
 
--- Why a text gives no job of this number: its first fault; it has no such job; or there is no memory for it.
+-- Why a text gives no job of this number: its first fault; it has no such job; or there is no
+-- memory for it.
 abbrev pub HasNoJob : List ℕ → ℕ → PrintedRefusal → Type 0
 HasNoJob text number refusal =
     RefusesText refusal text
-    ⊎ (((refusal_of text ≡ None) × (slice_get (jobs_of text) number ≡ None) × (refusal ≡ plain NoJob))
+    ⊎ (((refusal_of text ≡ None) × (slice_get (jobs_of text) number ≡ None)
+    × (refusal ≡ plain NoJob))
     ⊎ (refusal ≡ plain JobNoMemory))
 
 -- Why an input gives no job: it gives no text, or its text gives none.
 abbrev pub GivesNoJob : Option (List ℕ) → ℕ → PrintedRefusal → Type 0
 GivesNoJob input number refusal =
     ((fault : Fault) × HasNoText MAX_TEXT input fault × (refusal ≡ plain fault))
-    ⊎ ((text : List ℕ) × (rest : Option (List ℕ)) × IsText MAX_TEXT input rest text × HasNoJob text number refusal)
+    ⊎ ((text : List ℕ) × (rest : Option (List ℕ)) × IsText MAX_TEXT input rest text
+    × HasNoJob text number refusal)
 
 -- A text has the job of this number, and it is the one that is asked for.
 pub record IsAsked (text : List ℕ) (number : ℕ) (asked : Asked) : Type 0 where
@@ -58,16 +61,18 @@ pub record ReadsJob (number : ℕ) (old new : Option (List ℕ)) (asked : Asked)
 abbrev pub Refuses : PrintedRefusal → Option (List ℕ) → Option (List ℕ) → ℕ → Type 0
 Refuses refusal old new status = Finishes (with_line_feed (refusal_line refusal)) 2 old new status
 
--- Behind the orders of a run stands its state, and the status is 0; or why there is none, want of memory at last, and
--- it is 2.
+-- Behind the orders of a run stands its state, and the status is 0; or why there is none, want of
+-- memory at last, and it is 2.
 abbrev pub FinishesRun : RunEnd → Option (List ℕ) → Option (List ℕ) → ℕ → Type 0
-FinishesRun (Taken state) old new status = Finishes (spelling state) 0 old new status ⊎ Refuses (plain NoMemory) old new status
+FinishesRun (Taken state) old new status =
+    Finishes (spelling state) 0 old new status ⊎ Refuses (plain NoMemory) old new status
 FinishesRun (Refused fault) old new status = Refuses (plain fault) old new status
 
 -- A run is that of an input, and is finished; or there was no memory for it.
 abbrev pub RunsRest : Origin → List ℕ → Option (List ℕ) → Option (List ℕ) → ℕ → Type 0
 RunsRest origin rest old new status =
-    ((end : RunEnd) × (ordered : Option (List ℕ)) × Runs origin rest old ordered end × FinishesRun end ordered new status)
+    ((end : RunEnd) × (ordered : Option (List ℕ)) × Runs origin rest old ordered end
+    × FinishesRun end ordered new status)
     ⊎ Refuses (plain NoMemory) old new status
 
 -- An input begins with a job file that has the job of this number, and this stands behind it.
@@ -77,18 +82,21 @@ pub record BeginsWithJob (number : ℕ) (input behind : List ℕ) (job : Job) : 
   pub is_job : IsJobOf text number job
 
 -- The job of an input is run: it writes, and its run is that of what stands behind the text.
-pub record RunsJob (run number : ℕ) (input : List ℕ) (old new : Option (List ℕ)) (status : ℕ) : Type 0 where
+pub record RunsJob (run number : ℕ) (input : List ℕ) (old new : Option (List ℕ))
+    (status : ℕ) : Type 0 where
   pub job : Job
   pub behind : List ℕ
   pub begins : BeginsWithJob number input behind job
   pub writes : phase_in begins.text ≡ Write
-  pub runs : RunsRest (record { boot = 0; key = key_of run number; job = job.rec }) behind old new status
+  pub runs : RunsRest (record { boot = 0; key = key_of run number; job = job.rec }) behind old new
+      status
 
 -- The job of an input isn't run: there is none, or it doesn't write.
 abbrev pub CannotRun : List ℕ → ℕ → PrintedRefusal → Type 0
 CannotRun input number refusal =
     GivesNoJob (Some input) number refusal
-    ⊎ ((text : List ℕ) × (rest : Option (List ℕ)) × IsText MAX_TEXT (Some input) rest text × (refusal_of text ≡ None)
+    ⊎ ((text : List ℕ) × (rest : Option (List ℕ)) × IsText MAX_TEXT (Some input) rest text
+    × (refusal_of text ≡ None)
     × (phase_in text ≡ Write → ⊥) × (refusal ≡ plain WrongPhase))
 
 -- What is answered where a job is to be written.

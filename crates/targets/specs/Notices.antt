@@ -5,7 +5,8 @@ use Rattle.fc_base.specs.Layouts.{bytes_of}
 use Rattle.targets.specs.declared.notice.Notice.{Notice}
 use Rattle.targets.specs.declared.notice.Notice.TheVariants.{Done, Failed, Take}
 
--- The 16 bytes of a notice: 1, 2 or 3 in eight bytes, and in eight the number of the write, which is 0 for a take.
+-- The 16 bytes of a notice: 1, 2 or 3 in eight bytes, and in eight the number of the write, which
+-- is 0 for a take.
 abbrev pub notice_bytes : Notice → List ℕ
 notice_bytes (Done k) = bytes_of w64 1 ++ bytes_of w64 k
 notice_bytes (Failed k) = bytes_of w64 2 ++ bytes_of w64 k

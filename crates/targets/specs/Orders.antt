@@ -9,9 +9,11 @@ use Rattle.write_order.specs.Blocks.{block_of}
 use Rattle.write_order.specs.Stamps as block
 use Rattle.window.specs.History.{Event, issues}
 
--- The order of write k: its number and its block, eight bytes each, and then the bytes of the block.
+-- The order of write k: its number and its block, eight bytes each, and then the bytes of the
+-- block.
 abbrev pub order_bytes : Key → JobParts → ℕ → List ℕ
-order_bytes key job k = bytes_of w64 k ++ (bytes_of w64 (block_of job k) ++ block.bytes_of key job k)
+order_bytes key job k =
+    bytes_of w64 k ++ (bytes_of w64 (block_of job k) ++ block.bytes_of key job k)
 
 -- The orders of a history: one for each write that was issued, in their order.
 abbrev pub orders : Key → JobParts → List Event → List ℕ

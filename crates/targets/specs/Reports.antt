@@ -21,7 +21,8 @@ use Rattle.targets.specs.Checks.{Checks}
 abbrev pub report_line : ReportParts → List ℕ
 report_line r = with_blanks_between (codes "report" ∷ report_words r)
 
--- The status of a report: 2 where the bytes of the target ended early, else 1 where there are faults, else 0.
+-- The status of a report: 2 where the bytes of the target ended early, else 1 where there are
+-- faults, else 0.
 abbrev pub report_status : ReportParts → ℕ
 report_status r = by r.end
   where
@@ -33,16 +34,20 @@ report_status r = by r.end
 -- A state comes behind its length, or a length of 0 in place of one.
 abbrev pub IsStateIn : Option (List ℕ) → Option (List ℕ) → Option State → Type 0
 IsStateIn old new None = IsText MAX_STATE old new []
-IsStateIn old new (Some state) = (bytes : List ℕ) × IsText MAX_STATE old new bytes × (length bytes ≤ MAX_STATE) × Answers (Ok state) bytes
+IsStateIn old new (Some state) = (bytes : List ℕ) × IsText MAX_STATE old new bytes
+    × (length bytes ≤ MAX_STATE) × Answers (Ok state) bytes
 
 -- Why there is no state: its bytes don't come, they are no state, or there are too many of them.
 abbrev pub HasNoState : Option (List ℕ) → Fault → Type 0
 HasNoState input fault =
     HasNoText MAX_STATE input fault
-    ⊎ ((bytes : List ℕ) × (rest : Option (List ℕ)) × IsText MAX_STATE input rest bytes × (Answers (Err fault) bytes ⊎ (fault ≡ StateTrailing)))
+    ⊎ ((bytes : List ℕ) × (rest : Option (List ℕ)) × IsText MAX_STATE input rest bytes
+    × (Answers (Err fault) bytes ⊎ (fault ≡ StateTrailing)))
 
--- An input is checked: it has the job, its state or none, and the bytes of the target, and this comes of them.
-pub record ChecksInput (run number : ℕ) (input : List ℕ) (answer : Result ReportParts Fault) : Type 0 where
+-- An input is checked: it has the job, its state or none, and the bytes of the target, and this
+-- comes of them.
+pub record ChecksInput (run number : ℕ) (input : List ℕ)
+    (answer : Result ReportParts Fault) : Type 0 where
   pub job : Job
   pub state : Option State
   pub behind : List ℕ
@@ -55,17 +60,21 @@ pub record ChecksInput (run number : ℕ) (input : List ℕ) (answer : Result Re
 abbrev pub CannotCheck : ℕ → ℕ → List ℕ → PrintedRefusal → Type 0
 CannotCheck run number input refusal =
     GivesNoJob (Some input) number refusal
-    ⊎ (((job : Job) × (behind : List ℕ) × (fault : Fault) × BeginsWithJob number input behind job × HasNoState (Some behind) fault × (refusal ≡ plain fault))
+    ⊎ (((job : Job) × (behind : List ℕ) × (fault : Fault) × BeginsWithJob number input behind job
+    × HasNoState (Some behind) fault × (refusal ≡ plain fault))
     ⊎ ((fault : Fault) × ChecksInput run number input (Err fault) × (refusal ≡ plain fault)))
 
 -- The report of the input is written, and the status is its.
-pub record WritesReport (run number : ℕ) (input : List ℕ) (old new : Option (List ℕ)) (status : ℕ) : Type 0 where
+pub record WritesReport (run number : ℕ) (input : List ℕ) (old new : Option (List ℕ))
+    (status : ℕ) : Type 0 where
   pub report : ReportParts
   pub checks : ChecksInput run number input (Ok report)
-  pub finishes : Finishes (with_line_feed (report_line report)) (report_status report) old new status
+  pub finishes : Finishes (with_line_feed (report_line report))
+      (report_status report) old new status
 
 -- What is answered where a target is to be checked.
 abbrev pub ChecksJob : ℕ → ℕ → List ℕ → Option (List ℕ) → Option (List ℕ) → ℕ → Type 0
 ChecksJob run number input old new status =
     WritesReport run number input old new status
-    ⊎ ((refusal : PrintedRefusal) × CannotCheck run number input refusal × Refuses refusal old new status)
+    ⊎ ((refusal : PrintedRefusal) × CannotCheck run number input refusal
+    × Refuses refusal old new status)

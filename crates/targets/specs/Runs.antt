@@ -28,15 +28,17 @@ Follows origin (Done k) before h = Issues origin (done k ∷ before) h
 Follows origin (Failed k) before h = Issues origin (fail k ∷ before) h
 Follows origin Take before h = ⊥
 
--- The history of a job by what was told of its writes, the last notice first: at the start, and behind each
--- notice, all writes are issued that can be.
+-- The history of a job by what was told of its writes, the last notice first: at the start, and
+-- behind each notice, all writes are issued that can be.
 abbrev pub IsHistory : Origin → List Notice → List Event → Type 0
 IsHistory origin [] h = Issues origin [] h
-IsHistory origin (n ∷ ns) h = (before : List Event) × IsHistory origin ns before × Follows origin n before h
+IsHistory origin (n ∷ ns) h =
+    (before : List Event) × IsHistory origin ns before × Follows origin n before h
 
--- Some notices were read, and just the orders of their history are written. `P` holds of what is left of the
--- input and of the history.
-pub record HasRun (origin : Origin) (input : List ℕ) (old new : Option (List ℕ)) (P : List ℕ → List Event → Type 0) : Type 0 where
+-- Some notices were read, and just the orders of their history are written. `P` holds of what is
+-- left of the input and of the history.
+pub record HasRun (origin : Origin) (input : List ℕ) (old new : Option (List ℕ))
+    (P : List ℕ → List Event → Type 0) : Type 0 where
   pub notices : List Notice
   pub history : List Event
   pub rest : List ℕ
@@ -54,7 +56,8 @@ pub record TakesNext (bytes : List ℕ) : Type 0 where
 pub record EndsNone (bytes : List ℕ) (h : List Event) : Type 0 where
   pub write : ℕ
   pub rest : List ℕ
-  pub told : (bytes ≡ notice_bytes (Done write) ++ rest) ⊎ (bytes ≡ notice_bytes (Failed write) ++ rest)
+  pub told : (bytes ≡ notice_bytes (Done write) ++ rest)
+      ⊎ (bytes ≡ notice_bytes (Failed write) ++ rest)
   pub none : has (open_writes h) write ≡ false
 
 -- The next 16 bytes are no notice.
@@ -62,13 +65,16 @@ pub record IsNoNotice (bytes : List ℕ) : Type 0 where
   pub long : 16 ≤ length bytes
   pub none : (n : Notice) → take 16 bytes ≡ notice_bytes n → ⊥
 
--- How a run ends: at a take with the state of the history; or where a notice names no open write, the next
--- bytes are no notice, the input ends before a take or can't be read, or memory runs out.
+-- How a run ends: at a take with the state of the history; or where a notice names no open write,
+-- the next bytes are no notice, the input ends before a take or can't be read, or memory runs out.
 abbrev pub Runs : Origin → List ℕ → Option (List ℕ) → Option (List ℕ) → RunEnd → Type 0
-Runs origin input old new (Taken state) = HasRun origin input old new (λ rest h. TakesNext rest × (state ≡ state_after origin h))
+Runs origin input old new (Taken state) =
+    HasRun origin input old new (λ rest h. TakesNext rest × (state ≡ state_after origin h))
 Runs origin input old new (Refused faults.NotInFlight) = HasRun origin input old new EndsNone
-Runs origin input old new (Refused faults.BadNotice) = HasRun origin input old new (λ rest h. IsNoNotice rest)
-Runs origin input old new (Refused faults.EndOfInput) = HasRun origin input old new (λ rest h. length rest < 16)
+Runs origin input old new (Refused faults.BadNotice) =
+    HasRun origin input old new (λ rest h. IsNoNotice rest)
+Runs origin input old new (Refused faults.EndOfInput) =
+    HasRun origin input old new (λ rest h. length rest < 16)
 Runs origin input old new (Refused faults.ReadError) = HasRun origin input old new (λ rest h. ⊤)
 Runs origin input old new (Refused faults.NoMemory) = Keeps old new
 Runs origin input old new (Refused fault) = ⊥

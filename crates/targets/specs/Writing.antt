@@ -19,13 +19,16 @@ use Rattle.targets.specs.Runs.{Follows, IsHistory, Runs}
 -- The next notice of an input, or why there is none.
 abbrev pub ReadsNotice : Option (List ℕ) → Option (List ℕ) → Result Notice Fault → Type 0
 ReadsNotice old new (Ok n) = Consumes old new (notice_bytes n)
-ReadsNotice old new (Err faults.BadNotice) = (bytes : List ℕ) × Consumes old new bytes × (length bytes ≡ 16) × IsNoticeIn bytes None
-ReadsNotice old new (Err faults.EndOfInput) = (bytes : List ℕ) × Consumes old new bytes × (length bytes < 16) × IsAtEnd new
+ReadsNotice old new (Err faults.BadNotice) =
+    (bytes : List ℕ) × Consumes old new bytes × (length bytes ≡ 16) × IsNoticeIn bytes None
+ReadsNotice old new (Err faults.EndOfInput) =
+    (bytes : List ℕ) × Consumes old new bytes × (length bytes < 16) × IsAtEnd new
 ReadsNotice old new (Err faults.ReadError) = Unit {0}
 ReadsNotice old new (Err fault) = ⊥
 
 -- Some writes are issued behind a history, and just their orders are written.
-pub record OrdersSome (origin : Origin) (before : List Event) (running : Running) (old new : Option (List ℕ)) : Type 0 where
+pub record OrdersSome (origin : Origin) (before : List Event) (running : Running)
+    (old new : Option (List ℕ)) : Type 0 where
   pub history : List Event
   pub writes : List ℕ
   pub bytes : List ℕ
@@ -37,11 +40,14 @@ pub record OrdersSome (origin : Origin) (before : List Event) (running : Running
 -- All writes that can be are issued behind a history, and just their orders are written.
 abbrev pub OrdersAll : Origin → List Event → Running → Option (List ℕ) → Option (List ℕ) → Type 0
 OrdersAll origin before running old new =
-    (some : OrdersSome origin before running old new) × (is_write (answer_to origin false some.history) ≡ false)
+    (some : OrdersSome origin before running old new)
+    × (is_write (answer_to origin false some.history) ≡ false)
 
--- What is left of a job: two for each write that is still to be issued, and one for each open write.
+-- What is left of a job: two for each write that is still to be issued, and one for each open
+-- write.
 abbrev pub steps_left : Running → ℕ
-steps_left running = 2 * (running.origin.job.total - running.kept.issued) + length running.kept.open_writes
+steps_left running =
+    2 * (running.origin.job.total - running.kept.issued) + length running.kept.open_writes
 
 -- A write has ended by this event, if it was open.
 abbrev pub Ends : Event → ℕ → List Event → Running → Bool → Type 0
@@ -55,7 +61,8 @@ EndsNothing (Failed k) h = has (open_writes h) k ≡ false
 EndsNothing Take h = ⊥
 
 -- The orders that follow from a notice behind a history are written.
-pub record GoesOn (h : List Event) (notice : Notice) (origin : Origin) (new : Running) (old_text text : Option (List ℕ)) : Type 0 where
+pub record GoesOn (h : List Event) (notice : Notice) (origin : Origin) (new : Running)
+    (old_text text : Option (List ℕ)) : Type 0 where
   pub history : List Event
   pub bytes : List ℕ
   pub follows : Follows origin notice h history
@@ -64,21 +71,29 @@ pub record GoesOn (h : List Event) (notice : Notice) (origin : Origin) (new : Ru
   pub ordered : orders origin.key origin.job history ≡ orders origin.key origin.job h ++ bytes
 
 -- What a notice leaves of a run whose history is h: it goes on, or it ends.
-abbrev pub FollowsBy : Notice → List Event → Running → Running → Option (List ℕ) → Option (List ℕ) → Option RunEnd → Type 0
-FollowsBy n h old new old_text text None = (new.origin ≡ old.origin) × GoesOn h n old.origin new old_text text
-FollowsBy n h old new old_text text (Some (Taken state)) = Keeps old_text text × (n ≡ Take) × (state ≡ state_after old.origin h)
-FollowsBy n h old new old_text text (Some (Refused faults.NotInFlight)) = Keeps old_text text × EndsNothing n h
+abbrev pub FollowsBy : Notice → List Event → Running → Running → Option (List ℕ) → Option (List ℕ)
+    → Option RunEnd → Type 0
+FollowsBy n h old new old_text text None =
+    (new.origin ≡ old.origin) × GoesOn h n old.origin new old_text text
+FollowsBy n h old new old_text text (Some (Taken state)) =
+    Keeps old_text text × (n ≡ Take) × (state ≡ state_after old.origin h)
+FollowsBy n h old new old_text text (Some (Refused faults.NotInFlight)) =
+    Keeps old_text text × EndsNothing n h
 FollowsBy n h old new old_text text (Some (Refused fault)) = ⊥
 
 -- A step reads a notice, and does what it says; or there is no notice.
-abbrev pub Steps : List Event → Running → Running → Option (List ℕ) → Option (List ℕ) → Option (List ℕ) → Option (List ℕ) → Option RunEnd → Type 0
+abbrev pub Steps : List Event → Running → Running → Option (List ℕ) → Option (List ℕ)
+    → Option (List ℕ) → Option (List ℕ) → Option RunEnd → Type 0
 Steps h old new old_input input old_text text end =
-    ((n : Notice) × Consumes old_input input (notice_bytes n) × FollowsBy n h old new old_text text end)
-    ⊎ ((fault : Fault) × (end ≡ Some (Refused fault)) × Keeps old_text text × ReadsNotice old_input input (Err fault))
+    ((n : Notice) × Consumes old_input input (notice_bytes n)
+    × FollowsBy n h old new old_text text end)
+    ⊎ ((fault : Fault) × (end ≡ Some (Refused fault)) × Keeps old_text text
+    × ReadsNotice old_input input (Err fault))
 
--- A run up to here: some notices were read and just the orders of their history are written, since the input and
--- the text were these.
-pub record SoFar (running : Running) (first_input input first_text text : Option (List ℕ)) : Type 0 where
+-- A run up to here: some notices were read and just the orders of their history are written, since
+-- the input and the text were these.
+pub record SoFar (running : Running)
+    (first_input input first_text text : Option (List ℕ)) : Type 0 where
   pub notices : List Notice
   pub history : List Event
   pub stands : StandsFor running history

@@ -1,5 +1,6 @@
 -- How many writes a list counts, and which.
-use Rattle.std.proofs.Common.{◌≡◌, ℕ, ◌+◌, ◌-◌, ◌*◌, ◌<◌, ◌≤◌, min, zero, suc, Bool, true, false, cond, ◌&&◌, ◌||◌, not, eqb, ltb, leb, List, [], ◌∷◌, length, filter, sym, refl, ap, ◌∙◌, inl, inr, arith}
+use Rattle.std.proofs.Common.{◌≡◌, ℕ, ◌+◌, ◌-◌, ◌*◌, ◌<◌, ◌≤◌, min, zero, suc, Bool, true, false, cond, ◌&&◌, ◌||◌}
+use Rattle.std.proofs.Common.{not, eqb, ltb, leb, List, [], ◌∷◌, length, filter, sym, refl, ap, ◌∙◌, inl, inr, arith}
 use Rattle.std.specs.List.{list_all}
 use Rattle.std.proofs.lemmas.Bool.{cases_Bool, and_parts, ltb-true, le-leb, leb-true, eqb-true, eq-eqb, ne_eqb, cases_eq}
 use Rattle.std.proofs.lemmas.Bool.Decides.{nat_tests}
@@ -24,7 +25,8 @@ length_last p n true e = rw e refl
 length_last p n false e = rw e refl
 
 passing_next : (p : ℕ → Bool) (n : ℕ) → passing p (suc n) ≡ passing p n + one_if (p n)
-passing_next p n = ap length (filter-append p (numbers_below n) (n ∷ [])) ∙ length-append (filter p (numbers_below n)) (filter p (n ∷ [])) ∙ ap (λ m. passing p n + m) (length_last p n (p n) refl)
+passing_next p n = ap length (filter-append p (numbers_below n) (n ∷ [])) ∙ length-append (filter p (numbers_below n)) (filter p (n ∷ []))
+    ∙ ap (λ m. passing p n + m) (length_last p n (p n) refl)
 
 passing_agree : (p q : ℕ → Bool) (n : ℕ) → ((k : ℕ) → k < n → p k ≡ q k) → passing p n ≡ passing q n
 passing_agree p q zero agree = refl
@@ -75,13 +77,15 @@ count_new : (window issued x : ℕ) (xs : List ℕ) (b : Bool) → ltb (x + wind
 count_new window issued x xs true old lt fresh =
     let p = is_counted window issued xs in
     ap length (filter_agree (is_counted window issued (x ∷ xs)) p (λ k. elim (cases_eq x k) [
-      | inl here ↦ let o : ltb (k + window) issued ≡ true = ap (λ j. ltb (j + window) issued) (sym here) ∙ old in or_true (eqb x k || has xs k) _ o ∙ sym (or_true (has xs k) _ o)
+      | inl here ↦ let o : ltb (k + window) issued ≡ true =
+          ap (λ j. ltb (j + window) issued) (sym here) ∙ old in or_true (eqb x k || has xs k) _ o ∙ sym (or_true (has xs k) _ o)
       | inr other ↦ rw (ne_eqb x k other) refl
     ]) (numbers_below issued)) ∙ omega arith
 count_new window issued x xs false old lt fresh =
     let p = is_counted window issued xs in
     let not_yet : p x ≡ false = rw (fresh, old) refl in
-    ap length (filter_agree (is_counted window issued (x ∷ xs)) (λ k. eqb x k || p k) (λ k. or_same (eqb x k) (has xs k) (ltb (k + window) issued)) (numbers_below issued))
+    ap length (filter_agree (is_counted window issued (x ∷ xs)) (λ k. eqb x k || p k) (λ k. or_same (eqb x k) (has xs k) (ltb (k + window) issued))
+    (numbers_below issued))
     ∙ passing_with p x issued lt not_yet
 
 not_before : (b : Bool) → not b ≡ true → b ≡ false
@@ -126,7 +130,8 @@ come job issued xs e =
     let whole = and_parts (leb issued job.total) (is_possible job.depth job.window issued xs) e in
     let halves = and_parts (is_distinct xs && list_all (λ k. ltb k issued) xs) _ whole.1 in
     let front = and_parts (is_distinct xs) (list_all (λ k. ltb k issued) xs) halves.0 in
-    let back = and_parts (leb (length (uncounted job.window issued xs)) job.depth) (eqb (length xs) (min (2 * job.window) (length (counted job.window issued xs)))) halves.1 in
+    let back = and_parts (leb (length (uncounted job.window issued xs)) job.depth)
+    (eqb (length xs) (min (2 * job.window) (length (counted job.window issued xs)))) halves.1 in
     record {
       issued_few = leb-true issued job.total whole.0;
       distinct = front.0;

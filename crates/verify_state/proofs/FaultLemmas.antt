@@ -16,9 +16,11 @@ use Rattle.fc_base.specs.Layouts.{bytes_of, number_in}
 use Rattle.verify_state.specs.Codes.{kind_code, verify_code}
 use Rattle.verify_state.specs.State.{State, IsState, has_come}
 use Rattle.verify_state.specs.Spelling.{key_bytes, job_bytes, spelling}
-use Rattle.verify_state.specs.Reading.{field, is_layout_1, is_layout_2, key_in, job_in, issued_in, count_in, completions_in, length_in, floor_at, has_codes, has_fields, has_ranges, has_marks, front_faults, list_faults, mark_faults, faults_of}
+use Rattle.verify_state.specs.Reading.{field, is_layout_1, is_layout_2, key_in, job_in, issued_in, count_in, completions_in, length_in, floor_at}
+use Rattle.verify_state.specs.Reading.{has_codes, has_fields, has_ranges, has_marks, front_faults, list_faults, mark_faults, faults_of}
 use Rattle.verify_state.proofs.RangeLemmas.{ranges_by}
-use Rattle.verify_state.proofs.SpellingLemmas.{one_byte, key_back, job_back, issued_again, issued_limit, floor_back, marks_back, length_back, layout_back, other_layout}
+use Rattle.verify_state.proofs.SpellingLemmas.{one_byte, key_back, job_back, issued_again, issued_limit}
+use Rattle.verify_state.proofs.SpellingLemmas.{floor_back, marks_back, length_back, layout_back, other_layout}
 
 -- ---- what holds of bytes that have no fault
 
@@ -142,7 +144,8 @@ codes_hold s =
 fields_hold : (s : State) → IsState s → has_fields (spelling s) ≡ true
 fields_hold s is =
     let key : is_key (key_in (spelling s)) ≡ true = ap is_key (key_back s is) ∙ is.key in
-    let few : nat_le (issued_in (spelling s)) MAX_WRITES ≡ true = ap (λ n. leb n MAX_WRITES) (issued_again s is) ∙ le-leb s.issued MAX_WRITES (issued_limit s is) in
+    let few : nat_le (issued_in (spelling s)) MAX_WRITES ≡ true =
+    ap (λ n. leb n MAX_WRITES) (issued_again s is) ∙ le-leb s.issued MAX_WRITES (issued_limit s is) in
     and_from _ _ (and_from _ _ (codes_hold s) key) few
 
 marks_hold : (s : State) → IsState s → has_marks (spelling s) ≡ true
@@ -150,7 +153,8 @@ unfolding has_marks
 marks_hold s is =
     let window : field w32 52 (spelling s) ≡ s.job.window = ap (λ job. job.window) (job_back s is) in
     and_from _ _
-    (eq-eqb (floor_at (spelling s)) _ (floor_back s is ∙ sym (ap (λ n. floor_of n (issued_in (spelling s))) window ∙ ap (floor_of s.job.window) (issued_again s is))))
+    (eq-eqb (floor_at (spelling s)) _ (floor_back s is ∙ sym
+    (ap (λ n. floor_of n (issued_in (spelling s))) window ∙ ap (floor_of s.job.window) (issued_again s is))))
     (rw (job_back s is, issued_again s is, marks_back s is) is.come)
 
 or_second : (a b : Bool) → b ≡ true → (a || b) ≡ true

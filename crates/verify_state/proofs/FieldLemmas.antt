@@ -40,7 +40,8 @@ unfolding field number_in bytes_of
 piece64 at bytes fits long =
     let front = take 8 (drop at bytes) in
     let is : bytes_of w64 (from_be_bytes w64 front) ≡ front =
-    be_bytes_8 front (from_be_bytes w64 front) (omega (arith, length-take 8 (drop at bytes), length-drop at bytes)) (bytes_take 8 (drop at bytes) (bytes_drop at bytes fits)) refl in
+    be_bytes_8 front (from_be_bytes w64 front) (omega (arith, length-take 8 (drop at bytes), length-drop at bytes))
+    (bytes_take 8 (drop at bytes) (bytes_drop at bytes fits)) refl in
     ap (λ l. l ++ drop (at + 8) bytes) is ∙ cut 8 at bytes
 
 pub piece32 : (at : ℕ) (bytes : List ℕ) → IsBytes bytes → at + 4 ≤ length bytes → bytes_of w32 (field w32 at bytes) ++ drop (at + 4) bytes ≡ drop at bytes
@@ -48,7 +49,8 @@ unfolding field number_in bytes_of
 piece32 at bytes fits long =
     let front = take 4 (drop at bytes) in
     let is : bytes_of w32 (from_be_bytes w32 front) ≡ front =
-    be_bytes_4 front (from_be_bytes w32 front) (omega (arith, length-take 4 (drop at bytes), length-drop at bytes)) (bytes_take 4 (drop at bytes) (bytes_drop at bytes fits)) refl in
+    be_bytes_4 front (from_be_bytes w32 front) (omega (arith, length-take 4 (drop at bytes), length-drop at bytes))
+    (bytes_take 4 (drop at bytes) (bytes_drop at bytes fits)) refl in
     ap (λ l. l ++ drop (at + 4) bytes) is ∙ cut 4 at bytes
 
 first_byte : (bytes : List ℕ) → 1 ≤ length bytes → from_be_bytes w8 (take 1 bytes) ∷ drop 1 bytes ≡ bytes
@@ -77,7 +79,8 @@ word_by (suc n) at bytes zero lt = ap (λ a. field w64 a bytes) (omega arith)
 word_by (suc n) at bytes (suc k) lt = word_by n (at + 8) bytes k (omega arith) ∙ ap (λ a. field w64 a bytes) (omega arith)
 
 pub words_are : (n at : ℕ) (bytes : List ℕ) → words_at n at bytes ≡ words_by n at bytes
-words_are n at bytes = sym (fill_by_all (λ k. field w64 (at + 8 * k) bytes) (words_by n at bytes) n 0 (length_words_by n at bytes) (λ k lt. word_by n at bytes k lt))
+words_are n at bytes =
+    sym (fill_by_all (λ k. field w64 (at + 8 * k) bytes) (words_by n at bytes) n 0 (length_words_by n at bytes) (λ k lt. word_by n at bytes k lt))
 
 pieces_by : (n at : ℕ) (bytes : List ℕ) → IsBytes bytes → at + 8 * n ≤ length bytes → words (words_by n at bytes) ++ drop (at + 8 * n) bytes ≡ drop at bytes
 pieces_by zero at bytes fits long = ap (λ a. drop a bytes) (omega arith)

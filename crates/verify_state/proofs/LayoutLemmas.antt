@@ -10,7 +10,8 @@ use Rattle.verify_state.specs.State.{has_come_by}
 use Rattle.verify_state.specs.Layouts.{GivesListed, GivesMarked, GivesMarks, faults_behind, marks_listed}
 use Rattle.verify_state.proofs.FaultLemmas.{sound_list, sound_marks}
 use Rattle.verify_state.proofs.PieceLemmas.{are_marks, said_by_list, listed_as_marked, come_as_listed}
-use Rattle.verify_state.specs.Reading.{is_layout_1, job_in, issued_in, marks_at, floor_at, has_ranges, has_marks, mark_faults, list_faults, state_listed, state_marked}
+use Rattle.verify_state.specs.Reading.{is_layout_1, job_in, issued_in, marks_at, floor_at, has_ranges}
+use Rattle.verify_state.specs.Reading.{has_marks, mark_faults, list_faults, state_listed, state_marked}
 
 -- bytes of layout 2 as many as it has, whose marks are wrong
 pub marks_fault : (bytes : List ℕ) → length bytes ≡ 136 → has_marks bytes ≡ false → slice_get (mark_faults bytes) 0 ≡ Some Impossible
@@ -40,7 +41,8 @@ pub marks_differ : (bytes : List ℕ) → has_come_by (job_in bytes) (issued_in 
 unfolding has_marks
 marks_differ bytes wrong = second_false _ _ wrong
 
-pub marks_hold : (bytes : List ℕ) → floor_at bytes ≡ floor_of (job_in bytes).window (issued_in bytes) → has_come_by (job_in bytes) (issued_in bytes) (marks_at bytes) ≡ true → has_marks bytes ≡ true
+pub marks_hold : (bytes : List ℕ) → floor_at bytes ≡ floor_of (job_in bytes).window (issued_in bytes)
+    → has_come_by (job_in bytes) (issued_in bytes) (marks_at bytes) ≡ true → has_marks bytes ≡ true
 unfolding has_marks
 marks_hold bytes floor come = and_from _ _ (eq-eqb (floor_at bytes) _ floor) come
 

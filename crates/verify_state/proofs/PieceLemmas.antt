@@ -1,5 +1,6 @@
 -- Bytes without a fault, piece by piece, are the spelling of what they say.
-use Rattle.std.proofs.Common.{Bool, ◌||◌, ◌≡◌, ℕ, ◌+◌, ◌^◌, ◌<◌, ◌≤◌, zero, suc, true, ◌&&◌, ◌-◌, false, eqb, ltb, leb, List, [], ◌∷◌, ◌++◌, length, take, drop, sym, refl, ap, ◌∙◌, subst, inl, inr, arith}
+use Rattle.std.proofs.Common.{Bool, ◌||◌, ◌≡◌, ℕ, ◌+◌, ◌^◌, ◌<◌, ◌≤◌, zero, suc, true, ◌&&◌, ◌-◌, false, eqb, ltb, leb}
+use Rattle.std.proofs.Common.{List, [], ◌∷◌, ◌++◌, length, take, drop, sym, refl, ap, ◌∙◌, subst, inl, inr, arith}
 use Rattle.std.specs.Prelude.{codes, if◌then◌else◌}
 use Rattle.std.specs.List.{AllByRecursion}
 use Rattle.std.specs.Cmp.Lexicographic.{pointwise}
@@ -15,7 +16,8 @@ use Rattle.fc_base.specs.CountLaws.{marks_again, counted_as_listed, possible_as_
 use Rattle.verify_state.specs.Codes.{kind_code, verify_code, kind_of, verify_of}
 use Rattle.verify_state.specs.State.{State, IsState, state_by, floor_in, marks_in, has_come, has_come_by}
 use Rattle.verify_state.specs.Spelling.{key_bytes, job_bytes, words, spelling}
-use Rattle.verify_state.specs.Reading.{field, words_at, is_layout_1, is_layout_2, key_in, job_in, issued_in, place_in, count_in, completions_in, floor_at, marks_at, has_codes, has_fields, has_ranges, has_marks, faults_of, state_in, state_listed, state_marked}
+use Rattle.verify_state.specs.Reading.{field, words_at, is_layout_1, is_layout_2, key_in, job_in, issued_in, place_in, count_in, completions_in}
+use Rattle.verify_state.specs.Reading.{floor_at, marks_at, has_codes, has_fields, has_ranges, has_marks, faults_of, state_in, state_listed, state_marked}
 use Rattle.verify_state.proofs.RangeLemmas.{has_key, narrow}
 use Rattle.verify_state.proofs.FaultLemmas.{IsSound, IsListSound, IsMarkSound, is_whole}
 use Rattle.verify_state.proofs.FieldLemmas.{IsBytes, bytes_drop, bytes_take, piece64, piece32, piece8, words_by, words_are, pieces, length_words_at}
@@ -63,7 +65,8 @@ behind_floor bytes fits exact =
     ap (λ l. bytes_of w64 (floor_at bytes) ++ l) all
     ∙ piece64 96 bytes fits (omega (arith, exact))
 
-behind_number : (bytes : List ℕ) → IsBytes bytes → length bytes ≡ 136 → words (place_in bytes) ++ (bytes_of w64 (floor_at bytes) ++ words (marks_at bytes)) ≡ drop 64 bytes
+behind_number : (bytes : List ℕ) → IsBytes bytes → length bytes ≡ 136
+    → words (place_in bytes) ++ (bytes_of w64 (floor_at bytes) ++ words (marks_at bytes)) ≡ drop 64 bytes
 behind_number bytes fits exact =
     ap (λ l. words (place_in bytes) ++ l) (behind_floor bytes fits exact)
     ∙ pieces 4 64 bytes fits (omega (arith, exact))
@@ -88,10 +91,13 @@ job_pieces bytes fits long known =
     let bs = ap (λ l. bytes_of w32 (field w32 24 bytes) ++ l) blocks ∙ piece32 24 bytes fits (omega (arith, long)) in
     let zeros = ap (λ l. 0 ∷ l) bs ∙ ap (λ n. n ∷ drop 24 bytes) (sym (eqb-true (field w8 23 bytes) 0 codes_two.1)) ∙ piece8 23 bytes (omega (arith, long)) in
     let pattern = ap (λ l. field w8 22 bytes ∷ l) zeros ∙ piece8 22 bytes (omega (arith, long)) in
-    let verify = ap (λ l. verify_code (verify_of (field w8 21 bytes)) ∷ l) pattern ∙ ap (λ n. n ∷ drop 22 bytes) (verify_again (field w8 21 bytes) code.1) ∙ piece8 21 bytes (omega (arith, long)) in
-    ap (λ l. kind_code (kind_of (field w8 20 bytes)) ∷ l) verify ∙ ap (λ n. n ∷ drop 21 bytes) (kind_again (field w8 20 bytes) code.0) ∙ piece8 20 bytes (omega (arith, long))
+    let verify = ap (λ l. verify_code (verify_of (field w8 21 bytes)) ∷ l) pattern ∙ ap (λ n. n ∷ drop 22 bytes) (verify_again (field w8 21 bytes) code.1)
+    ∙ piece8 21 bytes (omega (arith, long)) in
+    ap (λ l. kind_code (kind_of (field w8 20 bytes)) ∷ l) verify ∙ ap (λ n. n ∷ drop 21 bytes) (kind_again (field w8 20 bytes) code.0)
+    ∙ piece8 20 bytes (omega (arith, long))
 
-spelled_out : (s : State) → spelling s ≡ codes "FCV2" ++ (key_bytes s.key ++ (job_bytes s.job ++ (bytes_of w64 s.issued ++ (words s.place ++ (bytes_of w64 (floor_in s) ++ words (marks_in s))))))
+spelled_out : (s : State) → spelling s ≡ codes "FCV2" ++
+    (key_bytes s.key ++ (job_bytes s.job ++ (bytes_of w64 s.issued ++ (words s.place ++ (bytes_of w64 (floor_in s) ++ words (marks_in s))))))
 unfolding spelling bytes_of
 spelled_out s = refl
 
@@ -138,7 +144,8 @@ bits_end job issued marks e = (and_parts _ _ (and_parts _ (is_possible_by job.de
 
 marks_same : (bytes : List ℕ) → IsBytes bytes → IsMarkSound bytes → marks_in (state_marked bytes) ≡ marks_at bytes
 marks_same bytes fits s =
-    marks_again (job_in bytes).window (issued_in bytes) (marks_at bytes) (length_words_at 4 104 bytes) (words_in_range 4 104 bytes fits) (bits_end (job_in bytes) (issued_in bytes) (marks_at bytes) (are_marks bytes s.marks).come)
+    marks_again (job_in bytes).window (issued_in bytes) (marks_at bytes) (length_words_at 4 104 bytes) (words_in_range 4 104 bytes fits)
+    (bits_end (job_in bytes) (issued_in bytes) (marks_at bytes) (are_marks bytes s.marks).come)
 
 spelled_marks : (bytes : List ℕ) → IsBytes bytes → IsSound bytes → is_layout_2 bytes ≡ true → IsMarkSound bytes → spelling (state_marked bytes) ≡ bytes
 spelled_marks bytes fits s two m =
@@ -147,8 +154,12 @@ spelled_marks bytes fits s two m =
     let job = ap (λ l. job_bytes (job_in bytes) ++ l) number ∙ job_pieces bytes fits s.long (codes_known bytes s.ranges) in
     let key = ap (λ l. key_bytes (key_in bytes) ++ l) job ∙ key_pieces bytes fits s.long in
     spelled_out (state_marked bytes)
-    ∙ ap (λ ms. codes "FCV2" ++ (key_bytes (key_in bytes) ++ (job_bytes (job_in bytes) ++ (bytes_of w64 (issued_in bytes) ++ (words (place_in bytes) ++ (bytes_of w64 (floor_of (job_in bytes).window (issued_in bytes)) ++ words ms)))))) (marks_same bytes fits m)
-    ∙ ap (λ n. codes "FCV2" ++ (key_bytes (key_in bytes) ++ (job_bytes (job_in bytes) ++ (bytes_of w64 (issued_in bytes) ++ (words (place_in bytes) ++ (bytes_of w64 n ++ words (marks_at bytes))))))) (sym floor)
+    ∙ ap (λ ms. codes "FCV2" ++ (key_bytes (key_in bytes)
+    ++ (job_bytes (job_in bytes) ++ (bytes_of w64 (issued_in bytes)
+    ++ (words (place_in bytes) ++ (bytes_of w64 (floor_of (job_in bytes).window (issued_in bytes)) ++ words ms)))))) (marks_same bytes fits m)
+    ∙ ap (λ n. codes "FCV2" ++ (key_bytes (key_in bytes)
+    ++ (job_bytes (job_in bytes) ++ (bytes_of w64 (issued_in bytes) ++ (words (place_in bytes) ++ (bytes_of w64 n ++ words (marks_at bytes)))))))
+    (sym floor)
     ∙ ap (λ l. codes "FCV2" ++ l) key
     ∙ magic_is bytes two
 
@@ -167,7 +178,9 @@ pub said_by_list : (bytes : List ℕ) → is_layout_1 bytes ≡ true → state_i
 said_by_list bytes one = ap (λ b. if b then state_listed bytes else state_marked bytes) one
 
 -- what both layouts say of a state keeps its ranges, where its marks are those of a job
-kept_by : (bytes marks : List ℕ) → IsBytes bytes → IsSound bytes → (s : State) → s ≡ state_by (key_in bytes) (job_in bytes) (issued_in bytes) (place_in bytes) marks → marks_in s ≡ marks → has_come_by (job_in bytes) (issued_in bytes) marks ≡ true → IsState s
+kept_by : (bytes marks : List ℕ) → IsBytes bytes → IsSound bytes → (s : State)
+    → s ≡ state_by (key_in bytes) (job_in bytes) (issued_in bytes) (place_in bytes) marks → marks_in s ≡ marks
+    → has_come_by (job_in bytes) (issued_in bytes) marks ≡ true → IsState s
 kept_by bytes marks fits sound s is same come =
     let said : State = state_by (key_in bytes) (job_in bytes) (issued_in bytes) (place_in bytes) marks in
     let again : marks_in said ≡ marks = ap marks_in (sym is) ∙ same in
@@ -189,7 +202,8 @@ keeps_marked bytes fits sound m =
     kept_by bytes (marks_at bytes) fits sound (state_marked bytes) refl (marks_same bytes fits m) (are_marks bytes m.marks).come
 
 -- the list of layout 1 counts what its marks count
-pub listed_come : (job : JobParts) (issued : ℕ) (xs : List ℕ) → job.window ≤ 256 → has_come job issued xs ≡ true → has_come_by job issued (marks_of (has (counted job.window issued xs)) (floor_of job.window issued)) ≡ true
+pub listed_come : (job : JobParts) (issued : ℕ) (xs : List ℕ) → job.window ≤ 256 → has_come job issued xs ≡ true
+    → has_come_by job issued (marks_of (has (counted job.window issued xs)) (floor_of job.window issued)) ≡ true
 unfolding has_come has_come_by
 listed_come job issued xs small e =
     let parts = and_parts (leb issued job.total) (is_possible job.depth job.window issued xs) e in
@@ -198,12 +212,14 @@ listed_come job issued xs small e =
 abbrev marks_listed : List ℕ → List ℕ
 marks_listed bytes = marks_of (has (counted (job_in bytes).window (issued_in bytes) (completions_in bytes))) (floor_of (job_in bytes).window (issued_in bytes))
 
-pub listed_as_marked : (bytes : List ℕ) → has_ranges bytes ≡ true → state_listed bytes ≡ state_by (key_in bytes) (job_in bytes) (issued_in bytes) (place_in bytes) (marks_listed bytes)
+pub listed_as_marked : (bytes : List ℕ) → has_ranges bytes ≡ true
+    → state_listed bytes ≡ state_by (key_in bytes) (job_in bytes) (issued_in bytes) (place_in bytes) (marks_listed bytes)
 listed_as_marked bytes ranges =
     ap (λ (c : List ℕ). let s : State = record { key = key_in bytes; job = job_in bytes; issued = issued_in bytes; place = place_in bytes; counted = c } in s)
     (sym (counted_as_listed (job_in bytes).window (issued_in bytes) (completions_in bytes) (narrow bytes ranges)))
 
-pub come_as_listed : (bytes : List ℕ) → has_ranges bytes ≡ true → has_come (job_in bytes) (issued_in bytes) (completions_in bytes) ≡ true → has_come_by (job_in bytes) (issued_in bytes) (marks_listed bytes) ≡ true
+pub come_as_listed : (bytes : List ℕ) → has_ranges bytes ≡ true → has_come (job_in bytes) (issued_in bytes) (completions_in bytes) ≡ true
+    → has_come_by (job_in bytes) (issued_in bytes) (marks_listed bytes) ≡ true
 come_as_listed bytes ranges come = listed_come (job_in bytes) (issued_in bytes) (completions_in bytes) (narrow bytes ranges) come
 
 keeps_listed : (bytes : List ℕ) → IsBytes bytes → IsSound bytes → IsListSound bytes → IsState (state_listed bytes)
@@ -216,7 +232,8 @@ keeps bytes fits e =
     let whole = is_whole bytes e in
     elim (cases_Bool (is_layout_1 bytes)) [
       | inl one ↦ subst IsState (sym (said_by_list bytes one)) (keeps_listed bytes fits whole.front (whole.list one))
-      | inr two ↦ subst IsState (sym (ap (λ b. if b then state_listed bytes else state_marked bytes) two)) (keeps_marked bytes fits whole.front (whole.marks two))
+      | inr two ↦ subst IsState (sym (ap (λ b. if b then state_listed bytes else state_marked bytes) two))
+          (keeps_marked bytes fits whole.front (whole.marks two))
     ]
 
 -- ---- what follows bytes without a fault

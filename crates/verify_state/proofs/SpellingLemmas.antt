@@ -1,5 +1,6 @@
 -- What is read of a spelling.
-use Rattle.std.proofs.Common.{◌≡◌, ℕ, ◌+◌, ◌*◌, ◌^◌, ◌<◌, ◌≤◌, zero, suc, true, List, [], ◌∷◌, ◌++◌, length, take, drop, get_or, sym, refl, ap, ◌∙◌, arith, false}
+use Rattle.std.proofs.Common.{◌≡◌, ℕ, ◌+◌, ◌*◌, ◌^◌, ◌<◌, ◌≤◌, zero, suc, true, List, [], ◌∷◌}
+use Rattle.std.proofs.Common.{◌++◌, length, take, drop, get_or, sym, refl, ap, ◌∙◌, arith, false}
 use Rattle.std.specs.List.{AllByRecursion}
 use Rattle.std.specs.Int.{w8, w64, from_be_bytes}
 use Rattle.fc_base.specs.Layouts.{bytes_of, number_in}
@@ -21,7 +22,8 @@ use Rattle.fc_base.specs.MarkLaws.{marks_are_words}
 use Rattle.verify_state.specs.Codes.{kind_code, verify_code, kind_of, verify_of}
 use Rattle.verify_state.specs.State.{State, IsState, state_by, floor_in, marks_in, has_come_by}
 use Rattle.verify_state.specs.Spelling.{key_bytes, job_bytes, words, spelling}
-use Rattle.verify_state.specs.Reading.{field, words_at, key_in, job_in, issued_in, place_in, floor_at, marks_at, is_layout_1, is_layout_2, state_in, state_listed, state_marked}
+use Rattle.verify_state.specs.Reading.{field, words_at, key_in, job_in, issued_in, place_in, floor_at, marks_at}
+use Rattle.verify_state.specs.Reading.{is_layout_1, is_layout_2, state_in, state_listed, state_marked}
 use Rattle.verify_state.proofs.LimitLemmas.{limits}
 
 -- ---- words
@@ -31,7 +33,8 @@ unfolding bytes_of
 length_words [] = refl
 length_words (x ∷ xs) = omega (arith, length_words xs)
 
-word_at : (xs rest : List ℕ) (k : ℕ) → AllByRecursion (λ x. x < 2 ^ 64) xs → k < length xs → from_be_bytes w64 (take 8 (drop (8 * k) (words xs ++ rest))) ≡ get_or xs k 0
+word_at : (xs rest : List ℕ) (k : ℕ) → AllByRecursion (λ x. x < 2 ^ 64) xs → k < length xs
+    → from_be_bytes w64 (take 8 (drop (8 * k) (words xs ++ rest))) ≡ get_or xs k 0
 unfolding bytes_of
 word_at [] rest k all lt = absurd (omega arith)
 word_at (x ∷ xs) rest zero all lt = from_be_bytes-to_be_bytes_8 x all.0
@@ -63,7 +66,8 @@ key_back s is =
     let front = and_parts (nat_le 1 s.key.run && nat_lt s.key.server MAX_SERVERS) (nat_lt s.key.job MAX_JOBS) is.key in
     let server = ltb-true s.key.server MAX_SERVERS (and_parts (nat_le 1 s.key.run) (nat_lt s.key.server MAX_SERVERS) front.0).1 in
     let job = ltb-true s.key.job MAX_JOBS front.1 in
-    key_of s.key _ _ _ (from_be_bytes-to_be_bytes_8 s.key.run is.run) (from_be_bytes-to_be_bytes_4 s.key.server (omega arith)) (from_be_bytes-to_be_bytes_4 s.key.job (omega arith))
+    key_of s.key _ _ _ (from_be_bytes-to_be_bytes_8 s.key.run is.run) (from_be_bytes-to_be_bytes_4 s.key.server (omega arith))
+    (from_be_bytes-to_be_bytes_4 s.key.job (omega arith))
 
 pub kind_back : (kind : Kind) → kind_of (kind_code kind) ≡ kind
 kind_back Sequential = refl
@@ -82,7 +86,8 @@ job_from kind verify pattern bs blocks total seed depth window =
     record { kind = kind; verify = verify; pattern = pattern; bs = bs; blocks = blocks; total = total; seed = seed; depth = depth; window = window }
 
 job_of : (job : JobParts) (kind : Kind) (verify : Verify) (pattern bs blocks total seed depth window : ℕ) →
-    kind ≡ job.kind → verify ≡ job.verify → pattern ≡ job.pattern → bs ≡ job.bs → blocks ≡ job.blocks → total ≡ job.total → seed ≡ job.seed → depth ≡ job.depth → window ≡ job.window →
+    kind ≡ job.kind → verify ≡ job.verify → pattern ≡ job.pattern → bs ≡ job.bs → blocks ≡ job.blocks → total ≡ job.total → seed ≡ job.seed →
+    depth ≡ job.depth → window ≡ job.window →
     job_from kind verify pattern bs blocks total seed depth window ≡ job
 job_of job kind verify pattern bs blocks total seed depth window a b c d e f g h i = rw (a, b, c, d, e, f, g, h, i) refl
 
@@ -108,7 +113,8 @@ issued_back s lt = from_be_bytes-to_be_bytes_8 s.issued lt
 -- no more writes were issued than the job has
 pub issued_few : (s : State) → IsState s → s.issued ≤ s.job.total
 unfolding has_come_by
-issued_few s is = leb-true s.issued s.job.total (and_parts (nat_le s.issued s.job.total) (is_possible_by s.job.depth s.job.window s.issued (marks_in s)) is.come).0
+issued_few s is =
+    leb-true s.issued s.job.total (and_parts (nat_le s.issued s.job.total) (is_possible_by s.job.depth s.job.window s.issued (marks_in s)) is.come).0
 
 pub issued_limit : (s : State) → IsState s → s.issued ≤ MAX_WRITES
 issued_limit s is = omega (arith, issued_few s is, (limits s.job is.limits).total)

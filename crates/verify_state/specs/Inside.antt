@@ -24,15 +24,21 @@ pub record IsKept (s : Inside) : Type 0 where
 
 -- The fields that a state was shown by.
 abbrev pub fields_of : State → Inside
-fields_of s = record { key = s.key; rec = s.job; issued = s.issued; place = s.place; marks = marks_in s }
+fields_of s =
+    record { key = s.key; rec = s.job; issued = s.issued; place = s.place; marks = marks_in s }
 
 -- No bit is set for a number that was not issued.
-pub ends : (job : JobParts) (issued : ℕ) (marks : List ℕ) → IsTrue (has_come_by job issued marks) → IsTrue (ends_by (issued - floor_of job.window issued) marks)
+pub ends : (job : JobParts) (issued : ℕ) (marks : List ℕ) → IsTrue (has_come_by job issued marks)
+    → IsTrue (ends_by (issued - floor_of job.window issued) marks)
 unfolding has_come_by
-ends job issued marks come = (and_parts _ _ (and_parts _ (is_possible_by job.depth job.window issued marks) come).1).0
+ends job issued marks come =
+    (and_parts _ _ (and_parts _ (is_possible_by job.depth job.window issued marks) come).1).0
 
 -- They are given back.
 pub fields_again : (s : Inside) → IsKept s → fields_of (state_of_fields s) ≡ s
 fields_again s kept =
-    let same = marks_again s.rec.window s.issued s.marks kept.four kept.words (ends s.rec s.issued s.marks kept.come) in
-    ap (λ (m : List ℕ). let t : Inside = record { key = s.key; rec = s.rec; issued = s.issued; place = s.place; marks = m } in t) same
+    let same = marks_again s.rec.window s.issued s.marks kept.four kept.words
+    (ends s.rec s.issued s.marks kept.come) in
+    ap (λ (m : List ℕ). let t : Inside =
+    record { key = s.key; rec = s.rec; issued = s.issued; place = s.place; marks = m } in t)
+    same

@@ -28,12 +28,14 @@ IsSpelled =
 -- Bytes of layout 1 that have no fault say the state of their list.
 abbrev pub SaysItsList : Type 0
 SaysItsList =
-    (bytes : List ℕ) → faults_of bytes ≡ [] → IsTrue (is_layout_1 bytes) → state_in bytes ≡ state_listed bytes
+    (bytes : List ℕ) → faults_of bytes ≡ [] → IsTrue (is_layout_1 bytes)
+    → state_in bytes ≡ state_listed bytes
 
 -- Whatever bytes have no fault say a state in its ranges.
 abbrev pub SaysAState : Type 0
 SaysAState =
-    (bytes : List ℕ) → AllByRecursion (λ byte. byte < 256) bytes → faults_of bytes ≡ [] → IsState (state_in bytes)
+    (bytes : List ℕ) → AllByRecursion (λ byte. byte < 256) bytes → faults_of bytes ≡ []
+    → IsState (state_in bytes)
 
 -- Bytes without a fault, of either layout, are no proper prefix of others.
 abbrev pub IsNoPrefix : Type 0
@@ -42,4 +44,5 @@ IsNoPrefix =
 
 -- Two states that are the same misfit a key and a job for the same reason, or both fit them.
 abbrev pub FitAlike : Type 0
-FitAlike = (a b : State) → IsSame a b → (key : Key) (job : JobParts) → misfit a key job ≡ misfit b key job
+FitAlike = (a b : State) → IsSame a b → (key : Key) (job : JobParts)
+    → misfit a key job ≡ misfit b key job

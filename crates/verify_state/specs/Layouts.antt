@@ -32,6 +32,7 @@ faults_behind bytes = if is_layout_1 bytes then list_faults bytes else mark_faul
 abbrev pub GivesMarks : Result (List ℕ) Fault → List ℕ → Type 0
 GivesMarks (Ok marks) bytes =
     (faults_behind bytes ≡ [])
-    × (state_in bytes ≡ state_by (key_in bytes) (job_in bytes) (issued_in bytes) (place_in bytes) marks)
+    × (state_in bytes ≡ state_by (key_in bytes) (job_in bytes) (issued_in bytes)
+    (place_in bytes) marks)
     × IsTrue (has_come_by (job_in bytes) (issued_in bytes) marks)
 GivesMarks (Err fault) bytes = slice_get (faults_behind bytes) 0 ≡ Some fault

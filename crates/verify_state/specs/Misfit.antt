@@ -14,8 +14,8 @@ use Rattle.verify_state.specs.Same.{is_of_kind, is_of_region}
 abbrev pub is_of_job : State → JobParts → Bool
 is_of_job s job = is_of_kind s.job job && is_of_region s.job job && nat_le s.issued job.total
 
--- Why a state doesn't fit: the first of key, job and place that differs. The place has to be that of
--- the job after as many writes.
+-- Why a state doesn't fit: the first of key, job and place that differs. The place has to be that
+-- of the job after as many writes.
 unfoldable pub misfit : State → Key → JobParts → Option Fault
 misfit s key job =
     if not (is_same_key s.key key) then Some OtherKey

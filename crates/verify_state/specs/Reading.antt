@@ -1,5 +1,6 @@
 -- What bytes say of a verify state, and what is wrong with them, in both layouts.
-use Rattle.std.specs.Prelude.{◌≡◌, ℕ, ◌+◌, ◌*◌, Bool, not, ◌&&◌, ◌||◌, ◌==◌, nat_lt, nat_le, List, [], ◌++◌, length, map, drop, Result, Ok, Err, Some, codes, nat_eq, slice_get, if◌then◌else◌}
+use Rattle.std.specs.Prelude.{◌≡◌, ℕ, ◌+◌, ◌*◌, Bool, not, ◌&&◌, ◌||◌, ◌==◌, nat_lt, nat_le, List, [], ◌++◌}
+use Rattle.std.specs.Prelude.{length, map, drop, Result, Ok, Err, Some, codes, nat_eq, slice_get, if◌then◌else◌}
 use Rattle.std.specs.List.{starts_with, range_with_len}
 use Rattle.std.specs.Int.{Width, w8, w32, w64}
 use Rattle.fc_base.specs.Layouts.{number_in}
@@ -35,7 +36,8 @@ is_layout_2 bytes = starts_with nat_eq bytes (codes "FCV2")
 
 -- Whose state it is.
 abbrev pub key_in : List ℕ → Key
-key_in bytes = record { run = field w64 4 bytes; server = field w32 12 bytes; job = field w32 16 bytes }
+key_in bytes =
+    record { run = field w64 4 bytes; server = field w32 12 bytes; job = field w32 16 bytes }
 
 -- The settings of its job.
 abbrev pub job_in : List ℕ → JobParts
@@ -61,7 +63,8 @@ place_in bytes = words_at 4 64 bytes
 
 -- The codes are known, and the byte behind the pattern is zero.
 abbrev pub has_codes : List ℕ → Bool
-has_codes bytes = nat_lt (field w8 20 bytes) 3 && nat_lt (field w8 21 bytes) 2 && field w8 23 bytes == 0
+has_codes bytes =
+    nat_lt (field w8 20 bytes) 3 && nat_lt (field w8 21 bytes) 2 && field w8 23 bytes == 0
 
 -- The codes are known, and the key and the number issued are in their ranges.
 abbrev pub has_fields : List ℕ → Bool
@@ -92,8 +95,8 @@ completions_in bytes = words_at (count_in bytes) 100 bytes
 abbrev pub length_in : List ℕ → ℕ
 length_in bytes = 100 + 8 * count_in bytes
 
--- What is wrong behind the place: more than two windows of completions, fewer or more bytes than the
--- list has, and at last that no job can have come to it.
+-- What is wrong behind the place: more than two windows of completions, fewer or more bytes than
+-- the list has, and at last that no job can have come to it.
 abbrev pub list_faults : List ℕ → List Fault
 list_faults bytes =
     when (not (nat_le (count_in bytes) (2 * field w32 52 bytes))) StateBadField
@@ -117,8 +120,8 @@ has_marks bytes =
     (floor_at bytes == floor_of (field w32 52 bytes) (issued_in bytes))
     && has_come_by (job_in bytes) (issued_in bytes) (marks_at bytes)
 
--- What is wrong behind the place: fewer or more bytes than layout 2 has, and at last that no job can
--- have come to the marks.
+-- What is wrong behind the place: fewer or more bytes than layout 2 has, and at last that no job
+-- can have come to the marks.
 abbrev pub mark_faults : List ℕ → List Fault
 mark_faults bytes =
     when (nat_lt (length bytes) 136) StateShort
@@ -128,7 +131,8 @@ mark_faults bytes =
 
 -- What is wrong with the bytes, in the order in which it is looked for.
 abbrev pub faults_of : List ℕ → List Fault
-faults_of bytes = front_faults bytes ++ (if is_layout_1 bytes then list_faults bytes else mark_faults bytes)
+faults_of bytes =
+    front_faults bytes ++ (if is_layout_1 bytes then list_faults bytes else mark_faults bytes)
 
 -- The state that the bytes of layout 1 say: it counts what the list and the number issued count.
 abbrev pub state_listed : List ℕ → State

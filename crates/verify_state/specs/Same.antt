@@ -13,11 +13,13 @@ is_of_kind a b =
 
 -- As many writes go to the same blocks.
 abbrev pub is_of_region : JobParts → JobParts → Bool
-is_of_region a b = (a.bs == b.bs) && (a.blocks == b.blocks) && (a.total == b.total) && (a.seed == b.seed)
+is_of_region a b =
+    (a.bs == b.bs) && (a.blocks == b.blocks) && (a.total == b.total) && (a.seed == b.seed)
 
 -- The settings of two jobs are equal.
 abbrev pub is_same_job : JobParts → JobParts → Bool
-is_same_job a b = is_of_kind a b && is_of_region a b && ((a.depth == b.depth) && (a.window == b.window))
+is_same_job a b =
+    is_of_kind a b && is_of_region a b && ((a.depth == b.depth) && (a.window == b.window))
 
 -- Key, settings, number issued, place and counted writes of two states are equal.
 unfoldable pub is_same : State → State → Bool

@@ -12,8 +12,8 @@ use Rattle.fc_base.specs.Counted.{has, counted, is_possible}
 use Rattle.fc_base.specs.Marks.{floor_of, marks_of, counted_by, is_possible_by}
 use Rattle.fc_base.specs.Faults.{when}
 
--- The key and the record of a job, the number of writes issued, the generator's place after them, and
--- the writes that had completed (ascending).
+-- The key and the record of a job, the number of writes issued, the generator's place after them,
+-- and the writes that had completed (ascending).
 pub record State : Type 0 where
   pub key : Key
   pub job : JobParts

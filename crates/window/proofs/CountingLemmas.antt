@@ -1,5 +1,6 @@
 -- The counting law.
-use Rattle.std.proofs.Common.{◌≡◌, ℕ, ◌+◌, ◌-◌, ◌*◌, ◌<◌, ◌≤◌, suc, Bool, true, false, not, eqb, ltb, List, [], ◌∷◌, ◌++◌, ◌&&◌, length, filter, drop, sym, refl, ap, ◌∙◌, subst, inl, inr, arith}
+use Rattle.std.proofs.Common.{◌≡◌, ℕ, ◌+◌, ◌-◌, ◌*◌, ◌<◌, ◌≤◌, suc, Bool, true, false, not, eqb, ltb, List, []}
+use Rattle.std.proofs.Common.{◌∷◌, ◌++◌, ◌&&◌, length, filter, drop, sym, refl, ap, ◌∙◌, subst, inl, inr, arith}
 use Rattle.std.specs.Cmp.{nat_eq_equiv}
 use Rattle.std.specs.Prelude.{nat_eq, min}
 use Rattle.std.specs.List.{list_all, AllByRecursion, IsDistinct}
@@ -37,7 +38,8 @@ record Completed (window k : ℕ) (h : List Event) : Type 0 where
   parts : completions h ≡ front ++ k ∷ back
   near : (j : ℕ) → has back j ≡ true → (k < j + window) × (j < issued h)
 
-completed_later : (depth window k m : ℕ) (h : List Event) → IsLegal depth window (done m ∷ h) → is_done h k ≡ true → Completed window k h → Completed window k (done m ∷ h)
+completed_later : (depth window k m : ℕ) (h : List Event) → IsLegal depth window (done m ∷ h) → is_done h k ≡ true → Completed window k h
+    → Completed window k (done m ∷ h)
 completed_later depth window k m h l before c =
     let was = open_is depth window h l.0 m l.1 in
     let near : k < m + window = elim (cases_lt k (m + window)) [
@@ -68,7 +70,8 @@ completed depth window k (done m ∷ h) l e = elim (or_cases (is_done h k) (eqb 
 ]
 
 -- so a completed write that isn't a whole window old is among the last two windows of completions
-is_recent : (window k : ℕ) (h : List Event) → IsDistinct nat_eq (completions h) → k < issued h → issued h ≤ k + window → Completed window k h → has (recent window h) k ≡ true
+is_recent : (window k : ℕ) (h : List Event) → IsDistinct nat_eq (completions h) → k < issued h → issued h ≤ k + window → Completed window k h
+    → has (recent window h) k ≡ true
 is_recent window k h d below near c =
     let rest = k ∷ c.back in
     let low = suc k - window in
@@ -84,7 +87,8 @@ is_recent window k h d below near c =
     ap (λ xs. has xs k) cut ∙ has_append_right (drop n c.front) rest k (has_head k c.back)
 
 pub counts_the_completed : CountsTheCompleted
-counts_the_completed depth window h l k = same_from_decides (is_counted window (issued h) (recent window h) k) (is_done h k) (counted_done, done_counted) (λ e. e, λ e. e)
+counts_the_completed depth window h l k =
+    same_from_decides (is_counted window (issued h) (recent window h) k) (is_done h k) (counted_done, done_counted) (λ e. e, λ e. e)
   where
     counted_done : is_counted window (issued h) (recent window h) k ≡ true → is_done h k ≡ true
     counted_done e = elim (or_cases (has (recent window h) k) (ltb (k + window) (issued h)) e) [
@@ -129,7 +133,16 @@ comes_to_possible depth window h l =
     let all_issued = list_all_from (λ k. ltb k (issued h)) list
     (λ k e. lt-ltb k (issued h) (done_issued depth window h l k (has_last_of (2 * window) (completions h) k e))) in
     let few = le-leb (length (filter (λ k. not (counted k)) numbers)) depth (omega (arith, ap length flying, few_in_flight depth window h l)) in
-    let whole = eq-eqb (length list) (min (2 * window) (length (filter counted numbers))) (omega (arith, ap length done_ones, both, ap length (in_flight_are_numbers depth window h l), length-in_flight-completions depth window h l, length_numbers_below (issued h), length-drop (length (completions h) - 2 * window) (completions h))) in
+    let whole = eq-eqb (length list) (min (2 * window) (length (filter counted numbers)))
+    (omega (
+      arith,
+      ap length done_ones,
+      both,
+      ap length (in_flight_are_numbers depth window h l),
+      length-in_flight-completions depth window h l,
+      length_numbers_below (issued h),
+      length-drop (length (completions h) - 2 * window) (completions h),
+    )) in
     and_from _ _ (and_from _ _ distinct all_issued) (and_from _ _ few whole)
 
 -- ---- marks
@@ -141,10 +154,14 @@ done_ones h = filter (is_done h) (numbers_below (issued h))
 has_done_ones : (depth window : ℕ) (h : List Event) → IsLegal depth window h → (k : ℕ) → has (done_ones h) k ≡ is_done h k
 has_done_ones depth window h l k =
     has_filter (is_done h) (numbers_below (issued h)) k
-    ∙ same_from_decides (has (numbers_below (issued h)) k && is_done h k) (is_done h k)
-    (λ e. (and_parts (has (numbers_below (issued h)) k) (is_done h k) e).1, λ d. and_from (has (numbers_below (issued h)) k) (is_done h k) (has_numbers_below (issued h) k ∙ lt-ltb k (issued h) (done_issued depth window h l k d)) d) (λ e. e, λ e. e)
+    ∙ same_from_decides (has (numbers_below (issued h)) k && is_done h k) (is_done h k) (
+      λ e. (and_parts (has (numbers_below (issued h)) k) (is_done h k) e).1,
+      λ d. and_from (has (numbers_below (issued h)) k) (is_done h k)
+          (has_numbers_below (issued h) k ∙ lt-ltb k (issued h) (done_issued depth window h l k d)) d,
+    ) (λ e. e, λ e. e)
 
-marks_of_done_ones : (depth window : ℕ) (h : List Event) → IsLegal depth window h → marks_of (has (done_ones h)) (floor_of window (issued h)) ≡ done_marks window h
+marks_of_done_ones : (depth window : ℕ) (h : List Event) → IsLegal depth window h
+    → marks_of (has (done_ones h)) (floor_of window (issued h)) ≡ done_marks window h
 marks_of_done_ones depth window h l =
     marks_agree (has (done_ones h)) (is_done h) (floor_of window (issued h)) (λ i small. has_done_ones depth window h l (floor_of window (issued h) + i))
 
@@ -158,4 +175,11 @@ comes_to_possible_marks depth window h narrow l =
     let both = length-filter_both (is_done h) (λ k. not (is_done h k)) (λ k. refl) (numbers_below (issued h)) in
     let ends = ap (ends_by (issued h - floor_of window (issued h))) (sym (marks_of_done_ones depth window h l)) ∙ ends_again window (issued h) (is_done h) in
     and_from _ _ ends
-    (le-leb _ depth (omega (arith, ap length (marks_count_the_completed depth window h narrow l), both, ap length (in_flight_are_numbers depth window h l), few_in_flight depth window h l, length_numbers_below (issued h))))
+    (le-leb _ depth (omega (
+      arith,
+      ap length (marks_count_the_completed depth window h narrow l),
+      both,
+      ap length (in_flight_are_numbers depth window h l),
+      few_in_flight depth window h l,
+      length_numbers_below (issued h),
+    )))

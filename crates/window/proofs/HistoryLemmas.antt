@@ -1,5 +1,6 @@
 -- Legal histories.
-use Rattle.std.proofs.Common.{◌≡◌, ℕ, ◌+◌, ◌<◌, ◌≤◌, suc, Bool, true, false, ◌&&◌, not, eqb, ltb, List, [], ◌∷◌, ◌++◌, length, filter, sym, refl, ap, ◌∙◌, inl, inr, arith}
+use Rattle.std.proofs.Common.{◌≡◌, ℕ, ◌+◌, ◌<◌, ◌≤◌, suc, Bool, true, false, ◌&&◌, not, eqb, ltb, List}
+use Rattle.std.proofs.Common.{[], ◌∷◌, ◌++◌, length, filter, sym, refl, ap, ◌∙◌, inl, inr, arith}
 use Rattle.std.proofs.lemmas.Bool.{false≢true, or_left, or_cases, and_parts, eqb-true, not-true, ltb-true, lt-ltb, cases_lt}
 use Rattle.std.proofs.lemmas.List.{length_push}
 use Rattle.std.proofs.lemmas.List.Elements.{filter-append}
@@ -21,7 +22,8 @@ issues_are_numbers depth window (issue k ∷ h) l =
 issues_are_numbers depth window (done k ∷ h) l = issues_are_numbers depth window h l.0
 issues_are_numbers depth window (fail k ∷ h) l = issues_are_numbers depth window h l.0
 
-pub in_flight_are_numbers : (depth window : ℕ) (h : List Event) → IsLegal depth window h → in_flight h ≡ filter (λ k. not (is_done h k)) (numbers_below (issued h))
+pub in_flight_are_numbers : (depth window : ℕ) (h : List Event) → IsLegal depth window h
+    → in_flight h ≡ filter (λ k. not (is_done h k)) (numbers_below (issued h))
 in_flight_are_numbers depth window h l = ap (filter (λ k. not (is_done h k))) (issues_are_numbers depth window h l)
 
 pub has_in_flight : (depth window : ℕ) (h : List Event) → IsLegal depth window h → (k : ℕ) → has (in_flight h) k ≡ (ltb k (issued h) && not (is_done h k))
@@ -92,12 +94,14 @@ open_writes-fail m h = filter_not_push (failures h) m (in_flight h)
 
 -- ---- how many writes are in flight
 
-pub length-in_flight-done : (depth window : ℕ) (m : ℕ) (h : List Event) → IsLegal depth window (done m ∷ h) → length (in_flight (done m ∷ h)) + 1 ≡ length (in_flight h)
+pub length-in_flight-done : (depth window : ℕ) (m : ℕ) (h : List Event) → IsLegal depth window (done m ∷ h)
+    → length (in_flight (done m ∷ h)) + 1 ≡ length (in_flight h)
 length-in_flight-done depth window m h l =
     let was = open_is depth window h l.0 m l.1 in
     let p = λ (k : ℕ). not (is_done h k) in
     let e = in_flight_are_numbers depth window h l.0 in
-    let less : in_flight (done m ∷ h) ≡ filter (λ j. p j && not (eqb j m)) (numbers_below (issued h)) = in_flight-done m h ∙ ap (without m) e ∙ filter_twice p (λ k. not (eqb k m)) (numbers_below (issued h)) in
+    let less : in_flight (done m ∷ h) ≡ filter (λ j. p j && not (eqb j m)) (numbers_below (issued h)) =
+    in_flight-done m h ∙ ap (without m) e ∙ filter_twice p (λ k. not (eqb k m)) (numbers_below (issued h)) in
     omega (arith, ap length less, ap length e, length_filter_without p (issued h) m was.0 (ap not was.1))
 
 pub few_in_flight : (depth window : ℕ) (h : List Event) → IsLegal depth window h → length (in_flight h) ≤ depth
@@ -148,4 +152,5 @@ and_between false flying false e below = refl
 -- what is issued and not in flight has completed
 pub completed_is_done : (depth window : ℕ) (h : List Event) → IsLegal depth window h → (k : ℕ) → has_completed (issued h) (in_flight h) k ≡ is_done h k
 completed_is_done depth window h l k =
-    and_between (ltb k (issued h)) (has (in_flight h) k) (is_done h k) (has_in_flight depth window h l k) (λ e. lt-ltb k (issued h) (done_issued depth window h l k e))
+    and_between (ltb k (issued h)) (has (in_flight h) k) (is_done h k) (has_in_flight depth window h l k)
+    (λ e. lt-ltb k (issued h) (done_issued depth window h l k e))

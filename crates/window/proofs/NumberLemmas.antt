@@ -1,5 +1,6 @@
 -- Lists of numbers: what is in them, filters of the numbers below a bound, and the last of a list.
-use Rattle.std.proofs.Common.{◌≡◌, ℕ, ◌+◌, ◌-◌, ◌<◌, ◌≤◌, zero, suc, Bool, true, false, ◌&&◌, ◌||◌, not, eqb, List, [], ◌∷◌, ◌++◌, length, filter, drop, sym, refl, ap, ◌∙◌, inl, inr, arith}
+use Rattle.std.proofs.Common.{◌≡◌, ℕ, ◌+◌, ◌-◌, ◌<◌, ◌≤◌, zero, suc, Bool, true, false, ◌&&◌, ◌||◌, not, eqb}
+use Rattle.std.proofs.Common.{List, [], ◌∷◌, ◌++◌, length, filter, drop, sym, refl, ap, ◌∙◌, inl, inr, arith}
 use Rattle.std.specs.List.{list_any, IsDistinct}
 use Rattle.std.specs.Cmp.{nat_eq_equiv}
 use Rattle.std.specs.Prelude.{nat_eq}
@@ -35,7 +36,8 @@ has_is_member (x ∷ xs) k = rw (eqb_comm k x, has_is_member xs k) refl
 
 -- ---- filters
 
-filter_twice_head : (p q : ℕ → Bool) (x : ℕ) (xs : List ℕ) (b : Bool) → p x ≡ b → filter q (filter p xs) ≡ filter (λ y. p y && q y) xs → filter q (filter p (x ∷ xs)) ≡ filter (λ y. p y && q y) (x ∷ xs)
+filter_twice_head : (p q : ℕ → Bool) (x : ℕ) (xs : List ℕ) (b : Bool) → p x ≡ b → filter q (filter p xs) ≡ filter (λ y. p y && q y) xs
+    → filter q (filter p (x ∷ xs)) ≡ filter (λ y. p y && q y) (x ∷ xs)
 filter_twice_head p q x xs true e ih = rw (e, ih) refl
 filter_twice_head p q x xs false e ih = rw (e, ih) refl
 
@@ -57,7 +59,8 @@ and_comm false false = refl
 -- what is in neither list, where one list has one number more
 pub filter_not_push : (taken : List ℕ) (m : ℕ) (xs : List ℕ) → filter (λ k. not (has (taken ++ m ∷ []) k)) xs ≡ without m (filter (λ k. not (has taken k)) xs)
 filter_not_push taken m xs =
-    filter_agree (λ k. not (has (taken ++ m ∷ []) k)) (λ k. not (has taken k) && not (eqb k m)) (λ k. ap not (has_push taken m k) ∙ not_either (has taken k) (eqb m k) (eqb k m) (eqb_comm m k)) xs
+    filter_agree (λ k. not (has (taken ++ m ∷ []) k)) (λ k. not (has taken k) && not (eqb k m))
+    (λ k. ap not (has_push taken m k) ∙ not_either (has taken k) (eqb m k) (eqb k m) (eqb_comm m k)) xs
     ∙ sym (filter_twice (λ k. not (has taken k)) (λ k. not (eqb k m)) xs)
 
 pub filter-without : (p : ℕ → Bool) (m : ℕ) (xs : List ℕ) → filter p (without m xs) ≡ without m (filter p xs)
@@ -74,7 +77,8 @@ and_not true b e = ap not e
 and_not false b e = refl
 
 -- one number less passes
-pub length_filter_without : (p : ℕ → Bool) (n k : ℕ) → k < n → p k ≡ true → length (filter (λ j. p j && not (eqb j k)) (numbers_below n)) + 1 ≡ length (filter p (numbers_below n))
+pub length_filter_without : (p : ℕ → Bool) (n k : ℕ) → k < n → p k ≡ true
+    → length (filter (λ j. p j && not (eqb j k)) (numbers_below n)) + 1 ≡ length (filter p (numbers_below n))
 length_filter_without p zero k lt e = absurd (omega arith)
 length_filter_without p (suc n) k lt e =
     let q = λ (j : ℕ). p j && not (eqb j k) in
@@ -88,7 +92,13 @@ length_filter_without p (suc n) k lt e =
           let below = length_filter_without p n k (omega arith) e in
           let same : q n ≡ p n = and_not (p n) (eqb n k) (ne_eqb n k other) in
           elim (cases_Bool (p n)) [
-            | inl t ↦ omega (arith, ap length (filter_next q n (same ∙ t)), ap length (filter_next p n t), length_push (filter p (numbers_below n)) n, length_push (filter q (numbers_below n)) n)
+            | inl t ↦ omega (
+              arith,
+              ap length (filter_next q n (same ∙ t)),
+              ap length (filter_next p n t),
+              length_push (filter p (numbers_below n)) n,
+              length_push (filter q (numbers_below n)) n,
+            )
             | inr f ↦ omega (arith, ap length (filter_not_next q n (same ∙ f)), ap length (filter_not_next p n f))
           ]
     ]
@@ -137,5 +147,6 @@ length-le_from_range low n xs d within =
       arith,
       length_numbers_from low n,
       length-le_from_is_member nat_eq_equiv xs (numbers_from low n) d
-          (λ q m. has_is_member (numbers_from low n) q ∙ has_numbers_from low n q ((within q (sym (has_is_member xs q) ∙ m)).0) ((within q (sym (has_is_member xs q) ∙ m)).1)),
+          (λ q m. has_is_member (numbers_from low n) q ∙ has_numbers_from low n q ((within q (sym (has_is_member xs q) ∙ m)).0)
+          ((within q (sym (has_is_member xs q) ∙ m)).1)),
     )

@@ -1,6 +1,7 @@
 -- 64 marks on the slots of a ring.
-use Rattle.std.proofs.Common.{◌≡◌, ℕ, ◌+◌, ◌-◌, ◌≤◌, ◌&&◌, ◌||◌, ltb, ◌∙◌, ◌*◌, ◌/◌, ◌%◌, ◌^◌, ◌<◌, Bool, true, false, eqb, List, length, get_or, bit_and, bit_or, refl, sym, ap, inl, inr, arith}
-use Rattle.std.proofs.Math.Nat.{mod-eq_of_lt, mod-eq-sub-mod}
+use Rattle.std.proofs.Common.{◌≡◌, ℕ, ◌+◌, ◌-◌, ◌≤◌, ◌&&◌, ◌||◌, ltb, ◌∙◌, ◌*◌, ◌/◌, ◌%◌, ◌^◌, ◌<◌, Bool, true}
+use Rattle.std.proofs.Common.{false, eqb, List, length, get_or, bit_and, bit_or, refl, sym, ap, inl, inr, arith}
+use Rattle.std.proofs.Math.Nat.{mod-eq_of_lt, mod-eq-sub-mod, mul-le-mul_left}
 use Rattle.std.proofs.lemmas.Bool.{cases_lt, and_right, lt-ltb, le-ltb}
 use Rattle.std.proofs.lemmas.Nat.Bits.{bit_at_above}
 use Rattle.fc_base.specs.declared.limits.TheConstants.{MAX_WINDOW}
@@ -8,6 +9,13 @@ use Rattle.fc_base.specs.Marks.{is_marked}
 use Rattle.fc_base.specs.MarkLaws.{marked_at}
 use Rattle.window.specs.InFlight.{is_set}
 use Rattle.window.proofs.BitLemmas.{bit_shr, bit_shl_low, bit_shl_high, set_or, set_and, clear_is}
+
+-- two numbers less than a window apart have two slots
+pub apart : (window low high : ℕ) → 0 < window → low < high → high < low + window → low % window ≡ high % window → ⊥
+apart window low high some less near same = elim (cases_lt (low / window) (high / window)) [
+  | inl more ↦ let h = mul-le-mul_left window more in omega arith
+  | inr no_more ↦ let h = mul-le-mul_left window no_more in omega arith
+]
 
 -- ---- 64 slots from one on
 
@@ -26,7 +34,9 @@ from-low words first i small =
     ∙ sym (marked_at words (first / 64) (first % 64 + i) (first + i) small (omega arith))
 
 -- and those of the next one
-pub from-both : (words : List ℕ) (first i : ℕ) → i < 64 → get_or words (first / 64) 0 < 2 ^ 64 → is_set (bit_or (get_or words (first / 64) 0 / 2 ^ (first % 64)) (get_or words (first / 64 + 1) 0 * 2 ^ (64 - first % 64) % 2 ^ 64)) i ≡ is_marked words (first + i)
+pub from-both : (words : List ℕ) (first i : ℕ) → i < 64 → get_or words (first / 64) 0 < 2 ^ 64
+    → is_set (bit_or (get_or words (first / 64) 0 / 2 ^ (first % 64)) (get_or words (first / 64 + 1) 0 * 2 ^ (64 - first % 64) % 2 ^ 64)) i
+    ≡ is_marked words (first + i)
 from-both words first i below small =
     let here = get_or words (first / 64) 0 in
     let next = get_or words (first / 64 + 1) 0 in
@@ -47,10 +57,13 @@ from-both words first i below small =
 -- ---- the same in a ring
 
 -- the last slots of the ring, and then its first ones
-pub around-both : (words : List ℕ) (ahead mask first length i : ℕ) → first < length → length - first < 64 → i < 64 → i < length → (first + i < MAX_WINDOW → is_set ahead i ≡ is_marked words (first + i)) → length ≤ MAX_WINDOW → is_set mask i ≡ ltb i (length - first) → is_set (bit_or (bit_and ahead mask) (get_or words 0 0 * 2 ^ (length - first) % 2 ^ 64)) i ≡ is_marked words ((first + i) % length)
+pub around-both : (words : List ℕ) (ahead mask first length i : ℕ) → first < length → length - first < 64 → i < 64 → i < length
+    → (first + i < MAX_WINDOW → is_set ahead i ≡ is_marked words (first + i)) → length ≤ MAX_WINDOW → is_set mask i ≡ ltb i (length - first)
+    → is_set (bit_or (bit_and ahead mask) (get_or words 0 0 * 2 ^ (length - first) % 2 ^ 64)) i ≡ is_marked words ((first + i) % length)
 around-both words ahead mask first length i within short below inside same most masked =
     let start = get_or words 0 0 * 2 ^ (length - first) % 2 ^ 64 in
-    let parts : is_set (bit_or (bit_and ahead mask) start) i ≡ ((is_set ahead i && is_set mask i) || is_set start i) = set_or (bit_and ahead mask) start i ∙ ap (λ b. b || is_set start i) (set_and ahead mask i) in
+    let parts : is_set (bit_or (bit_and ahead mask) start) i ≡ ((is_set ahead i && is_set mask i) || is_set start i) =
+    set_or (bit_and ahead mask) start i ∙ ap (λ b. b || is_set start i) (set_and ahead mask i) in
     elim (cases_lt i (length - first)) [
       | inl near ↦
           let clear : is_set start i ≡ false = clear_is start i (bit_shl_low (get_or words 0 0) (length - first) i near below) in

@@ -11,7 +11,8 @@ use Rattle.window.specs.Legal.{IsLegal}
 abbrev pub CountsTheCompleted : Type 0
 CountsTheCompleted =
     (depth window : ℕ) (h : List Event) →
-    IsLegal depth window h → (k : ℕ) → is_counted window (issued h) (recent window h) k ≡ is_done h k
+    IsLegal depth window h → (k : ℕ)
+    → is_counted window (issued h) (recent window h) k ≡ is_done h k
 
 -- Each legal history comes to a list of completions and a number issued that are possible.
 abbrev pub ComesToPossible : Type 0
@@ -25,7 +26,8 @@ abbrev pub MarksCountTheCompleted : Type 0
 MarksCountTheCompleted =
     (depth window : ℕ) (h : List Event) →
     window ≤ MAX_WINDOW → IsLegal depth window h
-    → counted_by window (issued h) (done_marks window h) ≡ filter (is_done h) (numbers_below (issued h))
+    → counted_by window (issued h) (done_marks window h)
+    ≡ filter (is_done h) (numbers_below (issued h))
 
 -- Each legal history comes to marks and a number issued that are possible.
 abbrev pub ComesToPossibleMarks : Type 0

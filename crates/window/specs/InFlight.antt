@@ -30,5 +30,6 @@ flights_of window issued marks open_marks = record {
   window = window;
   issued = issued;
   in_flight = marked_numbers marks window issued;
-  open_writes = filter (λ k. is_marked open_marks (k % window)) (marked_numbers marks window issued);
+  open_writes =
+      filter (λ k. is_marked open_marks (k % window)) (marked_numbers marks window issued);
 }

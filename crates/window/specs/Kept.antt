@@ -36,7 +36,8 @@ pub record StandsFor (depth window : ℕ) (kept : Kept) (h : List Event) : Type 
 
 -- P holds of the limits and of each history that the window stands for.
 abbrev pub EachHistory : Kept → (ℕ → ℕ → List Event → Type 0) → Type 0
-EachHistory kept P = (depth window : ℕ) (h : List Event) → StandsFor depth window kept h → P depth window h
+EachHistory kept P =
+    (depth window : ℕ) (h : List Event) → StandsFor depth window kept h → P depth window h
 
 -- For each history that the old window stands for, the new one stands for it with the event added.
 abbrev pub Adds : Kept → Kept → Event → Type 0
@@ -57,7 +58,8 @@ room_by is_full is_held = if is_full then Depth else (if is_held then Held else 
 -- The room for the next write, as a window sees it.
 abbrev pub room_of : Kept → Room
 room_of kept =
-    room_by (nat_le kept.depth (length kept.in_flight)) (is_held kept.window kept.issued kept.in_flight)
+    room_by (nat_le kept.depth (length kept.in_flight))
+    (is_held kept.window kept.issued kept.in_flight)
 
 -- What the next issue leaves.
 abbrev pub after_issue : Kept → Kept

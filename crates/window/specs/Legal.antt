@@ -9,8 +9,8 @@ use Rattle.window.specs.declared.room.Room.TheVariants.{Open, Depth, Held}
 abbrev pub IsClear : ℕ → List Event → Type 0
 IsClear window h = (j : ℕ) → j + window ≤ issued h → IsTrue (is_done h j)
 
--- Writes are issued as 0, 1, 2 and so on, each with fewer than depth in flight and the window clear.
--- Only an open write completes or fails.
+-- Writes are issued as 0, 1, 2 and so on, each with fewer than depth in flight and the window
+-- clear. Only an open write completes or fails.
 abbrev pub IsLegal : ℕ → ℕ → List Event → Type 0
 IsLegal depth window [] = Unit {0}
 IsLegal depth window (issue k ∷ h) =

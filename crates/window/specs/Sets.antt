@@ -9,12 +9,14 @@ use Rattle.window.specs.Kept.{kept_of, room_of}
 abbrev pub InFlightIsNotDone : Type 0
 InFlightIsNotDone =
     (depth window : ℕ) (h : List Event) →
-    IsLegal depth window h → (k : ℕ) → has (in_flight h) k ≡ (nat_lt k (issued h) && not (is_done h k))
+    IsLegal depth window h → (k : ℕ)
+    → has (in_flight h) k ≡ (nat_lt k (issued h) && not (is_done h k))
 
 -- It is open where it hasn't failed either.
 abbrev pub OpenIsNotFailed : Type 0
 OpenIsNotFailed =
-    (h : List Event) (k : ℕ) → has (open_writes h) k ≡ (has (in_flight h) k && not (has (failures h) k))
+    (h : List Event) (k : ℕ) → has (open_writes h) k
+    ≡ (has (in_flight h) k && not (has (failures h) k))
 
 -- Each write that has completed was issued.
 abbrev pub DoneWasIssued : Type 0

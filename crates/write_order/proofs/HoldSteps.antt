@@ -1,5 +1,6 @@
 -- Bytes of a block, compared sector by sector.
-use Rattle.std.proofs.Common.{◌≡◌, ℕ, zero, suc, ◌+◌, ◌*◌, ◌<◌, Bool, true, false, List, [], ◌++◌, length, take, drop, refl, sym, ap, subst, ◌∙◌, arith, add-zero, replicate}
+use Rattle.std.proofs.Common.{◌≡◌, ℕ, zero, suc, ◌+◌, ◌*◌, ◌<◌, Bool, true, false, List, [], ◌++◌}
+use Rattle.std.proofs.Common.{length, take, drop, refl, sym, ap, subst, ◌∙◌, arith, add-zero, replicate}
 use Rattle.std.specs.List.{range_with_len, flat_map}
 use Rattle.std.specs.Str.{bytes_eq}
 use Rattle.std.proofs.Math.Seq.{take-append_seam, drop-append-add, take-add}
@@ -24,7 +25,8 @@ sector_at f (suc n) (suc i) a len lt =
     (sector_at f n i (a + 1) len (omega arith) ∙ ap f next)
 
 -- Bytes that differ in a sector differ.
-pub differs : (f : ℕ → List ℕ) (n i : ℕ) (bytes sector : List ℕ) (has : Bool) → ((k : ℕ) → length (f k) ≡ 512) → i < n → sector ≡ f i → has ≡ bytes_eq (take 512 (drop (i * 512) bytes)) sector → has ≡ false → false ≡ bytes_eq bytes (flat_map f (range_with_len 0 n))
+pub differs : (f : ℕ → List ℕ) (n i : ℕ) (bytes sector : List ℕ) (has : Bool) → ((k : ℕ) → length (f k) ≡ 512) → i < n → sector ≡ f i
+    → has ≡ bytes_eq (take 512 (drop (i * 512) bytes)) sector → has ≡ false → false ≡ bytes_eq bytes (flat_map f (range_with_len 0 n))
 differs f n i bytes sector has len lt is said none =
     sym (false_from_ne_true _ (λ e.
     let same : bytes ≡ flat_map f (range_with_len 0 n) = (bytes_eq-Decides bytes (flat_map f (range_with_len 0 n))).0 e in
@@ -35,7 +37,8 @@ differs f n i bytes sector has len lt is said none =
     let both : true ≡ false = sym yes ∙ sym said ∙ none in absurd cc))
 
 -- One more sector is alike.
-pub alike_more : (f : ℕ → List ℕ) (i : ℕ) (bytes sector : List ℕ) (has : Bool) → take (i * 512) bytes ≡ flat_map f (range_with_len 0 i) → sector ≡ f i → has ≡ bytes_eq (take 512 (drop (i * 512) bytes)) sector → has ≡ true → take ((i + 1) * 512) bytes ≡ flat_map f (range_with_len 0 (i + 1))
+pub alike_more : (f : ℕ → List ℕ) (i : ℕ) (bytes sector : List ℕ) (has : Bool) → take (i * 512) bytes ≡ flat_map f (range_with_len 0 i) → sector ≡ f i
+    → has ≡ bytes_eq (take 512 (drop (i * 512) bytes)) sector → has ≡ true → take ((i + 1) * 512) bytes ≡ flat_map f (range_with_len 0 (i + 1))
 alike_more f i bytes sector has before is said alike =
     let here : take 512 (drop (i * 512) bytes) ≡ sector = (bytes_eq-Decides (take 512 (drop (i * 512) bytes)) sector).0 (sym said ∙ alike) in
     let at : (i + 1) * 512 ≡ i * 512 + 512 = omega arith in
@@ -46,7 +49,8 @@ alike_more f i bytes sector has before is said alike =
     ∙ ap (flat_map f) (sym (range_with_len-more i))
 
 -- Bytes that are alike in all sectors are alike.
-pub alike_in_all : (f : ℕ → List ℕ) (n i : ℕ) (bytes : List ℕ) → i ≡ n → length bytes ≡ n * 512 → take (i * 512) bytes ≡ flat_map f (range_with_len 0 i) → true ≡ bytes_eq bytes (flat_map f (range_with_len 0 n))
+pub alike_in_all : (f : ℕ → List ℕ) (n i : ℕ) (bytes : List ℕ) → i ≡ n → length bytes ≡ n * 512 → take (i * 512) bytes ≡ flat_map f (range_with_len 0 i)
+    → true ≡ bytes_eq bytes (flat_map f (range_with_len 0 n))
 alike_in_all f n i bytes all len alike =
     let same : bytes ≡ flat_map f (range_with_len 0 n) =
     sym (take_all (i * 512) bytes (omega arith)) ∙ alike ∙ ap (λ k. flat_map f (range_with_len 0 k)) all in
@@ -62,4 +66,5 @@ sectors_of_one byte n len whole = go n len 0 whole
         rw none refl
     go (suc n) len a whole =
         let more : len ≡ 512 + n * 512 = omega arith in
-        rw (more, flat_map-cons (λ (k : ℕ). replicate 512 byte) a (range_with_len (a + 1) n), go n (n * 512) (a + 1) refl) (replicate-append-replicate 512 (n * 512) byte)
+        rw (more, flat_map-cons (λ (k : ℕ). replicate 512 byte) a (range_with_len (a + 1) n), go n (n * 512) (a + 1) refl)
+        (replicate-append-replicate 512 (n * 512) byte)

@@ -1,5 +1,6 @@
 -- How long the bytes of a write are, and what they tell.
-use Rattle.std.proofs.Common.{◌≡◌, ℕ, zero, suc, ◌+◌, ◌*◌, ◌/◌, ◌%◌, ◌^◌, ◌<◌, ◌≤◌, ◌&&◌, IsTrue, nat_le, eqb, List, ◌++◌, length, take, refl, sym, ap, ◌∙◌, arith, length-append}
+use Rattle.std.proofs.Common.{◌≡◌, ℕ, zero, suc, ◌+◌, ◌*◌, ◌/◌, ◌%◌, ◌^◌, ◌<◌, ◌≤◌, ◌&&◌, IsTrue, nat_le}
+use Rattle.std.proofs.Common.{eqb, List, ◌++◌, length, take, refl, sym, ap, ◌∙◌, arith, length-append}
 use Rattle.std.specs.List.{range_with_len, flat_map}
 use Rattle.std.specs.Int.{w32, w64, to_be_bytes, from_be_bytes}
 use Rattle.std.proofs.Math.Seq.{take-append_seam}
@@ -50,7 +51,8 @@ length-stamped_sector key k block sector = omega (arith, length-counting_bytes k
 pub length-sectors : (f : ℕ → List ℕ) (n a : ℕ) → ((k : ℕ) → length (f k) ≡ 512) → length (flat_map f (range_with_len a n)) ≡ n * 512
 length-sectors f zero a len = refl
 length-sectors f (suc n) a len =
-    rw (flat_map-cons f a (range_with_len (a + 1) n)) (omega (arith, length-append (f a) (flat_map f (range_with_len (a + 1) n)), len a, length-sectors f n (a + 1) len))
+    rw (flat_map-cons f a (range_with_len (a + 1) n)) (omega
+    (arith, length-append (f a) (flat_map f (range_with_len (a + 1) n)), len a, length-sectors f n (a + 1) len))
 
 pub length-written_bytes : (key : Key) (job : JobParts) (k block : ℕ) → job.bs % 512 ≡ 0 → length (written_bytes key job k block) ≡ job.bs
 length-written_bytes key job k block whole = go job.verify refl
@@ -82,7 +84,8 @@ abbrev fields_of : ℕ → ℕ → ℕ → ℕ → ℕ → ℕ → StampFields
 fields_of run server job write block sector =
     record { key = record { run = run; server = server; job = job }; write = write; block = block; sector = sector }
 
-same_fields : (a b : StampFields) → a.key.run ≡ b.key.run → a.key.server ≡ b.key.server → a.key.job ≡ b.key.job → a.write ≡ b.write → a.block ≡ b.block → a.sector ≡ b.sector → a ≡ b
+same_fields : (a b : StampFields) → a.key.run ≡ b.key.run → a.key.server ≡ b.key.server → a.key.job ≡ b.key.job → a.write ≡ b.write → a.block ≡ b.block
+    → a.sector ≡ b.sector → a ≡ b
 same_fields a b run server job write block sector =
     let same : fields_of a.key.run a.key.server a.key.job a.write a.block a.sector ≡ fields_of b.key.run b.key.server b.key.job b.write b.block b.sector =
     rw (run, server, job, write, block, sector) refl in
@@ -102,6 +105,7 @@ same_stamps a b p q e =
     (same_long _ _ p.write q.write write.0) (same_long _ _ p.block q.block block.0) (same_short _ _ p.sector q.sector sector.0)
 
 -- The first sector of a block that a job stamped.
-pub first_sector_is : (key : Key) (job : JobParts) (k block : ℕ) → 512 ≤ job.bs → job.verify ≡ Stamp → take 512 (written_bytes key job k block) ≡ sector_with (first_fields key k block)
+pub first_sector_is : (key : Key) (job : JobParts) (k block : ℕ) → 512 ≤ job.bs → job.verify ≡ Stamp
+    → take 512 (written_bytes key job k block) ≡ sector_with (first_fields key k block)
 first_sector_is key job k block some is =
     rw is (sector_at (stamped_sector key k block) (job.bs / 512) 0 0 (length-stamped_sector key k block) (omega arith))

@@ -34,7 +34,8 @@ without_map_is RandomMap pass e = cc
 without_map_is RandomFree pass e = refl
 
 -- The next word of an order with a map.
-pub next_word_is : (job : JobParts) (k first : ℕ) (words : Words) → job.kind ≡ RandomMap → words ≡ words_after job.seed (words_used job.kind k) → first ≡ get_or words.next 0 0 → first ≡ word job.seed k
+pub next_word_is : (job : JobParts) (k first : ℕ) (words : Words) → job.kind ≡ RandomMap → words ≡ words_after job.seed (words_used job.kind k)
+    → first ≡ get_or words.next 0 0 → first ≡ word job.seed k
 next_word_is job k first words kind at read =
     read ∙ ap (λ (x : Words). get_or x.next 0 0) at ∙ ap (λ (v : Kind). word job.seed (words_used v k)) kind
 
@@ -51,7 +52,8 @@ picked_is_block job k first r words chooser pass held before at read picks =
     (is.0, picks ws k here (next_word_is job k first words is.0 at read) ∙ ap (λ b. block_with_map ws b k) blocks)
 
 -- Where a write is left, the next block is its block.
-pub next_block_is : (job : JobParts) (k r : ℕ) → k < job.total → r ≡ block_of job k → (let at : Progress = record { job = job; issued = k } in Some r ≡ next_block at)
+pub next_block_is : (job : JobParts) (k r : ℕ) → k < job.total → r ≡ block_of job k
+    → (let at : Progress = record { job = job; issued = k } in Some r ≡ next_block at)
 next_block_is job k r more is = let test = lt-ltb k job.total more in rw (test, is) refl
 
 -- An order with its words and its chooser one write on is under way again.
@@ -64,7 +66,8 @@ goes_on o next words chooser on more after before =
     subst Holds (sym on) (record { issued = omega arith; words = after; chooser = before })
 
 -- The words of a random order go on by one.
-pub random_words_go_on : (job : JobParts) (k : ℕ) (words next : Words) → ((n : ℕ) → words_used job.kind n ≡ n) → words ≡ words_after job.seed (words_used job.kind k) →
+pub random_words_go_on : (job : JobParts) (k : ℕ) (words next : Words) → ((n : ℕ) → words_used job.kind n ≡ n) →
+    words ≡ words_after job.seed (words_used job.kind k) →
     ((seed n : ℕ) → words ≡ words_after seed n → next ≡ words_after seed (n + 1)) → next ≡ words_after job.seed (words_used job.kind (k + 1))
 random_words_go_on job k words next used at step =
     rw used (step job.seed k (at ∙ ap (words_after job.seed) (used k)))

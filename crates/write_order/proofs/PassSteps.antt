@@ -1,5 +1,6 @@
 -- How the list of a pass goes on from write to write.
-use Rattle.std.proofs.Common.{◌≡◌, ℕ, suc, ◌+◌, ◌-◌, ◌%◌, ◌<◌, ◌≤◌, List, Vec, ◌∷◌, length, get_or, take, drop, set, sym, ap, ◌∙◌, arith, length-set, length-take}
+use Rattle.std.proofs.Common.{◌≡◌, ℕ, suc, ◌+◌, ◌-◌, ◌%◌, ◌<◌, ◌≤◌, List, Vec, ◌∷◌, length, get_or}
+use Rattle.std.proofs.Common.{take, drop, set, sym, ap, ◌∙◌, arith, length-set, length-take}
 use Rattle.std.specs.List.{range_with_len, swap_remove}
 use Rattle.std.specs.Vec.{with_items}
 use Rattle.std.proofs.Math.Seq.{take-set-lt}
@@ -16,7 +17,8 @@ pub length-taken_out : (list : List ℕ) (index last v : ℕ) → length (taken_
 length-taken_out list index last v = omega (arith, length-set {A = ℕ})
 
 -- That is what the vector holds when a slice of it was written.
-pub items-taken_out : {Z : Type 0} (list : Vec ℕ Z) (old new : List ℕ) (index last : ℕ) → old ≡ list.items → length old ≡ list.len → new ≡ taken_out old index last (get_or old last 0) →
+pub items-taken_out : {Z : Type 0} (list : Vec ℕ Z) (old new : List ℕ) (index last : ℕ) → old ≡ list.items → length old ≡ list.len →
+    new ≡ taken_out old index last (get_or old last 0) →
     (with_items list new).items ≡ taken_out list.items index last (get_or list.items last 0)
 items-taken_out list old new index last is len written =
     let same : length new ≡ list.len = omega (arith, ap length written, length-taken_out old index last (get_or old last 0)) in
@@ -34,7 +36,8 @@ take-taken_out list index last left v d one within room read =
     take-set (set list index v) last last ∙ sym (rw (last_is, value) short)
 
 -- Behind them each index holds its own number, and so does the one that is given up.
-pub drop-taken_out : (b : ℕ) (list : List ℕ) (index last left v : ℕ) → left ≡ last + 1 → index < left → left ≤ b → length list ≡ b → drop left list ≡ range_with_len left (b - left) →
+pub drop-taken_out : (b : ℕ) (list : List ℕ) (index last left v : ℕ) → left ≡ last + 1 → index < left → left ≤ b → length list ≡ b →
+    drop left list ≡ range_with_len left (b - left) →
     drop last (taken_out list index last v) ≡ range_with_len last (b - last)
 drop-taken_out b list index last left v one within room len behind =
     let more : b - last ≡ suc (b - (last + 1)) = omega arith in
@@ -44,7 +47,8 @@ drop-taken_out b list index last left v one within room len behind =
     ∙ sym (ap (range_with_len last) more)
 
 -- When all are given up, the list is the one of a new pass.
-pub whole_again : (b : ℕ) (list : List ℕ) (left : ℕ) → left ≡ 0 → length list ≡ b → drop left list ≡ range_with_len left (b - left) → take b list ≡ range_with_len 0 b
+pub whole_again : (b : ℕ) (list : List ℕ) (left : ℕ) → left ≡ 0 → length list ≡ b → drop left list ≡ range_with_len left (b - left)
+    → take b list ≡ range_with_len 0 b
 whole_again b list left none len behind =
     take_all b list (omega arith) ∙ rw none at behind ∙ ap (range_with_len 0) (omega arith)
 
@@ -54,7 +58,8 @@ none_behind b list len =
     rw none (drop_all b list (omega arith))
 
 -- What a word reads of the list is the block that it picks.
-pub read_is_block : (words : ℕ → ℕ) (b k word index left r : ℕ) (list : List ℕ) → take left list ≡ left_before words b k → word ≡ words k → 0 < left → left ≤ length list → index ≡ word % left → r ≡ get_or list index r →
+pub read_is_block : (words : ℕ → ℕ) (b k word index left r : ℕ) (list : List ℕ) → take left list ≡ left_before words b k → word ≡ words k → 0 < left →
+    left ≤ length list → index ≡ word % left → r ≡ get_or list index r →
     r ≡ block_with_map words b k
 read_is_block words b k word index left r list is next some room picked read =
     let len : length (take left list) ≡ left = omega (arith, length-take {A = ℕ}) in
@@ -68,7 +73,8 @@ read_is_block words b k word index left r list is next some room picked read =
     by_read ∙ value ∙ block_from_left words b k (omega arith)
 
 -- What is left before the next write, where the pass goes on.
-pub rest_goes_on : (words : ℕ → ℕ) (b k word index last left v : ℕ) (list : List ℕ) → take left list ≡ left_before words b k → word ≡ words k → index ≡ word % left → index < left → left ≤ length list → left ≡ last + 1 → 0 < last → v ≡ get_or list last 0 →
+pub rest_goes_on : (words : ℕ → ℕ) (b k word index last left v : ℕ) (list : List ℕ) → take left list ≡ left_before words b k → word ≡ words k →
+    index ≡ word % left → index < left → left ≤ length list → left ≡ last + 1 → 0 < last → v ≡ get_or list last 0 →
     take last (taken_out list index last v) ≡ left_before words b (k + 1)
 rest_goes_on words b k word index last left v list is next picked within room one some read =
     let len : length (take left list) ≡ left = omega (arith, length-take {A = ℕ}) in
@@ -80,7 +86,8 @@ rest_goes_on words b k word index last left v list is next picked within room on
     ∙ left_before-more words b k 0 (omega arith)
 
 -- And where it is over: the next pass starts with all blocks.
-pub rest_starts_anew : (words : ℕ → ℕ) (b k left : ℕ) (list rest : List ℕ) → take left list ≡ left_before words b k → left ≤ length list → left ≡ 1 → rest ≡ range_with_len 0 b →
+pub rest_starts_anew : (words : ℕ → ℕ) (b k left : ℕ) (list rest : List ℕ) → take left list ≡ left_before words b k → left ≤ length list → left ≡ 1 →
+    rest ≡ range_with_len 0 b →
     rest ≡ left_before words b (k + 1)
 rest_starts_anew words b k left list rest is room one anew =
     let len : length (take left list) ≡ left = omega (arith, length-take {A = ℕ}) in

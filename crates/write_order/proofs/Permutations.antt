@@ -1,5 +1,6 @@
 -- A pass names each block once.
-use Rattle.std.proofs.Common.{◌≡◌, ℕ, zero, suc, ◌+◌, ◌-◌, ◌*◌, ◌/◌, ◌%◌, ◌<◌, ◌≤◌, List, [], ◌∷◌, length, get_or, take, set, map, refl, sym, ap, ◌∙◌, ⊎_elim, arith}
+use Rattle.std.proofs.Common.{◌≡◌, ℕ, zero, suc, ◌+◌, ◌-◌, ◌*◌, ◌/◌, ◌%◌, ◌<◌, ◌≤◌, List, [], ◌∷◌}
+use Rattle.std.proofs.Common.{length, get_or, take, set, map, refl, sym, ap, ◌∙◌, ⊎_elim, arith}
 use Rattle.std.specs.List.{range_with_len, swap_remove}
 use Rattle.std.specs.List.Sorted.{IsPermutation}
 use Rattle.std.proofs.lemmas.Bool.{cases_lt}
@@ -41,7 +42,8 @@ AllBelow b xs = (i : ℕ) → get_or xs i 0 < b
 AllBelow-range : (b : ℕ) → 0 < b → AllBelow b (range_with_len 0 b)
 AllBelow-range b some i =
     let Goal : Type 0 = get_or (range_with_len 0 b) i 0 < b in
-    ⊎_elim (λ (h : i < b). let at : Goal = omega (arith, get_or-range_with_len 0 b i 0 h) in at) (λ (h : b ≤ i). let at : Goal = omega (arith, get_or_past (range_with_len 0 b) i 0 (omega (arith, length-range_with_len 0 b))) in at) (cases_lt i b)
+    ⊎_elim (λ (h : i < b). let at : Goal = omega (arith, get_or-range_with_len 0 b i 0 h) in at)
+    (λ (h : b ≤ i). let at : Goal = omega (arith, get_or_past (range_with_len 0 b) i 0 (omega (arith, length-range_with_len 0 b))) in at) (cases_lt i b)
 
 AllBelow-set : (b : ℕ) (xs : List ℕ) (j y : ℕ) → 0 < b → y < b → AllBelow b xs → AllBelow b (set xs j y)
 AllBelow-set b [] j y some in_range below i = some

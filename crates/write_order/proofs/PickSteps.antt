@@ -1,9 +1,11 @@
 -- How what is left of a pass goes on from write to write.
-use Rattle.std.proofs.Common.{◌≡◌, ℕ, zero, suc, ◌+◌, ◌-◌, ◌*◌, ◌/◌, ◌%◌, ◌<◌, false, List, slice_index, [], ◌∷◌, ◌++◌, length, get_or, take, set, map, refl, sym, ap, ◌∙◌, arith, length-set, length-take}
+use Rattle.std.proofs.Common.{◌≡◌, ℕ, zero, suc, ◌+◌, ◌-◌, ◌*◌, ◌/◌, ◌%◌, ◌<◌, false, List, slice_index, [], ◌∷◌, ◌++◌}
+use Rattle.std.proofs.Common.{length, get_or, take, set, map, refl, sym, ap, ◌∙◌, arith, length-set, length-take}
 use Rattle.std.specs.List.{range_with_len, swap_remove}
 use Rattle.std.proofs.lemmas.List.{get_or_default, get_or-map, length-map, map-id}
 use Rattle.std.proofs.lemmas.Nat.{div-mul-add, mod-mul-add}
-use Rattle.std.proofs.lemmas.List.FromFn.{length-range_with_len, length-map-range_with_len, take-map-range_with_len, map-range_with_len_more, get_or-map-range_with_len, fill_by_all}
+use Rattle.std.proofs.lemmas.List.FromFn.{length-range_with_len, length-map-range_with_len, take-map-range_with_len}
+use Rattle.std.proofs.lemmas.List.FromFn.{map-range_with_len_more, get_or-map-range_with_len, fill_by_all}
 use Rattle.write_order.specs.Picks.{picked, block_with_map, block_without_map, blocks_picked}
 use Rattle.write_order.specs.Passes.{left_after, left_before, PassLeft}
 
@@ -26,12 +28,14 @@ length-left_after left (w ∷ ws) =
     omega (arith, length-left_after (swap_remove left i 0) ws, length-swap_remove left i 0)
 
 -- One more word takes one block more.
-pub left_after-push : (left words : List ℕ) (w : ℕ) → left_after left (words ++ w ∷ []) ≡ swap_remove (left_after left words) (w % length (left_after left words)) 0
+pub left_after-push : (left words : List ℕ) (w : ℕ) → left_after left (words ++ w ∷ [])
+    ≡ swap_remove (left_after left words) (w % length (left_after left words)) 0
 left_after-push left [] w = refl
 left_after-push left (v ∷ vs) w = left_after-push (swap_remove left (v % length left) 0) vs w
 
 -- The i-th block picked is the one that the i-th word picks of what the words before it leave.
-pub get_or-picked : (left words : List ℕ) (i : ℕ) → i < length words → get_or (picked left words) i 0 ≡ get_or (left_after left (take i words)) (get_or words i 0 % length (left_after left (take i words))) 0
+pub get_or-picked : (left words : List ℕ) (i : ℕ) → i < length words
+    → get_or (picked left words) i 0 ≡ get_or (left_after left (take i words)) (get_or words i 0 % length (left_after left (take i words))) 0
 get_or-picked left [] i h = absurd (omega arith)
 get_or-picked left (w ∷ ws) zero h = refl
 get_or-picked left (w ∷ ws) (suc i) h = get_or-picked (swap_remove left (w % length left) 0) ws i (omega arith)
@@ -60,7 +64,8 @@ block_from_left words b k some =
     sym (rw (whole, next) at at)
 
 -- What is left before the next write: all but the block that was picked, or a new pass.
-pub left_before-more : (words : ℕ → ℕ) (b k d : ℕ) → k % b + 1 < b → swap_remove (left_before words b k) (words k % length (left_before words b k)) d ≡ left_before words b (k + 1)
+pub left_before-more : (words : ℕ → ℕ) (b k d : ℕ) → k % b + 1 < b
+    → swap_remove (left_before words b k) (words k % length (left_before words b k)) d ≡ left_before words b (k + 1)
 unfolding left_before
 left_before-more words b k d more =
     let left = left_before words b k in
@@ -83,7 +88,8 @@ unfolding left_before
 left_before-new words b k new = rw new refl
 
 -- A pass is known by its parts.
-pub same_pass : (b c : ℕ) (left rest : List ℕ) → b ≡ c → left ≡ rest → (let p : PassLeft = record { blocks = b; left = left } in let q : PassLeft = record { blocks = c; left = rest } in p ≡ q)
+pub same_pass : (b c : ℕ) (left rest : List ℕ) → b ≡ c → left ≡ rest
+    → (let p : PassLeft = record { blocks = b; left = left } in let q : PassLeft = record { blocks = c; left = rest } in p ≡ q)
 same_pass b c left rest same e = cc
 
 pub zero_turn : (b : ℕ) → 0 < b → 0 % b ≡ 0
@@ -96,7 +102,8 @@ blocks_without_map words b =
     (λ k h. get_or-map (λ w. w % b) words k 0 0 h)
 
 -- One more word picks one block more.
-pub blocks_with_map-more : (words : ℕ → ℕ) (b k r : ℕ) (before after : List ℕ) → before ≡ map (block_with_map words b) (range_with_len 0 k) → r ≡ block_with_map words b k → after ≡ before ++ r ∷ [] → after ≡ map (block_with_map words b) (range_with_len 0 (k + 1))
+pub blocks_with_map-more : (words : ℕ → ℕ) (b k r : ℕ) (before after : List ℕ) → before ≡ map (block_with_map words b) (range_with_len 0 k)
+    → r ≡ block_with_map words b k → after ≡ before ++ r ∷ [] → after ≡ map (block_with_map words b) (range_with_len 0 (k + 1))
 blocks_with_map-more words b k r before after is picked pushed =
     pushed ∙ ap (λ xs. xs ++ r ∷ []) is ∙ ap (λ x. map (block_with_map words b) (range_with_len 0 k) ++ x ∷ []) picked
     ∙ sym (map-range_with_len_more (block_with_map words b) 0 k k (omega arith))

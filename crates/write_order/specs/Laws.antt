@@ -14,7 +14,8 @@ use Rattle.write_order.specs.Stamps.{stamped_sector, written_bytes}
 abbrev pub PassesNameEachBlockOnce : Type 0
 PassesNameEachBlockOnce =
     (job : JobParts) → job.kind ≡ RandomMap → (p : ℕ) →
-    IsPermutation (range_with_len 0 job.blocks) (map (block_of job) (range_with_len (p * job.blocks) job.blocks))
+    IsPermutation (range_with_len 0 job.blocks)
+    (map (block_of job) (range_with_len (p * job.blocks) job.blocks))
 
 -- Each write of a job goes to one of its blocks.
 abbrev pub WritesStayInTheRegion : Type 0
@@ -51,18 +52,20 @@ sector_with fields = stamped_sector fields.key fields.write fields.block fields.
 -- Sectors with the same bytes have stamps that say the same.
 abbrev pub StampsTellSectorsApart : Type 0
 StampsTellSectorsApart =
-    (a b : StampFields) → HasRoomInAStamp a → HasRoomInAStamp b → sector_with a ≡ sector_with b → a ≡ b
+    (a b : StampFields) → HasRoomInAStamp a → HasRoomInAStamp b → sector_with a ≡ sector_with b
+    → a ≡ b
 
 -- The first sector of the block of this write says this.
 abbrev pub first_fields : Key → ℕ → ℕ → StampFields
 first_fields key k block = record { key = key; write = k; block = block; sector = 0 }
 
--- Two blocks that were filled with stamps and have the same bytes are of the same write, to the same
--- block.
+-- Two blocks that were filled with stamps and have the same bytes are of the same write, to the
+-- same block.
 abbrev pub StampsTellWritesApart : Type 0
 StampsTellWritesApart =
     (job other : JobParts) → IsTrue (is_within_limits job) → IsTrue (is_within_limits other) →
     job.verify ≡ Stamp → other.verify ≡ Stamp →
     (key owner : Key) (k l block at : ℕ) →
     HasRoomInAStamp (first_fields key k block) → HasRoomInAStamp (first_fields owner l at) →
-    written_bytes key job k block ≡ written_bytes owner other l at → first_fields key k block ≡ first_fields owner l at
+    written_bytes key job k block ≡ written_bytes owner other l at
+    → first_fields key k block ≡ first_fields owner l at

@@ -11,7 +11,8 @@ left_after left (w ∷ ws) = left_after (swap_remove left (w % length left) 0) w
 -- What the pass that write k falls into has left before that write.
 unfoldable pub left_before : (ℕ → ℕ) → ℕ → ℕ → List ℕ
 left_before words blocks k =
-    left_after (range_with_len 0 blocks) (map words (range_with_len (k / blocks * blocks) (k % blocks)))
+    left_after (range_with_len 0 blocks)
+    (map words (range_with_len (k / blocks * blocks) (k % blocks)))
 
 -- The number of blocks, and those that are left of a pass.
 pub record PassLeft : Type 0 where

@@ -10,7 +10,8 @@ picked left (w ∷ ws) =
     let i = w % length left in
     slice_index left i ∷ picked (swap_remove left i 0) ws
 
--- The blocks of pass p: it starts with the list 0, 1, .. blocks - 1, and has a word for each of them.
+-- The blocks of pass p: it starts with the list 0, 1, .. blocks - 1, and has a word for each of
+-- them.
 abbrev pub blocks_of_pass : (ℕ → ℕ) → ℕ → ℕ → List ℕ
 blocks_of_pass words blocks p =
     picked (range_with_len 0 blocks) (map words (range_with_len (p * blocks) blocks))

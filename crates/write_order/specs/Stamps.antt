@@ -16,10 +16,12 @@ counting_bytes from n = map (λ i. (from + i) % 256) (range_with_len 0 n)
 -- block, each high byte first, and then bytes that count up from the write's number.
 unfoldable pub stamped_sector : Key → ℕ → ℕ → ℕ → List ℕ
 stamped_sector key k block sector =
-    to_be_bytes w64 key.run ++ to_be_bytes w32 key.server ++ to_be_bytes w32 key.job ++ to_be_bytes w64 k
+    to_be_bytes w64 key.run ++ to_be_bytes w32 key.server ++ to_be_bytes w32 key.job
+    ++ to_be_bytes w64 k
     ++ to_be_bytes w64 block ++ to_be_bytes w32 sector ++ counting_bytes k 476
 
--- What a write into this block puts there: the stamp of each of its sectors, or the pattern in every byte.
+-- What a write into this block puts there: the stamp of each of its sectors, or the pattern in
+-- every byte.
 abbrev pub written_bytes : Key → JobParts → ℕ → ℕ → List ℕ
 written_bytes key job k block = by job.verify
   where

@@ -1,4 +1,5 @@
--- The words of the generator of random orders: xoshiro256++, seeded with a number by SplitMix64, as `seed_from_u64` does.
+-- The words of the generator of random orders: xoshiro256++, seeded with a number by SplitMix64, as
+-- `seed_from_u64` does.
 use Rattle.std.specs.Prelude.{ℕ, zero, suc, ◌+◌, List, [], ◌∷◌}
 use Rattle.rand_xoshiro.specs.SplitMix64.{splitmix_seed}
 use Rattle.rand_xoshiro.specs.Xoshiro256.{of_seed, next_state, plus_plus}

@@ -15,7 +15,8 @@ returns-in-Some-clause-why g c = (λ agrees. c.in-Some.ensures.some agrees.opene
 pub returns-in_err-order-clause-why : goal.returns-in_err-order-clause-why
 returns-in_err-order-clause-why g c =
     let p = err_from_is_err_and c.from_residual.result c.from_residual.ensures.1 in
-    rw (p.1, p.2) (differs_why (ran_of c.args.client.now c.args.servers.now) c.args.hub.now.net c.args.seats.now c.in_err-order.field-0.0 c.in_err-order.ensures.differs)
+    rw (p.1, p.2) (differs_why (ran_of c.args.client.now c.args.servers.now) c.args.hub.now.net c.args.seats.now c.in_err-order.field-0.0
+    c.in_err-order.ensures.differs)
 
 pub returns-clause-agrees : goal.returns-clause-agrees
 returns-clause-agrees g c = λ node. record {
@@ -26,9 +27,12 @@ returns-clause-agrees g c = λ node. record {
 
 pub returns-clause-trace : goal.returns-clause-trace
 returns-clause-trace g c =
-    let order = ap (λ (ps : List Place). reverse ps) c.in_ok-order.ensures.merged ∙ reverse-reverse (merged_order (length c.args.servers.now) (history_of (ran_of c.args.client.now c.args.servers.now)) c.args.hub.now.net.journal) in
-    subst (λ (ps : List Place). IsOrder (length c.args.servers.now) c.args.hub.now.net (history_of (ran_of c.args.client.now c.args.servers.now)) ps) (sym order)
-    (c.agreeing_nodes_are_a_trace.ensures (length c.args.servers.now) c.args.hub.now.net (history_of (ran_of c.args.client.now c.args.servers.now)) c.in_ok-order.ensures.agree)
+    let order = ap (λ (ps : List Place). reverse ps) c.in_ok-order.ensures.merged
+    ∙ reverse-reverse (merged_order (length c.args.servers.now) (history_of (ran_of c.args.client.now c.args.servers.now)) c.args.hub.now.net.journal) in
+    subst (λ (ps : List Place). IsOrder (length c.args.servers.now) c.args.hub.now.net (history_of (ran_of c.args.client.now c.args.servers.now)) ps)
+    (sym order)
+    (c.agreeing_nodes_are_a_trace.ensures (length c.args.servers.now) c.args.hub.now.net
+    (history_of (ran_of c.args.client.now c.args.servers.now)) c.in_ok-order.ensures.agree)
 
 pub returns-clause-state : goal.returns-clause-state
 returns-clause-state g c = λ lists trace is.

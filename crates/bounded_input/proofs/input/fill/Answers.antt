@@ -8,7 +8,8 @@ loop-preserved g c =
     elim c.match-read_behind.branch [
       | in-Ok w ↦ record {
         within = search rules;
-        taken = rw (w.filled-is) (filled_more _ _ _ c.loop.buffer c.read_behind.new.buffer c.loop.filled w.in-Ok.count c.read_behind.ensures.front c.loop.invariant.taken w.in-Ok.ensures.bytes);
+        taken = rw (w.filled-is) (filled_more _ _ _ c.loop.buffer c.read_behind.new.buffer c.loop.filled w.in-Ok.count c.read_behind.ensures.front
+            c.loop.invariant.taken w.in-Ok.ensures.bytes);
       }
       | in-Err+else-ne w ↦ record {
         within = search rules;

@@ -8,4 +8,5 @@ returns-clause-front g c = take_put _ _ c.args.buffer.now _ (omega (arith, c.req
 
 pub returns-clause-bytes : goal.returns-clause-bytes
 returns-clause-bytes g c =
-    part_behind _ _ c.read.result _ c.read.new.buf _ c.args.filled (length-take-le _ c.args.buffer.now (omega (arith, c.requires))) c.read.ensures.bound c.read.ensures.bytes
+    part_behind _ _ c.read.result _ c.read.new.buf _ c.args.filled
+    (length-take-le _ c.args.buffer.now (omega (arith, c.requires))) c.read.ensures.bound c.read.ensures.bytes

@@ -5,4 +5,5 @@ use Rattle.commands.specs.Lines.{job_line}
 use Rattle.commands.proofs.lines.push_jobs.Given as goal
 
 abbrev pub invariant-loop-number : goal.invariant-loop-number
-invariant-loop-number l = string_bytes l.lines ≡ string_bytes l.initial.lines ++ flat_map (λ (number, job). with_line_feed (job_line number job)) (take l.number (enumerate_from 0 l.jobs))
+invariant-loop-number l = string_bytes l.lines ≡ string_bytes l.initial.lines
+    ++ flat_map (λ (number, job). with_line_feed (job_line number job)) (take l.number (enumerate_from 0 l.jobs))

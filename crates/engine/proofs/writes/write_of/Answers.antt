@@ -7,4 +7,5 @@ use Rattle.engine.proofs.writes.write_of.Goals as goal
 pub returns : goal.returns
 returns c =
     c.copied.ensures
-    ∙ find_from_yields_List (λ (w : OpenWrite). eqb w.seq c.args.seq) _ _ _ c.find.ensures.ran (YieldsList-from_slice c.args.writes.now cc) (λ x b q k. search rules)
+    ∙ find_from_yields_List (λ (w : OpenWrite). eqb w.seq c.args.seq) _ _ _ c.find.ensures.ran (YieldsList-from_slice c.args.writes.now cc)
+    (λ x b q k. search rules)

@@ -8,12 +8,15 @@ pub returns-in_err-job-clause-faults : goal.returns-in_err-job-clause-faults
 returns-in_err-job-clause-faults c =
     let p = err_from_is_err_and c.from_residual.result c.from_residual.ensures.1 in
     let numbered : c.len.result ≡ length c.loop.jobs.items = search rules in
-    rw (p.1, p.2) (copy_told c.in_err-job.field-0.0 c.args.jobs.now.items (copies_of c.args.draft.now) c.loop.counter c.len.result c.args.draft.now c.loop.jobs.items (omega arith) c.loop.invariant numbered c.in_err-job.ensures)
+    rw (p.1, p.2) (copy_told c.in_err-job.field-0.0 c.args.jobs.now.items
+    (copies_of c.args.draft.now) c.loop.counter c.len.result c.args.draft.now c.loop.jobs.items
+    (omega arith) c.loop.invariant numbered c.in_err-job.ensures)
 
 pub loop-preserved : goal.loop-preserved
 loop-preserved c =
     let numbered : c.len.result ≡ length c.loop.jobs.items = search rules in
-    copy_made c.args.jobs.now.items (copies_of c.args.draft.now) c.loop.counter c.len.result c.args.draft.now c.loop.jobs.items c.push.new.self.items c.in_ok-job.job (omega arith) c.loop.invariant numbered c.in_ok-job.ensures.0 c.in_ok-job.ensures.1 c.in_ok-push.ensures.items
+    copy_made c.args.jobs.now.items (copies_of c.args.draft.now) c.loop.counter c.len.result c.args.draft.now c.loop.jobs.items c.push.new.self.items
+    c.in_ok-job.job (omega arith) c.loop.invariant numbered c.in_ok-job.ensures.0 c.in_ok-job.ensures.1 c.in_ok-push.ensures.items
 
 pub returns-clause-faults : goal.returns-clause-faults
 returns-clause-faults c =

@@ -16,7 +16,10 @@ returns c =
     let nothing_left : length c.loop-rest.rest.now ≡ 0 = eqb-true _ 0 (sym c.loop-rest-test.ensures) in
     let left = nil_from_length c.loop-rest.rest.now nothing_left in
     let faults = ap (λ rest. line_faults c.loop-rest.number (is_inside c.loop-rest.reader.scope) (lines_of rest)) (sym left) ∙ c.loop-rest.invariant.faults in
-    let drafts = ap (λ rest. drafts_coming c.loop-rest.reader (lines_of rest)) (sym left) ∙ c.loop-rest.invariant.drafts ∙ drafts_with_none (lines_of c.args.text.now) in
-    let notes = sym (append-nil c.loop-rest.reader.notes.items) ∙ ap (λ rest. c.loop-rest.reader.notes.items ++ notes_from c.loop-rest.number (lines_of rest)) (sym left) ∙ c.loop-rest.invariant.notes in
+    let drafts = ap (λ rest. drafts_coming c.loop-rest.reader (lines_of rest)) (sym left) ∙ c.loop-rest.invariant.drafts
+    ∙ drafts_with_none (lines_of c.args.text.now) in
+    let notes = sym (append-nil c.loop-rest.reader.notes.items)
+    ∙ ap (λ rest. c.loop-rest.reader.notes.items ++ notes_from c.loop-rest.number (lines_of rest)) (sym left) ∙ c.loop-rest.invariant.notes in
     let pair : List Draft → List LineNote → List Draft × List LineNote = λ ds ns. (ds, ns) in
-    gives_at (λ r. (r.drafts.items, r.notes.items)) c.finish.result c.finish.ensures faults (ap (λ ds. pair ds c.loop-rest.reader.notes.items) drafts ∙ ap (pair (drafts_of (lines_of c.args.text.now))) notes)
+    gives_at (λ r. (r.drafts.items, r.notes.items)) c.finish.result c.finish.ensures faults
+    (ap (λ ds. pair ds c.loop-rest.reader.notes.items) drafts ∙ ap (pair (drafts_of (lines_of c.args.text.now))) notes)

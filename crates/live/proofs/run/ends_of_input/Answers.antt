@@ -5,7 +5,8 @@ use Rattle.live.proofs.run.ends_of_input.Goals as goal
 
 pub returns-clause-runs : goal.returns-clause-runs
 returns-clause-runs g c =
-    runs_whole c.read_law.ensures.whole c.read_law.ensures.fronts c.ends_of_texts.result (λ text ends. RunsTexts c.args.size.servers text ends.items) _ _ c.in_ok-input.input.items (λ ends runs. runs.sound) c.in_ok-input.ensures.ok
+    runs_whole c.read_law.ensures.whole c.read_law.ensures.fronts c.ends_of_texts.result
+    (λ text ends. RunsTexts c.args.size.servers text ends.items) _ _ c.in_ok-input.input.items (λ ends runs. runs.sound) c.in_ok-input.ensures.ok
     (subst (λ text. IfOk c.ends_of_texts.result (λ ends. RunsTexts c.args.size.servers text ends.items)) c.deref.ensures.value c.ends_of_texts.ensures.runs)
 
 pub returns-clause-refused : goal.returns-clause-refused

@@ -2,7 +2,8 @@ use Rattle.std.proofs.Common.{rules, ap, sym, ◌∙◌}
 use Rattle.net_world.specs.Events.{plain_happening}
 use Rattle.net_world.specs.Happenings.{Rot}
 use Rattle.net_script.specs.Commands.{happens}
-use Rattle.net_script.proofs.happening.event_of.Goals.{in-Saves+in_ok-event-in-Saves, in-Trigger, in-Stop, in-Tick, in-Issue, in-Land, in-Done, in-Fail, in-Rot+in_ok-rotten-in-Rot, in-Check, in-Cut, in-LoseNote}
+use Rattle.net_script.proofs.happening.event_of.Goals.{in-Saves+in_ok-event-in-Saves, in-Trigger, in-Stop, in-Tick, in-Issue, in-Land}
+use Rattle.net_script.proofs.happening.event_of.Goals.{in-Done, in-Fail, in-Rot+in_ok-rotten-in-Rot, in-Check, in-Cut, in-LoseNote}
 use Rattle.net_script.proofs.happening.event_of.Goals as goal
 
 pub returns : goal.returns

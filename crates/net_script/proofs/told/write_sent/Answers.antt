@@ -14,7 +14,8 @@ loop-offset-preserved g c sent are =
     let line = c.in-Some.line in
     let found = c.in-Some.ensures in
     subst (Appends _ _)
-    (sent_more sent c.args.first c.args.count c.loop-offset.offset (sent_in c.args.frames.now) are c.loop-offset-test.true found.0 found.1 line.number line.len line.look found.2 found.3 found.4)
+    (sent_more sent c.args.first c.args.count c.loop-offset.offset
+    (sent_in c.args.frames.now) are c.loop-offset-test.true found.0 found.1 line.number line.len line.look found.2 found.3 found.4)
     (Appends-trans _ _ _ _ _ (c.loop-offset.invariant sent are) c.in_ok-writeln.ensures.bytes)
 
 pub returns : goal.returns

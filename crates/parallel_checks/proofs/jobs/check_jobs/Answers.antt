@@ -12,7 +12,8 @@ answered g c =
 
 pub returns-clause-reports : goal.returns-clause-reports
 returns-clause-reports g c =
-    IfOk-weaker c.reports_of.result _ _ (λ reports held. all_reported g.D.Disk.file c.args.tasks.items c.deref.result.now reports.items (answered g c) held) c.reports_of.ensures.reports
+    IfOk-weaker c.reports_of.result _ _ (λ reports held. all_reported g.D.Disk.file c.args.tasks.items c.deref.result.now reports.items (answered g c) held)
+    c.reports_of.ensures.reports
 
 pub returns-clause-refused : goal.returns-clause-refused
 returns-clause-refused g c =

@@ -34,5 +34,14 @@ loop-block-preserved g c =
       seen = seen_on e c.loop-block.check c.check_block.new.check c.loop-block.block start _ _ step kept.file kept.expected kept.seen;
       power = power_on c.loop-block.check c.check_block.new.check c.loop-block.block start _ _ step kept.file kept.power;
       file = step.file ∙ kept.file;
-      bytes = omega (arith, length-take {A = ℕ}, length-append {A = ℕ}, length-drop {A = ℕ}, c.check_block.auto.bytes, c.deref_mut.ensures.len, ap length c.deref_mut.ensures.value, kept.bytes);
+      bytes = omega (
+        arith,
+        length-take {A = ℕ},
+        length-append {A = ℕ},
+        length-drop {A = ℕ},
+        c.check_block.auto.bytes,
+        c.deref_mut.ensures.len,
+        ap length c.deref_mut.ensures.value,
+        kept.bytes,
+      );
     }

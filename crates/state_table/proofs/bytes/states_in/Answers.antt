@@ -9,12 +9,14 @@ use Rattle.state_table.proofs.bytes.states_in.Goals as goal
 pub returns-then-has-clause-states : goal.returns-then-has-clause-states
 returns-then-has-clause-states c =
     let there = ap (λ (k : Key). is_some (kept_of k c.loop.kept)) (sym c.key.ensures.value) ∙ (sym c.has.ensures ∙ c.if-has.true) in
-    λ states. twice (states_at c.args.count c.args.bytes.now) c.loop.kept states c.args.count c.loop.counter c.loop.rest.now _ _ (omega arith) c.loop.invariant.1 (sym c.in-Some.ensures) there
+    λ states. twice (states_at c.args.count c.args.bytes.now) c.loop.kept states c.args.count c.loop.counter c.loop.rest.now _ _
+    (omega arith) c.loop.invariant.1 (sym c.in-Some.ensures) there
 
 pub loop-preserved : goal.loop-preserved
 loop-preserved c =
     let pushed = c.in_ok-push.ensures.pushed in (
       grown c.push.new.self c.loop.kept _ c.loop.counter pushed c.loop.invariant.0,
-      onward (states_at c.args.count c.args.bytes.now) c.loop.kept c.push.new.self c.args.count c.loop.counter c.loop.rest.now _ _ (omega arith) c.loop.invariant.1 (sym c.in-Some.ensures) pushed,
+      onward (states_at c.args.count c.args.bytes.now) c.loop.kept c.push.new.self c.args.count c.loop.counter c.loop.rest.now _ _
+          (omega arith) c.loop.invariant.1 (sym c.in-Some.ensures) pushed,
       λ later. c.loop.invariant.2 (ap is_some (sym c.in-Some.ensures)),
     )

@@ -33,10 +33,13 @@ returns-then-ended g c =
     let later = g.R.Read.remaining c.fill.new.reader in
     let buffer = c.fill.new.buffer in
     let read = filled now later buffer c.in-Ok-fill.filled
-    (omega (arith, c.fill.auto.buffer, c.deref_mut.ensures.len, kept.bytes, c.bs-size.ensures.value, c.if-filled-size.false, c.in-Ok-fill.ensures.bound)) c.in-Ok-fill.ensures.ok in
-    let same : c.deref.result.now ≡ buffer = c.deref.ensures.value ∙ take_at buffer _ c.loop-block.bytes.len (omega (arith, c.fill.auto.buffer, c.deref_mut.ensures.len)) in
+    (omega (arith, c.fill.auto.buffer, c.deref_mut.ensures.len, kept.bytes, c.bs-size.ensures.value, c.if-filled-size.false, c.in-Ok-fill.ensures.bound))
+    c.in-Ok-fill.ensures.ok in
+    let same : c.deref.result.now ≡ buffer =
+    c.deref.ensures.value ∙ take_at buffer _ c.loop-block.bytes.len (omega (arith, c.fill.auto.buffer, c.deref_mut.ensures.len)) in
     let more = read_more e c.loop-block.check c.feed.new.self c.loop-block.block (g.R.Read.remaining c.args.reader.now) now later buffer kept.read read
-    (omega (arith, c.fill.auto.buffer, c.deref_mut.ensures.len, kept.bytes)) (λ held blocks holds seen. c.feed.ensures.seen held blocks (holds ∙ sym same) seen) in
+    (omega (arith, c.fill.auto.buffer, c.deref_mut.ensures.len, kept.bytes))
+    (λ held blocks holds seen. c.feed.ensures.seen held blocks (holds ∙ sym same) seen) in
     checks_some (g.R.Read.remaining c.args.reader.now) _ (λ whole is. (
       c.in_ok-check.ensures.0,
       inl (ended_at c.faults_end_checks.ensures e c.args.fatal c.feed.new.self (c.loop-block.block + 1) whole later c.finish.result
@@ -53,16 +56,28 @@ loop-block-preserved g c =
     let later = g.R.Read.remaining c.fill.new.reader in
     let buffer = c.fill.new.buffer in
     let read = filled now later buffer c.in-Ok-fill.filled
-    (omega (arith, c.fill.auto.buffer, c.deref_mut.ensures.len, kept.bytes, c.bs-size.ensures.value, c.if-filled-size.false, c.in-Ok-fill.ensures.bound)) c.in-Ok-fill.ensures.ok in
-    let same : c.deref.result.now ≡ buffer = c.deref.ensures.value ∙ take_at buffer _ c.loop-block.bytes.len (omega (arith, c.fill.auto.buffer, c.deref_mut.ensures.len)) in
+    (omega (arith, c.fill.auto.buffer, c.deref_mut.ensures.len, kept.bytes, c.bs-size.ensures.value, c.if-filled-size.false, c.in-Ok-fill.ensures.bound))
+    c.in-Ok-fill.ensures.ok in
+    let same : c.deref.result.now ≡ buffer =
+    c.deref.ensures.value ∙ take_at buffer _ c.loop-block.bytes.len (omega (arith, c.fill.auto.buffer, c.deref_mut.ensures.len)) in
     record {
       expected = ap (λ (x : Check). x.expected) c.feed.ensures.left ∙ kept.expected;
       fatal = ap (λ (x : Check). x.fatal) c.feed.ensures.left ∙ kept.fatal;
       next = omega (arith, ap (λ (x : Check). x.next) c.feed.ensures.left);
       unended = sym c.ended.ensures ∙ c.if-ended.false;
       read = read_more e c.loop-block.check c.feed.new.self c.loop-block.block (g.R.Read.remaining c.args.reader.now) now later buffer kept.read read
-          (omega (arith, c.fill.auto.buffer, c.deref_mut.ensures.len, kept.bytes)) (λ held blocks holds seen. c.feed.ensures.seen held blocks (holds ∙ sym same) seen);
-      bytes = omega (arith, length-take {A = ℕ}, length-append {A = ℕ}, length-drop {A = ℕ}, c.fill.auto.buffer, c.deref_mut.ensures.len, ap length c.deref_mut.ensures.value, kept.bytes);
+          (omega (arith, c.fill.auto.buffer, c.deref_mut.ensures.len, kept.bytes))
+          (λ held blocks holds seen. c.feed.ensures.seen held blocks (holds ∙ sym same) seen);
+      bytes = omega (
+        arith,
+        length-take {A = ℕ},
+        length-append {A = ℕ},
+        length-drop {A = ℕ},
+        c.fill.auto.buffer,
+        c.deref_mut.ensures.len,
+        ap length c.deref_mut.ensures.value,
+        kept.bytes,
+      );
     }
 
 pub returns : goal.returns
@@ -74,6 +89,7 @@ returns g c =
     checks_some (g.R.Read.remaining c.args.reader.now) _ (λ whole is. (
       c.in_ok-check.ensures.0,
       inl (whole_region e c.args.fatal c.loop-block.check whole now c.finish-2.result
-          (subst (λ f. HasRead e c.loop-block.check e.job.blocks f now) is (subst (λ n. HasRead e c.loop-block.check n (g.R.Read.remaining c.args.reader.now) now) all kept.read))
+          (subst (λ f. HasRead e c.loop-block.check e.job.blocks f now) is
+          (subst (λ n. HasRead e c.loop-block.check n (g.R.Read.remaining c.args.reader.now) now) all kept.read))
           kept.expected kept.fatal c.finish-2.ensures.value),
     ))

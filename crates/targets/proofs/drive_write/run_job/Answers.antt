@@ -14,5 +14,6 @@ returns-in-Refused g c =
     let mid = g.W.Write.contents c.write_blocks.new.writer in
     let new = g.W.Write.contents c.refuse-in-Refused.new.writer in
     finished (record { boot = 0; key = c.args.key; job = c.args.rec.now }) c.refuse-in-Refused.result input old mid new (Refused c.in-Refused.fault)
-    (subst (λ e. IfSome input (λ rest. Runs (record { boot = 0; key = c.args.key; job = c.args.rec.now }) rest old mid e)) c.in-Refused.is c.in_ok-state.ensures)
+    (subst (λ e. IfSome input (λ rest. Runs (record { boot = 0; key = c.args.key; job = c.args.rec.now }) rest old mid e)) c.in-Refused.is
+    c.in_ok-state.ensures)
     (subst (λ x. IfOk c.refuse-in-Refused.result (Refuses x mid new)) c.from-in-Refused.ensures c.refuse-in-Refused.ensures)

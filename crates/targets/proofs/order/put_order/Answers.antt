@@ -8,6 +8,8 @@ pub returns : goal.returns
 unfolding bytes_of
 returns g c =
     on_ok c.write_all-3.result
-    (λ wrote. order_written _ _ _ _ c.args.ticket.key c.args.rec.now c.args.ticket.seq _ _ _ c.in_ok-write_all.ensures.bytes (rw (← c.seq.view_is) c.to_be_bytes.ensures) c.in_ok-write_all-2.ensures.bytes (c.to_be_bytes-2.ensures ∙ ap (to_be_bytes w64) (c.from.ensures ∙ c.requires.block)) wrote
+    (λ wrote. order_written _ _ _ _ c.args.ticket.key c.args.rec.now c.args.ticket.seq _ _ _ c.in_ok-write_all.ensures.bytes
+    (rw (← c.seq.view_is) c.to_be_bytes.ensures) c.in_ok-write_all-2.ensures.bytes
+    (c.to_be_bytes-2.ensures ∙ ap (to_be_bytes w64) (c.from.ensures ∙ c.requires.block)) wrote
     (c.fill_block.ensures.of_write c.requires.block))
     c.write_all-3.ensures.bytes

@@ -16,7 +16,8 @@ pub returns-in_err-fill_all-2-clause-none : goal.returns-in_err-fill_all-2-claus
 returns-in_err-fill_all-2-clause-none g c =
     let p = err_from_is_err_and c.from_residual-in_err-fill_all-2.result c.from_residual-in_err-fill_all-2.ensures.1 in
     rw (p.1, p.2)
-    (no_text c.args.most c.length_in-length.result (g.R.Read.remaining c.args.reader.now) (g.R.Read.remaining c.fill_all.new.reader) (g.R.Read.remaining c.fill_all-2.new.reader) c.fill_all.new.buffer c.fill_all-2.new.buffer
+    (no_text c.args.most c.length_in-length.result (g.R.Read.remaining c.args.reader.now) (g.R.Read.remaining c.fill_all.new.reader)
+    (g.R.Read.remaining c.fill_all-2.new.reader) c.fill_all.new.buffer c.fill_all-2.new.buffer
     c.in_err-fill_all-2.field-0.0 c.in_ok-fill_all.ensures
     c.length_in-length.ensures
     (omega (arith, c.fill_all-2.auto.buffer, c.deref_mut.ensures.len, c.in-Ok.ensures.len, c.min.ensures)) c.in_err-fill_all-2.ensures)

@@ -11,4 +11,5 @@ returns g c =
     let first = g.W.Write.contents c.args.writer.now in
     let all = subst (λ o. OrdersAll o [] mid first text) c.in-Ok.ensures.origin (c.in_ok-order_all.ensures.orders [] c.in-Ok.ensures.history) in
     let same = c.in_ok-order_all.ensures.origin ∙ c.in-Ok.ensures.origin in
-    run_all _ mid c.run.result (reader_remaining g.R.Read.remaining c.args.reader.now) first text _ c.run.ensures (begun _ mid (reader_remaining g.R.Read.remaining c.args.reader.now) first text all same) same
+    run_all _ mid c.run.result (reader_remaining g.R.Read.remaining c.args.reader.now) first text _ c.run.ensures
+    (begun _ mid (reader_remaining g.R.Read.remaining c.args.reader.now) first text all same) same

@@ -6,7 +6,8 @@ use Rattle.verify_state.proofs.counting.completed.Goals as goal
 sum_is : (c : goal.After-from) → c.floor_of.result + c.from.result ≡ length (counted_by c.args.window c.args.issued c.args.marks.now)
 sum_is c =
     let same : length (counted_by c.args.window c.args.issued c.words-words.result) ≡ floor_of c.args.window c.args.issued + marked_count c.words-words.result =
-    length_counted_by c.args.window c.args.issued c.words-words.result c.requires.narrow c.words-words.ensures.four c.words-words.ensures.range (rw c.words-words.ensures.value c.requires.ends) in
+    length_counted_by c.args.window c.args.issued c.words-words.result c.requires.narrow c.words-words.ensures.four c.words-words.ensures.range
+    (rw c.words-words.ensures.value c.requires.ends) in
     let here = rw c.words-words.ensures.value at same in
     omega (arith, here, c.floor_of.ensures.value, c.from.ensures, c.count.ensures.value)
 

@@ -5,7 +5,8 @@ use Rattle.verify_state.proofs.CountLemmas.{length_counted}
 use Rattle.verify_state.proofs.counting.listed.Goals as goal
 
 sum_is : (c : goal.After-count_from) → c.floor_of-floor.result + c.count_from.result ≡ length (counted c.args.window c.args.issued c.args.list.now)
-sum_is c = rw (c.count_from.ensures, c.floor_of-floor.ensures.value) (sym (length_counted c.args.window c.args.issued c.args.list.now c.requires.distinct c.requires.below))
+sum_is c = rw (c.count_from.ensures, c.floor_of-floor.ensures.value)
+    (sym (length_counted c.args.window c.args.issued c.args.list.now c.requires.distinct c.requires.below))
 
 pub overflow_add-result : goal.overflow_add-result
 overflow_add-result c =

@@ -7,11 +7,13 @@ use Rattle.verify_state.specs.Reading.{job_in, issued_in, marks_at}
 use Rattle.verify_state.proofs.LayoutLemmas.{marks_fault, marks_no_fault, floor_differs, marks_differ, marks_hold}
 use Rattle.verify_state.proofs.layouts.marked.Goals as goal
 
-floor_is : (bytes : List ℕ) (front : Front) (window floor : ℕ) → front ≡ front_in bytes → window ≡ front.rec.window → floor ≡ floor_of window front.issued → floor ≡ floor_of (job_in bytes).window (issued_in bytes)
+floor_is : (bytes : List ℕ) (front : Front) (window floor : ℕ) → front ≡ front_in bytes → window ≡ front.rec.window → floor ≡ floor_of window front.issued
+    → floor ≡ floor_of (job_in bytes).window (issued_in bytes)
 floor_is bytes front window floor is w f =
     f ∙ ap (λ n. floor_of n front.issued) w ∙ ap (λ (x : Front). floor_of x.rec.window x.issued) is
 
-come_is : (bytes : List ℕ) (front : Front) (come : Bool) (marks : List ℕ) → front ≡ front_in bytes → marks ≡ marks_at bytes → come ≡ has_come_by front.rec front.issued marks → come ≡ has_come_by (job_in bytes) (issued_in bytes) (marks_at bytes)
+come_is : (bytes : List ℕ) (front : Front) (come : Bool) (marks : List ℕ) → front ≡ front_in bytes → marks ≡ marks_at bytes
+    → come ≡ has_come_by front.rec front.issued marks → come ≡ has_come_by (job_in bytes) (issued_in bytes) (marks_at bytes)
 come_is bytes front come marks is m c =
     c ∙ ap (λ (x : Front). has_come_by x.rec x.issued marks) is ∙ ap (has_come_by (job_in bytes) (issued_in bytes)) m
 
@@ -25,7 +27,8 @@ returns-then-u64_at-floor c =
 pub returns-then-not-has_come_by : goal.returns-then-not-has_come_by
 returns-then-not-has_come_by c =
     let bytes = c.args.bytes.now in
-    let come = come_is bytes c.args.front.now c.has_come_by.result c.from_words-marks.result c.requires (c.from_words-marks.ensures ∙ c.words_at.ensures) c.has_come_by.ensures in
+    let come = come_is bytes c.args.front.now c.has_come_by.result c.from_words-marks.result c.requires
+    (c.from_words-marks.ensures ∙ c.words_at.ensures) c.has_come_by.ensures in
     let exact : length bytes ≡ 136 = omega (arith, c.if-bytes-lt-LENGTH.false, c.if-bytes-gt-LENGTH.false) in
     marks_fault bytes exact (marks_differ bytes (sym come ∙ c.if-not-has_come_by.true))
 

@@ -7,4 +7,5 @@ use Rattle.verify_state.proofs.layouts.read_completions.Goals as goal
 pub returns : goal.returns
 returns c =
     let n = length c.args.completions.now in
-    fill_by_all (λ k. field w64 (100 + 8 * k) c.args.bytes.now) c.loop-i.completions n 0 (omega arith) (λ (k : ℕ) (h : k < n). c.loop-i.invariant.filled k (omega arith))
+    fill_by_all (λ k. field w64 (100 + 8 * k) c.args.bytes.now) c.loop-i.completions n 0 (omega arith)
+    (λ (k : ℕ) (h : k < n). c.loop-i.invariant.filled k (omega arith))

@@ -11,5 +11,17 @@ returns c =
     let five = joined bytes _ _ _ _ four c.in_ok-put_u64-2.ensures in
     let six = joined bytes _ _ _ _ five c.in_ok-put_u32-3.ensures in
     joined bytes _ _ _ _ six c.in_ok-put_u32-4.ensures
-    ∙ rw (c.kind_code.ensures, c.kind.ensures, c.verify_code.ensures, c.verify.ensures, c.pattern.ensures, c.bs.ensures.value, c.blocks-2.ensures.value, c.total.ensures.value, c.seed.ensures, c.depth.ensures.value, c.window.ensures.value) refl
+    ∙ rw (
+      c.kind_code.ensures,
+      c.kind.ensures,
+      c.verify_code.ensures,
+      c.verify.ensures,
+      c.pattern.ensures,
+      c.bs.ensures.value,
+      c.blocks-2.ensures.value,
+      c.total.ensures.value,
+      c.seed.ensures,
+      c.depth.ensures.value,
+      c.window.ensures.value,
+    ) refl
     ∙ ap (λ xs. bytes ++ xs) (sym (job_bytes_are c.args.rec.now))

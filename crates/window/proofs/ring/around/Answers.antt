@@ -11,4 +11,5 @@ returns-then-ahead-ge64 c i below inside =
 
 pub returns : goal.returns
 returns c i below inside =
-    rw (← c.words-words.ensures.value) (around-both c.words-words.result c.from-2.result c.low_bits.result c.args.first c.args.length i c.requires.within (omega arith) below inside (c.from-2.ensures i below) c.requires.most (c.low_bits.ensures i below))
+    rw (← c.words-words.ensures.value) (around-both c.words-words.result c.from-2.result c.low_bits.result c.args.first c.args.length i c.requires.within
+    (omega arith) below inside (c.from-2.ensures i below) c.requires.most (c.low_bits.ensures i below))

@@ -14,7 +14,8 @@ returns-then-not-has_sector c =
 
 pub loop-number-preserved : goal.loop-number-preserved
 loop-number-preserved c =
-    alike_more (λ k. replicate 512 c.args.pattern) c.loop-number.number c.args.bytes.now _ _ c.loop-number.invariant refl c.has_sector.ensures c.if-not-has_sector.false
+    alike_more (λ k. replicate 512 c.args.pattern) c.loop-number.number c.args.bytes.now _ _ c.loop-number.invariant refl c.has_sector.ensures
+    c.if-not-has_sector.false
 
 pub returns : goal.returns
 returns c =

@@ -9,7 +9,8 @@ pub loop-number-preserved : goal.loop-number-preserved
 loop-number-preserved c =
     let within : c.loop-number.number * 512 ≤ length c.loop-number.bytes = omega arith in
     let len = ap length c.fill_sector.ensures ∙ length-with_number c.args.stamp.now c.loop-number.number c.told-stamp in
-    sectors-more (with_number c.args.stamp.now) c.loop-number.number _ c.loop-number.bytes c.fill_sector.new.sector c.loop-number.invariant c.fill_sector.ensures len within
+    sectors-more (with_number c.args.stamp.now) c.loop-number.number _ c.loop-number.bytes c.fill_sector.new.sector c.loop-number.invariant
+    c.fill_sector.ensures len within
 
 pub returns : goal.returns
 returns c =

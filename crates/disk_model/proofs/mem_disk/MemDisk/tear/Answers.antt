@@ -11,7 +11,8 @@ returns c =
     let bytes = c.args.bytes.now in
     let first = first_sector c.args.block (length bytes) in
     let content = content_of old.sectors in
-    let left = c.in_ok-land.ensures.ok ∙ ap (λ (picks : ℕ → Bool). let f : File = record { content = landed picks first bytes content; power = old.power; failures = 0 } in f) has_bit-one in
+    let left = c.in_ok-land.ensures.ok ∙ ap (λ (picks : ℕ → Bool). let f : File =
+    record { content = landed picks first bytes content; power = old.power; failures = 0 } in f) has_bit-one in
     record {
       ok = left;
       outside = λ s out. ap (λ (f : File). f.content s) left ∙ landed-outside (λ i. i == 0) first bytes content s out;

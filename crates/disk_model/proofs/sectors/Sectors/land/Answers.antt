@@ -11,7 +11,8 @@ returns-then-front-bytes-clause-ok c s =
     let bytes = c.args.bytes.now in
     let front = c.front_len-front.result in
     let whole : front ≡ 512 * (front / 512) = omega arith in
-    let one = c.land_in_run.ensures.content s ∙ landed-same (is_picked c.args.picks) first (take front bytes) (content_of c.make_room.new.self) (content_of c.args.self.now) s (c.make_room.ensures.content s) in
+    let one = c.land_in_run.ensures.content s ∙ landed-same (is_picked c.args.picks) first (take front bytes) (content_of c.make_room.new.self)
+    (content_of c.args.self.now) s (c.make_room.ensures.content s) in
     c.land_in_run-then-front-bytes.ensures.content s
     ∙ landed-twice (is_picked c.args.picks) (is_picked c.skip.result) first (128 * (first / 128 + 1)) (front / 512) bytes (take front bytes)
     (take (length bytes - front) (drop front bytes)) (content_of c.args.self.now) (content_of c.land_in_run.new.self) s

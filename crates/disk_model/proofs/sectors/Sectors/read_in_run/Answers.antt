@@ -22,4 +22,5 @@ returns-in-None c =
     let had = c.in-None.ensures.value in
     let old = c.args.self.now in
     sectors-read (content_of old) c.read-in-None.new.bytes c.args.first n (omega (arith, c.read-in-None.auto.bytes))
-    (λ i lt. c.read-in-None.ensures i lt ∙ sym (content_by-in_run (get nat_cmp old.runs) (single_of old.singles) c.args.first i (omega arith) ∙ rw (← had) refl))
+    (λ i lt. c.read-in-None.ensures i lt ∙ sym (content_by-in_run (get nat_cmp old.runs) (single_of old.singles) c.args.first i (omega arith)
+    ∙ rw (← had) refl))

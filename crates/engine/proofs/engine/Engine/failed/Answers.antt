@@ -14,12 +14,14 @@ use Rattle.engine.proofs.engine.Engine.failed.Goals as goal
 
 pub invariant_of-self : goal.invariant_of-self
 invariant_of-self c =
-    let opened = open_from_verdict (origin_in c.self.inside) c.self.inside.window.open_writes c.args.ticket (c.in_ok-check.ensures ∙ ap (λ (r : Running). ticket_answer r.origin r.kept.open_writes c.args.ticket) (sym c.self.view_is)) in
+    let opened = open_from_verdict (origin_in c.self.inside) c.self.inside.window.open_writes c.args.ticket
+    (c.in_ok-check.ensures ∙ ap (λ (r : Running). ticket_answer r.origin r.kept.open_writes c.args.ticket) (sym c.self.view_is)) in
     absurd (not_refused (has c.self.inside.window.open_writes c.args.ticket.seq) _ opened c.in_err-fail.ensures.answer)
 
 pub returns-in_err-fail-clause-answer : goal.returns-in_err-fail-clause-answer
 returns-in_err-fail-clause-answer c =
-    let opened = open_from_verdict (origin_in c.self.inside) c.self.inside.window.open_writes c.args.ticket (c.in_ok-check.ensures ∙ ap (λ (r : Running). ticket_answer r.origin r.kept.open_writes c.args.ticket) (sym c.self.view_is)) in
+    let opened = open_from_verdict (origin_in c.self.inside) c.self.inside.window.open_writes c.args.ticket
+    (c.in_ok-check.ensures ∙ ap (λ (r : Running). ticket_answer r.origin r.kept.open_writes c.args.ticket) (sym c.self.view_is)) in
     absurd (not_refused (has c.self.inside.window.open_writes c.args.ticket.seq) _ opened c.in_err-fail.ensures.answer)
 
 pub invariant_of-self-2 : goal.invariant_of-self-2

@@ -10,13 +10,15 @@ use Rattle.engine.proofs.engine.Engine.open_write.Goals as goal
 pub returns-in-Some-clause-value : goal.returns-in-Some-clause-value
 returns-in-Some-clause-value c =
     let asked = λ (w : OpenWrite). eqb w.seq c.args.seq in
-    ticket_found (origin_in c.self.inside) c.args.seq c.self.inside.window.open_writes (Some c.in-Some.write) (c.in-Some.ensures ∙ ap (find asked) (c.deref.ensures.value ∙ c.self.invariant.open_writes))
+    ticket_found (origin_in c.self.inside) c.args.seq c.self.inside.window.open_writes (Some c.in-Some.write)
+    (c.in-Some.ensures ∙ ap (find asked) (c.deref.ensures.value ∙ c.self.invariant.open_writes))
     ∙ ap (λ (r : Running). open_ticket r.origin r.kept.open_writes c.args.seq) c.self.view_is
 
 pub returns-in-None-clause-value : goal.returns-in-None-clause-value
 returns-in-None-clause-value c =
     let asked = λ (w : OpenWrite). eqb w.seq c.args.seq in
-    ticket_found (origin_in c.self.inside) c.args.seq c.self.inside.window.open_writes None (c.in-None.ensures ∙ ap (find asked) (c.deref.ensures.value ∙ c.self.invariant.open_writes))
+    ticket_found (origin_in c.self.inside) c.args.seq c.self.inside.window.open_writes None
+    (c.in-None.ensures ∙ ap (find asked) (c.deref.ensures.value ∙ c.self.invariant.open_writes))
     ∙ ap (λ (r : Running). open_ticket r.origin r.kept.open_writes c.args.seq) c.self.view_is
 
 pub returns-in-Some-clause-history : goal.returns-in-Some-clause-history

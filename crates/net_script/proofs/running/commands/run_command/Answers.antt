@@ -18,7 +18,8 @@ returns-in_ok-write_told-in-Ok g c setup before stands =
     let ends = c.in-Ok.ensures setup before stands in
     let p = told_prints c.sent_are_frames.ensures setup before e t _ stands.few ends.0 (c.frames.ensures setup (world setup (e ∷ before)) ends.1) in (
       subst (Appends (g.W.Write.contents c.args.writer.now) (g.W.Write.contents c.write_told.new.writer))
-          (ap (λ a. flat_map with_line_feed ((answer_line t.answer ∷ sent_lines t.first p.sent) ++ act_lines a t.act)) (c.addressee_of-addressee.ensures setup before stands)
+          (ap (λ a. flat_map with_line_feed ((answer_line t.answer ∷ sent_lines t.first p.sent) ++ act_lines a t.act))
+          (c.addressee_of-addressee.ensures setup before stands)
           ∙ ap (flat_map with_line_feed) (sym p.lines))
           (c.in_ok-write_told-in-Ok.ensures p.sent p.bytes),
       ends.1,
@@ -29,6 +30,7 @@ pub returns-in-Err : goal.returns-in-Err
 returns-in-Err g c setup before stands =
     let e = happens c.args.command.now c.args.text.now in
     let fault = c.in-Err.fault in
-    if_ok_is (HasCome setup before e c.apply.new.world (g.W.Write.contents c.args.writer.now) (g.W.Write.contents c.refuse.new.writer)) c.refuse.result (refused_by (sort_of fault))
+    if_ok_is (HasCome setup before e c.apply.new.world (g.W.Write.contents c.args.writer.now) (g.W.Write.contents c.refuse.new.writer)) c.refuse.result
+    (refused_by (sort_of fault))
     (λ wrote. refused_comes setup before e (sort_of fault) fault c.apply.new.world _ _ (c.in-Err.ensures setup before stands) wrote)
     c.refuse.ensures.text c.refuse.ensures.ran

@@ -13,11 +13,13 @@ loop-order-preserved-then-faults g c = (
   λ setup before stands.
       let s = c.loop-order.invariant.0 setup before stands in
       let more = c.in-Answered.more in
-      subst (RunSoFar setup before (orders_left c.args.orders.now) (orders_left c.next.new.self) c.run_command.new.world (g.W.Write.contents c.args.writer.now) (g.W.Write.contents c.run_command.new.writer))
+      subst (RunSoFar setup before (orders_left c.args.orders.now) (orders_left c.next.new.self) c.run_command.new.world (g.W.Write.contents c.args.writer.now)
+      (g.W.Write.contents c.run_command.new.writer))
       (ap (λ f. f || more) c.if-faults.true ∙ sym c.if-faults.true)
       (command_run setup before _ _ _ _ _ _ _ _ more c.in-Asks.line c.in-Asks.command c.in-Asks.text.now _ s
       (c.in-Some.ensures.orders ∙ ap (λ o. as_order o ∷ orders_left c.next.new.self) c.in-Asks.is)
-      (subst (HasCome setup s.behind (happens c.in-Asks.command c.in-Asks.text.now) c.run_command.new.world _ _) c.in-Answered.is (c.in_ok-more-in-Asks.ensures setup s.behind s.stands))),
+      (subst (HasCome setup s.behind (happens c.in-Asks.command c.in-Asks.text.now) c.run_command.new.world _ _) c.in-Answered.is
+      (c.in_ok-more-in-Asks.ensures setup s.behind s.stands))),
   c.next.ensures.number,
 )
 
@@ -26,10 +28,12 @@ loop-order-preserved g c = (
   λ setup before stands.
       let s = c.loop-order.invariant.0 setup before stands in
       let more = c.in-Answered.more in
-      subst (RunSoFar setup before (orders_left c.args.orders.now) (orders_left c.next.new.self) c.run_command.new.world (g.W.Write.contents c.args.writer.now) (g.W.Write.contents c.run_command.new.writer))
+      subst (RunSoFar setup before (orders_left c.args.orders.now) (orders_left c.next.new.self) c.run_command.new.world (g.W.Write.contents c.args.writer.now)
+      (g.W.Write.contents c.run_command.new.writer))
       (ap (λ f. f || more) c.if-faults.false)
       (command_run setup before _ _ _ _ _ _ _ _ more c.in-Asks.line c.in-Asks.command c.in-Asks.text.now _ s
       (c.in-Some.ensures.orders ∙ ap (λ o. as_order o ∷ orders_left c.next.new.self) c.in-Asks.is)
-      (subst (HasCome setup s.behind (happens c.in-Asks.command c.in-Asks.text.now) c.run_command.new.world _ _) c.in-Answered.is (c.in_ok-more-in-Asks.ensures setup s.behind s.stands))),
+      (subst (HasCome setup s.behind (happens c.in-Asks.command c.in-Asks.text.now) c.run_command.new.world _ _) c.in-Answered.is
+      (c.in_ok-more-in-Asks.ensures setup s.behind s.stands))),
   c.next.ensures.number,
 )

@@ -12,6 +12,7 @@ returns g c setup stands line =
     let old = g.W.Write.contents c.args.writer.now in
     let mid = g.W.Write.contents c.writeln.new.self in
     let new = g.W.Write.contents c.run_commands.new.writer in
-    if_ok (RunOrders (lines_in setup []) are_commands (status_in setup []) orders mid new) (RunOrders lines_of_orders reads_well status_of_orders (Opens line setup ∷ orders) old new) c.run_commands.result
+    if_ok (RunOrders (lines_in setup []) are_commands (status_in setup []) orders mid new)
+    (RunOrders lines_of_orders reads_well status_of_orders (Opens line setup ∷ orders) old new) c.run_commands.result
     (λ status ran. opened line setup orders old mid new status c.in_ok-writeln.ensures.bytes ran)
     (c.run_commands.ensures setup [] stands)

@@ -17,13 +17,16 @@ loop-k-preserved c =
       gone = elim c.if-counts.branch [
         | then-counts w ↦
             step_counted job state k c.in-Some.block w.of.result c.loop-k.last.items _ c.loop-k.in_flight.items _
-            (sym c.counts.ensures ∙ w.if-counts.true) block w.of.ensures (ap (λ v. v.items) w.last-is) (ap (λ v. v.items) w.in_flight-is) c.loop-k.invariant.gone
+            (sym c.counts.ensures ∙ w.if-counts.true) block w.of.ensures (ap (λ v. v.items) w.last-is)
+            (ap (λ v. v.items) w.in_flight-is) c.loop-k.invariant.gone
         | else-counts+in_ok-push w ↦
             step_in_flight job state k c.in-Some.block c.loop-k.last.items _ c.loop-k.in_flight.items _
-            (sym c.counts.ensures ∙ w.if-counts.false) block (ap (λ v. v.items) w.last-is) (ap (λ v. v.items) w.in_flight-is ∙ w.in_ok-push.ensures.items) c.loop-k.invariant.gone
+            (sym c.counts.ensures ∙ w.if-counts.false) block (ap (λ v. v.items) w.last-is)
+            (ap (λ v. v.items) w.in_flight-is ∙ w.in_ok-push.ensures.items) c.loop-k.invariant.gone
       ];
     }
 
 pub returns : goal.returns
 returns c =
-    gone_all c.args.key c.args.rec.now (option_copied c.args.state) c.loop-k.k c.loop-k.last.items c.loop-k.in_flight.items (omega (arith, c.loop-k-test.false, c.loop-k.auto.k-end, c.issued_in-k-end.ensures)) c.loop-k.invariant.gone
+    gone_all c.args.key c.args.rec.now (option_copied c.args.state) c.loop-k.k c.loop-k.last.items c.loop-k.in_flight.items
+    (omega (arith, c.loop-k-test.false, c.loop-k.auto.k-end, c.issued_in-k-end.ensures)) c.loop-k.invariant.gone

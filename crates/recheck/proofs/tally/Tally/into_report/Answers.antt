@@ -4,7 +4,8 @@ use Rattle.recheck.proofs.tally.Tally.into_report.Goals as goal
 
 pub unreachable-requires : goal.unreachable-requires
 unreachable-requires c =
-    let good = sym c.in-Err.is ∙ told_by c.args.self c.self.inside.next c.self.inside.checked c.self.inside.faults _ c.self.inside.first c.args.end c.make.result
+    let good = sym c.in-Err.is ∙ told_by c.args.self c.self.inside.next c.self.inside.checked c.self.inside.faults _ c.self.inside.first c.args.end
+    c.make.result
     c.self.view_is refl c.self.invariant.next c.self.invariant.checked c.self.invariant.faults
     (record { listed = c.self.invariant.listed; ascending = c.self.invariant.ascending; below = c.self.invariant.below }) c.requires c.make.ensures in
     absurd cc

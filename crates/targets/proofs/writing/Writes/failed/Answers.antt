@@ -5,5 +5,7 @@ use Rattle.targets.proofs.writing.Writes.failed.Goals as goal
 
 pub returns-in-Some-clause-less : goal.returns-in-Some-clause-less
 returns-in-Some-clause-less c ok =
-    let opened = open_is c.args.self.now.engine.origin c.args.self.now.engine.kept.open_writes c.args.seq c.in-Some.ticket (sym c.open_write.ensures.value ∙ c.in-Some.is) in
-    less_by_fail c.args.self.now.engine c.failed.new.self c.args.seq c.in-Some.ticket.seq (is_ok c.failed.result) (sym c.is_ok.ensures.value ∙ ok) c.failed.ensures.left opened.1 opened.0
+    let opened = open_is c.args.self.now.engine.origin c.args.self.now.engine.kept.open_writes c.args.seq c.in-Some.ticket
+    (sym c.open_write.ensures.value ∙ c.in-Some.is) in
+    less_by_fail c.args.self.now.engine c.failed.new.self c.args.seq c.in-Some.ticket.seq (is_ok c.failed.result)
+    (sym c.is_ok.ensures.value ∙ ok) c.failed.ensures.left opened.1 opened.0

@@ -15,9 +15,11 @@ loop-ticket-init g c = record {
 pub loop-ticket-preserved : goal.loop-ticket-preserved
 loop-ticket-preserved g c =
     let running = c.loop-ticket.self.engine in
-    let written = write_is running.origin running.stopped running.failed running.kept.issued running.kept.in_flight c.in-Write.ticket c.in-Write.ensures.answer in
+    let written =
+    write_is running.origin running.stopped running.failed running.kept.issued running.kept.in_flight c.in-Write.ticket c.in-Write.ensures.answer in
     record {
-      orders = λ h stands. one_more c.args.self.now.engine.origin h running c.issue.new.self _ _ _ c.in-Write.ticket.seq c.in-Write.ticket.key c.loop-ticket.self.rec (c.loop-ticket.invariant.orders h stands)
+      orders = λ h stands. one_more c.args.self.now.engine.origin h running c.issue.new.self _ _ _ c.in-Write.ticket.seq c.in-Write.ticket.key
+          c.loop-ticket.self.rec (c.loop-ticket.invariant.orders h stands)
           c.in-Write.ensures.added c.in_ok-put_order.ensures
           (ap (λ (t : Ticket). t.key) written.0 ∙ ap (λ (o : Origin). o.key) c.loop-ticket.invariant.origin)
           (sym c.loop-ticket.self.of_job ∙ ap (λ (o : Origin). o.job) c.loop-ticket.invariant.origin);

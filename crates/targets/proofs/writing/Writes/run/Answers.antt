@@ -15,7 +15,8 @@ returns-in-Some g c first_input first_text so_far =
     let new_text = g.W.Write.contents c.step.new.writer in
     subst (λ o. IfSome first_input (λ whole. Runs o whole first_text new_text c.in-Some.end)) c.loop-end.invariant.origin
     (step_ends c.loop-end.self.engine c.step.new.self.engine first_input input new_input first_text text new_text c.in-Some.end now
-    (subst (Steps now.history c.loop-end.self.engine c.step.new.self.engine input new_input text new_text) c.in-Some.is (c.in_ok-end.ensures.step now.history now.stands)))
+    (subst (Steps now.history c.loop-end.self.engine c.step.new.self.engine input new_input text new_text) c.in-Some.is
+    (c.in_ok-end.ensures.step now.history now.stands)))
 
 pub loop-end-preserved : goal.loop-end-preserved
 loop-end-preserved g c =
@@ -27,6 +28,7 @@ loop-end-preserved g c =
       so_far = λ first_input first_text so_far.
           let now = c.loop-end.invariant.so_far first_input first_text so_far in
           (step_goes_on c.loop-end.self.engine c.step.new.self.engine first_input input new_input first_text text new_text now
-          (subst (Steps now.history c.loop-end.self.engine c.step.new.self.engine input new_input text new_text) c.in_default.is (c.in_ok-end.ensures.step now.history now.stands))).0;
+          (subst (Steps now.history c.loop-end.self.engine c.step.new.self.engine input new_input text new_text) c.in_default.is
+          (c.in_ok-end.ensures.step now.history now.stands))).0;
       origin = c.step.ensures.origin ∙ c.loop-end.invariant.origin;
     }

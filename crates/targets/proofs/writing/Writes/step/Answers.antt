@@ -15,5 +15,9 @@ returns-in-Ok-clause-step g c h stands =
       | else-buffer-lt-NOTICE w ↦ rw (w.writer-is) (Keeps-refl first)
     ] in
     if_ok (FollowsBy c.in-Ok.notice h c.args.self.now.engine c.follow.new.self.engine mid (g.W.Write.contents c.follow.new.writer)) _ c.follow.result
-    (λ end follows. inl (c.in-Ok.notice, c.in-Ok.ensures, flushed c.in-Ok.notice h c.args.self.now.engine c.follow.new.self.engine first mid _ end kept follows))
+    (λ end follows. inl (
+      c.in-Ok.notice,
+      c.in-Ok.ensures,
+      flushed c.in-Ok.notice h c.args.self.now.engine c.follow.new.self.engine first mid _ end kept follows,
+    ))
     (c.follow.ensures.step h stands)

@@ -14,7 +14,8 @@ pub counts_alike-requires-clause-other : goal.counts_alike-requires-clause-other
 counts_alike-requires-clause-other c =
     let s = c.self.inside in
     let t = c.other.inside in
-    let window : s.rec.window ≡ t.rec.window = ap (λ (x : State). x.job.window) c.self.view_is ∙ c.requires.window ∙ sym (ap (λ (x : State). x.job.window) c.other.view_is) in
+    let window : s.rec.window ≡ t.rec.window =
+    ap (λ (x : State). x.job.window) c.self.view_is ∙ c.requires.window ∙ sym (ap (λ (x : State). x.job.window) c.other.view_is) in
     let issued : s.issued ≡ t.issued = ap (λ (x : State). x.issued) c.self.view_is ∙ c.requires.issued ∙ sym (ap (λ (x : State). x.issued) c.other.view_is) in
     rw (c.window.ensures.value, window, issued) (ends t.rec t.issued t.marks c.other.invariant.come)
 
@@ -22,7 +23,8 @@ pub returns : goal.returns
 returns c =
     let s = c.self.inside in
     let t = c.other.inside in
-    let window : s.rec.window ≡ t.rec.window = ap (λ (x : State). x.job.window) c.self.view_is ∙ c.requires.window ∙ sym (ap (λ (x : State). x.job.window) c.other.view_is) in
+    let window : s.rec.window ≡ t.rec.window =
+    ap (λ (x : State). x.job.window) c.self.view_is ∙ c.requires.window ∙ sym (ap (λ (x : State). x.job.window) c.other.view_is) in
     let issued : s.issued ≡ t.issued = ap (λ (x : State). x.issued) c.self.view_is ∙ c.requires.issued ∙ sym (ap (λ (x : State). x.issued) c.other.view_is) in
     c.counts_alike.ensures
     ∙ ap (λ w. bytes_eq (counted_by w s.issued s.marks) (counted_by w s.issued t.marks)) c.window.ensures.value

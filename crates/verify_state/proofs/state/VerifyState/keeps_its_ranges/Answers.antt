@@ -10,7 +10,8 @@ pub returns : goal.returns
 returns c =
     let s = c.self.inside in
     let kept = c.self.invariant in
-    let again : marks_in (state_of_fields s) ≡ s.marks = marks_again s.rec.window s.issued s.marks kept.four kept.words (ends s.rec s.issued s.marks kept.come) in
+    let again : marks_in (state_of_fields s) ≡ s.marks =
+    marks_again s.rec.window s.issued s.marks kept.four kept.words (ends s.rec s.issued s.marks kept.come) in
     let made : IsState (state_of_fields s) = record {
       key = kept.key;
       run = c.run_in_range.ensures;

@@ -14,7 +14,8 @@ returns c =
     let kept = c.self.invariant in
     let state : State = state_of_fields s in
     let bytes = c.args.bytes.now.items in
-    let marks : words s.marks ≡ words (marks_in state) = ap words (sym (marks_again s.rec.window s.issued s.marks kept.four kept.words (ends s.rec s.issued s.marks kept.come))) in
+    let marks : words s.marks ≡ words (marks_in state) =
+    ap words (sym (marks_again s.rec.window s.issued s.marks kept.four kept.words (ends s.rec s.issued s.marks kept.come))) in
     let floor : c.floor.result ≡ floor_in state = c.floor.ensures ∙ ap floor_in (sym c.self.view_is) in
     rw (← c.self.view_is)
     (spelled_on state bytes _ _ _ _ _ _ _ _ _ _

@@ -10,8 +10,15 @@ invariant_of-self c =
     let k = c.seq.inside.0 in
     let opened = ap (λ (f : Flights). has f.open_writes k) c.self.view_is ∙ ap (has c.args.self.now.open_writes) c.seq.view_is ∙ c.requires in
     let flying = open_flies i.marks i.open_marks i.window i.issued k opened in
-    let wrote = rw c.slot-slot.ensures.value at c.clear.ensures in
-    (c.self.invariant.0, c.self.invariant.1, omega (arith, length-marked-done i.marks c.clear.new.self i.window i.issued k (omega arith) (omega arith) flying wrote), c.self.invariant.3)
+    let wrote = rw c.slot-slot.ensures.value at c.clear.ensures in (
+      c.self.invariant.0,
+      c.self.invariant.1,
+      omega (
+        arith,
+        length-marked-done i.marks c.clear.new.self i.window i.issued k (omega arith) (omega arith) flying wrote,
+      ),
+      c.self.invariant.3,
+    )
 
 pub returns : goal.returns
 returns c =

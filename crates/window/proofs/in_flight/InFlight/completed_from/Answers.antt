@@ -12,4 +12,5 @@ returns c =
     let i = c.self.inside in
     let flying = rw c.slot-slot.ensures.value at c.around-flying.ensures in
     let near = rw (← c.self.view_is) at c.requires in
-    rw (← c.self.view_is) (completed_word i.marks i.window i.issued c.args.first c.around-flying.result c.low_bits.result (search rules) (search rules) near (omega arith) flying c.low_bits.ensures)
+    rw (← c.self.view_is) (completed_word i.marks i.window i.issued c.args.first c.around-flying.result c.low_bits.result (search rules) (search rules) near
+    (omega arith) flying c.low_bits.ensures)

@@ -15,8 +15,12 @@ invariant_of-self c =
     let i = c.self.inside in
     let none = ap (λ (f : Flights). list_any (λ j. leb (j + f.window) f.issued) f.in_flight) c.self.view_is ∙ c.requires.clear in
     let wrote = rw c.slot-slot.ensures.value at c.set.ensures in
-    let more = marked-issue i.marks c.set.new.self i.window i.issued (omega arith) (omega arith) none wrote in
-    (c.self.invariant.0, c.self.invariant.1, omega (arith, ap length more, length_push (marked_numbers i.marks i.window i.issued) i.issued), omega (arith, ap (λ (f : Flights). f.issued) c.self.view_is))
+    let more = marked-issue i.marks c.set.new.self i.window i.issued (omega arith) (omega arith) none wrote in (
+      c.self.invariant.0,
+      c.self.invariant.1,
+      omega (arith, ap length more, length_push (marked_numbers i.marks i.window i.issued) i.issued),
+      omega (arith, ap (λ (f : Flights). f.issued) c.self.view_is),
+    )
 
 pub returns : goal.returns
 returns c =

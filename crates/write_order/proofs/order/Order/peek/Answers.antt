@@ -10,7 +10,8 @@ pub returns-in-WithMap-clause-value : goal.returns-in-WithMap-clause-value
 returns-in-WithMap-clause-value c =
     let o = c.self.inside in
     let r = c.pick.result in
-    let picked = picked_is_block o.rec o.issued _ r o.words o.chooser c.in-WithMap.pass c.in-WithMap.is c.self.invariant.chooser c.self.invariant.words c.first-word.ensures c.pick.ensures in
+    let picked = picked_is_block o.rec o.issued _ r o.words o.chooser c.in-WithMap.pass c.in-WithMap.is c.self.invariant.chooser c.self.invariant.words
+    c.first-word.ensures c.pick.ensures in
     let more : o.issued < o.rec.total = omega arith in
     let block : r ≡ block_of o.rec o.issued = rw picked.0 picked.1 in
     let P : Progress → Type 0 = λ at. Some r ≡ next_block at in
@@ -20,7 +21,8 @@ pub returns-in-WithMap-clause-range : goal.returns-in-WithMap-clause-range
 returns-in-WithMap-clause-range c =
     let o = c.self.inside in
     let r = c.pick.result in
-    let picked = picked_is_block o.rec o.issued _ r o.words o.chooser c.in-WithMap.pass c.in-WithMap.is c.self.invariant.chooser c.self.invariant.words c.first-word.ensures c.pick.ensures in
+    let picked = picked_is_block o.rec o.issued _ r o.words o.chooser c.in-WithMap.pass c.in-WithMap.is c.self.invariant.chooser c.self.invariant.words
+    c.first-word.ensures c.pick.ensures in
     let some : 0 < o.rec.blocks = omega arith in
     let P : Progress → Type 0 = λ at. r < at.job.blocks in
     subst P c.self.view_is (rw picked.1 (block_with_map-below (word o.rec.seed) o.rec.blocks o.issued some))

@@ -16,7 +16,8 @@ invariant_of-self-else-self-eq0 c =
       some = omega arith;
       within = omega arith;
       whole = len ∙ c.self.invariant.whole;
-      behind = ap (drop last) is ∙ drop-taken_out pass.blocks pass.list.items index last pass.left _ (omega arith) c.index_of-index.ensures.range c.self.invariant.within c.self.invariant.whole c.self.invariant.behind;
+      behind = ap (drop last) is ∙ drop-taken_out pass.blocks pass.list.items index last pass.left _
+          (omega arith) c.index_of-index.ensures.range c.self.invariant.within c.self.invariant.whole c.self.invariant.behind;
     }
 
 pub returns-then-self-eq0 : goal.returns-then-self-eq0
@@ -27,7 +28,8 @@ returns-then-self-eq0 c words k at next =
     let last = pass.left - 1 in
     let is = items-taken_out pass.list _ _ index last c.deref_mut.ensures.value c.deref_mut.ensures.len c.take_out.ensures in
     let len = ap length is ∙ length-taken_out pass.list.items index last _ ∙ c.self.invariant.whole in
-    let behind = ap (drop last) is ∙ drop-taken_out pass.blocks pass.list.items index last pass.left _ (omega arith) c.index_of-index.ensures.range c.self.invariant.within c.self.invariant.whole c.self.invariant.behind in
+    let behind = ap (drop last) is ∙ drop-taken_out pass.blocks pass.list.items index last pass.left _
+    (omega arith) c.index_of-index.ensures.range c.self.invariant.within c.self.invariant.whole c.self.invariant.behind in
     let anew = whole_again pass.blocks _ last c.if-self-eq0.true len behind in
     let blocks = ap (λ (p : PassLeft). p.blocks) c.self.view_is in
     same_pass _ _ _ _ blocks (rest_starts_anew words _ k pass.left pass.list.items _ left (omega arith) (omega arith) (anew ∙ ap (range_with_len 0) blocks))
@@ -41,4 +43,5 @@ returns-else-self-eq0 c words k at next =
     let is = items-taken_out pass.list _ _ index last c.deref_mut.ensures.value c.deref_mut.ensures.len c.take_out.ensures in
     let blocks = ap (λ (p : PassLeft). p.blocks) c.self.view_is in
     same_pass _ _ _ _ blocks
-    (ap (take last) is ∙ rest_goes_on words _ k c.args.word index last pass.left _ pass.list.items left next c.index_of-index.ensures.value c.index_of-index.ensures.range (omega arith) (omega arith) (omega arith) refl)
+    (ap (take last) is ∙ rest_goes_on words _ k c.args.word index last pass.left _ pass.list.items left next c.index_of-index.ensures.value
+    c.index_of-index.ensures.range (omega arith) (omega arith) (omega arith) refl)
