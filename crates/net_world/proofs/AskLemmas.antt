@@ -40,8 +40,9 @@ use Rattle.net_world.specs.Changes.{Change, steps, trace}
 use Rattle.net_world.specs.Barred.{unless_on, is_on, unless}
 use Rattle.net_world.specs.World.{frames}
 use Rattle.net_world.specs.Sending.{sent_in}
+use Rattle.net_world.specs.Nodes as any_node
 use Rattle.net_world.specs.ClientNodes as nodes
-use Rattle.net_world.specs.ClientNodes.{is_up, handed_in}
+use Rattle.net_world.specs.ClientNodes.{client_nodes, is_up, handed_in}
 use Rattle.net_world.specs.Stands.{IsMirror, IsGreatest, StandsFor}
 use Rattle.net_world.specs.Asking.{entries, step_of, step_by, told_of, IsBarred, Refuses, Faults, ClientEnds}
 use Rattle.net_world.proofs.ClientHeardLemmas.{heard_is, frames_are, entry_again}
@@ -153,21 +154,21 @@ answered w past e asked first told old new stands h is tells =
     let es = entries w past in
     let a = h.asks o es stands.client_is in
     let sent : asked.frames ≡ map frame_spelling (frames_of_step w (steps past) (step_by w past e)) =
-    a.frames_are ∙ ap (map frame_spelling) (frames_are w past (answers.answered_entry o es e)) in
+    a.1.sends.frames_are ∙ ap (map frame_spelling) (frames_are w past (answers.answered_entry o es e)) in
     record {
-      on = is_there w past a.on;
-      free = a.free;
+      on = is_there w past a.1.on;
+      free = a.1.free;
       told_is =
           tells
           ∙ same_told first (length (frames_sent w (steps past))) (length (frames_of_step w (steps past) (step_by w past e))) asked (nodes.answer_to o es e)
           (is ∙ first_is w past old stands)
           (ap (λ (fs : List (List ℕ)). length fs) sent ∙ length-map (frames_of_step w (steps past) (step_by w past e)) frame_spelling)
-          a.answer_is;
-      stands = client_stepped w past (answers.answered_entry o es e) asked.frames old new stands h.moved sent a.stands refl;
+          a.0;
+      stands = client_stepped w past (answers.answered_entry o es e) asked.frames old new stands h.moved sent a.1.stands refl;
     }
 
 refused : (w : Setup) (past : List Change) (e : Input) (fault : Fault) (old new : World) → StandsFor w past old → HasAsked e (Err fault) [] old new
-    → nodes.IsOff (client_opening w) (entries w past) fault new.client ⊎ nodes.Refuses (client_opening w) (entries w past) e fault new.client
+    → any_node.IsOff (client_nodes (client_opening w)) (entries w past) fault new.client ⊎ any_node.Refuses (client_nodes (client_opening w)) (entries w past) e fault new.client
     → IsBarred w past fault new ⊎ Refuses w past e fault new
 refused w past e fault old new stands h (inl off) =
     inl (record { why = is_off w past off.off ∙ ap Some (sym off.why); unchanged = client_kept w past old new stands h.moved off.unchanged })
@@ -182,7 +183,7 @@ refused w past e fault old new stands h (inr r) =
     })
 
 by_sort : (w : Setup) (past : List Change) (e : Input) (fault : Fault) (old new : World) → StandsFor w past old → HasAsked e (Err fault) [] old new
-    → (sort : FaultSort) → nodes.Faults (client_opening w) (entries w past) e sort fault new.client → Faults w past e sort fault new
+    → (sort : FaultSort) → any_node.Faults (client_nodes (client_opening w)) (entries w past) e sort fault new.client → Faults w past e sort fault new
 by_sort w past e fault old new stands h sorts.Memory f = (f.0, client_kept w past old new stands h.moved f.1)
 by_sort w past e fault old new stands h sorts.Save f = f
 by_sort w past e fault old new stands h sorts.Refusal f = refused w past e fault old new stands h f

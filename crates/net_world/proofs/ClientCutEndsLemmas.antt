@@ -32,17 +32,18 @@ use Rattle.net_world.specs.Frames.{OfClient, frames_sent, frames_of_step}
 use Rattle.net_world.specs.Changes as changes
 use Rattle.net_world.specs.Changes.{Change, steps, trace}
 use Rattle.net_world.specs.Barred.{unless_on, unless, barring_fault}
-use Rattle.net_world.specs.Outcomes.{Does, Refuses, outcome_of_step, where_saved, client_cut_in, client_frame_cut, delivery_cut_in, frame_cut, said_to_client, brings, lost_by}
+use Rattle.net_world.specs.Outcomes.{Does, Refuses, outcome_of_step, client_cut_in, client_frame_cut, delivery_cut_in, frame_cut, said_to_client, brings, lost_by}
 use Rattle.net_world.specs.World.{answer, act}
 use Rattle.net_world.specs.declared.told.WorldAnswer.TheVariants.{Plain}
 use Rattle.net_world.specs.Setup.{Setup}
 use Rattle.net_world.specs.Telling.{plainly_told}
 use Rattle.net_world.specs.Sending.{sent_in}
-use Rattle.net_world.specs.ClientNodes.{CutsIn}
+use Rattle.net_world.specs.Nodes.{CutsIn}
+use Rattle.net_world.specs.ClientNodes.{client_nodes}
 use Rattle.net_world.specs.Stands.{StandsFor}
 use Rattle.net_world.specs.Ends.{Ends}
 use Rattle.net_world.specs.Asking.{entries, step_of}
-use Rattle.net_world.proofs.EndsLemmas.{goes, stops, refuses}
+use Rattle.net_world.proofs.EndsLemmas.{goes, stops, refuses, some_save, no_save}
 use Rattle.net_world.proofs.AskLemmas.{up_is, HasMoved, client_kept}
 use Rattle.net_world.proofs.ClientPlainLemmas.{plain_ends}
 use Rattle.net_world.proofs.ClientHeardLemmas.{heard_is, frames_are}
@@ -54,14 +55,14 @@ use Rattle.net_world.proofs.AskEndsLemmas.{client_act}
 pub record CutsClient (w : Setup) (past : List Change) (landed : Bool) (e : Happening) (i : Input) : Type 0 where
   pub bar : barring_fault w (trace w past) (frames_sent w (steps past)) e ≡ unless_on w (trace w past) Client
   pub saves : is_some (due (client_opening w) (entries w past) i) ≡ true → brings w past e ≡ Does (changes.Met (step_of (Met i (lost_by landed))))
-  pub none : due (client_opening w) (entries w past) i ≡ None → brings w past e ≡ Refuses NoSave
+  pub none : is_some (due (client_opening w) (entries w past) i) ≡ false → brings w past e ≡ Refuses NoSave
   pub answered : answer w past e ≡ Plain
   pub silent : frames_of_step w (steps past) (step_of (Met i (lost_by landed))) ≡ []
   pub asks : act w past (changes.Met (step_of (Met i (lost_by landed)))) ≡ acts.None
 
 -- It was cut.
 pub cut_ends : (w : Setup) (past : List Change) (landed : Bool) (e : Happening) (i : Input) (first : ℕ) (t : Told) (old new : World) → StandsFor w past old → HasMoved [] old new → CutsClient w past landed e i
-    → CutsIn (client_opening w) (entries w past) landed i new.client (Ok tt) → first ≡ length (sent_in old.sent) → t ≡ plainly_told first → Ends w past e new (Ok t)
+    → CutsIn (client_nodes (client_opening w)) (entries w past) landed i new.client (Ok tt) → first ≡ length (sent_in old.sent) → t ≡ plainly_told first → Ends w past e new (Ok t)
 cut_ends w past landed e i first t old new stands moved c cut f tells =
     plain_ends w past e (Met i (lost_by landed)) first t old new stands moved cut.2
     (record {
@@ -73,7 +74,7 @@ cut_ends w past landed e i first t old new stands moved c cut f tells =
 
 -- It wasn't.
 pub uncut_ends : (w : Setup) (past : List Change) (landed : Bool) (e : Happening) (i : Input) (fault : Fault) (old new : World) → StandsFor w past old → HasMoved [] old new → CutsClient w past landed e i
-    → CutsIn (client_opening w) (entries w past) landed i new.client (Err fault) → Ends w past e new (Err fault)
+    → CutsIn (client_nodes (client_opening w)) (entries w past) landed i new.client (Err fault) → Ends w past e new (Err fault)
 uncut_ends w past landed e i NodeOff old new stands moved c cut =
     refuses w past e NodeOff new refl (stops w past e NodeOff (c.bar ∙ ap (λ on. unless on NodeOff) (sym (up_is w past) ∙ cut.0))) (client_kept w past old new stands moved cut.1)
 uncut_ends w past landed e i NoSave old new stands moved c cut =
@@ -102,13 +103,6 @@ piece_silent o list landed Strays = refl
 
 -- ---- what comes of it
 
-pub some_save : {X Y : Type 0} (x : Option X) (y : Y) → is_some x ≡ true → where_saved x y ≡ Ok y
-some_save None y h = absurd cc
-some_save (Some a) y h = refl
-
-pub no_save : {X Y : Type 0} (x : Option X) (y : Y) → x ≡ None → where_saved x y ≡ Err NoSave
-no_save x y h = rw h refl
-
 module _ (w : Setup) (past : List Change) (landed : Bool) where
   call_saves : (c : Call) → is_some (words.due (client_opening w) (packets_heard (client_opening w) (entries w past)) c) ≡ true
       → outcome_of_step (client_cut_in w (trace w past) landed c) ≡ Does (changes.Met (OfClient (Happens (client.Met c (lost_by landed)))))
@@ -116,10 +110,10 @@ module _ (w : Setup) (past : List Change) (landed : Bool) where
       ap outcome_of_step (some_save (words.due (client_opening w) (of_client w (trace w past)) c) (OfClient (Happens (client.Met c (lost_by landed))))
       (ap (λ l. is_some (words.due (client_opening w) l c)) (sym (heard_is w past)) ∙ h))
 
-  call_none : (c : Call) → words.due (client_opening w) (packets_heard (client_opening w) (entries w past)) c ≡ None → outcome_of_step (client_cut_in w (trace w past) landed c) ≡ Refuses NoSave
+  call_none : (c : Call) → is_some (words.due (client_opening w) (packets_heard (client_opening w) (entries w past)) c) ≡ false → outcome_of_step (client_cut_in w (trace w past) landed c) ≡ Refuses NoSave
   call_none c h =
       ap outcome_of_step (no_save (words.due (client_opening w) (of_client w (trace w past)) c) (OfClient (Happens (client.Met c (lost_by landed))))
-      (ap (λ l. words.due (client_opening w) l c) (sym (heard_is w past)) ∙ h))
+      (ap (λ l. is_some (words.due (client_opening w) l c)) (sym (heard_is w past)) ∙ h))
 
   pub cuts_begin : (text : List ℕ) → CutsClient w past landed (CutIn landed (Begin text)) (inputs.Begin text)
   cuts_begin text = record {
@@ -148,11 +142,11 @@ module _ (w : Setup) (past : List Change) (landed : Bool) where
       some_save (words.due (client_opening w) (of_client w (trace w past)) (calls.Deliver p)) (OfClient (Comes f (lost_by landed)))
       (ap (λ l. is_some (words.due (client_opening w) l (calls.Deliver p))) (sym (heard_is w past)) ∙ h)
 
-  said_none : (f : Frame) (p : PacketParts) → words.due (client_opening w) (packets_heard (client_opening w) (entries w past)) (calls.Deliver p) ≡ None
+  said_none : (f : Frame) (p : PacketParts) → is_some (words.due (client_opening w) (packets_heard (client_opening w) (entries w past)) (calls.Deliver p)) ≡ false
       → client_frame_cut w (trace w past) landed f (Says p) ≡ Err NoSave
   said_none f p h =
       no_save (words.due (client_opening w) (of_client w (trace w past)) (calls.Deliver p)) (OfClient (Comes f (lost_by landed)))
-      (ap (λ l. words.due (client_opening w) l (calls.Deliver p)) (sym (heard_is w past)) ∙ h)
+      (ap (λ l. is_some (words.due (client_opening w) l (calls.Deliver p))) (sym (heard_is w past)) ∙ h)
 
   piece_saves : (q : PieceParts) (m : Meaning) → is_some (due_in (client_opening w) (packets_heard (client_opening w) (entries w past)) (sense_of q m)) ≡ true
       → client_frame_cut w (trace w past) landed (Piece q) m ≡ Ok (OfClient (Comes (Piece q) (lost_by landed)))
@@ -161,7 +155,7 @@ module _ (w : Setup) (past : List Change) (landed : Bool) where
   piece_saves q Spoils h = absurd cc
   piece_saves q Strays h = absurd cc
 
-  piece_none : (q : PieceParts) (m : Meaning) → due_in (client_opening w) (packets_heard (client_opening w) (entries w past)) (sense_of q m) ≡ None
+  piece_none : (q : PieceParts) (m : Meaning) → is_some (due_in (client_opening w) (packets_heard (client_opening w) (entries w past)) (sense_of q m)) ≡ false
       → client_frame_cut w (trace w past) landed (Piece q) m ≡ Err NoSave
   piece_none q (Says p) h = said_none (Piece q) p h
   piece_none q Waits h = refl
@@ -175,7 +169,7 @@ module _ (w : Setup) (past : List Change) (landed : Bool) where
       ap (client_frame_cut w (trace w past) landed (Piece q)) (sym (said_is w past (Piece q)))
       ∙ piece_saves q (meaning (rules (client_opening w)) (heard_at (client_opening w) (entries w past)) (Piece q)) h
 
-  frame_none : (f : Frame) → due (client_opening w) (entries w past) (inputs.Deliver f) ≡ None
+  frame_none : (f : Frame) → is_some (due (client_opening w) (entries w past) (inputs.Deliver f)) ≡ false
       → client_frame_cut w (trace w past) landed f (said_to_client w (steps past) f) ≡ Err NoSave
   frame_none (Whole p) h = said_none (Whole p) p h
   frame_none (Piece q) h =

@@ -1,11 +1,7 @@
 -- A client's node loses its power within a save.
-use Rattle.std.proofs.Common.{◌≡◌, refl, sym, ap, subst, inl, inr, Bool, true, false, ◌&&◌, List, ◌∷◌, Option, Some, None, Ok, Err}
+use Rattle.std.proofs.Common.{◌≡◌, refl, sym, ap, subst, Bool, true, false, ◌&&◌, List, ◌∷◌, Option, Some, None}
 use Rattle.std.specs.Prelude.{not, is_some}
 use Rattle.fc_base.specs.declared.fault.Fault.{Fault}
-use Rattle.fc_base.specs.declared.fault.Fault.TheVariants.{NoMemory, NoSave}
-use Rattle.fc_base.specs.declared.fault.FaultSort.{FaultSort}
-use Rattle.fc_base.specs.declared.fault.FaultSort.TheVariants as sorts
-use Rattle.fc_base.specs.Fault.{sort_of}
 use Rattle.disk_model.specs.MemNotes.{note_of}
 use Rattle.disk_model.specs.declared.left.Left.{Left}
 use Rattle.disk_model.specs.declared.left.Left.TheVariants.{Saved, LostNew, LostOld}
@@ -26,11 +22,11 @@ use Rattle.client_core.specs.Words as words
 use Rattle.client_core.specs.Words.{words_noted}
 use Rattle.client_core.specs.Saves.{Addition, unless_refused, due_by, noted_after}
 use Rattle.client_core.specs.Hearing.{FrameEntry, Met, Cut, rules, heard_at, packets_heard}
-use Rattle.client_core.specs.FrameAnswers.{Sense, Hears, Keeps, Drops, Misses, sense, sense_of, refusal, refusal_in, due, due_in, answered_entry}
-use Rattle.net_world.specs.declared.asked.Asked.{Asked}
+use Rattle.client_core.specs.FrameAnswers.{Sense, Hears, Keeps, Drops, Misses, sense, sense_of, refusal_in, due, due_in, answered_entry}
 use Rattle.net_world.specs.declared.client_node.ClientNode.{ClientNode}
 use Rattle.net_world.specs.declared.client_node.ClientNode.TheVariants.{On, Off}
-use Rattle.net_world.specs.ClientNodes.{is_up, Stands, IsEmptyIfBlank, Faults, Asks, CutsIn}
+use Rattle.net_world.specs.ClientNodes.{client_nodes, is_up, Stands, IsEmptyIfBlank}
+use Rattle.net_world.proofs.NodeLemmas.{Saves, never}
 
 -- ---- what the note says behind what a save left
 
@@ -102,32 +98,16 @@ down o past inputs.Tick left h d = falls (is_up o past) (is_lost left) h
 
 off_again : (o : Opening) (a b : List FrameEntry) (node : ClientNode) → Stands o a node → is_up o a ≡ false → is_up o b ≡ false → said o a ≡ said o b → Stands o b node
 unfolding said
-off_again o a b (On client) s up off same = absurd (both (is_up o a) s.1 up)
-  where
-    both : (t : Bool) → t ≡ true → t ≡ false → ⊥
-    both true h k = cc
-    both false h k = cc
+off_again o a b (On client) s up off same = absurd (never (is_up o a) s.1 up)
 off_again o a b (Off notes) s up off same = (
   subst (λ n. NoteSays (note_of notes).bytes n) same s.0,
   off,
   subst (λ n. IsEmptyIfBlank (note_of notes).bytes n) same s.2,
 )
 
-saves : (x : Option Addition) → is_some x ≡ true → saved_for x ≡ Saved
-saves None h = cc
-saves (Some a) h = refl
-
--- The new bytes have landed.
-pub landed_new : (o : Opening) (past : List FrameEntry) (e : Input) (node : ClientNode) → is_some (due o past e) ≡ true → Stands o (Cut ∷ answered_entry o past e ∷ past) node → Stands o (Met e LostNew ∷ past) node
-unfolding said
-landed_new o past e node d s =
-    off_again o (Cut ∷ answered_entry o past e ∷ past) (Met e LostNew ∷ past) node s refl (down o past e LostNew refl d)
-    (same_left o past e (saved_for (due o past e)) LostNew (ap has_new (saves (due o past e) d)))
-
--- They haven't.
-pub landed_old : (o : Opening) (past : List FrameEntry) (e : Input) (node : ClientNode) → is_some (due o past e) ≡ true → Stands o (Cut ∷ past) node → Stands o (Met e LostOld ∷ past) node
-unfolding said
-landed_old o past e node d s = off_again o (Cut ∷ past) (Met e LostOld ∷ past) node s refl (down o past e LostOld refl d) (sym (same_old o past e))
+saved_by : (x : Option Addition) → is_some x ≡ true → saved_for x ≡ Saved
+saved_by None h = cc
+saved_by (Some a) h = refl
 
 -- ---- what is due isn't refused
 
@@ -152,44 +132,15 @@ up_in o list (Keeps q) h = absurd cc
 up_in o list (Drops q) h = absurd cc
 up_in o list Misses h = absurd cc
 
-up_by : (r : Option Fault) → r ≡ None → (fault : Fault) → r ≡ Some fault → ⊥
-up_by None h fault k = cc
-up_by (Some f) h fault k = cc
-
--- What is due was on.
-module _ (o : Opening) (past : List FrameEntry) (e : Input) where
-  by_sort : (fault : Fault) (new : ClientNode) → is_some (due o past e) ≡ true → is_up o past ≡ true → (sort : FaultSort) → Faults o past e sort fault new → (fault ≡ NoMemory) × Stands o past new
-  by_sort fault new d up sorts.Memory h = h
-  by_sort fault new d up sorts.Save h = absurd h
-  by_sort fault new d up sorts.Refusal (inl off) = absurd (both (is_up o past) up off.off)
-    where
-      both : (t : Bool) → t ≡ true → t ≡ false → ⊥
-      both true h k = cc
-      both false h k = cc
-  by_sort fault new d up sorts.Refusal (inr r) = absurd (up_by (refusal o past e) (free_in o (packets_heard o past) (sense o past e) d) fault r.why)
-
-  cut_lacks : (fault : Fault) (new : ClientNode) → is_up o past ≡ true → (fault ≡ NoMemory) × Stands o past new → (landed : Bool) → CutsIn o past landed e new (Err fault)
-  cut_lacks fault new up h landed = subst (λ f. CutsIn o past landed e new (Err f)) (sym h.0) (up, h.1)
-
-  up : is_some (due o past e) ≡ true → is_up o past ≡ true
-  up d = up_in o (packets_heard o past) (sense o past e) d
-
-  -- It was asked, and then cut.
-  pub behind_ok : (asked : Asked) (was new : ClientNode) → is_some (due o past e) ≡ true → Asks o past e was (Ok asked) → (Stands o (answered_entry o past e ∷ past) was → Stands o (Cut ∷ answered_entry o past e ∷ past) new) → CutsIn o past true e new (Ok tt)
-  behind_ok asked was new d a s = (a.on, d, landed_new o past e new d (s a.stands))
-
-  -- It wants for memory.
-  pub behind_err : (fault : Fault) (new : ClientNode) → is_some (due o past e) ≡ true → Asks o past e new (Err fault) → CutsIn o past true e new (Err fault)
-  behind_err fault new d h = cut_lacks fault new (up d) (by_sort fault new d (up d) (sort_of fault) h) true
-
-  -- It is cut as it is.
-  pub cut_old : (new : ClientNode) → is_some (due o past e) ≡ true → Stands o (Cut ∷ past) new → CutsIn o past false e new (Ok tt)
-  cut_old new d s = (up d, d, landed_old o past e new d s)
-
-  none_of : (x : Option Addition) → is_some x ≡ false → x ≡ None
-  none_of None h = refl
-  none_of (Some a) h = cc
-
-  -- It would save nothing.
-  pub saves_none : (landed : Bool) (node : ClientNode) → is_up o past ≡ true → is_some (due o past e) ≡ false → Stands o past node → CutsIn o past landed e node (Err NoSave)
-  saves_none landed node on d s = (on, none_of (due o past e) d, s)
+-- An input that is due to make a save.
+pub saves : (o : Opening) (past : List FrameEntry) (e : Input) → is_some (due o past e) ≡ true → Saves (client_nodes o) Cut past e
+unfolding said
+saves o past e d = record {
+  up = up_in o (packets_heard o past) (sense o past e) d;
+  due = d;
+  free = free_in o (packets_heard o past) (sense o past e) d;
+  new = λ node s.
+      off_again o (Cut ∷ answered_entry o past e ∷ past) (Met e LostNew ∷ past) node s refl (down o past e LostNew refl d)
+      (same_left o past e (saved_for (due o past e)) LostNew (ap has_new (saved_by (due o past e) d)));
+  old = λ node s. off_again o (Cut ∷ past) (Met e LostOld ∷ past) node s refl (down o past e LostOld refl d) (sym (same_old o past e));
+}

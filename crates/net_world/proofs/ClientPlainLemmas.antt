@@ -83,4 +83,4 @@ pub restart_ends : (w : Setup) (past : List Change) (fault : Fault) (old new : W
 restart_ends w past NodeOn old new stands h r = refuses w past (Restart Client) NodeOn new refl (restart_on w past r.0) (client_kept w past old new stands h r.1)
 restart_ends w past BadNote old new stands h r = refuses w past (Restart Client) BadNote new refl (restart_bad w past r.0 r.1) (client_kept w past old new stands h r.2)
 restart_ends w past NoMemory old new stands h r = (refl, client_kept w past old new stands h r.1)
-restart_ends w past _ old new stands h r = absurd r
+restart_ends w past _ old new stands h r = let wrong = r.3 in absurd cc

@@ -24,7 +24,6 @@ use Rattle.server_core.specs.History.{Opening}
 use Rattle.server_core.specs.Request.{request_of}
 use Rattle.server_core.specs.Replies.{replies}
 use Rattle.server_core.specs.Words as words
-use Rattle.server_core.specs.Words.{Staged}
 use Rattle.server_core.specs.Answers as answers
 use Rattle.server_core.specs.Answers.{to_client, sent_by}
 use Rattle.server_core.specs.Hearing as hearing
@@ -36,19 +35,20 @@ use Rattle.net_world.specs.declared.world.World.{World}
 use Rattle.net_world.specs.Setup.{Setup}
 use Rattle.net_world.specs.Happenings.{Deliver, Restart, CutIn}
 use Rattle.net_world.specs.Trace.{Step, AtServer, opening_of, of_server}
-use Rattle.net_world.specs.Frames.{FrameStep, frames_sent}
+use Rattle.net_world.specs.Frames.{frames_sent}
 use Rattle.net_world.specs.Changes.{Change, Met, steps, trace}
 use Rattle.net_world.specs.Barred.{unless_on, unless_off, unless_sent}
-use Rattle.net_world.specs.Outcomes.{lost_by, where_saved, outcome_of_step, said_to_server, server_frame_cut, frame_cut, delivery_cut_in, cut_in}
+use Rattle.net_world.specs.Outcomes.{lost_by, outcome_of_step, said_to_server, server_frame_cut, frame_cut, delivery_cut_in, cut_in}
 use Rattle.net_world.specs.World.{act, act_of}
 use Rattle.net_world.specs.ServerNodes as servers
-use Rattle.net_world.specs.ServerNodes.{is_up, has_boot}
+use Rattle.net_world.specs.ServerNodes.{server_nodes, has_boot}
+use Rattle.net_world.specs.Nodes.{CutsIn}
 use Rattle.net_world.specs.Stands.{StandsFor}
 use Rattle.net_world.specs.Ends.{Ends}
 use Rattle.net_world.specs.Serving.{entries, step_of}
 use Rattle.net_world.proofs.MetLemmas.{HasMoved, server_kept}
 use Rattle.net_world.proofs.ServeLemmas.{heard_is, frames_are, is_off, is_there}
-use Rattle.net_world.proofs.EndsLemmas.{GoesTo, goes, stops, refuses}
+use Rattle.net_world.proofs.EndsLemmas.{GoesTo, goes, stops, refuses, some_save, no_save}
 use Rattle.net_world.proofs.OutcomeLemmas.{said_is}
 use Rattle.net_world.proofs.PlainLemmas.{IsPlain, boot_is, may_restart, runs_on}
 
@@ -83,23 +83,15 @@ asks_nothing t s e left h = ap (λ b. if b then acts.None else answers.act (open
 
 -- ---- a frame
 
-due_cut : (x : Option Staged) (step : FrameStep) → is_some x ≡ true → where_saved x step ≡ Ok step
-due_cut None step h = absurd (false_true h)
-due_cut (Some s) step h = refl
-
-none_cut : (x : Option Staged) (step : FrameStep) → is_some x ≡ false → where_saved x step ≡ Err NoSave
-none_cut None step h = refl
-none_cut (Some s) step h = absurd (false_true (sym h))
-
 says_cut : (t : List Step) (s : ℕ) (landed : Bool) (f : Frame) (p : PacketParts) (list : List server.Entry) → list ≡ of_server s t → is_some (words.due (opening_of s) list (events.Deliver p)) ≡ true
     → server_frame_cut t s landed f (Says p) ≡ Ok (step_of s (hearing.Met (inputs.Deliver f) (lost_by landed)))
 says_cut t s landed f p list is h =
-    due_cut (words.due (opening_of s) (of_server s t) (events.Deliver p)) (step_of s (hearing.Met (inputs.Deliver f) (lost_by landed))) (ap (λ l. is_some (words.due (opening_of s) l (events.Deliver p))) (sym is) ∙ h)
+    some_save (words.due (opening_of s) (of_server s t) (events.Deliver p)) (step_of s (hearing.Met (inputs.Deliver f) (lost_by landed))) (ap (λ l. is_some (words.due (opening_of s) l (events.Deliver p))) (sym is) ∙ h)
 
 says_none : (t : List Step) (s : ℕ) (landed : Bool) (f : Frame) (p : PacketParts) (list : List server.Entry) → list ≡ of_server s t → is_some (words.due (opening_of s) list (events.Deliver p)) ≡ false
     → server_frame_cut t s landed f (Says p) ≡ Err NoSave
 says_none t s landed f p list is h =
-    none_cut (words.due (opening_of s) (of_server s t) (events.Deliver p)) (step_of s (hearing.Met (inputs.Deliver f) (lost_by landed))) (ap (λ l. is_some (words.due (opening_of s) l (events.Deliver p))) (sym is) ∙ h)
+    no_save (words.due (opening_of s) (of_server s t) (events.Deliver p)) (step_of s (hearing.Met (inputs.Deliver f) (lost_by landed))) (ap (λ l. is_some (words.due (opening_of s) l (events.Deliver p))) (sym is) ∙ h)
 
 piece_cut : (t : List Step) (s : ℕ) (landed : Bool) (q : PieceParts) (list : List server.Entry) → list ≡ of_server s t → (m : Meaning) → is_some (due_of_sense (opening_of s) list (sense_of q m)) ≡ true
     → server_frame_cut t s landed (Piece q) m ≡ Ok (step_of s (hearing.Met (inputs.Deliver (Piece q)) (lost_by landed)))
@@ -159,7 +151,7 @@ frame_cut_plain w past number landed f s g on h = record {
 
 -- How a cut within the save of a frame ends in a world, where it isn't made.
 pub frame_cut_ends : (w : Setup) (past : List Change) (number : ℕ) (landed : Bool) (f : Frame) (s : ℕ) (node : ServerNode) (fault : Fault) (old new : World) → StandsFor w past old → HasMoved s node [] old new → s < w.servers → GoesTo w past number f s
-    → servers.CutsIn (opening_of s) (entries past s) landed f node (Err fault) → Ends w past (CutIn landed (Deliver number)) new (Err fault)
+    → CutsIn (server_nodes (opening_of s)) (entries past s) landed (inputs.Deliver f) node (Err fault) → Ends w past (CutIn landed (Deliver number)) new (Err fault)
 frame_cut_ends w past number landed f s node NodeOff old new stands moved l g h =
     refuses w past (CutIn landed (Deliver number)) NodeOff new refl (stops w past (CutIn landed (Deliver number)) NodeOff (cut_bar w past number landed f s g ∙ is_off w past s l h.0)) (server_kept w past s node old new stands moved h.1)
 frame_cut_ends w past number landed f s node NoSave old new stands moved l g h =
@@ -189,4 +181,4 @@ restart_cut_ends w past s landed node NoSave old new stands moved l h =
     (goes w past (CutIn landed (Restart (nodes.Server s))) (may_restart w past s l h.0) ∙ ap (λ x. outcome_of_step (if x then Ok (step_of s (hearing.Restart (lost_by landed))) else Err NoSave)) (sym (boot_is w past s) ∙ h.1))
     (server_kept w past s node old new stands moved h.2)
 restart_cut_ends w past s landed node NoMemory old new stands moved l h = (refl, server_kept w past s node old new stands moved h.1)
-restart_cut_ends w past s landed node _ old new stands moved l h = absurd h
+restart_cut_ends w past s landed node _ old new stands moved l h = let wrong = h.3 in absurd cc

@@ -1,12 +1,9 @@
 -- A server loses its power within a save.
-use Rattle.std.proofs.Common.{◌≡◌, refl, sym, ◌∙◌, ap, subst, inl, inr, ◌⊎◌, ℕ, ◌+◌, ◌-◌, ◌^◌, ◌<◌, ◌≤◌, arith, Bool, true, false, ◌&&◌, List, ◌∷◌, Option, Some, None, Result, Ok, Err}
+use Rattle.std.proofs.Common.{◌≡◌, refl, sym, ◌∙◌, ap, subst, ℕ, ◌+◌, ◌-◌, ◌^◌, ◌<◌, ◌≤◌, arith, Bool, true, false, ◌&&◌, List, ◌∷◌, Option, Some, None, Result, Ok, Err}
 use Rattle.std.specs.Prelude.{if◌then◌else◌, is_some, nat_lt}
 use Rattle.std.proofs.lemmas.Bool.Decides.{nat_tests}
 use Rattle.fc_base.specs.declared.fault.Fault.{Fault}
 use Rattle.fc_base.specs.declared.fault.Fault.TheVariants.{NoMemory, NodeOn, NoSave, NumbersSpent, Down}
-use Rattle.fc_base.specs.declared.fault.FaultSort.{FaultSort}
-use Rattle.fc_base.specs.declared.fault.FaultSort.TheVariants as sorts
-use Rattle.fc_base.specs.Fault.{sort_of}
 use Rattle.disk_model.specs.MemNotes.{Saved as Kept, note_of}
 use Rattle.disk_model.specs.declared.left.Left.{Left}
 use Rattle.disk_model.specs.declared.left.Left.TheVariants.{Saved, LostNew, LostOld}
@@ -33,13 +30,14 @@ use Rattle.server_core.specs.Hearing.{FrameEntry, Met, Cut, Restart, rules, hear
 use Rattle.server_core.specs.FrameAnswers.{sense_of, refusal, refusal_of_sense, due, due_of_sense, would_save, answered_entry}
 use Rattle.net_world.specs.declared.server_node.ServerNode.{ServerNode}
 use Rattle.net_world.specs.declared.server_node.ServerNode.TheVariants.{On, Off}
-use Rattle.net_world.specs.ServerNodes.{words_noted, is_up, has_boot, Stands, Steps, Faults, IsOff, Refuses, Restarts, CutsIn, CutsInRestart, no_save, boots}
+use Rattle.net_world.specs.ServerNodes.{server_nodes, words_noted, is_up, has_boot, Stands, Restarts, CutsInRestart, no_save, boots}
+use Rattle.net_world.proofs.NodeLemmas.{Saves}
 
 false_true : false ≡ true → ⊥
 false_true e = cc
 
 -- A node that is off stands for each list that is off and says the same.
-pub relabel : (o : Opening) (old new : List FrameEntry) (node : ServerNode) → Stands o old node → is_up o old ≡ false → is_up o new ≡ false → words_noted o (packets_heard o old) ≡ words_noted o (packets_heard o new) → Stands o new node
+relabel : (o : Opening) (old new : List FrameEntry) (node : ServerNode) → Stands o old node → is_up o old ≡ false → is_up o new ≡ false → words_noted o (packets_heard o old) ≡ words_noted o (packets_heard o new) → Stands o new node
 relabel o old new (On server) s off down same = absurd (false_true (sym off ∙ s.1))
 relabel o old new (Off notes) s off down same = (subst (λ x. NoteSays (note_of notes).bytes x) same s.0, down)
 
@@ -75,11 +73,11 @@ and_false false = refl
 -- ---- a frame that would make a save
 
 -- The list with it, by what the save left: the server is off where it was lost; and what is noted.
-pub record IsLost (o : Opening) (past : List FrameEntry) (f : Frame) : Type 0 where
-  pub off_new : is_up o (Met (inputs.Deliver f) LostNew ∷ past) ≡ false
-  pub off_old : is_up o (Met (inputs.Deliver f) LostOld ∷ past) ≡ false
-  pub new : words_noted o (packets_heard o (Met (inputs.Deliver f) Saved ∷ past)) ≡ words_noted o (packets_heard o (Met (inputs.Deliver f) LostNew ∷ past))
-  pub old : words_noted o (packets_heard o past) ≡ words_noted o (packets_heard o (Met (inputs.Deliver f) LostOld ∷ past))
+record IsLost (o : Opening) (past : List FrameEntry) (f : Frame) : Type 0 where
+  off_new : is_up o (Met (inputs.Deliver f) LostNew ∷ past) ≡ false
+  off_old : is_up o (Met (inputs.Deliver f) LostOld ∷ past) ≡ false
+  new : words_noted o (packets_heard o (Met (inputs.Deliver f) Saved ∷ past)) ≡ words_noted o (packets_heard o (Met (inputs.Deliver f) LostNew ∷ past))
+  old : words_noted o (packets_heard o past) ≡ words_noted o (packets_heard o (Met (inputs.Deliver f) LostOld ∷ past))
 
 heard_list : Opening → List server.Entry → Left → Meaning → List server.Entry
 heard_list o list left m = with_entry (heard_by (rules o) left m) list
@@ -102,7 +100,7 @@ lost_piece o list q Waits h = absurd (false_true h)
 lost_piece o list q Spoils h = absurd (false_true h)
 lost_piece o list q Strays h = absurd (false_true h)
 
-pub is_lost_in : (o : Opening) (past : List FrameEntry) (f : Frame) → would_save o past f ≡ true → IsLost o past f
+is_lost_in : (o : Opening) (past : List FrameEntry) (f : Frame) → would_save o past f ≡ true → IsLost o past f
 unfolding heard_list
 is_lost_in o past (Whole p) h = record {
   off_new = and_false (is_up o past);
@@ -130,7 +128,7 @@ piece_free o list q Waits h = refl
 piece_free o list q Spoils h = absurd (false_true h)
 piece_free o list q Strays h = absurd (false_true h)
 
-pub save_free : (o : Opening) (past : List FrameEntry) (f : Frame) → would_save o past f ≡ true → refusal o past (inputs.Deliver f) ≡ None
+save_free : (o : Opening) (past : List FrameEntry) (f : Frame) → would_save o past f ≡ true → refusal o past (inputs.Deliver f) ≡ None
 save_free o past (Whole p) h = event_free o (packets_heard o past) (events.Deliver p) h
 save_free o past (Piece q) h = piece_free o (packets_heard o past) q (meaning (rules o) (heard_at o past) (Piece q)) h
 
@@ -139,42 +137,22 @@ saved_by None h = absurd (false_true h)
 saved_by (Some s) h = refl
 
 -- What an answered frame that makes a save leaves.
-pub saves : (o : Opening) (past : List FrameEntry) (f : Frame) → would_save o past f ≡ true → answered_entry o past (inputs.Deliver f) ≡ Met (inputs.Deliver f) Saved
-saves o past f h = ap (λ left. Met (inputs.Deliver f) left) (saved_by (due o past (inputs.Deliver f)) h)
+saved_entry : (o : Opening) (past : List FrameEntry) (f : Frame) → would_save o past f ≡ true → answered_entry o past (inputs.Deliver f) ≡ Met (inputs.Deliver f) Saved
+saved_entry o past f h = ap (λ left. Met (inputs.Deliver f) left) (saved_by (due o past (inputs.Deliver f)) h)
 
--- ---- how the cut ends
-
-pub cut_old : (o : Opening) (past : List FrameEntry) (f : Frame) (node : ServerNode) → is_up o past ≡ true → would_save o past f ≡ true → Stands o (Cut ∷ past) node → CutsIn o past false f node (Ok tt)
-cut_old o past f node up h s =
+-- A frame that is due to make a save.
+pub saves : (o : Opening) (past : List FrameEntry) (f : Frame) → is_up o past ≡ true → would_save o past f ≡ true → Saves (server_nodes o) Cut past (inputs.Deliver f)
+saves o past f up h =
     let l = is_lost_in o past f h in
-    (up, h, relabel o (Cut ∷ past) (Met (inputs.Deliver f) LostOld ∷ past) node s refl l.off_old l.old)
-
-pub cut_new : (o : Opening) (past : List FrameEntry) (f : Frame) (node : ServerNode) → is_up o past ≡ true → would_save o past f ≡ true → Stands o (Cut ∷ (answered_entry o past (inputs.Deliver f) ∷ past)) node → CutsIn o past true f node (Ok tt)
-cut_new o past f node up h s =
-    let l = is_lost_in o past f h in
-    let t = subst (λ e. Stands o (Cut ∷ (e ∷ past)) node) (saves o past f h) s in
-    (up, h, relabel o (Cut ∷ (Met (inputs.Deliver f) Saved ∷ past)) (Met (inputs.Deliver f) LostNew ∷ past) node t refl l.off_new l.new)
-
-some_none : (fault : Fault) (x : Option Fault) → x ≡ Some fault → x ≡ None → ⊥
-some_none fault x e h = bad (sym e ∙ h)
-  where
-    bad : Some fault ≡ None → ⊥
-    bad e = cc
-
-by_refusal : (o : Opening) (past : List FrameEntry) (f : Frame) (landed : Bool) (fault : Fault) (node : ServerNode) → is_up o past ≡ true → would_save o past f ≡ true
-    → IsOff o past fault node ⊎ Refuses o past (inputs.Deliver f) fault node → ⊥
-by_refusal o past f landed fault node up h (inl off) = false_true (sym off.off ∙ up)
-by_refusal o past f landed fault node up h (inr r) = some_none fault (refusal o past (inputs.Deliver f)) r.why (save_free o past f h)
-
-by_sort : (o : Opening) (past : List FrameEntry) (f : Frame) (landed : Bool) (fault : Fault) (node : ServerNode) → is_up o past ≡ true → would_save o past f ≡ true → (sort : FaultSort) → Faults o past (inputs.Deliver f) sort fault node
-    → CutsIn o past landed f node (Err fault)
-by_sort o past f landed fault node up h sorts.Memory x = subst (λ (y : Fault). CutsIn o past landed f node (Err y)) (sym x.0) (up, x.1)
-by_sort o past f landed fault node up h sorts.Save x = absurd x
-by_sort o past f landed fault node up h sorts.Refusal x = absurd (by_refusal o past f landed fault node up h x)
-
-pub cut_fails : (o : Opening) (past : List FrameEntry) (f : Frame) (landed : Bool) (fault : Fault) (node : ServerNode) → is_up o past ≡ true → would_save o past f ≡ true → Steps o past (inputs.Deliver f) node (Err fault)
-    → CutsIn o past landed f node (Err fault)
-cut_fails o past f landed fault node up h x = by_sort o past f landed fault node up h (sort_of fault) x
+    record {
+      up = up;
+      due = h;
+      free = save_free o past f h;
+      new = λ node s.
+          relabel o (Cut ∷ (Met (inputs.Deliver f) Saved ∷ past)) (Met (inputs.Deliver f) LostNew ∷ past) node
+          (subst (λ e. Stands o (Cut ∷ (e ∷ past)) node) (saved_entry o past f h) s) refl l.off_new l.new;
+      old = λ node s. relabel o (Cut ∷ past) (Met (inputs.Deliver f) LostOld ∷ past) node s refl l.off_old l.old;
+    }
 
 -- ---- a restart
 
@@ -186,9 +164,9 @@ restart_old o past node off b s = (off, b, relabel o past (Restart LostOld ∷ p
 
 pub restart_fails : (o : Opening) (past : List FrameEntry) (landed : Bool) (node : ServerNode) (fault : Fault) → Restarts o past node (Err fault) → CutsInRestart o past landed node (Err (no_save fault))
 restart_fails o past landed node NodeOn h = h
-restart_fails o past landed node NumbersSpent h = h
+restart_fails o past landed node NumbersSpent h = (h.0, h.1, h.2, refl)
 restart_fails o past landed node NoMemory h = h
-restart_fails o past landed node _ h = absurd h
+restart_fails o past landed node _ h = let wrong = h.3 in absurd cc
 
 -- ---- a note that says how many boots there were
 
@@ -214,7 +192,7 @@ boots_no law bytes m n s t h =
 
 tried_by : (o : Opening) (past : List FrameEntry) (notes : Kept) → Stands o past (Off notes) → (b : Bool) → has_boot o past ≡ b → CutsInRestart o past false (Off notes) (if b then Ok tt else Err NoSave)
 tried_by o past notes s true h = restart_old o past (Off notes) s.1 h s
-tried_by o past notes s false h = (s.1, h, s)
+tried_by o past notes s false h = (s.1, h, s, refl)
 
 pub tried : (o : Opening) (past : List FrameEntry) (notes now : Kept) (result : Result (Unit {0}) Fault) → Stands o past (Off notes) → now ≡ notes → result ≡ boots (words_noted o (packets_heard o past)) → CutsInRestart o past false (Off now) result
 tried o past notes now result s e r =

@@ -1,6 +1,7 @@
 -- How what comes to a server ends, as an event of a world.
-use Rattle.std.proofs.Common.{◌≡◌, refl, sym, ◌∙◌, ap, subst, inl, inr, ◌⊎◌, ℕ, false, List, ◌∷◌, length, Some, None, Ok, Err}
+use Rattle.std.proofs.Common.{◌≡◌, refl, sym, ◌∙◌, ap, subst, inl, inr, ◌⊎◌, ℕ, true, false, List, ◌∷◌, length, Option, Some, None, Ok, Err}
 use Rattle.fc_base.specs.declared.fault.Fault.{Fault}
+use Rattle.fc_base.specs.declared.fault.Fault.TheVariants.{NoSave}
 use Rattle.fc_base.specs.declared.fault.FaultSort.{FaultSort}
 use Rattle.fc_base.specs.declared.fault.FaultSort.TheVariants as sorts
 use Rattle.fc_base.specs.Fault.{sort_of}
@@ -27,7 +28,7 @@ use Rattle.net_world.specs.Setup.{Setup}
 use Rattle.net_world.specs.Happenings.{Happening}
 use Rattle.net_world.specs.Happenings as happenings
 use Rattle.net_world.specs.Trace.{opening_of}
-use Rattle.std.specs.Prelude.{slice_get}
+use Rattle.std.specs.Prelude.{slice_get, is_some}
 use Rattle.messages.specs.declared.frame.Frame.{Frame}
 use Rattle.net_world.specs.Frames.{frames_sent, to_of}
 use Rattle.net_world.specs.Changes.{Change, Met, steps, trace}
@@ -35,7 +36,7 @@ use Rattle.net_world.specs.Barred.{unless_on, unless_sent, unless_open, barring_
 use Rattle.net_world.specs.Writes.{open_at}
 use Rattle.net_world.specs.Events.{happening_of_end}
 use Rattle.net_world.specs.Finding.{IsOpen, FindsWrite}
-use Rattle.net_world.specs.Outcomes.{Does, Refuses, outcome_of_step, met_by_server, comes_to_server, said_to_server, comes_to, delivery, end_of_write, brings, unless_barred, outcome}
+use Rattle.net_world.specs.Outcomes.{Does, Refuses, outcome_of_step, where_saved, met_by_server, comes_to_server, said_to_server, comes_to, delivery, end_of_write, brings, unless_barred, outcome}
 use Rattle.net_world.specs.World.{answer, and_outcome, told_by, told_of_happening, answer_of_issue, act, frame_count}
 use Rattle.net_world.specs.Telling.{told_of, issue_told}
 use Rattle.net_world.specs.Stands.{StandsFor}
@@ -66,6 +67,15 @@ refusing w past e fault new is stands = (ap (told_by w past e) is, subst (λ x. 
 -- A fault is a refusal, so that its sort is that.
 pub refuses : (w : Setup) (past : List Change) (e : Happening) (fault : Fault) (new : World) → sort_of fault ≡ sorts.Refusal → outcome w past e ≡ Refuses fault → StandsFor w past new → Ends w past e new (Err fault)
 refuses w past e fault new sort is stands = subst (λ x. ends.Faults w past e x fault new) (sym sort) (refusing w past e fault new is stands)
+
+-- What is due is saved, and else nothing is.
+pub some_save : {X Y : Type 0} (x : Option X) (y : Y) → is_some x ≡ true → where_saved x y ≡ Ok y
+some_save None y h = absurd cc
+some_save (Some a) y h = refl
+
+pub no_save : {X Y : Type 0} (x : Option X) (y : Y) → is_some x ≡ false → where_saved x y ≡ Err NoSave
+no_save None y h = refl
+no_save (Some a) y h = absurd cc
 
 -- ---- an event that a server meets
 

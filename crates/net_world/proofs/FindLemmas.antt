@@ -36,7 +36,8 @@ use Rattle.net_world.specs.Contents.{content}
 use Rattle.net_world.specs.Checks.{end_of_check, end_of_check_in, check_end, report_for, report_by}
 use Rattle.net_world.specs.Writes.{open_at}
 use Rattle.net_world.specs.Barred.{unless_on, unless_open, unless}
-use Rattle.net_world.specs.ServerNodes.{is_up, Stands, Shows}
+use Rattle.net_world.specs.Nodes.{Shows}
+use Rattle.net_world.specs.ServerNodes.{server_nodes, is_up, Stands}
 use Rattle.net_world.specs.Stands.{StandsFor}
 use Rattle.net_world.specs.Serving.{entries}
 use Rattle.net_world.specs.Finding.{IsOpen, IsMadeBy, IsReady, state_of}
@@ -49,7 +50,7 @@ pub record Found (w : World) (s : ℕ) (shown : Option (Server Kept)) : Type 0 w
   pub node : ServerNode
   pub there : s < length w.servers.items
   pub node_is : slice_get w.servers.items s ≡ Some node
-  pub shows : (o : Opening) (past : List FrameEntry) → Stands o past node → Shows o past shown
+  pub shows : (o : Opening) (past : List FrameEntry) → Stands o past node → Shows (server_nodes o) past shown
 
 pub not_there : (w : Setup) (past : List Change) (s : ℕ) (now : World) → StandsFor w past now → length now.servers.items ≤ s → unless_on w (trace w past) (nodes.Server s) ≡ Some NoServer
 not_there w past s now stands h = none_there w past s (omega (arith, stands.number, h))

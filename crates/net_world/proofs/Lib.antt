@@ -54,6 +54,7 @@ pub mod EndsLemmas
 pub mod MirrorEndsLemmas
 pub mod RenewalEndsLemmas
 pub mod NodeLemmas
+pub mod ServerNodeLemmas
 pub mod FindLemmas
 pub mod PowerLemmas
 pub mod PlainLemmas

@@ -30,14 +30,13 @@ use Rattle.mirror_core.specs.Ends.{answered_entry}
 use Rattle.net_world.specs.declared.server_node.ServerNode.{ServerNode}
 use Rattle.net_world.specs.declared.mirror_node.MirrorNode.{MirrorNode}
 use Rattle.net_world.specs.declared.told.WorldAnswer.TheVariants.{Plain}
-use Rattle.net_world.specs.declared.sent.Sent.{Sent}
 use Rattle.net_world.specs.declared.told.Told.{Told}
 use Rattle.net_world.specs.declared.world.World.{World}
 use Rattle.net_world.specs.Setup.{Setup}
 use Rattle.net_world.specs.Happenings.{Happening, Deliver, CutIn}
 use Rattle.net_world.specs.Happenings as happenings
 use Rattle.net_world.specs.Trace as traces
-use Rattle.net_world.specs.Trace.{Step, opening_of, client_opening, mirror_opening}
+use Rattle.net_world.specs.Trace.{client_opening, mirror_opening}
 use Rattle.net_world.specs.Frames.{OfMirror, of_mirror, frames_sent, frames_of_step, client_entries, to_of}
 use Rattle.net_world.specs.Changes as changes
 use Rattle.net_world.specs.Changes.{Change, steps, trace}
@@ -48,16 +47,17 @@ use Rattle.net_world.specs.Telling.{plainly_told}
 use Rattle.net_world.specs.Sending.{sent_in}
 use Rattle.net_world.specs.ClientNodes as clients
 use Rattle.net_world.specs.ClientNodes.{handed_in}
+use Rattle.net_world.specs.Nodes as any_node
 use Rattle.net_world.specs.MirrorNodes as nodes
+use Rattle.net_world.specs.MirrorNodes.{mirror_nodes}
 use Rattle.net_world.specs.Stands.{IsMirror, IsGreatest, StandsFor}
 use Rattle.net_world.specs.Ends as ends
 use Rattle.net_world.specs.Ends.{Ends, changes_after}
 use Rattle.net_world.proofs.HearingLemmas.{mirror_hears}
 use Rattle.net_world.proofs.MetLemmas.{frames_more}
 use Rattle.net_world.proofs.ServeLemmas.{first_is}
-use Rattle.net_world.proofs.EndsLemmas.{goes, stops, does, refusing, refuses}
+use Rattle.net_world.proofs.EndsLemmas.{goes, stops, does, refusing, refuses, some_save, no_save}
 use Rattle.net_world.proofs.PlainLemmas.{IsPlain, told_plainly}
-use Rattle.net_world.proofs.ClientCutEndsLemmas.{some_save, no_save}
 
 -- ---- its list, and whether it is there and on
 
@@ -205,10 +205,10 @@ told_same first first' sent sent' e f = rw (e, f) refl
 
 -- A frame is answered.
 pub heard_ends : (w : Setup) (past : List Change) (number : ℕ) (f : Frame) (node : MirrorNode) (sent : List (List ℕ)) (first : ℕ) (t : Told) (old new : World) → StandsFor w past old → HasHeard node sent old new → GoesTo w past number f
-    → nodes.Answers mirror_opening (of_mirror (steps past)) f node sent → first ≡ length (sent_in old.sent) → t ≡ told_with first (length sent) → Ends w past (Deliver number) new (Ok t)
+    → any_node.Answers (mirror_nodes mirror_opening) (of_mirror (steps past)) f node sent → first ≡ length (sent_in old.sent) → t ≡ told_with first (length sent) → Ends w past (Deliver number) new (Ok t)
 heard_ends w past number f node sent first t old new stands h g a is tells =
     let step = OfMirror (answered_entry mirror_opening (of_mirror (steps past)) f) in
-    let frames : sent ≡ map frame_spelling (frames_of_step w (steps past) step) = a.frames_are ∙ spelled (packets mirror_opening (of_mirror (steps past)) (answered_entry mirror_opening (of_mirror (steps past)) f)) in
+    let frames : sent ≡ map frame_spelling (frames_of_step w (steps past) step) = a.sends ∙ spelled (packets mirror_opening (of_mirror (steps past)) (answered_entry mirror_opening (of_mirror (steps past)) f)) in
     let number_is = ap (λ (fs : List (List ℕ)). length fs) frames ∙ length-map (frames_of_step w (steps past) step) frame_spelling in
     does w past (Deliver number) (changes.Met step) t new
     (goes w past (Deliver number) (frame_bar w past number f g ∙ is_there w past (h.has w past stands) a.on)
@@ -217,7 +217,7 @@ heard_ends w past number f node sent first t old new stands h g a is tells =
     (mirror_stepped w past (answered_entry mirror_opening (of_mirror (steps past)) f) node sent old new stands h frames a.stands)
 
 refused : (w : Setup) (past : List Change) (number : ℕ) (f : Frame) (node : MirrorNode) (fault : Fault) (old new : World) → StandsFor w past old → HasHeard node [] old new → GoesTo w past number f
-    → nodes.IsOff mirror_opening (of_mirror (steps past)) fault node ⊎ nodes.Refuses mirror_opening (of_mirror (steps past)) f fault node → (told_of_happening w past (Deliver number) ≡ Err fault) × StandsFor w (changes_after w past (Deliver number)) new
+    → any_node.IsOff (mirror_nodes mirror_opening) (of_mirror (steps past)) fault node ⊎ any_node.Refuses (mirror_nodes mirror_opening) (of_mirror (steps past)) f fault node → (told_of_happening w past (Deliver number) ≡ Err fault) × StandsFor w (changes_after w past (Deliver number)) new
 refused w past number f node fault old new stands h g (inl o) =
     refusing w past (Deliver number) fault new (stops w past (Deliver number) fault (frame_bar w past number f g ∙ is_off w past (h.has w past stands) o.off ∙ ap Some (sym o.why))) (mirror_kept w past node old new stands h o.unchanged)
 refused w past number f node fault old new stands h g (inr r) =
@@ -227,14 +227,14 @@ refused w past number f node fault old new stands h g (inr r) =
     (mirror_kept w past node old new stands h r.unchanged)
 
 by_sort : (w : Setup) (past : List Change) (number : ℕ) (f : Frame) (node : MirrorNode) (fault : Fault) (old new : World) → StandsFor w past old → HasHeard node [] old new → GoesTo w past number f
-    → (sort : FaultSort) → nodes.Faults mirror_opening (of_mirror (steps past)) f sort fault node → ends.Faults w past (Deliver number) sort fault new
+    → (sort : FaultSort) → any_node.Faults (mirror_nodes mirror_opening) (of_mirror (steps past)) f sort fault node → ends.Faults w past (Deliver number) sort fault new
 by_sort w past number f node fault old new stands h g sorts.Memory r = (r.0, mirror_kept w past node old new stands h r.1)
 by_sort w past number f node fault old new stands h g sorts.Save r = r
 by_sort w past number f node fault old new stands h g sorts.Refusal r = refused w past number f node fault old new stands h g r
 
 -- It isn't.
 pub unheard_ends : (w : Setup) (past : List Change) (number : ℕ) (f : Frame) (node : MirrorNode) (fault : Fault) (old new : World) → StandsFor w past old → HasHeard node [] old new → GoesTo w past number f
-    → nodes.Hears mirror_opening (of_mirror (steps past)) f node (Err fault) → Ends w past (Deliver number) new (Err fault)
+    → any_node.Ends (mirror_nodes mirror_opening) (of_mirror (steps past)) f node (Err fault) → Ends w past (Deliver number) new (Err fault)
 unheard_ends w past number f node fault old new stands h g r = by_sort w past number f node fault old new stands h g (sort_of fault) r
 
 -- ---- a cut within a save
@@ -259,7 +259,7 @@ cut_brings w past landed number f g =
 
 -- It was cut.
 pub cut_ends : (w : Setup) (past : List Change) (landed : Bool) (number : ℕ) (f : Frame) (node : MirrorNode) (first : ℕ) (t : Told) (old new : World) → StandsFor w past old → HasHeard node [] old new → GoesTo w past number f
-    → nodes.CutsIn mirror_opening (of_mirror (steps past)) landed f node (Ok tt) → first ≡ length (sent_in old.sent) → t ≡ plainly_told first → Ends w past (CutIn landed (Deliver number)) new (Ok t)
+    → any_node.CutsIn (mirror_nodes mirror_opening) (of_mirror (steps past)) landed f node (Ok tt) → first ≡ length (sent_in old.sent) → t ≡ plainly_told first → Ends w past (CutIn landed (Deliver number)) new (Ok t)
 cut_ends w past landed number f node first t old new stands h g cut is tells =
     plain_ends w past (CutIn landed (Deliver number)) (Met f (lost_by landed)) node first t old new stands h cut.2
     (record {
@@ -273,7 +273,7 @@ cut_ends w past landed number f node first t old new stands h g cut is tells =
 
 -- It wasn't.
 pub uncut_ends : (w : Setup) (past : List Change) (landed : Bool) (number : ℕ) (f : Frame) (node : MirrorNode) (fault : Fault) (old new : World) → StandsFor w past old → HasHeard node [] old new → GoesTo w past number f
-    → nodes.CutsIn mirror_opening (of_mirror (steps past)) landed f node (Err fault) → Ends w past (CutIn landed (Deliver number)) new (Err fault)
+    → any_node.CutsIn (mirror_nodes mirror_opening) (of_mirror (steps past)) landed f node (Err fault) → Ends w past (CutIn landed (Deliver number)) new (Err fault)
 uncut_ends w past landed number f node NodeOff old new stands h g cut =
     refuses w past (CutIn landed (Deliver number)) NodeOff new refl (stops w past (CutIn landed (Deliver number)) NodeOff (frame_bar w past number f g ∙ is_off w past (h.has w past stands) cut.0)) (mirror_kept w past node old new stands h cut.1)
 uncut_ends w past landed number f node NoSave old new stands h g cut =

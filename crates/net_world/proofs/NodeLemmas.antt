@@ -1,72 +1,90 @@
--- A server's node takes what comes as its list does.
-use Rattle.std.proofs.Common.{◌≡◌, refl, inr, arith, Bool, true, false, ◌&&◌, List, ◌∷◌, Option, Some, None, Result, Ok, Err}
-use Rattle.std.specs.Prelude.{not}
+-- A node of a world takes what comes as its list does, and loses its power within a save, whichever core it has.
+use Rattle.std.proofs.Common.{◌≡◌, refl, sym, ◌∙◌, subst, inl, inr, arith, Bool, true, false, ◌&&◌, List, ◌∷◌, Option, Some, None, Result, Ok, Err}
+use Rattle.std.specs.Prelude.{not, is_some}
 use Rattle.fc_base.specs.declared.fault.Fault.{Fault}
 use Rattle.fc_base.specs.declared.fault.FaultSort.{FaultSort}
 use Rattle.fc_base.specs.declared.fault.FaultSort.TheVariants as sorts
 use Rattle.fc_base.specs.Fault.{sort_of}
-use Rattle.disk_model.specs.MemNotes.{Saved as Kept, note_of}
 use Rattle.disk_model.specs.declared.left.Left.{Left}
-use Rattle.disk_model.specs.declared.left.Left.TheVariants.{NoSave}
+use Rattle.disk_model.specs.declared.left.Left.TheVariants.{NoSave, LostNew, LostOld}
 use Rattle.disk_model.specs.Left.{saved_for, is_lost}
 use Rattle.disk_model.specs.Steps as steps
-use Rattle.messages.specs.declared.frame.Frame.TheVariants.{Whole, Piece}
-use Rattle.messages.specs.Hearing.{Meaning, Says, Waits, Spoils, Strays, meaning, heard_by, with_entry}
-use Rattle.server_core.specs.declared.input.Input.{Input}
-use Rattle.server_core.specs.declared.input.Input.TheVariants as inputs
-use Rattle.server_core.specs.declared.outs.Outs.{Outs}
-use Rattle.server_core.specs.declared.server.Server.{Server}
-use Rattle.server_core.specs.History as server
-use Rattle.server_core.specs.History.{Opening}
-use Rattle.server_core.specs.Words.{Staged}
-use Rattle.server_core.specs.Words as words
-use Rattle.server_core.specs.Hearing.{FrameEntry, Met, rules, heard_at, packets_heard}
-use Rattle.server_core.specs.FrameAnswers.{due}
-use Rattle.server_core.specs.FrameEnds as ends
-use Rattle.server_core.specs.FrameEnds.{StandsFor}
-use Rattle.net_world.specs.declared.server_node.ServerNode.TheVariants.{On}
-use Rattle.net_world.specs.ServerNodes.{is_up, Faults, Steps}
+use Rattle.disk_model.specs.Steps.{answered}
+use Rattle.net_world.specs.Nodes.{Nodes, Faults, Ends, CutsIn}
 
--- ---- whether the server is on behind it
-
-stays : (on lost : Bool) → on ≡ true → lost ≡ false → (on && not lost) ≡ true
+pub stays : (on lost : Bool) → on ≡ true → lost ≡ false → (on && not lost) ≡ true
 stays true false h k = refl
 stays true true h k = cc
 stays false lost h k = cc
 
-piece_stays : (o : Opening) (list : List server.Entry) (left : Left) (m : Meaning) → words.is_on list ≡ true → is_lost left ≡ false → words.is_on (with_entry (heard_by (rules o) left m) list) ≡ true
-piece_stays o list left (Says p) h k = stays (words.is_on list) (is_lost left) h k
-piece_stays o list left Waits h k = h
-piece_stays o list left Spoils h k = h
-piece_stays o list left Strays h k = h
-
-pub on_behind : (o : Opening) (past : List FrameEntry) (e : Input) (left : Left) → is_up o past ≡ true → is_lost left ≡ false → is_up o (Met e left ∷ past) ≡ true
-on_behind o past (inputs.Deliver (Whole p)) left h k = stays (is_up o past) (is_lost left) h k
-on_behind o past (inputs.Deliver (Piece q)) left h k = piece_stays o (packets_heard o past) left (meaning (rules o) (heard_at o past) (Piece q)) h k
-on_behind o past (inputs.Issue j) left h k = stays (is_up o past) (is_lost left) h k
-on_behind o past (inputs.WriteDone ticket end) left h k = stays (is_up o past) (is_lost left) h k
-on_behind o past (inputs.CheckDone boot a j report) left h k = stays (is_up o past) (is_lost left) h k
-
-not_lost : (x : Option Staged) → is_lost (saved_for x) ≡ false
+not_lost : {D : Type 0} (x : Option D) → is_lost (saved_for x) ≡ false
 not_lost None = refl
-not_lost (Some s) = refl
+not_lost (Some addition) = refl
 
--- ---- a step
+pub never : (b : Bool) → b ≡ true → b ≡ false → ⊥
+never true h k = cc
+never false h k = cc
 
-by_sort : (o : Opening) (past : List FrameEntry) (e : Input) (fault : Fault) (old new : Server Kept) → is_up o past ≡ true → (sort : FaultSort)
-    → steps.Faults (ends.steps note_of o) past e sort fault old new → Faults o past e sort fault (On new)
-by_sort o past e fault old new on sorts.Memory h = (h.why, (h.unchanged, on))
-by_sort o past e fault old new on sorts.Save h = absurd (omega (arith, h.cause))
-by_sort o past e fault old new on sorts.Refusal h =
-    inr (record { on = on; why = h.why; stands = (h.stands, on_behind o past e NoSave on refl); unchanged = λ d. (h.unchanged d, on) })
+-- ---- what comes
 
-pub step_ends : (o : Opening) (past : List FrameEntry) (e : Input) (old new : Server Kept) (result : Result Outs Fault) → is_up o past ≡ true → steps.Ends (ends.steps note_of o) past e old new result → Steps o past e (On new) result
-step_ends o past e old new (Ok outs) on h = record {
-  on = on;
+-- What holds of a node whose core runs as this.
+pub record Laws {N S E X D O : Type 0} (n : Nodes N S E X D O) (run : S → N) : Type 0 where
+  pub fails_never : (core : S) → (n.core.note core).failures ≡ 0
+  pub runs : (past : List X) (core : S) → n.core.StandsFor past core → n.is_up past ≡ true → n.Stands past (run core)
+  pub stays_up : (past : List X) (e : E) (left : Left) → n.is_up past ≡ true → is_lost left ≡ false → n.is_up (n.core.met e left ∷ past) ≡ true
+  pub stays_on : (past : List X) (e : E) (core : S) → n.core.Stays past e core → n.is_up past ≡ true → n.Stays past e (run core)
+
+unanswered : {N S E X D O : Type 0} (n : Nodes N S E X D O) (run : S → N) → Laws n run → (past : List X) (e : E) (fault : Fault) (old new : S) → n.is_up past ≡ true → (sort : FaultSort)
+    → steps.Faults n.core past e sort fault old new → Faults n past e sort fault (run new)
+unanswered n run l past e fault old new up sorts.Memory h = (h.why, l.runs past new h.unchanged up)
+unanswered n run l past e fault old new up sorts.Save h = absurd (omega (arith, h.cause, l.fails_never new))
+unanswered n run l past e fault old new up sorts.Refusal h =
+    inr (record {
+      on = up;
+      why = h.why;
+      stands = l.runs (n.core.met e NoSave ∷ past) new h.stands (l.stays_up past e NoSave up refl);
+      unchanged = l.stays_on past e new h.unchanged up;
+    })
+
+pub ends : {N S E X D O : Type 0} (n : Nodes N S E X D O) (run : S → N) → Laws n run → (past : List X) (e : E) (old new : S) (result : Result O Fault) → n.is_up past ≡ true
+    → steps.Ends n.core past e old new result → Ends n past e (run new) result
+ends n run l past e old new (Ok outs) up h = record {
+  on = up;
   free = h.free;
-  frames_are = h.sends.frames_are;
-  issue_is = h.sends.issue_is;
-  act_is = h.sends.act_is;
-  stands = (h.stands, on_behind o past e (saved_for (due o past e)) on (not_lost (due o past e)));
+  sends = h.sends;
+  stands = l.runs (answered n.core past e ∷ past) new h.stands (l.stays_up past e (saved_for (n.core.due past e)) up (not_lost (n.core.due past e)));
 }
-step_ends o past e old new (Err fault) on h = by_sort o past e fault old new on (sort_of fault) h
+ends n run l past e old new (Err fault) up h = unanswered n run l past e fault old new up (sort_of fault) h
+
+-- ---- a cut within a save
+
+-- The node is on and an input is due to make a save, so that it isn't refused; and what stands for the
+-- list with a cut behind it, or before it, stands for it where its save was lost.
+pub record Saves {N S E X D O : Type 0} (n : Nodes N S E X D O) (cut : X) (past : List X) (e : E) : Type 0 where
+  pub up : n.is_up past ≡ true
+  pub due : is_some (n.core.due past e) ≡ true
+  pub free : n.core.refusal past e ≡ None
+  pub new : (node : N) → n.Stands (cut ∷ answered n.core past e ∷ past) node → n.Stands (n.core.met e LostNew ∷ past) node
+  pub old : (node : N) → n.Stands (cut ∷ past) node → n.Stands (n.core.met e LostOld ∷ past) node
+
+-- It was cut as it was, or behind the save.
+pub cut_old : {N S E X D O : Type 0} (n : Nodes N S E X D O) (cut : X) (past : List X) (e : E) (node : N) → Saves n cut past e → n.Stands (cut ∷ past) node → CutsIn n past false e node (Ok tt)
+cut_old n cut past e node s h = (s.up, s.due, s.old node h)
+
+pub cut_new : {N S E X D O : Type 0} (n : Nodes N S E X D O) (cut : X) (past : List X) (e : E) (node : N) → Saves n cut past e → n.Stands (cut ∷ answered n.core past e ∷ past) node → CutsIn n past true e node (Ok tt)
+cut_new n cut past e node s h = (s.up, s.due, s.new node h)
+
+some_none : (x : Option Fault) (fault : Fault) → x ≡ Some fault → x ≡ None → ⊥
+some_none x fault h k = let e = sym h ∙ k in cc
+
+-- It wants for memory.
+cut_by_sort : {N S E X D O : Type 0} (n : Nodes N S E X D O) (cut : X) (past : List X) (landed : Bool) (e : E) (fault : Fault) (node : N) → Saves n cut past e → (sort : FaultSort) → Faults n past e sort fault node
+    → CutsIn n past landed e node (Err fault)
+cut_by_sort n cut past landed e fault node s sorts.Memory h = subst (λ (x : Fault). CutsIn n past landed e node (Err x)) (sym h.0) (s.up, h.1)
+cut_by_sort n cut past landed e fault node s sorts.Save h = absurd h
+cut_by_sort n cut past landed e fault node s sorts.Refusal (inl off) = absurd (never (n.is_up past) s.up off.off)
+cut_by_sort n cut past landed e fault node s sorts.Refusal (inr r) = absurd (some_none (n.core.refusal past e) fault r.why s.free)
+
+pub cut_fails : {N S E X D O : Type 0} (n : Nodes N S E X D O) (cut : X) (past : List X) (landed : Bool) (e : E) (fault : Fault) (node : N) → Saves n cut past e → Faults n past e (sort_of fault) fault node
+    → CutsIn n past landed e node (Err fault)
+cut_fails n cut past landed e fault node s h = cut_by_sort n cut past landed e fault node s (sort_of fault) h

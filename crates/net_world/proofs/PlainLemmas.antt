@@ -121,4 +121,4 @@ restart_ends w past s node NodeOn old new stands moved l h =
 restart_ends w past s node NumbersSpent old new stands moved l h =
     refuses w past (Restart (nodes.Server s)) NumbersSpent new refl (restart_spent w past s (may_restart w past s l h.0) h.1) (server_kept w past s node old new stands moved h.2)
 restart_ends w past s node NoMemory old new stands moved l h = (refl, server_kept w past s node old new stands moved h.1)
-restart_ends w past s node _ old new stands moved l h = absurd h
+restart_ends w past s node _ old new stands moved l h = let wrong = h.3 in absurd cc

@@ -35,7 +35,7 @@ pub restart_err : (o : Opening) (past : List FrameEntry) (notes back : Kept) (fa
 restart_err o past notes back LoadFault s h = absurd (omega (arith, h.0))
 restart_err o past notes back BadNote s h = absurd (h.1 (words_noted o (packets_heard o past)) s.0)
 restart_err o past notes back NumbersSpent s h =
-    (s.1, spent (boot o (packets_heard o past)) (h.1 (words_noted o (packets_heard o past)) s.0), (says_same (note_of notes) (note_of back) (words_noted o (packets_heard o past)) h.0 s.0, s.1))
+    (s.1, spent (boot o (packets_heard o past)) (h.1 (words_noted o (packets_heard o past)) s.0), (says_same (note_of notes) (note_of back) (words_noted o (packets_heard o past)) h.0 s.0, s.1), refl)
 restart_err o past notes back NoMemory s h = (s.1, (says_same (note_of notes) (note_of back) (words_noted o (packets_heard o past)) h s.0, s.1))
 restart_err o past notes back SaveFault s h = absurd (omega (arith, h.0))
 restart_err o past notes back _ s h = absurd h

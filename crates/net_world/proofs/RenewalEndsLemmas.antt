@@ -194,7 +194,7 @@ module _ (w : Setup) (past : List Change) (g : ℕ) where
       kept (Renew g) BadNote old new refl stands moved
       (goes w past (Renew g) free ∙ ap (λ b. outcome_of_step (if b then Ok (OfClient (Happens (client.Renew g Saved))) else Err BadNote)) (noted_is w past false h.1)) h.2
   unrenewed_ends NoMemory old new stands moved free h = (refl, client_kept w past old new stands moved h.1)
-  unrenewed_ends _ old new stands moved free h = absurd h
+  unrenewed_ends _ old new stands moved free h = let wrong = h.3 in absurd cc
 
   pub uncut_ends : (landed : Bool) (fault : Fault) (old new : World) → StandsFor w past old → HasMoved [] old new → option_or (unless_losable w (trace w past)) (unless_unused w (trace w past) g) ≡ None
       → nodes.CutsInRenewal (client_opening w) (entries w past) landed g new.client (Err fault) → Ends w past (CutIn landed (Renew g)) new (Err fault)
@@ -203,4 +203,4 @@ module _ (w : Setup) (past : List Change) (g : ℕ) where
       kept (CutIn landed (Renew g)) NoSave old new refl stands moved
       (goes w past (CutIn landed (Renew g)) free ∙ ap (λ b. outcome_of_step (if b then Ok (OfClient (Happens (client.Renew g (lost_by landed)))) else Err NoSave)) (noted_is w past false h.1)) h.2
   uncut_ends landed NoMemory old new stands moved free h = (refl, client_kept w past old new stands moved h.1)
-  uncut_ends landed _ old new stands moved free h = absurd h
+  uncut_ends landed _ old new stands moved free h = let wrong = h.3 in absurd cc

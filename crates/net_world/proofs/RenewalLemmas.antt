@@ -20,6 +20,7 @@ use Rattle.client_core.specs.Stands.{IsBadNote, NotOpened, NotRenewed}
 use Rattle.net_world.specs.declared.client_node.ClientNode.{ClientNode}
 use Rattle.net_world.specs.declared.client_node.ClientNode.TheVariants.{On, Off}
 use Rattle.net_world.specs.ClientNodes.{Stands, IsEmptyIfBlank, Restarts, Renews, CutsInRenewal}
+use Rattle.net_world.proofs.NodeLemmas.{never}
 use Rattle.net_world.proofs.ClientNodeLemmas.{says_blank}
 
 -- ---- notes that say nothing
@@ -68,7 +69,7 @@ bad_note one mirror bytes n s (inr empty) = rw (empty.0, said_is one bytes n emp
 pub not_started : SaysOneThing → (o : Opening) (past : List FrameEntry) (mirror : Bool) (old new : Kept) (fault : Fault) → Stands o past (Off old) → NotOpened mirror (note_of old) (note_of new) fault → Restarts o past mirror (Off new) (Err fault)
 not_started one o past mirror old new LoadFault h k = absurd (omega (arith, k.0))
 not_started one o past mirror old new BadNote h k =
-    (h.1, bad_note one mirror (note_of old).bytes (words_noted o (packets_heard o past)) h.0 k.1, restand o past old new k.0 h)
+    (h.1, bad_note one mirror (note_of old).bytes (words_noted o (packets_heard o past)) h.0 k.1, restand o past old new k.0 h, refl)
 not_started one o past mirror old new NoMemory h k = (h.1, restand o past old new k h)
 not_started one o past mirror old new _ h k = absurd k
 
@@ -81,16 +82,12 @@ written_note : (bytes : List ℕ) (n : Noted) → bytes ≢ [] → IsEmptyIfBlan
 written_note bytes n some (inl none) = absurd (some none)
 written_note bytes n some (inr written) = written
 
-never : (b : Bool) → b ≡ true → b ≡ false → ⊥
-never true h k = cc
-never false h k = cc
-
 pub not_renewed : (o : Opening) (past : List FrameEntry) (g : ℕ) (old new : Kept) (fault : Fault) → is_generation g ≡ true → Stands o past (Off old) → NotRenewed g (note_of old) (note_of new) fault → Renews o past g (Off new) (Err fault)
 not_renewed o past g old new BadGeneration fits h k = absurd (never (is_generation g) fits k.1)
 not_renewed o past g old new LoadFault fits h k = absurd (omega (arith, k.0))
 not_renewed o past g old new SaveFault fits h k = absurd (omega (arith, k.0))
 not_renewed o past g old new BadNote fits h k =
-    (h.1, written_note (note_of old).bytes (words_noted o (packets_heard o past)) k.2 h.2, restand o past old new k.0 h)
+    (h.1, written_note (note_of old).bytes (words_noted o (packets_heard o past)) k.2 h.2, restand o past old new k.0 h, refl)
 not_renewed o past g old new NoMemory fits h k = (h.1, restand o past old new k h)
 not_renewed o past g old new _ fits h k = absurd k
 
@@ -108,13 +105,11 @@ cut_old o past g notes none h = (says_nothing (note_of notes).bytes (words_noted
 -- A renewal that is refused saves nothing: there is a note, or it is refused as it is.
 module _ (o : Opening) (past : List FrameEntry) (g : ℕ) (landed : Bool) (new : ClientNode) where
   pub found : (fault : Fault) → true ≡ sameb fault_type fault BadNote → Renews o past g new (Err fault) → CutsInRenewal o past landed g new (Err SavesNothing)
-  found BadNote e h = h
-  found NodeOn e h = absurd cc
-  found NoMemory e h = absurd cc
-  found _ e h = absurd h
+  found BadNote e h = (h.0, h.1, h.2, refl)
+  found _ e h = absurd cc
 
   pub fails : (fault : Fault) → false ≡ sameb fault_type fault BadNote → Renews o past g new (Err fault) → CutsInRenewal o past landed g new (Err fault)
   fails BadNote e h = absurd cc
   fails NodeOn e h = h
   fails NoMemory e h = h
-  fails _ e h = absurd h
+  fails _ e h = let wrong = h.3 in absurd cc

@@ -46,8 +46,8 @@ use Rattle.net_world.specs.Changes.{Change, steps, trace}
 use Rattle.net_world.specs.Barred.{unless_on, is_on, unless}
 use Rattle.net_world.specs.World.{frames}
 use Rattle.net_world.specs.Sending.{sent_in}
-use Rattle.net_world.specs.ServerNodes as nodes_of
-use Rattle.net_world.specs.ServerNodes.{is_up}
+use Rattle.net_world.specs.Nodes as any_node
+use Rattle.net_world.specs.ServerNodes.{server_nodes, is_up, Stands}
 use Rattle.net_world.specs.ClientNodes as clients
 use Rattle.net_world.specs.ClientNodes.{handed_in}
 use Rattle.net_world.specs.Stands.{IsMirror, IsGreatest, StandsFor}
@@ -133,7 +133,7 @@ pub record HasServed (s : ℕ) (e : Input) (result : Result Outs Fault) (sent : 
   pub was : ServerNode
   pub node : ServerNode
   pub was_is : slice_get old.servers.items s ≡ Some was
-  pub stepped : (o : server.Opening) (past : List FrameEntry) → nodes_of.Stands o past was → nodes_of.Steps o past e node result
+  pub stepped : (o : server.Opening) (past : List FrameEntry) → Stands o past was → any_node.Ends (server_nodes o) past e node result
   pub moved : HasMoved s node sent old new
 
 -- This is handed out of what a step hands out, behind the frames that were sent.
@@ -151,19 +151,19 @@ serve_ends w past s e outs served old new stands h is =
     let a = h.stepped o es (stands.servers_are s h.was h.was_is) in
     let l : s < w.servers = omega (arith, h.moved.there, stands.number) in
     let same = frames_are w past s (answers.answered_entry o es e) in
-    let sent : outs.frames ≡ map frame_spelling (frames_of_step w (steps past) (step_by past s e)) = a.frames_are ∙ ap (map frame_spelling) same in
+    let sent : outs.frames ≡ map frame_spelling (frames_of_step w (steps past) (step_by past s e)) = a.sends.frames_are ∙ ap (map frame_spelling) same in
     record {
       on = is_there w past s l a.on;
       free = a.free;
       first_is = is.first ∙ first_is w past old stands;
       sent_is = is.sent_is ∙ ap (λ (fs : List (List ℕ)). length fs) sent ∙ length-map (frames_of_step w (steps past) (step_by past s e)) frame_spelling;
-      issue_is = is.issue ∙ a.issue_is;
-      act_is = is.act ∙ a.act_is;
+      issue_is = is.issue ∙ a.sends.issue_is;
+      act_is = is.act ∙ a.sends.act_is;
       stands = server_stepped w past s (answers.answered_entry o es e) h.node outs.frames old new stands h.moved sent a.stands;
     }
 
 refused : (w : Setup) (past : List Change) (s : ℕ) (e : Input) (fault : Fault) (old new : World) → StandsFor w past old → (h : HasServed s e (Err fault) [] old new) → s < w.servers
-    → nodes_of.IsOff (opening_of s) (entries past s) fault h.node ⊎ nodes_of.Refuses (opening_of s) (entries past s) e fault h.node
+    → any_node.IsOff (server_nodes (opening_of s)) (entries past s) fault h.node ⊎ any_node.Refuses (server_nodes (opening_of s)) (entries past s) e fault h.node
     → IsBarred w past s fault new ⊎ Refuses w past s e fault new
 refused w past s e fault old new stands h l (inl off) =
     inl (record { why = is_off w past s l off.off ∙ ap Some (sym off.why); unchanged = server_kept w past s h.node old new stands h.moved off.unchanged })
@@ -178,7 +178,7 @@ refused w past s e fault old new stands h l (inr r) =
     })
 
 by_sort : (w : Setup) (past : List Change) (s : ℕ) (e : Input) (fault : Fault) (old new : World) → StandsFor w past old → (h : HasServed s e (Err fault) [] old new) → s < w.servers
-    → (sort : FaultSort) → nodes_of.Faults (opening_of s) (entries past s) e sort fault h.node → Faults w past s e sort fault new
+    → (sort : FaultSort) → any_node.Faults (server_nodes (opening_of s)) (entries past s) e sort fault h.node → Faults w past s e sort fault new
 by_sort w past s e fault old new stands h l sorts.Memory f = (f.0, server_kept w past s h.node old new stands h.moved f.1)
 by_sort w past s e fault old new stands h l sorts.Save f = f
 by_sort w past s e fault old new stands h l sorts.Refusal f = refused w past s e fault old new stands h l f

@@ -29,6 +29,7 @@ pub mod Stands
 pub mod Sending
 pub mod Ends
 -- Calls inside a world that runs: no public contract cites these.
+pub mod Nodes
 pub mod ServerNodes
 pub mod ClientNodes
 pub mod MirrorNodes

@@ -1,14 +1,12 @@
 //! The client of a world, which may be off.
 
-ghost use Rattle.std.specs.Prelude.{◌≡◌, ◌≤◌, ◌∷◌, [], true, false, List, IfOk, IfErr};
+ghost use Rattle.std.specs.Prelude.{◌≡◌, ◌≤◌, ◌∷◌, [], false, List, IfOk, IfErr};
 ghost use Rattle.std.specs.Option.{option_copied};
 ghost use Rattle.fc_base.specs.declared.limits.TheConstants.{MAX_SERVERS};
 ghost use Rattle.fc_base.specs.declared.fault.Fault.TheVariants.{NoMemory};
 ghost use Rattle.client_core.specs.Note.{blank};
 ghost use Rattle.client_core.specs.History.{Opening};
-ghost use Rattle.messages.specs.Ranges.{is_generation};
-ghost use Rattle.disk_model.specs.declared.left.Left.TheVariants.{Saved};
-ghost use Rattle.client_core.specs.Hearing.{FrameEntry, Restart, Renew, Lose, Cut};
+ghost use Rattle.client_core.specs.Hearing.{FrameEntry, Restart, Cut};
 
 mod asks;
 mod cut_in;
@@ -29,7 +27,8 @@ pub enum ClientNode {
 
 impl ClientNode {
     ghost use Rattle.net_world.specs.declared.client_node.ClientNode.TheVariants.{Off};
-    ghost use Rattle.net_world.specs.ClientNodes.{is_up, Stands, Shows, Restarts, Renews, Loses};
+    ghost use Rattle.net_world.specs.Nodes.{Shows};
+    ghost use Rattle.net_world.specs.ClientNodes.{client_nodes, is_up, Stands, Restarts};
 
     /// A client of so many servers on a blank note.
     pub(crate) fn open(alloc: Global, servers: u32) -> Result<ClientNode, Fault>
@@ -56,7 +55,7 @@ impl ClientNode {
     /// The client, while it runs.
     pub(crate) fn client(&self) -> Option<&Client<MemNotes>>
         ensures { (o : Opening) (past : List FrameEntry) → Stands o past self.now →
-            Shows o past (option_copied result) }
+            Shows (client_nodes o) past (option_copied result) }
     {
         match self {
             ClientNode::On(client) => Some(client),

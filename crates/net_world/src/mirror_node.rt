@@ -38,7 +38,8 @@ pub enum MirrorNode {
 
 impl MirrorNode {
     ghost use Rattle.net_world.specs.declared.mirror_node.MirrorNode.TheVariants.{Off};
-    ghost use Rattle.net_world.specs.MirrorNodes.{Stands, Hears, Restarts, CutsIn};
+    ghost use Rattle.net_world.specs.Nodes.{Ends, CutsIn};
+    ghost use Rattle.net_world.specs.MirrorNodes.{mirror_nodes, Stands, Restarts};
 
     /// A mirror on a blank note.
     pub(crate) fn open(alloc: Global) -> Result<MirrorNode, AllocError>
@@ -60,13 +61,10 @@ impl MirrorNode {
     /// A frame comes to it. `NodeOff`: it doesn't run. Any other fault is the mirror's own.
     pub(crate) fn deliver(&mut self, frame: &Frame) -> Result<Frames, Fault>
         ensures { (o : Noted) (past : List Entry) → Stands o past self.old →
-            Hears o past frame.now self.new result }
+            Ends (mirror_nodes o) past frame.now self.new result }
     {
         match self {
-            MirrorNode::On(mirror) => match mirror.deliver(frame) {
-                Ok(frames) => Ok(frames),
-                Err(fault) => Err(fault),
-            },
+            MirrorNode::On(mirror) => mirror.deliver(frame),
             MirrorNode::Off(_) => Err(Fault::NodeOff),
         }
     }
@@ -133,7 +131,7 @@ impl MirrorNode {
         frame: &Frame,
     ) -> Result<(), Fault>
         ensures { (o : Noted) (past : List Entry) → Stands o past self.old →
-            CutsIn o past landed frame.now self.new result }
+            CutsIn (mirror_nodes o) past landed frame.now self.new result }
     {
         let MirrorNode::On(mirror) = self else {
             return Err(Fault::NodeOff);
@@ -152,7 +150,7 @@ impl MirrorNode {
     fn cut_behind_delivery(&mut self, alloc: Global, frame: &Frame) -> Result<(), Fault>
         ensures { (o : Noted) (past : List Entry) → Stands o past self.old →
             is_on past ≡ true → is_some (due o past frame.now) ≡ true →
-            CutsIn o past true frame.now self.new result }
+            CutsIn (mirror_nodes o) past true frame.now self.new result }
     {
         if let Err(fault) = self.deliver(frame) {
             return Err(fault);

@@ -28,7 +28,9 @@ pub enum ServerNode {
 
 impl ServerNode {
     ghost use Rattle.net_world.specs.declared.server_node.ServerNode.TheVariants.{Off};
-    ghost use Rattle.net_world.specs.ServerNodes.{is_up, Stands, Shows, Steps, Restarts, CutsIn, CutsInRestart};
+    ghost use Rattle.net_world.specs.Nodes.{Shows, Ends, CutsIn};
+    ghost use Rattle.net_world.specs.ServerNodes.{server_nodes, is_up, Stands, Restarts, CutsInRestart};
+    ghost use Rattle.server_core.specs.declared.input.Input.TheVariants.{Deliver};
     ghost use Rattle.server_core.specs.FrameAnswers.{would_save};
 
     /// The server with this number on a blank note.
@@ -53,7 +55,7 @@ impl ServerNode {
     /// The server, while it runs.
     pub(crate) fn server(&self) -> Option<&Server<MemNotes>>
         ensures { (o : Opening) (past : List FrameEntry) → Stands o past self.now →
-            Shows o past (option_copied result) }
+            Shows (server_nodes o) past (option_copied result) }
     {
         match self {
             ServerNode::On(server) => Some(server),
@@ -65,7 +67,7 @@ impl ServerNode {
     #[inline(always)]
     pub(crate) fn step(&mut self, input: Input) -> Result<Outs, Fault>
         ensures { (o : Opening) (past : List FrameEntry) → Stands o past self.old →
-            Steps o past input self.new result }
+            Ends (server_nodes o) past input self.new result }
     {
         match self {
             ServerNode::On(server) => server.step(input),
@@ -137,7 +139,7 @@ impl ServerNode {
         frame: Frame,
     ) -> Result<(), Fault>
         ensures { (o : Opening) (past : List FrameEntry) → Stands o past self.old →
-            CutsIn o past landed frame self.new result }
+            CutsIn (server_nodes o) past landed (Deliver frame) self.new result }
     {
         let Some(server) = self.server() else {
             return Err(Fault::NodeOff);
@@ -156,7 +158,7 @@ impl ServerNode {
     fn cut_behind(&mut self, alloc: Global, frame: Frame) -> Result<(), Fault>
         ensures { (o : Opening) (past : List FrameEntry) → Stands o past self.old →
             is_up o past ≡ true → would_save o past frame ≡ true →
-            CutsIn o past true frame self.new result }
+            CutsIn (server_nodes o) past true (Deliver frame) self.new result }
     {
         let outs = match self.step(Input::Deliver(frame)) {
             Ok(outs) => outs,

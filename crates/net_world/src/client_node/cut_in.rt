@@ -5,7 +5,8 @@ ghost use Rattle.client_core.specs.declared.input.Input.TheVariants as inputs;
 ghost use Rattle.client_core.specs.History.{Opening};
 ghost use Rattle.client_core.specs.Hearing.{FrameEntry};
 ghost use Rattle.client_core.specs.FrameAnswers.{due};
-ghost use Rattle.net_world.specs.ClientNodes.{Stands, CutsIn};
+ghost use Rattle.net_world.specs.Nodes.{CutsIn};
+ghost use Rattle.net_world.specs.ClientNodes.{client_nodes, Stands};
 
 use super::ClientNode;
 use crate::ask::Ask;
@@ -23,7 +24,7 @@ impl ClientNode {
         text: &[u8],
     ) -> Result<(), Fault>
         ensures { (o : Opening) (past : List FrameEntry) → Stands o past self.old →
-            CutsIn o past landed (inputs.Begin text.now) self.new result }
+            CutsIn (client_nodes o) past landed (inputs.Begin text.now) self.new result }
     {
         let Some(client) = self.client() else {
             return Err(Fault::NodeOff);
@@ -47,7 +48,7 @@ impl ClientNode {
         text: &[u8],
     ) -> Result<(), Fault>
         ensures { (o : Opening) (past : List FrameEntry) → Stands o past self.old →
-            CutsIn o past landed (inputs.Verify run text.now) self.new result }
+            CutsIn (client_nodes o) past landed (inputs.Verify run text.now) self.new result }
     {
         let Some(client) = self.client() else {
             return Err(Fault::NodeOff);
@@ -70,7 +71,7 @@ impl ClientNode {
         frame: Frame,
     ) -> Result<(), Fault>
         ensures { (o : Opening) (past : List FrameEntry) → Stands o past self.old →
-            CutsIn o past landed (inputs.Deliver frame) self.new result }
+            CutsIn (client_nodes o) past landed (inputs.Deliver frame) self.new result }
     {
         if let Err(fault) = self.try_delivery(&frame) {
             return Err(fault);
@@ -90,7 +91,7 @@ impl ClientNode {
         ensures fails { IfErr result
             (λ fault. (o : Opening) (past : List FrameEntry) → Stands o past self.now →
             (landed : Bool) →
-            CutsIn o past landed (inputs.Deliver frame.now) self.now (Err fault)) }
+            CutsIn (client_nodes o) past landed (inputs.Deliver frame.now) self.now (Err fault)) }
     {
         let Some(client) = self.client() else {
             return Err(Fault::NodeOff);
@@ -106,7 +107,7 @@ impl ClientNode {
     fn cut_behind_begin(&mut self, alloc: Global, text: &[u8]) -> Result<(), Fault>
         ensures { (o : Opening) (past : List FrameEntry) → Stands o past self.old →
             is_some (due o past (inputs.Begin text.now)) ≡ true →
-            CutsIn o past true (inputs.Begin text.now) self.new result }
+            CutsIn (client_nodes o) past true (inputs.Begin text.now) self.new result }
     {
         if let Err(fault) = self.ask(Ask::Begin(text)) {
             return Err(fault);
@@ -119,7 +120,7 @@ impl ClientNode {
     fn cut_behind_verify(&mut self, alloc: Global, run: RunNo, text: &[u8]) -> Result<(), Fault>
         ensures { (o : Opening) (past : List FrameEntry) → Stands o past self.old →
             is_some (due o past (inputs.Verify run text.now)) ≡ true →
-            CutsIn o past true (inputs.Verify run text.now) self.new result }
+            CutsIn (client_nodes o) past true (inputs.Verify run text.now) self.new result }
     {
         if let Err(fault) = self.ask(Ask::Verify(run, text)) {
             return Err(fault);
@@ -132,7 +133,7 @@ impl ClientNode {
     fn cut_behind_delivery(&mut self, alloc: Global, frame: Frame) -> Result<(), Fault>
         ensures { (o : Opening) (past : List FrameEntry) → Stands o past self.old →
             is_some (due o past (inputs.Deliver frame)) ≡ true →
-            CutsIn o past true (inputs.Deliver frame) self.new result }
+            CutsIn (client_nodes o) past true (inputs.Deliver frame) self.new result }
     {
         if let Err(fault) = self.ask(Ask::Deliver(frame)) {
             return Err(fault);

@@ -1,12 +1,10 @@
-use Rattle.net_world.proofs.MirrorNodeLemmas.{answers, fails}
+use Rattle.net_world.specs.declared.mirror_node.MirrorNode.TheVariants.{On}
+use Rattle.net_world.specs.MirrorNodes.{mirror_nodes}
+use Rattle.net_world.proofs.NodeLemmas.{ends}
+use Rattle.net_world.proofs.MirrorNodeLemmas.{laws}
 use Rattle.net_world.proofs.mirror_node.MirrorNode.deliver.Goals as goal
 
-pub returns-in-Ok : goal.returns-in-Ok
-returns-in-Ok c o past stands =
+pub returns-in-On : goal.returns-in-On
+returns-in-On c o past stands =
     let h = rw c.in-On.is at stands in
-    answers o past c.args.frame.now c.in-On.mirror c.deliver.new.self c.in-Ok.frames h.1 (c.in-Ok.ensures o past h.0)
-
-pub returns-in-Err : goal.returns-in-Err
-returns-in-Err c o past stands =
-    let h = rw c.in-On.is at stands in
-    fails o past c.args.frame.now c.in-Err.fault c.in-On.mirror c.deliver.new.self h.1 (c.in-Err.ensures o past h.0)
+    ends (mirror_nodes o) On (laws o) past c.args.frame.now c.in-On.mirror c.deliver.new.self c.deliver.result h.1 (c.deliver.ensures o past h.0)

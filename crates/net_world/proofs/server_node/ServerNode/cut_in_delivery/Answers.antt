@@ -1,6 +1,10 @@
 use Rattle.std.proofs.Common.{sym, ◌∙◌, subst, Bool, Ok}
-use Rattle.net_world.specs.ServerNodes.{CutsIn}
-use Rattle.net_world.proofs.CutLemmas.{cut_old}
+use Rattle.server_core.specs.declared.input.Input.TheVariants.{Deliver}
+use Rattle.server_core.specs.Hearing.{Cut}
+use Rattle.net_world.specs.Nodes.{CutsIn}
+use Rattle.net_world.specs.ServerNodes.{server_nodes}
+use Rattle.net_world.proofs.NodeLemmas.{cut_old}
+use Rattle.net_world.proofs.CutLemmas.{saves}
 use Rattle.net_world.proofs.server_node.ServerNode.cut_in_delivery.Goals as goal
 
 pub returns-in_default : goal.returns-in_default
@@ -14,11 +18,12 @@ returns-then-not-would_save c o past stands =
 pub returns-then-not-landed : goal.returns-then-not-landed
 returns-then-not-landed c o past stands =
     let h = c.in-Some.ensures o past stands in
-    subst (λ (b : Bool). CutsIn o past b c.args.frame c.cut.new.self (Ok tt)) (sym c.if-not-landed.true)
-    (cut_old o past c.args.frame c.cut.new.self h.1 (sym (c.would_save.ensures o past h.0) ∙ c.if-not-would_save.false) (c.cut.ensures o past stands))
+    subst (λ (b : Bool). CutsIn (server_nodes o) past b (Deliver c.args.frame) c.cut.new.self (Ok tt)) (sym c.if-not-landed.true)
+    (cut_old (server_nodes o) Cut past (Deliver c.args.frame) c.cut.new.self
+    (saves o past c.args.frame h.1 (sym (c.would_save.ensures o past h.0) ∙ c.if-not-would_save.false)) (c.cut.ensures o past stands))
 
 pub returns : goal.returns
 returns c o past stands =
     let h = c.in-Some.ensures o past stands in
-    subst (λ (b : Bool). CutsIn o past b c.args.frame c.cut_behind.new.self c.cut_behind.result) (sym c.if-not-landed.false)
+    subst (λ (b : Bool). CutsIn (server_nodes o) past b (Deliver c.args.frame) c.cut_behind.new.self c.cut_behind.result) (sym c.if-not-landed.false)
     (c.cut_behind.ensures o past stands h.1 (sym (c.would_save.ensures o past h.0) ∙ c.if-not-would_save.false))

@@ -1,7 +1,7 @@
-use Rattle.std.proofs.Common.{refl, sym, ◌∙◌, ap, ◌++◌, List, ℕ, length, append-nil, subst}
+use Rattle.std.proofs.Common.{refl, sym, ◌∙◌, ap, ◌++◌, List, ℕ, length, append-nil, subst, Ok}
 use Rattle.std.proofs.lemmas.Result.{err_from_is_err_and}
 use Rattle.net_world.specs.Asks.{input_of}
-use Rattle.net_world.specs.ClientNodes.{Answers}
+use Rattle.net_world.specs.ClientNodes.{Asks}
 use Rattle.net_world.specs.Sending.{sent_in}
 use Rattle.net_world.proofs.AskLemmas.{answered, unanswered}
 use Rattle.net_world.proofs.ServeLemmas.{settled}
@@ -26,7 +26,7 @@ returns c w past stands =
     let asked = c.in_ok-asked.asked in
     answered w past e asked c.in-Ok.first c.send.result c.args.self.now c.send.new.self stands
     (record {
-      asks = λ o es h. subst (λ x. Answers o es e x asked) (sym (ap (λ x. x.client) c.send.ensures.rest)) (c.in_ok-asked.ensures o es h);
+      asks = λ o es h. subst (λ x. Asks o es e x (Ok asked)) (sym (ap (λ x. x.client) c.send.ensures.rest)) (c.in_ok-asked.ensures o es h);
       moved = record { sent_is = c.send.ensures.sent ∙ ap (λ fs. fs ++ asked.frames) c.settle.ensures.same; servers_are = ap (λ x. x.servers) c.send.ensures.rest; files_are = ap (λ x. x.files) c.send.ensures.rest; mirror_is = ap (λ x. x.mirror) c.send.ensures.rest };
     })
     (c.in-Ok.ensures.first ∙ ap (λ (fs : List (List ℕ)). length fs) c.settle.ensures.same)
