@@ -9,6 +9,8 @@ use Rattle.fc_base.specs.declared.report.ReportParts.{ReportParts}
 use Rattle.job_file.specs.declared.job.Job.{Job}
 use Rattle.verify_state.specs.State.{State}
 use Rattle.disk_model.specs.File.{File}
+use Rattle.disk_model.specs.MemDisk.{file_of}
+use Rattle.disk_model.specs.declared.mem_disk.MemDisk.{MemDisk}
 use Rattle.recheck.specs.Disk.{ChecksDisk, IsWhole, IsCut}
 use Rattle.recheck.specs.Expected.{expected_by}
 use Rattle.server_core.specs.declared.event.Event.TheVariants as events
@@ -35,6 +37,7 @@ use Rattle.net_world.specs.Serving.{entries, ServerEnds}
 use Rattle.net_world.specs.Finding.{IsMadeBy, IsReady, IsUnready}
 use Rattle.net_world.proofs.ServeLemmas.{heard_is}
 use Rattle.net_world.proofs.OutcomeLemmas.{met_ok, met_err}
+use Rattle.net_world.proofs.FileStepLemmas.{HasWritten, IsRead, file_kept}
 use Rattle.net_world.proofs.EndsLemmas.{ComesTo, goes, stops, refuses, served_ends, unserved_ends}
 
 -- ---- the report
@@ -44,7 +47,7 @@ by_made c j job held None h = ap (λ p. report_by c j job p held) h
 by_made c j job held (Some state) h = ap (λ p. report_by c j job p held) h
 
 -- What the check of a disk answers, where the disk holds the file.
-pub report_is : (w : Setup) (past : List Change) (s j : ℕ) (ready : Ready) (h : IsReady w past s j ready) (r : ReportParts) (old new : File) → old ≡ file w past s j → new.failures ≡ 0 → ChecksDisk (Ok r) ready.key ready.rec ready.state ready.fatal old new
+report_is : (w : Setup) (past : List Change) (s j : ℕ) (ready : Ready) (h : IsReady w past s j ready) (r : ReportParts) (old new : File) → old ≡ file w past s j → new.failures ≡ 0 → ChecksDisk (Ok r) ready.key ready.rec ready.state ready.fatal old new
     → (r ≡ report_of (key_of h.now j) h.job ready.state (content w past s j)) × (new ≡ old)
 report_is w past s j ready h r old new is calm checks = by_end checks.1
   where
@@ -81,6 +84,15 @@ unchecked key rec state fatal faults.OtherPlace old new h = h.1
 unchecked key rec state fatal faults.NoMemory old new h = h
 unchecked key rec state fatal faults.Off old new h = h.3
 unchecked key rec state fatal _ old new h = absurd h
+
+-- The check of the disk at the file's place leaves a world that stands for the same, and answers the
+-- report of the file.
+pub checked_file : (w : Setup) (past : List Change) (s j place : ℕ) (ready : Ready) (h : IsReady w past s j ready) (r : ReportParts) (state : Option State) (was disk : MemDisk) (old new : World)
+    → StandsFor w past old → IsRead w past s j place was old → state ≡ ready.state → ChecksDisk (Ok r) ready.key ready.rec state ready.fatal (file_of was) (file_of disk) → HasWritten s j disk old new
+    → (r ≡ report_of (key_of h.now j) h.job ready.state (content w past s j)) × StandsFor w past new
+checked_file w past s j place ready h r state was disk old new stands read is checks wrote =
+    let made = report_is w past s j ready h r (file_of was) (file_of disk) read.held refl (subst (λ (x : Option State). ChecksDisk (Ok r) ready.key ready.rec x ready.fatal (file_of was) (file_of disk)) is checks) in
+    (made.0, file_kept w past s j disk old new stands wrote (made.1 ∙ read.held))
 
 -- ---- how the event ends
 

@@ -1,6 +1,6 @@
 -- One file of a world has changed.
 use Rattle.std.proofs.Common.{◌≡◌, refl, sym, ◌∙◌, ap, subst, ℕ, ◌+◌, ◌*◌, ◌%◌, ◌<◌, ◌≤◌, arith, Bool, true, false, ◌&&◌, ◌==◌, List, ◌∷◌, length, Option, Some, None, Ok}
-use Rattle.std.specs.Prelude.{if◌then◌else◌, map, nat_le, nat_lt, set, slice_get, IsTrue, Vec}
+use Rattle.std.specs.Prelude.{if◌then◌else◌, get_or, map, nat_le, nat_lt, set, slice_get, IsTrue, Vec}
 use Rattle.std.specs.declared.alloc.Global.{Global}
 use Rattle.std.proofs.Math.ListN.{length-set}
 use Rattle.std.proofs.lemmas.Bool.{eqb-true, eq-eqb, and_parts}
@@ -42,7 +42,7 @@ use Rattle.net_world.specs.ClientNodes.{handed_in}
 use Rattle.net_world.specs.Stands.{IsMirror, IsGreatest, StandsFor, file}
 use Rattle.net_world.specs.Ends.{Ends}
 use Rattle.net_world.proofs.SlotLemmas.{is_set, set_there}
-use Rattle.net_world.proofs.ServeLemmas.{first_is, lt_of, le_of, lt_true, lt_false}
+use Rattle.net_world.proofs.ServeLemmas.{first_is, lt_of, le_of, lt_true, lt_false, node_at}
 use Rattle.net_world.proofs.EndsLemmas.{does}
 
 -- A file with this content, in a disk that is never off.
@@ -209,6 +209,27 @@ file_kept w past s j disk old new stands wrote is = record {
   files = ap (λ (xs : List MemDisk). length xs) wrote.set_is ∙ length-set old.files.items wrote.place disk ∙ stands.files;
   files_are = λ t i x l at. same_by w past s j disk old new stands wrote is t i x l at (is_file s j t i) refl;
 }
+
+-- ---- the disk at a file's place
+
+-- It is there, and holds the file.
+pub record IsRead (w : Setup) (past : List Change) (s j place : ℕ) (disk : MemDisk) (now : World) : Type 0 where
+  pub slot : j < MAX_JOBS
+  pub there : MAX_JOBS * s + j < length now.files.items
+  pub place_is : place ≡ MAX_JOBS * s + j
+  pub held : file_of disk ≡ file w past s j
+
+pub is_read : (w : Setup) (past : List Change) (s j place : ℕ) (disk : MemDisk) (now : World) → StandsFor w past now → (nat_lt j MAX_JOBS && nat_lt (MAX_JOBS * s + j) (length now.files.items)) ≡ true
+    → place ≡ MAX_JOBS * s + j → disk ≡ get_or now.files.items place disk → IsRead w past s j place disk now
+is_read w past s j place disk now stands has is at =
+    let slot = has_slot s j (length now.files.items) has in
+    record { slot = slot.0; there = slot.1; place_is = is; held = stands.files_are s j disk slot.0 (node_at now.files.items (MAX_JOBS * s + j) place disk is slot.1 at) }
+
+-- Another was written there.
+pub written : (w : Setup) (past : List Change) (s j place : ℕ) (was disk : MemDisk) (old new : World) → IsRead w past s j place was old → new.files.items ≡ set old.files.items place disk
+    → sent_in new.sent ≡ sent_in old.sent → new.client ≡ old.client → new.servers ≡ old.servers → new.mirror ≡ old.mirror → HasWritten s j disk old new
+written w past s j place was disk old new r set_is sent_is client_is servers_are mirror_is =
+    record { slot = r.slot; there = r.there; place = place; place_is = r.place_is; set_is = set_is; sent_is = sent_is; client_is = client_is; servers_are = servers_are; mirror_is = mirror_is }
 
 -- ---- the block of a write
 

@@ -1,16 +1,12 @@
-use Rattle.std.proofs.Common.{refl, sym, ◌∙◌, ap, subst, ◌+◌, ◌*◌, arith, length}
-use Rattle.std.proofs.Common.{Option, Ok}
+use Rattle.std.proofs.Common.{refl, sym, ◌∙◌, ap, arith, length}
 use Rattle.std.specs.Option.{option_copied}
 use Rattle.std.proofs.lemmas.Result.{err_from_is_err_and}
-use Rattle.fc_base.specs.declared.limits.TheConstants.{MAX_JOBS}
-use Rattle.verify_state.specs.State.{State}
-use Rattle.recheck.specs.Disk.{ChecksDisk}
 use Rattle.disk_model.specs.MemDisk.{file_of}
 use Rattle.net_world.specs.declared.told.WorldAnswer.TheVariants.{Checked}
 use Rattle.net_world.specs.Telling.{told_of}
-use Rattle.net_world.proofs.ServeLemmas.{node_at, on_below}
-use Rattle.net_world.proofs.FileStepLemmas.{file_kept, has_slot, no_slot}
-use Rattle.net_world.proofs.CheckLemmas.{report_is, unchecked, check_ends, check_fails, unready_ends}
+use Rattle.net_world.proofs.ServeLemmas.{on_below}
+use Rattle.net_world.proofs.FileStepLemmas.{file_kept, is_read, written, no_slot}
+use Rattle.net_world.proofs.CheckLemmas.{checked_file, unchecked, check_ends, check_fails, unready_ends}
 use Rattle.net_world.proofs.world.World.check.Goals as goal
 
 pub returns-in_err-ready : goal.returns-in_err-ready
@@ -30,61 +26,35 @@ pub returns-in_default : goal.returns-in_default
 returns-in_default c w past stands =
     let s = c.args.server in
     let j = c.args.job in
-    let slot = has_slot s j (length c.args.self.now.files.items) (sym c.has_file.ensures ∙ c.if-not-has_file.false) in
-    let at = node_at c.args.self.now.files.items (MAX_JOBS * s + j) c.place_of.result c.index_mut.result.now c.place_of.ensures slot.1 c.index_mut.ensures.value in
-    let held = stands.files_are s j c.index_mut.result.now slot.0 at in (
-      refl,
-      file_kept w past s j c.check_disk.new.disk c.args.self.now _ stands
-          (record { slot = slot.0; there = slot.1; place = c.place_of.result; place_is = c.place_of.ensures; set_is = refl; sent_is = refl; client_is = refl; servers_are = refl; mirror_is = refl })
-          (unchecked c.in_ok-ready.ready.key c.in_ok-ready.ready.rec (option_copied c.as_ref.result) c.in_ok-ready.ready.fatal c.in_default.field-0 (file_of c.index_mut.result.now) (file_of c.check_disk.new.disk) c.in_default.ensures ∙ held),
-    )
+    let read = is_read w past s j c.place_of.result c.index_mut.result.now c.args.self.now stands (sym c.has_file.ensures ∙ c.if-not-has_file.false) c.place_of.ensures c.index_mut.ensures.value in
+    (refl, file_kept w past s j c.check_disk.new.disk c.args.self.now _ stands (written w past s j _ _ _ _ _ read refl refl refl refl refl)
+    (unchecked c.in_ok-ready.ready.key c.in_ok-ready.ready.rec (option_copied c.as_ref.result) c.in_ok-ready.ready.fatal c.in_default.field-0 (file_of c.index_mut.result.now) (file_of c.check_disk.new.disk) c.in_default.ensures ∙ read.held))
 
 pub returns-in_default-new : goal.returns-in_default-new
 returns-in_default-new c w past stands =
     let s = c.args.server in
     let j = c.args.job in
-    let slot = has_slot s j (length c.args.self.now.files.items) (sym c.has_file.ensures ∙ c.if-not-has_file.false) in
-    let at = node_at c.args.self.now.files.items (MAX_JOBS * s + j) c.place_of.result c.index_mut.result.now c.place_of.ensures slot.1 c.index_mut.ensures.value in
-    let held = stands.files_are s j c.index_mut.result.now slot.0 at in
-    let h = c.in_ok-ready.ensures w past stands in
-    let r = c.in-Ok.report in
-    let made = report_is w past s j c.in_ok-ready.ready h r (file_of c.index_mut.result.now) (file_of c.check_disk.new.disk) held refl
-    (subst (λ (x : Option State). ChecksDisk (Ok r) c.in_ok-ready.ready.key c.in_ok-ready.ready.rec x c.in_ok-ready.ready.fatal (file_of c.index_mut.result.now) (file_of c.check_disk.new.disk)) c.as_ref.ensures.value c.in-Ok.ensures) in (
-      refl,
-      file_kept w past s j c.check_disk.new.disk c.args.self.now _ stands
-          (record { slot = slot.0; there = slot.1; place = c.place_of.result; place_is = c.place_of.ensures; set_is = refl; sent_is = refl; client_is = refl; servers_are = refl; mirror_is = refl })
-          (made.1 ∙ held),
-    )
+    let read = is_read w past s j c.place_of.result c.index_mut.result.now c.args.self.now stands (sym c.has_file.ensures ∙ c.if-not-has_file.false) c.place_of.ensures c.index_mut.ensures.value in
+    (refl, (checked_file w past s j c.place_of.result c.in_ok-ready.ready (c.in_ok-ready.ensures w past stands) c.in-Ok.report _ c.index_mut.result.now c.check_disk.new.disk c.args.self.now _ stands read c.as_ref.ensures.value c.in-Ok.ensures
+    (written w past s j _ _ _ _ _ read refl refl refl refl refl)).1)
 
 pub returns-in-Ok-serve : goal.returns-in-Ok-serve
 returns-in-Ok-serve c w past stands =
     let s = c.args.server in
     let j = c.args.job in
-    let slot = has_slot s j (length c.args.self.now.files.items) (sym c.has_file.ensures ∙ c.if-not-has_file.false) in
-    let at = node_at c.args.self.now.files.items (MAX_JOBS * s + j) c.place_of.result c.index_mut.result.now c.place_of.ensures slot.1 c.index_mut.ensures.value in
-    let held = stands.files_are s j c.index_mut.result.now slot.0 at in
     let h = c.in_ok-ready.ensures w past stands in
-    let r = c.in-Ok.report in
-    let made = report_is w past s j c.in_ok-ready.ready h r (file_of c.index_mut.result.now) (file_of c.check_disk.new.disk) held refl
-    (subst (λ (x : Option State). ChecksDisk (Ok r) c.in_ok-ready.ready.key c.in_ok-ready.ready.rec x c.in_ok-ready.ready.fatal (file_of c.index_mut.result.now) (file_of c.check_disk.new.disk)) c.as_ref.ensures.value c.in-Ok.ensures) in
-    let kept = file_kept w past s j c.check_disk.new.disk c.args.self.now _ stands
-    (record { slot = slot.0; there = slot.1; place = c.place_of.result; place_is = c.place_of.ensures; set_is = refl; sent_is = refl; client_is = refl; servers_are = refl; mirror_is = refl })
-    (made.1 ∙ held) in
-    check_ends w past s j c.in_ok-ready.ready h r c.in-Ok-serve.served c.told.result c.serve.new.self made.0 (c.in-Ok-serve.ensures w past kept)
+    let read = is_read w past s j c.place_of.result c.index_mut.result.now c.args.self.now stands (sym c.has_file.ensures ∙ c.if-not-has_file.false) c.place_of.ensures c.index_mut.ensures.value in
+    let made = checked_file w past s j c.place_of.result c.in_ok-ready.ready h c.in-Ok.report _ c.index_mut.result.now c.check_disk.new.disk c.args.self.now _ stands read c.as_ref.ensures.value c.in-Ok.ensures
+    (written w past s j _ _ _ _ _ read refl refl refl refl refl) in
+    check_ends w past s j c.in_ok-ready.ready h c.in-Ok.report c.in-Ok-serve.served c.told.result c.serve.new.self made.0 (c.in-Ok-serve.ensures w past made.1)
     (c.told.ensures ∙ ap (λ x. told_of c.in-Ok-serve.served (Checked x)) c.in-Ok-new.ensures)
 
 pub returns-in-Err : goal.returns-in-Err
 returns-in-Err c w past stands =
     let s = c.args.server in
     let j = c.args.job in
-    let slot = has_slot s j (length c.args.self.now.files.items) (sym c.has_file.ensures ∙ c.if-not-has_file.false) in
-    let at = node_at c.args.self.now.files.items (MAX_JOBS * s + j) c.place_of.result c.index_mut.result.now c.place_of.ensures slot.1 c.index_mut.ensures.value in
-    let held = stands.files_are s j c.index_mut.result.now slot.0 at in
     let h = c.in_ok-ready.ensures w past stands in
-    let r = c.in-Ok.report in
-    let made = report_is w past s j c.in_ok-ready.ready h r (file_of c.index_mut.result.now) (file_of c.check_disk.new.disk) held refl
-    (subst (λ (x : Option State). ChecksDisk (Ok r) c.in_ok-ready.ready.key c.in_ok-ready.ready.rec x c.in_ok-ready.ready.fatal (file_of c.index_mut.result.now) (file_of c.check_disk.new.disk)) c.as_ref.ensures.value c.in-Ok.ensures) in
-    let kept = file_kept w past s j c.check_disk.new.disk c.args.self.now _ stands
-    (record { slot = slot.0; there = slot.1; place = c.place_of.result; place_is = c.place_of.ensures; set_is = refl; sent_is = refl; client_is = refl; servers_are = refl; mirror_is = refl })
-    (made.1 ∙ held) in
-    check_fails w past s j c.in_ok-ready.ready h r c.in-Err.fault c.serve.new.self made.0 (c.in-Err.ensures w past kept)
+    let read = is_read w past s j c.place_of.result c.index_mut.result.now c.args.self.now stands (sym c.has_file.ensures ∙ c.if-not-has_file.false) c.place_of.ensures c.index_mut.ensures.value in
+    let made = checked_file w past s j c.place_of.result c.in_ok-ready.ready h c.in-Ok.report _ c.index_mut.result.now c.check_disk.new.disk c.args.self.now _ stands read c.as_ref.ensures.value c.in-Ok.ensures
+    (written w past s j _ _ _ _ _ read refl refl refl refl refl) in
+    check_fails w past s j c.in_ok-ready.ready h c.in-Ok.report c.in-Err.fault c.serve.new.self made.0 (c.in-Err.ensures w past made.1)

@@ -1,7 +1,6 @@
-use Rattle.std.proofs.Common.{refl, sym, ◌∙◌, ap, subst, ◌+◌, ◌*◌, arith, length, List, ℕ}
+use Rattle.std.proofs.Common.{refl, sym, ◌∙◌, ap, subst, arith, length, List, ℕ}
 use Rattle.std.specs.Prelude.{IsTrue}
 use Rattle.std.proofs.lemmas.Result.{err_from_is_err_and}
-use Rattle.fc_base.specs.declared.limits.TheConstants.{MAX_JOBS}
 use Rattle.fc_base.specs.JobParts.{is_within_limits}
 use Rattle.fc_base.specs.declared.record.JobParts.{JobParts}
 use Rattle.disk_model.specs.MemDisk.{file_of}
@@ -9,9 +8,9 @@ use Rattle.net_world.specs.Happenings.{Land}
 use Rattle.net_world.specs.Changes.{Landed, trace}
 use Rattle.net_world.specs.Contents.{content, with_write}
 use Rattle.net_world.specs.Writes.{open_at}
-use Rattle.net_world.proofs.ServeLemmas.{node_at, on_below}
+use Rattle.net_world.proofs.ServeLemmas.{on_below}
 use Rattle.net_world.proofs.EndsLemmas.{refuses, stops, goes}
-use Rattle.net_world.proofs.FileStepLemmas.{quiet_ends, file_kept, lands, has_slot, no_slot, is_block, block_below, landed_is}
+use Rattle.net_world.proofs.FileStepLemmas.{quiet_ends, file_kept, lands, is_read, written, no_slot, is_block, block_below, landed_is}
 use Rattle.net_world.proofs.world.World.land.Goals as goal
 
 pub land-requires : goal.land-requires
@@ -48,14 +47,12 @@ returns-in-Ok-land c w past stands =
     let j = c.args.job in
     let k = c.args.write in
     let h = c.in_ok-found.ensures w past stands in
-    let slot = has_slot s j (length c.args.self.now.files.items) (sym c.has_file.ensures ∙ c.if-not-has_file.false) in
-    let at = node_at c.args.self.now.files.items (MAX_JOBS * s + j) c.place_of.result c.index_mut.result.now c.place_of.ensures slot.1 c.index_mut.ensures.value in
-    let held = stands.files_are s j c.index_mut.result.now slot.0 at in
+    let read = is_read w past s j c.place_of.result c.index_mut.result.now c.args.self.now stands (sym c.has_file.ensures ∙ c.if-not-has_file.false) c.place_of.ensures c.index_mut.ensures.value in
     let e = Land s j k c.args.mask in
     quiet_ends w past s j e (Landed s j k c.args.mask) (with_write k c.args.mask (open_at (trace w past) s j k) (content w past s j)) c.land.new.self c.in-Ok.first c.plain.result c.args.self.now _ stands
-    (record { slot = slot.0; there = slot.1; place = c.place_of.result; place_is = c.place_of.ensures; set_is = refl; sent_is = c.settle.ensures.same; client_is = refl; servers_are = refl; mirror_is = refl })
+    (written w past s j _ _ _ _ _ read refl c.settle.ensures.same refl refl refl)
     (lands w past s j k c.args.mask)
-    (landed_is w past s j k c.args.mask c.in_ok-found.found.0 c.in_ok-found.found.1 c.deref.result.now (file_of c.index_mut.result.now) (file_of c.land.new.self) h held (c.deref.ensures.value ∙ c.in-Ok-fill.ensures) c.in-Ok-land.ensures.ok)
+    (landed_is w past s j k c.args.mask c.in_ok-found.found.0 c.in_ok-found.found.1 c.deref.result.now (file_of c.index_mut.result.now) (file_of c.land.new.self) h read.held (c.deref.ensures.value ∙ c.in-Ok-fill.ensures) c.in-Ok-land.ensures.ok)
     (goes w past e h.there)
     refl
     (c.in-Ok.ensures.first ∙ ap (λ (fs : List (List ℕ)). length fs) c.settle.ensures.same)
@@ -65,11 +62,5 @@ pub returns-in-Err : goal.returns-in-Err
 returns-in-Err c w past stands =
     let s = c.args.server in
     let j = c.args.job in
-    let slot = has_slot s j (length c.args.self.now.files.items) (sym c.has_file.ensures ∙ c.if-not-has_file.false) in
-    let at = node_at c.args.self.now.files.items (MAX_JOBS * s + j) c.place_of.result c.index_mut.result.now c.place_of.ensures slot.1 c.index_mut.ensures.value in
-    let held = stands.files_are s j c.index_mut.result.now slot.0 at in (
-      refl,
-      file_kept w past s j c.land.new.self c.args.self.now _ stands
-          (record { slot = slot.0; there = slot.1; place = c.place_of.result; place_is = c.place_of.ensures; set_is = refl; sent_is = c.settle.ensures.same; client_is = refl; servers_are = refl; mirror_is = refl })
-          (c.in-Err.ensures.err ∙ held),
-    )
+    let read = is_read w past s j c.place_of.result c.index_mut.result.now c.args.self.now stands (sym c.has_file.ensures ∙ c.if-not-has_file.false) c.place_of.ensures c.index_mut.ensures.value in
+    (refl, file_kept w past s j c.land.new.self c.args.self.now _ stands (written w past s j _ _ _ _ _ read refl c.settle.ensures.same refl refl refl) (c.in-Err.ensures.err ∙ read.held))

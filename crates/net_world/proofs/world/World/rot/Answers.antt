@@ -1,12 +1,11 @@
-use Rattle.std.proofs.Common.{refl, sym, ◌∙◌, ap, ◌<◌, ◌+◌, ◌*◌, arith, length, List, ℕ}
-use Rattle.fc_base.specs.declared.limits.TheConstants.{MAX_JOBS}
+use Rattle.std.proofs.Common.{refl, sym, ◌∙◌, ap, ◌<◌, arith, length, List, ℕ}
 use Rattle.disk_model.specs.File.{with_sector, put}
 use Rattle.net_world.specs.Happenings.{Rot}
 use Rattle.net_world.specs.Changes.{Rotted}
 use Rattle.net_world.specs.Contents.{content}
-use Rattle.net_world.proofs.ServeLemmas.{lt_of, le_of, node_at, settled}
+use Rattle.net_world.proofs.ServeLemmas.{lt_of, le_of, settled}
 use Rattle.net_world.proofs.EndsLemmas.{refuses, stops, goes}
-use Rattle.net_world.proofs.FileStepLemmas.{quiet_ends, file_kept, rots, has_slot, no_slot, rot_none, rot_past, rot_free}
+use Rattle.net_world.proofs.FileStepLemmas.{quiet_ends, file_kept, rots, is_read, written, no_slot, rot_none, rot_past, rot_free}
 use Rattle.net_world.proofs.world.World.rot.Goals as goal
 
 pub returns-then-not-has_server : goal.returns-then-not-has_server
@@ -34,15 +33,13 @@ returns-in-Ok-rot c w past stands =
     let j = c.args.job in
     let l = lt_of s (length c.args.self.now.servers.items) (sym c.has_server.ensures ∙ c.if-not-has_server.false) in
     let below : s < w.servers = omega (arith, stands.number, l) in
-    let slot = has_slot s j (length c.args.self.now.files.items) (sym c.has_file.ensures ∙ c.if-not-has_file.false) in
-    let at = node_at c.args.self.now.files.items (MAX_JOBS * s + j) c.place_of.result c.index_mut.result.now c.place_of.ensures slot.1 c.index_mut.ensures.value in
-    let held = stands.files_are s j c.index_mut.result.now slot.0 at in
+    let read = is_read w past s j c.place_of.result c.index_mut.result.now c.args.self.now stands (sym c.has_file.ensures ∙ c.if-not-has_file.false) c.place_of.ensures c.index_mut.ensures.value in
     let e = Rot s j c.args.sector c.args.bytes.now in
     quiet_ends w past s j e (Rotted s j c.args.sector c.args.bytes.now) (put c.args.sector c.args.bytes.now (content w past s j)) c.rot.new.self c.in-Ok.first c.plain.result c.args.self.now _ stands
-    (record { slot = slot.0; there = slot.1; place = c.place_of.result; place_is = c.place_of.ensures; set_is = refl; sent_is = c.settle.ensures.same; client_is = refl; servers_are = refl; mirror_is = refl })
+    (written w past s j _ _ _ _ _ read refl c.settle.ensures.same refl refl refl)
     (rots w past s j c.args.sector c.args.bytes.now)
-    (c.in-Ok-rot.ensures.ok ∙ ap (with_sector c.args.sector c.args.bytes.now) held)
-    (goes w past e (rot_free w s j below slot.0))
+    (c.in-Ok-rot.ensures.ok ∙ ap (with_sector c.args.sector c.args.bytes.now) read.held)
+    (goes w past e (rot_free w s j below read.slot))
     refl
     (c.in-Ok.ensures.first ∙ ap (λ (fs : List (List ℕ)). length fs) c.settle.ensures.same)
     c.plain.ensures
@@ -51,11 +48,5 @@ pub returns-in-Err : goal.returns-in-Err
 returns-in-Err c w past stands =
     let s = c.args.server in
     let j = c.args.job in
-    let slot = has_slot s j (length c.args.self.now.files.items) (sym c.has_file.ensures ∙ c.if-not-has_file.false) in
-    let at = node_at c.args.self.now.files.items (MAX_JOBS * s + j) c.place_of.result c.index_mut.result.now c.place_of.ensures slot.1 c.index_mut.ensures.value in
-    let held = stands.files_are s j c.index_mut.result.now slot.0 at in (
-      refl,
-      file_kept w past s j c.rot.new.self c.args.self.now _ stands
-          (record { slot = slot.0; there = slot.1; place = c.place_of.result; place_is = c.place_of.ensures; set_is = refl; sent_is = c.settle.ensures.same; client_is = refl; servers_are = refl; mirror_is = refl })
-          (c.in-Err.ensures.err ∙ held),
-    )
+    let read = is_read w past s j c.place_of.result c.index_mut.result.now c.args.self.now stands (sym c.has_file.ensures ∙ c.if-not-has_file.false) c.place_of.ensures c.index_mut.ensures.value in
+    (refl, file_kept w past s j c.rot.new.self c.args.self.now _ stands (written w past s j _ _ _ _ _ read refl c.settle.ensures.same refl refl refl) (c.in-Err.ensures.err ∙ read.held))
