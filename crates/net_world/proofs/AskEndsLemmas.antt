@@ -16,7 +16,6 @@ use Rattle.client_core.specs.declared.call.Call.TheVariants as calls
 use Rattle.client_core.specs.declared.input.Input.{Input}
 use Rattle.client_core.specs.declared.input.Input.TheVariants as inputs
 use Rattle.client_core.specs.History as client
-use Rattle.client_core.specs.Saves.{Addition}
 use Rattle.client_core.specs.Words as words
 use Rattle.client_core.specs.Hearing.{coming_of, packets_heard}
 use Rattle.client_core.specs.FrameAnswers.{is_drop, sense, refusal, answered_entry}
@@ -28,10 +27,10 @@ use Rattle.net_world.specs.Happenings.{Happening}
 use Rattle.net_world.specs.Happenings as happenings
 use Rattle.net_world.specs.Trace.{Step, AtClient, of_client, client_opening}
 use Rattle.net_world.specs.Frames as frames
-use Rattle.net_world.specs.Frames.{FrameStep, OfClient, at_client, frames_sent, frames_of_step, step_heard}
+use Rattle.net_world.specs.Frames.{OfClient, at_client, frames_sent, frames_of_step}
 use Rattle.net_world.specs.Changes.{Change, Met, steps, trace}
 use Rattle.net_world.specs.Barred.{unless_on, barring_fault}
-use Rattle.net_world.specs.Outcomes.{Does, Refuses, outcome_of_step, left_for, met_by_client, brings}
+use Rattle.net_world.specs.Outcomes.{Does, Refuses, outcome_of_step, met_by_client, brings}
 use Rattle.net_world.specs.World.{answer, told_by, told_of_happening, act, act_of}
 use Rattle.net_world.specs.ClientNodes.{answer_to}
 use Rattle.net_world.specs.Stands.{StandsFor}
@@ -44,15 +43,9 @@ use Rattle.net_world.proofs.EndsLemmas.{goes, stops, does, refusing}
 
 -- ---- what comes of a call
 
-pub left_same : (x : Option Addition) → left_for x ≡ saved_for x
-left_same None = refl
-left_same (Some a) = refl
-
 met_here : (w : Setup) (t : List Step) (c : Call) → words.refusal (client_opening w) (of_client w t) c ≡ None
     → met_by_client w t c ≡ Ok (OfClient (Happens (client.Met c (saved_for (words.due (client_opening w) (of_client w t) c)))))
-met_here w t c h =
-    rw h refl
-    ∙ ap (λ left. Ok (OfClient (Happens (client.Met c left)))) (left_same (words.due (client_opening w) (of_client w t) c))
+met_here w t c h = rw h refl
 
 pub met_ok : (w : Setup) (t : List Step) (c : Call) (list : List client.Entry) → list ≡ of_client w t → words.refusal (client_opening w) list c ≡ None
     → met_by_client w t c ≡ Ok (OfClient (Happens (client.Met c (saved_for (words.due (client_opening w) list c)))))

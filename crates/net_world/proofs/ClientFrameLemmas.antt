@@ -1,8 +1,8 @@
 -- What comes of a frame that comes to the client.
 use Rattle.std.proofs.Common.{◌≡◌, refl, sym, ◌∙◌, ap, subst, inl, inr, ◌⊎◌, ℕ, Bool, true, false, List, Some, None, Result, Ok, Err}
-use Rattle.std.specs.Prelude.{if◌then◌else◌, slice_get}
+use Rattle.std.specs.Prelude.{slice_get}
 use Rattle.fc_base.specs.declared.fault.Fault.{Fault}
-use Rattle.fc_base.specs.declared.fault.Fault.TheVariants.{Misdirected, Down, FrameBadField, NodeOff}
+use Rattle.fc_base.specs.declared.fault.Fault.TheVariants.{FrameBadField, NodeOff}
 use Rattle.fc_base.specs.declared.fault.FaultSort.{FaultSort}
 use Rattle.fc_base.specs.declared.fault.FaultSort.TheVariants as sorts
 use Rattle.fc_base.specs.Fault.{sort_of}
@@ -28,7 +28,7 @@ use Rattle.net_world.specs.Setup.{Setup}
 use Rattle.net_world.specs.Happenings as happenings
 use Rattle.net_world.specs.Trace.{Step, of_client, client_opening}
 use Rattle.net_world.specs.Frames as frames
-use Rattle.net_world.specs.Frames.{FrameStep, OfClient, at_client, frames_sent, to_of}
+use Rattle.net_world.specs.Frames.{OfClient, at_client, frames_sent, to_of}
 use Rattle.net_world.specs.Changes.{Change, Met, steps, trace}
 use Rattle.net_world.specs.Barred.{unless_on, unless, barring_fault, unless_sent}
 use Rattle.net_world.specs.Outcomes.{Outcome, Does, Refuses, Drops, comes_to_client, comes_to, delivery, said_to_client, brings, outcome}
@@ -37,10 +37,11 @@ use Rattle.net_world.specs.Stands.{StandsFor}
 use Rattle.net_world.specs.Ends as ends
 use Rattle.net_world.specs.Ends.{Ends, changes_after}
 use Rattle.net_world.specs.Asking as asking
-use Rattle.net_world.specs.Asking.{entries, step_of, step_by, IsBarred, Refuses as ClientRefuses, ClientEnds}
+use Rattle.net_world.specs.Asking.{entries, step_by, IsBarred, Refuses as ClientRefuses, ClientEnds}
 use Rattle.net_world.proofs.ClientHeardLemmas.{heard_is, hears_same}
 use Rattle.net_world.proofs.EndsLemmas.{goes, stops, does, refusing}
-use Rattle.net_world.proofs.AskEndsLemmas.{left_same, told_is}
+use Rattle.net_world.proofs.OutcomeLemmas.{misses, misdirected, bad_field}
+use Rattle.net_world.proofs.AskEndsLemmas.{told_is}
 
 -- ---- a frame
 
@@ -50,8 +51,7 @@ come f left = Does (Met (OfClient (Comes f left)))
 says_here : (w : Setup) (t : List Step) (f : Frame) (p : PacketParts) → words.refusal (client_opening w) (of_client w t) (calls.Deliver p) ≡ None
     → comes_to_client w t f (Says p) ≡ come f (saved_for (words.due (client_opening w) (of_client w t) (calls.Deliver p)))
 unfolding come
-says_here w t f p h =
-    rw h refl ∙ ap (λ left. Does (Met (OfClient (Comes f left)))) (left_same (words.due (client_opening w) (of_client w t) (calls.Deliver p)))
+says_here w t f p h = rw h refl
 
 says_ok : (w : Setup) (t : List Step) (f : Frame) (p : PacketParts) (list : List client.Entry) → list ≡ of_client w t → words.refusal (client_opening w) list (calls.Deliver p) ≡ None
     → comes_to_client w t f (Says p) ≡ come f (saved_for (words.due (client_opening w) list (calls.Deliver p)))
@@ -65,14 +65,6 @@ says_err : (w : Setup) (t : List Step) (f : Frame) (p : PacketParts) (list : Lis
     → comes_to_client w t f (Says p) ≡ Refuses fault
 says_err w t f p list fault is h = refused_here w t f p fault (ap (λ l. words.refusal (client_opening w) l (calls.Deliver p)) (sym is) ∙ h)
 
-misses : (on : Bool) → (if on then Some Misdirected else Some Down) ≡ None → ⊥
-misses true h = cc
-misses false h = cc
-
-misdirected : (on : Bool) (fault : Fault) → on ≡ true → (if on then Some Misdirected else Some Down) ≡ Some fault → Misdirected ≡ fault
-misdirected true fault h k = cc
-misdirected false fault h k = cc
-
 piece_ok : (w : Setup) (t : List Step) (q : PieceParts) (list : List client.Entry) → list ≡ of_client w t → (m : Meaning) → refusal_in (client_opening w) list (sense_of q m) ≡ None
     → comes_to_client w t (Piece q) m ≡ come (Piece q) (saved_for (due_in (client_opening w) list (sense_of q m)))
 unfolding come
@@ -84,9 +76,6 @@ piece_ok w t q list is Strays h = absurd (misses (words.is_on list) h)
 -- What comes of a frame that is refused: a tag may be dropped.
 DroppedOr : Frame → Fault → Bool → Outcome → Type 0
 DroppedOr f fault drops out = ((drops ≡ false) × (out ≡ Refuses fault)) ⊎ ((drops ≡ true) × (fault ≡ FrameBadField) × (out ≡ Drops (OfClient (Comes f NoSave))))
-
-bad_field : (fault : Fault) → Some FrameBadField ≡ Some fault → fault ≡ FrameBadField
-bad_field fault h = cc
 
 piece_err : (w : Setup) (t : List Step) (q : PieceParts) (list : List client.Entry) (fault : Fault) → list ≡ of_client w t → words.is_on list ≡ true → (m : Meaning) → refusal_in (client_opening w) list (sense_of q m) ≡ Some fault
     → DroppedOr (Piece q) fault (is_drop (sense_of q m)) (comes_to_client w t (Piece q) m)

@@ -41,7 +41,7 @@ use Rattle.net_world.specs.Frames.{OfMirror, of_mirror, frames_sent, frames_of_s
 use Rattle.net_world.specs.Changes as changes
 use Rattle.net_world.specs.Changes.{Change, steps, trace}
 use Rattle.net_world.specs.Barred.{unless, unless_on, unless_off, is_on, barring_fault, unless_sent}
-use Rattle.net_world.specs.Outcomes.{outcome_of_step, unless_fault, left_for, where_saved, lost_by, comes_to, comes_to_mirror, frame_cut, delivery, delivery_cut_in, brings}
+use Rattle.net_world.specs.Outcomes.{outcome_of_step, unless_fault, where_saved, lost_by, comes_to, comes_to_mirror, frame_cut, delivery, delivery_cut_in, brings}
 use Rattle.net_world.specs.World.{frames, told_of_happening}
 use Rattle.net_world.specs.Telling.{plainly_told}
 use Rattle.net_world.specs.Sending.{sent_in}
@@ -177,21 +177,17 @@ frame_bar w past number f g = ap (unless_sent w (trace w past)) g.is_sent ∙ ap
 frame_brings : (w : Setup) (past : List Change) (number : ℕ) (f : Frame) → GoesTo w past number f → brings w past (Deliver number) ≡ outcome_of_step (comes_to_mirror (trace w past) f)
 frame_brings w past number f g = ap (delivery w past) g.is_sent ∙ ap (λ node. comes_to w past node f) g.goes_to
 
-left_same : (x : Option Addition) → left_for x ≡ saved_for x
-left_same None = refl
-left_same (Some a) = refl
-
 met : (list : List Entry) (f : Frame) → refusal mirror_opening list f ≡ None
-    → unless_fault (refusal mirror_opening list f) (Ok (OfMirror (Met f (left_for (due mirror_opening list f))))) ≡ Ok (OfMirror (answered_entry mirror_opening list f))
-met list f h = rw h refl ∙ ap (λ left. Ok (OfMirror (Met f left))) (left_same (due mirror_opening list f))
+    → unless_fault (refusal mirror_opening list f) (Ok (OfMirror (Met f (saved_for (due mirror_opening list f))))) ≡ Ok (OfMirror (answered_entry mirror_opening list f))
+met list f h = rw h refl
 
 met_err : (list : List Entry) (f : Frame) (fault : Fault) → refusal mirror_opening list f ≡ Some fault
-    → unless_fault (refusal mirror_opening list f) (Ok (OfMirror (Met f (left_for (due mirror_opening list f))))) ≡ Err fault
+    → unless_fault (refusal mirror_opening list f) (Ok (OfMirror (Met f (saved_for (due mirror_opening list f))))) ≡ Err fault
 met_err list f fault h = rw h refl
 
 comes_same : (w : Setup) (past : List Change) (f : Frame)
-    → comes_to_mirror (trace w past) f ≡ unless_fault (refusal mirror_opening (of_mirror (steps past)) f) (Ok (OfMirror (Met f (left_for (due mirror_opening (of_mirror (steps past)) f)))))
-comes_same w past f = ap (λ list. unless_fault (refusal mirror_opening list f) (Ok (OfMirror (Met f (left_for (due mirror_opening list f)))))) (heard_is w past)
+    → comes_to_mirror (trace w past) f ≡ unless_fault (refusal mirror_opening (of_mirror (steps past)) f) (Ok (OfMirror (Met f (saved_for (due mirror_opening (of_mirror (steps past)) f)))))
+comes_same w past f = ap (λ list. unless_fault (refusal mirror_opening list f) (Ok (OfMirror (Met f (saved_for (due mirror_opening list f)))))) (heard_is w past)
 
 spelled : (ps : List PacketParts) → frame_bytes ps ≡ map frame_spelling (flat_map frames_of ps)
 spelled [] = refl

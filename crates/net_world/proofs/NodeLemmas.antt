@@ -17,7 +17,7 @@ stays true false h k = refl
 stays true true h k = cc
 stays false lost h k = cc
 
-not_lost : {D : Type 0} (x : Option D) → is_lost (saved_for x) ≡ false
+pub not_lost : {D : Type 0} (x : Option D) → is_lost (saved_for x) ≡ false
 not_lost None = refl
 not_lost (Some addition) = refl
 

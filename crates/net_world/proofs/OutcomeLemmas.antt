@@ -6,7 +6,7 @@ use Rattle.fc_base.specs.declared.fault.Fault.{Fault}
 use Rattle.fc_base.specs.declared.fault.Fault.TheVariants.{Misdirected, Down, FrameBadField}
 use Rattle.disk_model.specs.declared.left.Left.{Left}
 use Rattle.disk_model.specs.declared.left.Left.TheVariants.{NoSave}
-use Rattle.disk_model.specs.Left.{saved_for, is_lost}
+use Rattle.disk_model.specs.Left.{saved_for}
 use Rattle.messages.specs.declared.piece.PieceParts.{PieceParts}
 use Rattle.messages.specs.declared.packet.PacketParts.{PacketParts}
 use Rattle.messages.specs.declared.frame.Frame.{Frame}
@@ -30,15 +30,12 @@ use Rattle.net_world.specs.Setup.{Setup}
 use Rattle.net_world.specs.Trace.{Step, AtServer, of_server, opening_of}
 use Rattle.net_world.specs.Frames.{OfServer, at_server}
 use Rattle.net_world.specs.Changes.{Change, Met as Changed, steps, trace}
-use Rattle.net_world.specs.Outcomes.{Outcome, Does, Refuses, Drops, outcome_of_step, unless_fault, left_for, met_by_server, comes_to_server, said_to_server}
+use Rattle.net_world.specs.Outcomes.{Outcome, Does, Refuses, Drops, outcome_of_step, unless_fault, met_by_server, comes_to_server, said_to_server}
 use Rattle.net_world.specs.World.{act, act_of}
 use Rattle.net_world.specs.Serving.{entries, step_by}
 use Rattle.net_world.proofs.StandLemmas.{servers_stand}
 use Rattle.net_world.proofs.ServeLemmas.{heard_is}
-
-left_same : (x : Option Staged) → left_for x ≡ saved_for x
-left_same None = refl
-left_same (Some s) = refl
+use Rattle.net_world.proofs.NodeLemmas.{not_lost}
 
 passes : {X : Type 0} (x : Option Fault) (r : Result X Fault) → x ≡ None → unless_fault x r ≡ r
 passes x r h = rw h refl
@@ -50,9 +47,7 @@ fails x r fault h = rw h refl
 
 met_here : (t : List Step) (s : ℕ) (e : Event) → answers.refusal (opening_of s) (of_server s t) e ≡ None
     → met_by_server t s e ≡ Ok (OfServer s (Happens (server.Met e (saved_for (words.due (opening_of s) (of_server s t) e)))))
-met_here t s e h =
-    passes (answers.refusal (opening_of s) (of_server s t) e) _ h
-    ∙ ap (λ left. Ok (OfServer s (Happens (server.Met e left)))) (left_same (words.due (opening_of s) (of_server s t) e))
+met_here t s e h = passes (answers.refusal (opening_of s) (of_server s t) e) _ h
 
 pub met_ok : (t : List Step) (s : ℕ) (e : Event) (list : List server.Entry) → list ≡ of_server s t → answers.refusal (opening_of s) list e ≡ None
     → met_by_server t s e ≡ Ok (OfServer s (Happens (server.Met e (saved_for (words.due (opening_of s) list e)))))
@@ -71,8 +66,7 @@ says_here : (t : List Step) (s : ℕ) (f : Frame) (p : PacketParts) → answers.
     → comes_to_server t s f (Says p) ≡ come s f (saved_for (words.due (opening_of s) (of_server s t) (events.Deliver p)))
 unfolding come
 says_here t s f p h =
-    ap outcome_of_step (passes (answers.refusal (opening_of s) (of_server s t) (events.Deliver p)) (Ok (OfServer s (Comes f (left_for (words.due (opening_of s) (of_server s t) (events.Deliver p)))))) h)
-    ∙ ap (λ left. Does (Changed (OfServer s (Comes f left)))) (left_same (words.due (opening_of s) (of_server s t) (events.Deliver p)))
+    ap outcome_of_step (passes (answers.refusal (opening_of s) (of_server s t) (events.Deliver p)) (Ok (OfServer s (Comes f (saved_for (words.due (opening_of s) (of_server s t) (events.Deliver p)))))) h)
 
 says_ok : (t : List Step) (s : ℕ) (f : Frame) (p : PacketParts) (list : List server.Entry) → list ≡ of_server s t → answers.refusal (opening_of s) list (events.Deliver p) ≡ None
     → comes_to_server t s f (Says p) ≡ come s f (saved_for (words.due (opening_of s) list (events.Deliver p)))
@@ -82,13 +76,13 @@ says_ok t s f p list is =
 says_err : (t : List Step) (s : ℕ) (f : Frame) (p : PacketParts) (list : List server.Entry) (fault : Fault) → list ≡ of_server s t → answers.refusal (opening_of s) list (events.Deliver p) ≡ Some fault
     → comes_to_server t s f (Says p) ≡ Refuses fault
 says_err t s f p list fault is h =
-    ap outcome_of_step (fails (answers.refusal (opening_of s) (of_server s t) (events.Deliver p)) (Ok (OfServer s (Comes f (left_for (words.due (opening_of s) (of_server s t) (events.Deliver p)))))) fault (ap (λ l. answers.refusal (opening_of s) l (events.Deliver p)) (sym is) ∙ h))
+    ap outcome_of_step (fails (answers.refusal (opening_of s) (of_server s t) (events.Deliver p)) (Ok (OfServer s (Comes f (saved_for (words.due (opening_of s) (of_server s t) (events.Deliver p)))))) fault (ap (λ l. answers.refusal (opening_of s) l (events.Deliver p)) (sym is) ∙ h))
 
-misses : (on : Bool) → (if on then Some Misdirected else Some Down) ≡ None → ⊥
+pub misses : (on : Bool) → (if on then Some Misdirected else Some Down) ≡ None → ⊥
 misses true h = cc
 misses false h = cc
 
-misdirected : (on : Bool) (fault : Fault) → on ≡ true → (if on then Some Misdirected else Some Down) ≡ Some fault → Misdirected ≡ fault
+pub misdirected : (on : Bool) (fault : Fault) → on ≡ true → (if on then Some Misdirected else Some Down) ≡ Some fault → Misdirected ≡ fault
 misdirected true fault h k = cc
 misdirected false fault h k = cc
 
@@ -104,7 +98,7 @@ piece_ok t s q list is Strays h = absurd (misses (words.is_on list) h)
 unfoldable pub DroppedOr : ℕ → Frame → Fault → Bool → Outcome → Type 0
 DroppedOr s f fault drops out = ((drops ≡ false) × (out ≡ Refuses fault)) ⊎ ((drops ≡ true) × (fault ≡ FrameBadField) × (out ≡ Drops (OfServer s (Comes f NoSave))))
 
-bad_field : (fault : Fault) → Some FrameBadField ≡ Some fault → fault ≡ FrameBadField
+pub bad_field : (fault : Fault) → Some FrameBadField ≡ Some fault → fault ≡ FrameBadField
 bad_field fault h = cc
 
 piece_err : (t : List Step) (s : ℕ) (q : PieceParts) (list : List server.Entry) (fault : Fault) → list ≡ of_server s t → words.is_on list ≡ true → (m : Meaning) → refusal_of_sense (opening_of s) list (sense_of q m) ≡ Some fault
@@ -137,10 +131,6 @@ frame_err w past s (Piece q) fault on h =
     (piece_err (trace w past) s q (packets_heard (opening_of s) (entries past s)) fault (heard_is w past s) on m h)
 
 -- ---- what the server asks of its caller
-
-not_lost : (x : Option Staged) → is_lost (saved_for x) ≡ false
-not_lost None = refl
-not_lost (Some s) = refl
 
 act_here : (t : List Step) (s : ℕ) (e : Event) (x : Option Staged) (list : List server.Entry) → list ≡ of_server s t → act_of t (Some (AtServer s (server.Met e (saved_for x)))) ≡ answers.act (opening_of s) list e
 act_here t s e x list is =

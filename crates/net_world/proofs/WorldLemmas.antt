@@ -10,6 +10,7 @@ use Rattle.disk_model.specs.declared.left.Left.{Left}
 use Rattle.disk_model.specs.declared.left.Left.TheVariants as lefts
 use Rattle.engine.specs.Running.{Origin}
 use Rattle.engine.specs.Answers.{ticket_of}
+use Rattle.disk_model.specs.Left.{saved_for}
 use Rattle.messages.specs.declared.frame.Frame.{Frame}
 use Rattle.messages.specs.declared.node.Node.{Node}
 use Rattle.messages.specs.declared.node.Node.TheVariants.{Server, Client, Mirror}
@@ -42,7 +43,7 @@ use Rattle.net_world.specs.Writes.{open_at}
 use Rattle.net_world.specs.Contents.{content}
 use Rattle.net_world.specs.Checks.{report_for, check_end, end_of_check_in}
 use Rattle.net_world.specs.Barred.{unless_on, unless_off, unless_sent, unless_losable, unless_unused, barring_fault}
-use Rattle.net_world.specs.Outcomes.{Outcome, Does, Refuses, Drops, outcome_of_step, unless_fault, where_saved, left_for, lost_by, met_by_server, met_by_client, comes_to_server, comes_to_client, comes_to_mirror, said_to_server, said_to_client, comes_to, delivery, end_of_write, end_of_check_met, has_boot, cut, noted_in, restart_of, client_cut_in, server_frame_cut, client_frame_cut, frame_cut, delivery_cut_in, restart_cut_in, cut_in, brings, unless_barred, outcome}
+use Rattle.net_world.specs.Outcomes.{Outcome, Does, Refuses, Drops, outcome_of_step, unless_fault, where_saved, lost_by, met_by_server, met_by_client, comes_to_server, comes_to_client, comes_to_mirror, said_to_server, said_to_client, comes_to, delivery, end_of_write, end_of_check_met, has_boot, cut, noted_in, restart_of, client_cut_in, server_frame_cut, client_frame_cut, frame_cut, delivery_cut_in, restart_cut_in, cut_in, brings, unless_barred, outcome}
 use Rattle.net_world.specs.World.{and_outcome, world}
 use Rattle.net_world.specs.WorldLaws.{EachWorldIsAFrameTrace}
 use Rattle.net_world.proofs.StartedLemmas.{has_mirror_of, restart_fits, renewal_fits, loss_fits}
@@ -100,7 +101,7 @@ either_way false = refl
 
 may_client : (w : Setup) (ps : List FrameStep) (t : List Step) (c : Call) → ((left : Left) → packet_in (client.Met c left) ≡ []) → MayBe w ps (met_by_client w t c)
 unfolding MayBe Goes
-may_client w ps t c m = may_unless w ps (clients.refusal (client_opening w) (of_client w t) c) _ (m (left_for (clients.due (client_opening w) (of_client w t) c)), either_way w.mirror)
+may_client w ps t c m = may_unless w ps (clients.refusal (client_opening w) (of_client w t) c) _ (m (saved_for (clients.due (client_opening w) (of_client w t) c)), either_way w.mirror)
 
 may_end : (w : Setup) (ps : List FrameStep) (t : List Step) (s k : ℕ) (end : WriteEnd) (x : Option Origin) → MayBe w ps (end_of_write t s k end x)
 unfolding MayBe

@@ -8,6 +8,7 @@ use Rattle.messages.specs.declared.frame.Frame.{Frame}
 use Rattle.messages.specs.Hearing.{Comes, Happens, Meaning, Says, Waits, Spoils, Strays, meaning, heard}
 use Rattle.disk_model.specs.declared.left.Left.{Left}
 use Rattle.disk_model.specs.declared.left.Left.TheVariants as lefts
+use Rattle.disk_model.specs.Left.{saved_for}
 use Rattle.engine.specs.Running.{Origin}
 use Rattle.engine.specs.Answers.{ticket_of}
 use Rattle.server_core.specs.declared.event.Event.{Event}
@@ -57,11 +58,6 @@ abbrev pub where_saved : {X Y : Type 0} → Option X → Y → Result Y Fault
 where_saved None y = Err NoSave
 where_saved (Some x) y = Ok y
 
--- What is left by an event that is answered: it saves where something is due.
-abbrev pub left_for : {X : Type 0} → Option X → Left
-left_for None = lefts.NoSave
-left_for (Some x) = lefts.Saved
-
 -- What is left by a save in which the node loses its power.
 abbrev pub lost_by : Bool → Left
 lost_by landed = if landed then lefts.LostNew else lefts.LostOld
@@ -72,7 +68,7 @@ met_by_server t s e =
     let o = opening_of s in
     let past = of_server s t in
     unless_fault (answers.refusal o past e)
-    (Ok (OfServer s (Happens (server.Met e (left_for (servers.due o past e))))))
+    (Ok (OfServer s (Happens (server.Met e (saved_for (servers.due o past e))))))
 
 -- The client meets a call and saves what is due, unless it refuses the call.
 abbrev pub met_by_client : Setup → List Step → Call → Result FrameStep Fault
@@ -80,7 +76,7 @@ met_by_client w t c =
     let o = client_opening w in
     let past = of_client w t in
     unless_fault (clients.refusal o past c)
-    (Ok (OfClient (Happens (client.Met c (left_for (clients.due o past c))))))
+    (Ok (OfClient (Happens (client.Met c (saved_for (clients.due o past c))))))
 
 -- A frame comes to a server, which makes this of it: its packet is met, or refused; a piece waits for
 -- others; or it is refused, and its tag is dropped; or it isn't for the server.
@@ -89,7 +85,7 @@ comes_to_server t s f (Says p) =
     let o = opening_of s in
     let past = of_server s t in
     outcome_of_step (unless_fault (answers.refusal o past (events.Deliver p))
-    (Ok (OfServer s (Comes f (left_for (servers.due o past (events.Deliver p)))))))
+    (Ok (OfServer s (Comes f (saved_for (servers.due o past (events.Deliver p)))))))
 comes_to_server t s f Waits = Does (Met (OfServer s (Comes f lefts.NoSave)))
 comes_to_server t s f Spoils = Drops (OfServer s (Comes f lefts.NoSave))
 comes_to_server t s f Strays = Refuses Misdirected
@@ -100,7 +96,7 @@ comes_to_client w t f (Says p) =
     let o = client_opening w in
     let past = of_client w t in
     outcome_of_step (unless_fault (clients.refusal o past (calls.Deliver p))
-    (Ok (OfClient (Comes f (left_for (clients.due o past (calls.Deliver p)))))))
+    (Ok (OfClient (Comes f (saved_for (clients.due o past (calls.Deliver p)))))))
 comes_to_client w t f Waits = Does (Met (OfClient (Comes f lefts.NoSave)))
 comes_to_client w t f Spoils = Drops (OfClient (Comes f lefts.NoSave))
 comes_to_client w t f Strays = Refuses Misdirected
@@ -117,7 +113,7 @@ abbrev pub comes_to_mirror : List Step → Frame → Result FrameStep Fault
 comes_to_mirror t f =
     let past = of_mirror t in
     unless_fault (mirrors.refusal mirror_opening past f)
-    (Ok (OfMirror (mirror.Met f (left_for (mirrors.due mirror_opening past f)))))
+    (Ok (OfMirror (mirror.Met f (saved_for (mirrors.due mirror_opening past f)))))
 
 -- A frame comes to its node.
 abbrev pub comes_to : Setup → List Change → Node → Frame → Outcome
