@@ -7,7 +7,7 @@ use Rattle.client_core.specs.declared.client.Client.{Client}
 use Rattle.client_core.specs.History.{Opening}
 use Rattle.client_core.specs.Hearing.{FrameEntry}
 use Rattle.messages.specs.declared.refusal.Act.TheVariants as acts
-use Rattle.node_history.specs.declared.answer.Answer.TheVariants.{Plain, Run, Attempt}
+use Rattle.node_history.specs.declared.answer.Answer.TheVariants.{Plain}
 use Rattle.node_history.specs.declared.answer.Said.{Said}
 use Rattle.node_history.specs.declared.power.Power.{Power}
 use Rattle.node_history.specs.ClientKind.{client_kind}
@@ -38,13 +38,3 @@ reply_and_frames (Err fault) = Err fault
 abbrev pub outs_of : Result (List (List ℕ)) Fault → Result Outs Fault
 outs_of (Ok sent) = Ok (record { answer = Plain; frames = sent })
 outs_of (Err fault) = Err fault
-
--- Frames, and the number of the run that has begun.
-abbrev pub outs_of_run : Result (ℕ × List (List ℕ)) Fault → Result Outs Fault
-outs_of_run (Ok given) = Ok (record { answer = Run given.0; frames = given.1 })
-outs_of_run (Err fault) = Err fault
-
--- Frames, and the number of the attempt to verify.
-abbrev pub outs_of_attempt : Result (ℕ × List (List ℕ)) Fault → Result Outs Fault
-outs_of_attempt (Ok given) = Ok (record { answer = Attempt given.0; frames = given.1 })
-outs_of_attempt (Err fault) = Err fault

@@ -10,14 +10,14 @@ ghost use Rattle.node_history.specs.ClientRules.{ask_of, is_up};
 ghost use Rattle.node_history.specs.Failures.{Counts};
 ghost use Rattle.node_history.specs.Moves.{StepEnds, TaskEnds};
 ghost use Rattle.client_cell.specs.Tasks.{came_by, input_of, loads_note};
-ghost use Rattle.client_cell.specs.Stands.{reply_and_frames, outs_of, outs_of_run, outs_of_attempt, failures_of, ways, Stands};
+ghost use Rattle.client_cell.specs.Stands.{reply_and_frames, outs_of, failures_of, ways, Stands};
 
 use crate::outs::Outs;
 use crate::request::ClientRequest;
 use crate::task::ClientTask;
 use client_core::Client;
 use disk_model::Notes;
-use fc_base::{Attempt, Fault, MAX_SERVERS, RunNo};
+use fc_base::{Fault, MAX_SERVERS};
 use messages::{Frame, Frames};
 use node_history::{Answer, Power, Said};
 use std::alloc::Global;
@@ -56,16 +56,7 @@ pub(crate) fn take<N: Notes + Drop>(
         Counts false (failures_of N.note power.old) (failures_of N.note power.new)
         (reply_and_frames result) }
 {
-    match power {
-        Power::On(client) => {
-            if client.on() {
-                ask(client, request)
-            } else {
-                Err(Fault::NodeOff)
-            }
-        }
-        _ => Err(Fault::NodeOff),
-    }
+    ask(power.on()?, request)
 }
 
 /// Takes a frame. `NodeOff`: it isn't on, and nothing changes. Any other fault is the client's.
@@ -79,16 +70,7 @@ pub(crate) fn deliver<N: Notes + Drop>(
         Counts false (failures_of N.note power.old) (failures_of N.note power.new)
         (reply_and_frames result) }
 {
-    match power {
-        Power::On(client) => {
-            if client.on() {
-                plainly(client.deliver(frame))
-            } else {
-                Err(Fault::NodeOff)
-            }
-        }
-        _ => Err(Fault::NodeOff),
-    }
+    plainly(power.on()?.deliver(frame))
 }
 
 /// Asks again for all that isn't answered, and changes nothing. `NodeOff`: it isn't on. `NoMemory`.
@@ -99,15 +81,9 @@ pub(crate) fn tick<N: Notes + Drop>(power: &Power<Client<N>, N>) -> Result<Outs,
         Counts false (failures_of N.note power.now) (failures_of N.note power.now)
         (reply_and_frames result) }
 {
-    match power {
-        Power::On(client) => {
-            if client.on() {
-                plainly(client.tick())
-            } else {
-                Err(Fault::NodeOff)
-            }
-        }
-        _ => Err(Fault::NodeOff),
+    match power.core() {
+        Some(client) => plainly(client.tick()),
+        None => Err(Fault::NodeOff),
     }
 }
 
@@ -122,36 +98,18 @@ fn ask<N: Notes + Drop>(client: &mut Client<N>, request: &ClientRequest) -> Resu
         (reply_and_frames result) }
 {
     match request {
-        ClientRequest::Begin(text) => begun(client.begin(text.as_slice())),
+        ClientRequest::Begin(text) => {
+            let (run, frames) = client.begin(text.as_slice())?;
+            let answer = Answer::Run(run);
+            Ok(Outs { answer, frames })
+        }
         ClientRequest::Trigger(run, act) => plainly(client.trigger(*run, *act)),
         ClientRequest::Stop(run) => plainly(client.stop(*run)),
-        ClientRequest::Verify(run, text) => tried(client.verify(*run, text.as_slice())),
-    }
-}
-
-/// Frames, and the number of the run that has begun.
-fn begun(given: Result<(RunNo, Frames), Fault>) -> Result<Outs, Fault>
-    ensures { result ≡ outs_of_run given }
-{
-    match given {
-        Ok((run, frames)) => Ok(Outs {
-            answer: Answer::Run(run),
-            frames,
-        }),
-        Err(fault) => Err(fault),
-    }
-}
-
-/// Frames, and the number of the attempt to verify.
-fn tried(given: Result<(Attempt, Frames), Fault>) -> Result<Outs, Fault>
-    ensures { result ≡ outs_of_attempt given }
-{
-    match given {
-        Ok((attempt, frames)) => Ok(Outs {
-            answer: Answer::Attempt(attempt),
-            frames,
-        }),
-        Err(fault) => Err(fault),
+        ClientRequest::Verify(run, text) => {
+            let (attempt, frames) = client.verify(*run, text.as_slice())?;
+            let answer = Answer::Attempt(attempt);
+            Ok(Outs { answer, frames })
+        }
     }
 }
 
@@ -159,11 +117,7 @@ fn tried(given: Result<(Attempt, Frames), Fault>) -> Result<Outs, Fault>
 fn plainly(sent: Result<Frames, Fault>) -> Result<Outs, Fault>
     ensures { result ≡ outs_of sent }
 {
-    match sent {
-        Ok(frames) => Ok(Outs {
-            answer: Answer::Plain,
-            frames,
-        }),
-        Err(fault) => Err(fault),
-    }
+    let frames = sent?;
+    let answer = Answer::Plain;
+    Ok(Outs { answer, frames })
 }

@@ -5,3 +5,4 @@ pub mod HubLemmas
 pub mod MoveLemmas
 pub mod PowerLemmas
 pub mod ServerStarts
+pub mod StepLemmas

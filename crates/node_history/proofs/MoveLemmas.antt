@@ -17,7 +17,7 @@ use Rattle.node_history.specs.Failures.{is_load, CountsBy, Counts}
 use Rattle.node_history.specs.Moves.{Ways, Moves, Refuses, Faults, StepEnds, Fails, TaskEnds, answer_of, outcome_of}
 use Rattle.node_history.specs.Replay.{Stops}
 use Rattle.node_history.specs.Rules.{Ask, Meets, Cuts, Rules}
-use Rattle.node_history.specs.ServerRules.{left_by}
+use Rattle.node_history.specs.CoreRules.{left_by}
 
 clash : true ≡ false → ⊥
 clash h = cc

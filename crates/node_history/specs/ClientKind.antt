@@ -1,7 +1,5 @@
 -- What kind of node the client is.
-use Rattle.std.specs.Prelude.{◌≡◌, refl, true, false, if◌then◌else◌, List, Option, Some, None}
-use Rattle.fc_base.specs.declared.fault.Fault.{Fault}
-use Rattle.fc_base.specs.declared.fault.Fault.TheVariants.{NodeOn}
+use Rattle.std.specs.Prelude.{refl, List}
 use Rattle.disk_model.specs.Notes.{Note}
 use Rattle.client_core.specs.declared.input.Input.{Input}
 use Rattle.client_core.specs.declared.client.Client.{Client}
@@ -10,16 +8,15 @@ use Rattle.client_core.specs.History.{Opening}
 use Rattle.client_core.specs.Note.{Says}
 use Rattle.client_core.specs.Ranges.{OpensInRange, CameInRange}
 use Rattle.client_core.specs.Words.{words_noted}
-use Rattle.client_core.specs.Hearing.{FrameEntry, Cut, packets_heard}
+use Rattle.client_core.specs.Hearing.{FrameEntry, packets_heard}
 use Rattle.client_core.specs.FrameEnds.{StandsFor, most_packets}
-use Rattle.node_history.specs.Powers.{Kind, HasPower}
-use Rattle.node_history.specs.ClientRules.{rules, is_up}
+use Rattle.node_history.specs.Powers.{Kind, IsCut}
+use Rattle.node_history.specs.ClientRules.{core}
 
 -- The kind of a client that was opened so.
 abbrev pub client_kind : {T : Type 0} → (T → Note) → Opening → Kind Input FrameEntry (Client T) T
 client_kind note o = record {
-  rules = rules o;
-  is_up = is_up o;
+  core = core o;
   InRange = λ past. CameInRange (packets_heard o past);
   SendsFew = λ past e sent.
       OpensInRange o → CameInRange (packets_heard o past) → AreShort (most_packets o past e) sent;
@@ -27,16 +24,6 @@ client_kind note o = record {
   Says = λ past notes. Says (note notes).bytes (words_noted o (packets_heard o past));
 }
 
-on_refuses : (on : _) (free : Option Fault) → on ≡ true → (if on then Some NodeOn else free) ≡ Some NodeOn
-on_refuses true free h = refl
-on_refuses false free h = cc
-
--- A client is cut and started as any node.
-pub client_has_power : {T : Type 0} (note : T → Note) (o : Opening) (past : List FrameEntry) → HasPower (client_kind note o) past
-client_has_power note o past = record {
-  cuts = refl;
-  on = on_refuses (is_up o past) None;
-  no_cut = refl;
-  no_start = refl;
-  cut = record { said = refl; entry = Cut; entry_is = refl; sends_none = refl; off = refl; ranges = λ h. h; says = λ notes h. h };
-}
+-- A cut of a client is one as of any node.
+pub client_is_cut : {T : Type 0} (note : T → Note) (o : Opening) (past : List FrameEntry) → IsCut (client_kind note o) past
+client_is_cut note o past = record { sends_none = refl; off = refl; ranges = λ h. h; says = λ notes h. h }

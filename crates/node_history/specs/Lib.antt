@@ -2,6 +2,7 @@ pub mod AtHub
 pub mod Calls
 pub mod ClientKind
 pub mod ClientRules
+pub mod CoreRules
 pub mod Failures
 pub mod Histories
 pub mod Moves

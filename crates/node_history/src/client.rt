@@ -5,7 +5,7 @@ ghost use Rattle.fc_base.specs.declared.limits.TheConstants.{MAX_SERVERS};
 ghost use Rattle.client_core.specs.declared.input.Input.{Input as ClientInput};
 ghost use Rattle.client_core.specs.History.{Opening as ClientOpening};
 ghost use Rattle.client_core.specs.Hearing.{FrameEntry};
-ghost use Rattle.node_history.specs.ClientKind.{client_kind, client_has_power};
+ghost use Rattle.node_history.specs.ClientKind.{client_kind, client_is_cut};
 
 use crate::node_core::NodeCore;
 use client_core::Client;
@@ -32,7 +32,7 @@ impl<N: Notes + Drop> NodeCore<N> for Client<N> {
 
     ghost IsSeed = { λ servers. (1 ≤ servers) × (servers ≤ MAX_SERVERS) };
 
-    ghost has_power = { client_has_power N.note };
+    ghost is_cut = { client_is_cut N.note };
 
     fn is_up(&self) -> bool {
         self.on()

@@ -3,7 +3,7 @@
 ghost use Rattle.std.specs.Prelude.{◌≡◌, ℕ, true, false, List};
 ghost use Rattle.node_history.specs.Failures.{Counts};
 ghost use Rattle.node_history.specs.Moves.{TaskEnds};
-ghost use Rattle.node_history.specs.Powers.{failures_of, left_by, told_of, ways, Kind, HasPower};
+ghost use Rattle.node_history.specs.Powers.{failures_of, left_by, told_of, ways, Kind, IsCut};
 ghost use Rattle.node_history.specs.Rules.{Restarts};
 
 use fc_base::Fault;
@@ -41,7 +41,7 @@ pub trait NodeCore<N>: Drop {
     /// Whether it is on.
     fn is_up(&self) -> bool
         ensures { (o : Opening) (past : List Past) → (kind o).StandsFor past self.now →
-            result ≡ (kind o).is_up past };
+            result ≡ (kind o).core.is_up past };
 
     /// Its notes, where it is taken off.
     fn into_notes(self) -> N
@@ -53,11 +53,11 @@ pub trait NodeCore<N>: Drop {
     fn start(alloc: Global, seed: Self::Seed, notes: N) -> Result<Self, (N, Fault)>
         requires { IsSeed seed }
         ensures ends { (o : Opening) (past : List Past) → IsOf seed o →
-            (kind o).is_up past ≡ false → (kind o).Says past notes →
+            (kind o).core.is_up past ≡ false → (kind o).Says past notes →
             TaskEnds (ways (kind o)) past Restarts (left_by result) (told_of result) }
         ensures count { Counts true (notes_failures notes)
             (failures_of failures notes_failures (left_by result)) (told_of result) };
 
-    /// It is cut and started as any node.
-    ghost has_power: { (o : Opening) (past : List Past) → HasPower (kind o) past };
+    /// A cut of it is one as of any node.
+    ghost is_cut: { (o : Opening) (past : List Past) → IsCut (kind o) past };
 }

@@ -1,10 +1,11 @@
 //! A node that has power, or none.
 
 ghost use Rattle.std.specs.Prelude.{◌≡◌, true, false, List, IfSome, IfNone};
+ghost use Rattle.std.specs.Borrow.{sem};
 ghost use Rattle.std.specs.Option.{option_copied};
 ghost use Rattle.node_history.specs.Failures.{Counts};
 ghost use Rattle.node_history.specs.Moves.{TaskEnds};
-ghost use Rattle.node_history.specs.Powers.{failures_of, ways, Stands, Shows};
+ghost use Rattle.node_history.specs.Powers.{failures_of, ways, IsLent, LendsCore, Stands, Shows};
 ghost use Rattle.node_history.specs.Rules.{Cuts, Restarts};
 
 use crate::answer::Said;
@@ -26,11 +27,30 @@ impl<N: Drop, C: NodeCore<N>> Power<C, N> {
     /// The core, where it is on: it has power, and isn't down.
     pub fn core(&self) -> Option<&C>
         ensures { (o : C.Opening) (past : List C.Past) → Stands (C.kind o) past self.now →
-            Shows (C.kind o) past (option_copied result) }
+            Shows (C.kind o) past self.now (option_copied result) }
     {
         match self {
             Power::On(core) => { if core.is_up() { Some(core) } else { None } }
             _ => None,
+        }
+    }
+
+    /// The core, to step it, where it is on. `NodeOff`: it isn't, and nothing changes.
+    #[inline(always)]
+    pub fn on(&mut self) -> Result<&mut C, Fault>
+        ensures* lends { sem 𝓛 (LendsCore C.row N.row self.entry result) }
+        ensures lent { (o : C.Opening) (past : List C.Past) → Stands (C.kind o) past self.old →
+            IsLent (C.kind o) past self.old result }
+    {
+        match self {
+            Power::On(core) => {
+                if core.is_up() {
+                    Ok(core)
+                } else {
+                    Err(Fault::NodeOff)
+                }
+            }
+            _ => Err(Fault::NodeOff),
         }
     }
 
@@ -78,7 +98,7 @@ impl<N: Drop, C: NodeCore<N>> Power<C, N> {
     fn start(&mut self, alloc: Global, seed: C::Seed, notes: N) -> Result<Said, Fault>
         requires { C.IsSeed seed }
         ensures ends { (o : C.Opening) (past : List C.Past) → C.IsOf seed o →
-            (C.kind o).is_up past ≡ false →
+            (C.kind o).core.is_up past ≡ false →
             (C.kind o).Says past notes → TaskEnds (ways (C.kind o)) past Restarts self.new result }
         ensures count { Counts true (C.notes_failures notes)
             (failures_of C.failures C.notes_failures self.new) result }

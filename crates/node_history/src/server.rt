@@ -5,7 +5,7 @@ ghost use Rattle.fc_base.specs.declared.limits.TheConstants.{MAX_SERVERS};
 ghost use Rattle.server_core.specs.declared.input.Input.{Input as ServerInput};
 ghost use Rattle.server_core.specs.History.{Opening as ServerOpening};
 ghost use Rattle.server_core.specs.Hearing.{FrameEntry};
-ghost use Rattle.node_history.specs.ServerKind.{server_kind, server_has_power};
+ghost use Rattle.node_history.specs.ServerKind.{server_kind, server_is_cut};
 
 use crate::node_core::NodeCore;
 use disk_model::Notes;
@@ -32,7 +32,7 @@ impl<N: Notes + Drop> NodeCore<N> for Server<N> {
 
     ghost IsSeed = { λ me. me < MAX_SERVERS };
 
-    ghost has_power = { server_has_power N.note };
+    ghost is_cut = { server_is_cut N.note };
 
     fn is_up(&self) -> bool {
         self.on()

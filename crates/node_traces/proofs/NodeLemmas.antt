@@ -27,16 +27,16 @@ use Rattle.node_history.specs.declared.logged.Logged.{Logged}
 use Rattle.node_history.specs.AtHub.{is_left_out}
 use Rattle.node_history.specs.Replay.{Ends, Makes}
 use Rattle.node_history.specs.Rules.{Rules, Nothing}
-use Rattle.node_history.specs.ServerRules.{rules as server_rules}
-use Rattle.node_history.specs.ClientRules.{rules as client_rules}
+use Rattle.node_history.specs.ServerRules.{core as server_core, rules as server_rules}
+use Rattle.node_history.specs.ClientRules.{core as client_core, rules as client_rules}
 use Rattle.net_world.specs.Setup.{without_mirror}
 use Rattle.net_world.specs.Trace.{opening_of, client_opening}
 use Rattle.net_world.specs.Frames.{FrameStep, OfServer, OfClient, of_server, of_client, at_server, at_client, frames_by, frames_of_step, MayHappen, is_allowed}
 use Rattle.net_world.specs.InRange.{FrameStepFits}
 use Rattle.node_traces.specs.Marks.{frame_of}
 use Rattle.node_traces.specs.Names.{node_of}
-use Rattle.node_traces.proofs.RefusalLemmas.{CameOf, left_out_stays}
-use Rattle.node_traces.proofs.AddLemmas.{adds}
+use Rattle.node_traces.proofs.RefusalLemmas.{CameOf}
+use Rattle.node_traces.proofs.AddLemmas.{adds, stays as node_stays}
 use Rattle.node_traces.proofs.ServerLemmas as of_servers
 use Rattle.node_traces.proofs.ClientLemmas as of_clients
 
@@ -164,7 +164,7 @@ pub goes : (n : ℕ) (node : Node) (frames : List Frame) (past after : List (Ent
     → is_left_out l.answer ≡ false
     → Ends (rules_of n node) past ((rules_of n node).asked l.came) l.answer l.sent after → Goes n node frames past after l.sent
 goes n (Server s) frames past after l few came stands ends =
-    let a = adds (of_servers.shown (opening_of s)) past _ l.answer l.sent after stands ends in
+    let a = adds (of_servers.known (opening_of s)) past _ l.answer l.sent after stands ends in
     record {
       entry = a.entry;
       after_is = a.after_is;
@@ -174,7 +174,7 @@ goes n (Server s) frames past after l few came stands ends =
       fits = of_servers.server_fits frames (opening_of s) l.came a.entry few came a.is_asked;
     }
 goes n Client frames past after l few came stands ends =
-    let a = adds (of_clients.shown (client_opening (without_mirror n))) past _ l.answer l.sent after stands ends in
+    let a = adds (of_clients.known (client_opening (without_mirror n))) past _ l.answer l.sent after stands ends in
     record {
       entry = a.entry;
       after_is = a.after_is;
@@ -192,8 +192,8 @@ nothing (e ∷ past) = absurd e
 
 pub stays : (n : ℕ) (node : Node) (past after : List (EntryOf node)) (l : Logged) → is_left_out l.answer ≡ true
     → Ends (rules_of n node) past ((rules_of n node).asked l.came) l.answer l.sent after → after ≡ past
-stays n (Server s) past after l out ends = left_out_stays (server_rules (opening_of s)) of_servers.passed_none past _ l.answer l.sent after out ends
-stays n Client past after l out ends = left_out_stays (client_rules (client_opening (without_mirror n))) of_clients.passed_none past _ l.answer l.sent after out ends
+stays n (Server s) past after l out ends = node_stays (server_core (opening_of s)) past _ l.answer l.sent after out ends
+stays n Client past after l out ends = node_stays (client_core (client_opening (without_mirror n))) past _ l.answer l.sent after out ends
 stays n Mirror past after l out ends = nothing after ∙ sym (nothing past)
 
 -- ---- one node's history and list in place of another

@@ -1,11 +1,11 @@
 -- What an event of a history adds to the list of a server.
 use Rattle.std.proofs.Common.{◌≡◌, refl, ◌∙◌, ap, subst, inl, inr, ℕ, ◌<◌, Bool, true}
-use Rattle.std.proofs.Common.{false, ◌&&◌, ◌||◌, List, [], ◌∷◌, Option, Some, None}
-use Rattle.std.specs.Prelude.{Contains, IsTrue, not, if◌then◌else◌}
+use Rattle.std.proofs.Common.{false, ◌&&◌, List, [], Option, Some, None}
+use Rattle.std.specs.Prelude.{Contains, IsTrue, if◌then◌else◌}
 use Rattle.std.specs.List.{flat_map}
 use Rattle.std.proofs.lemmas.Bool.{eqb-true}
 use Rattle.fc_base.specs.declared.fault.Fault.{Fault}
-use Rattle.fc_base.specs.declared.fault.Fault.TheVariants.{Down, Misdirected, NodeOff, NodeOn, NumbersSpent}
+use Rattle.fc_base.specs.declared.fault.Fault.TheVariants.{Down, Misdirected, NumbersSpent}
 use Rattle.fc_base.specs.declared.report.ReportParts.{ReportParts}
 use Rattle.fc_base.specs.Report.{is_report}
 use Rattle.disk_model.specs.declared.left.Left.{Left}
@@ -34,21 +34,19 @@ use Rattle.server_core.specs.Answers.{refusal_of, sent_by, to_client}
 use Rattle.server_core.specs.Request.{ToNobody, request_in}
 use Rattle.server_core.specs.Request as requests
 use Rattle.server_core.specs.Replies.{Now, replies}
-use Rattle.server_core.specs.Words.{Staged, is_on}
+use Rattle.server_core.specs.Words.{is_on}
 use Rattle.server_core.specs.Hearing.{FrameEntry, Met, Cut, Restart, coming_of, heard_at, packets_heard, rules as hearing}
 use Rattle.server_core.specs.FrameAnswers as answers
 use Rattle.node_history.specs.declared.came.Came.{Came}
 use Rattle.node_history.specs.declared.came.Came.TheVariants as came
-use Rattle.node_history.specs.AtHub.{is_drop}
-use Rattle.node_history.specs.Replay.{Passes}
 use Rattle.node_history.specs.Rules.{Ask, Meets, Cuts, Restarts, Nothing}
-use Rattle.node_history.specs.ServerRules.{rules, ask_of, added_entry, ask_of_frame, has_boot, is_up, left_by}
-use Rattle.node_history.specs.ServerRules.{unsaved_entry, entries_past_refusal, refusal, ask_of_report}
+use Rattle.node_history.specs.CoreRules.{left_by}
+use Rattle.node_history.specs.ServerRules.{ask_of, ask_of_frame, ask_of_report, core, has_boot}
 use Rattle.net_world.specs.Frames.{OfServer, MayHappen, to_of}
 use Rattle.net_world.specs.InRange.{FrameStepFits}
 use Rattle.node_traces.specs.Marks.{frame_of}
-use Rattle.node_traces.proofs.RefusalLemmas.{CameOf, MayNot, MayPass, no_pass, no_power}
-use Rattle.node_traces.proofs.AddLemmas.{Adds, IsLost, Quiet, Shown, as_core, lost_met, lost_of, met_drops, some_is, strays}
+use Rattle.node_traces.proofs.RefusalLemmas.{CameOf, MayNot, MayPass, no_pass}
+use Rattle.node_traces.proofs.AddLemmas.{IsLost, Known, Quiet, lost_met, lost_of, some_is, strays}
 
 -- ---- a frame that isn't refused is for the server
 
@@ -122,61 +120,38 @@ met_asked o past (inputs.Issue j) left h = tt
 met_asked o past (inputs.WriteDone ticket end) left h = tt
 met_asked o past (inputs.CheckDone boot a j report) left h = refl
 
-accepted : (o : Opening) (past : List FrameEntry) (ask : Ask Input) (entry : FrameEntry) → refusal o past ask ≡ None → added_entry o past ask ≡ Some entry
-    → IsAsked o ask entry
-unfolding IsAsked
-accepted o past (Meets e) entry free is =
-    subst (IsAsked o (Meets e)) (some_is (answers.answered_entry o past e) entry is)
-    (met_asked o past e _ (as_core (is_up o past) (answers.refusal o past e) (inl free)))
-accepted o past Cuts entry free is = subst (IsAsked o Cuts) (some_is Cut entry is) tt
-accepted o past Restarts entry free is = subst (IsAsked o Restarts) (some_is (Restart lefts.Saved) entry is) tt
-accepted o past Nothing entry free is = cc
-
-lost_save : (o : Opening) (past : List FrameEntry) (ask : Ask Input) (landed : Bool) (entry : FrameEntry) → refusal o past ask ≡ None
-    → unsaved_entry o past ask landed ≡ Some entry → IsLost (rules o) (IsAsked o) past ask entry
-unfolding IsAsked
-lost_save o past (Meets e) landed entry free is =
+lost_save : (o : Opening) (past : List FrameEntry) (e : Input) (landed : Bool) (entry : FrameEntry) → answers.refusal o past e ≡ None
+    → (core o).unsaved past e (left_by landed) ≡ Some entry → IsLost (core o) (IsAsked o) past (Meets e) entry
+lost_save o past e landed entry free is =
     lost_met past e (Met e (left_by landed)) entry (answers.due o past e)
     (record {
       silent = quiet o past e (left_by landed) (inl (lost_of landed));
-      is_asked = met_asked o past e (left_by landed) (as_core (is_up o past) (answers.refusal o past e) (inl free));
+      is_asked = met_asked o past e (left_by landed) (inl free);
     }) is
-lost_save o past Restarts landed entry free is =
-    subst (IsLost (rules o) (IsAsked o) past Restarts) (some_is (Restart (left_by landed)) entry is) (record { silent = refl; is_asked = tt })
-lost_save o past Cuts landed entry free is = cc
-lost_save o past Nothing landed entry free is = cc
 
--- ---- a tag that is dropped
+lost_start : (o : Opening) (past : List FrameEntry) (landed : Bool) (entry : FrameEntry) → (core o).unstarted (left_by landed) ≡ Some entry
+    → IsLost (core o) (IsAsked o) past Restarts entry
+unfolding IsAsked
+lost_start o past landed entry is =
+    subst (IsLost (core o) (IsAsked o) past Restarts) (some_is (Restart (left_by landed)) entry is) (record { silent = refl; is_asked = tt })
 
-drops : (o : Opening) (past : List FrameEntry) (ask : Ask Input) (fault : Fault) (sent : List (List ℕ)) (after : List FrameEntry) → is_drop fault ≡ true
-    → Passes (rules o) past ask fault sent after → Adds (rules o) (IsAsked o) past ask sent after
-drops o past (Meets e) fault sent after d p =
-    met_drops past e (is_up o past) (answers.refusal o past e) (Met e lefts.NoSave) fault sent after d p.why p.sends_none
-    (p.after_is ∙ ap (λ b. if b then Met e lefts.NoSave ∷ past else past) d) (quiet o past e lefts.NoSave) (met_asked o past e lefts.NoSave)
-drops o past Cuts fault sent after d p = absurd (no_power (refusal o past Cuts) false fault d p.why (cuts (is_up o past)))
-  where
-    cuts : (up : Bool) → MayNot (if up then None else Some NodeOff)
-    cuts true = inl refl
-    cuts false = inr (NodeOff, refl, refl)
-drops o past Restarts fault sent after d p =
-    absurd (no_power (refusal o past Restarts) (not (is_up o past)) fault d p.why (restarts (is_up o past) (has_boot o past)))
-  where
-    restarts : (up boots : Bool) → MayNot (if up then Some NodeOn else (if boots then None else Some NumbersSpent))
-    restarts true boots = inr (NodeOn, refl, refl)
-    restarts false true = inl refl
-    restarts false false = inr (NumbersSpent, refl, refl)
-drops o past Nothing fault sent after d p = absurd (no_power None false fault d p.why (inl refl))
+no_drop : (boots : Bool) → MayNot (if boots then None else Some NumbersSpent)
+no_drop true = inl refl
+no_drop false = inr (NumbersSpent, refl, refl)
 
--- Another refusal leaves the list as it was.
-pub passed_none : (past : List FrameEntry) (ask : Ask Input) (fault : Fault) → is_drop fault ≡ false → entries_past_refusal past ask fault ≡ past
-passed_none past (Meets e) fault h = ap (λ b. if b then Met e lefts.NoSave ∷ past else past) h
-passed_none past Cuts fault h = refl
-passed_none past Restarts fault h = refl
-passed_none past Nothing fault h = refl
-
--- What is shown of a server.
-pub shown : (o : Opening) → Shown (rules o) (IsAsked o)
-shown o = record { accepted = accepted o; lost = lost_save o; drops = drops o }
+-- What is known of the entries of a server.
+pub known : (o : Opening) → Known (core o) (IsAsked o)
+unfolding IsAsked
+known o = record {
+  answered = λ past e free. met_asked o past e _ (inl free);
+  dropped = λ past e may. met_asked o past e lefts.NoSave may;
+  refused = λ past e fault is. quiet o past e lefts.NoSave (inr (fault, is));
+  unsaved = lost_save o;
+  unstarted = lost_start o;
+  cut = tt;
+  started = tt;
+  spent = λ past. no_drop (has_boot o past);
+}
 
 -- ---- what it is in a trace
 

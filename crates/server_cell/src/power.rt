@@ -31,16 +31,7 @@ pub(crate) fn step<N: Notes + Drop>(
         Counts false (failures_of N.note power.old) (failures_of N.note power.new)
         (reply_and_frames result) }
 {
-    match power {
-        Power::On(server) => {
-            if server.on() {
-                server.step(input)
-            } else {
-                Err(Fault::NodeOff)
-            }
-        }
-        _ => Err(Fault::NodeOff),
-    }
+    power.on()?.step(input)
 }
 
 /// Asks for the next write of a job, as `step` does.
@@ -53,16 +44,7 @@ fn issue<N: Notes + Drop>(power: &mut Power<Server<N>, N>, job: JobNo) -> Result
         Counts false (failures_of N.note power.old) (failures_of N.note power.new)
         (reply_and_frames (outs_of_issue result)) }
 {
-    match power {
-        Power::On(server) => {
-            if server.on() {
-                server.issue(job)
-            } else {
-                Err(Fault::NodeOff)
-            }
-        }
-        _ => Err(Fault::NodeOff),
-    }
+    power.on()?.issue(job)
 }
 
 /// Tells how a write has ended, as `step` does.
@@ -79,16 +61,7 @@ fn end_write<N: Notes + Drop>(
         Counts false (failures_of N.note power.old) (failures_of N.note power.new)
         (reply_and_frames (outs_of_end result)) }
 {
-    match power {
-        Power::On(server) => {
-            if server.on() {
-                server.end_write(ticket, end)
-            } else {
-                Err(Fault::NodeOff)
-            }
-        }
-        _ => Err(Fault::NodeOff),
-    }
+    power.on()?.end_write(ticket, end)
 }
 
 /// Does what is asked from a seat, which sends nothing.
@@ -121,13 +94,9 @@ pub(crate) fn perform<N: Notes + Drop>(
 fn issued(answer: Result<Issue, Fault>) -> Result<Said, Fault>
     ensures { result ≡ answer_of (reply_and_frames (outs_of_issue answer)) }
 {
-    match answer {
-        Ok(issue) => Ok(Said {
-            answer: Answer::Issued(issue),
-            act: Act::None,
-        }),
-        Err(fault) => Err(fault),
-    }
+    let answer = Answer::Issued(answer?);
+    let act = Act::None;
+    Ok(Said { answer, act })
 }
 
 /// What is answered of the end of a write.
@@ -135,8 +104,6 @@ fn issued(answer: Result<Issue, Fault>) -> Result<Said, Fault>
 fn heard(answer: Result<(), Fault>) -> Result<Said, Fault>
     ensures { result ≡ answer_of (reply_and_frames (outs_of_end answer)) }
 {
-    match answer {
-        Ok(()) => Ok(Said::plain()),
-        Err(fault) => Err(fault),
-    }
+    answer?;
+    Ok(Said::plain())
 }

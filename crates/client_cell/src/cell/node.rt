@@ -48,10 +48,8 @@ impl<N: Notes + Drop> Node for ClientCell<N> {
         if self.client().is_none() {
             return Err(Fault::NodeOff);
         }
-        match frame_came(self.alloc, hub, position) {
-            Ok((came, frame)) => self.hear(hub, came, position, frame),
-            Err(fault) => Err(fault),
-        }
+        let (came, frame) = frame_came(self.alloc, hub, position)?;
+        self.hear(hub, came, position, frame)
     }
 
     fn post(&mut self, hub: &mut Hub, command: ClientCommand) -> Result<CallerAnswer, Fault> {

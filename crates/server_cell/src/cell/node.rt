@@ -51,10 +51,8 @@ impl<N: Notes + Drop> Node for ServerCell<N> {
         if !self.is_on() {
             return Err(Fault::NodeOff);
         }
-        match frame_came(self.alloc, hub, position) {
-            Ok((came, frame)) => self.hear(hub, came, Some(position), Input::Deliver(frame)),
-            Err(fault) => Err(fault),
-        }
+        let (came, frame) = frame_came(self.alloc, hub, position)?;
+        self.hear(hub, came, Some(position), Input::Deliver(frame))
     }
 
     /// Takes the report of a job's check, and sends it to the client.

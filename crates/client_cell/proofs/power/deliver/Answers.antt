@@ -1,24 +1,26 @@
-use Rattle.std.proofs.Common.{sym, subst, ◌∙◌}
+use Rattle.std.proofs.Common.{refl, sym, subst}
+use Rattle.std.proofs.lemmas.Result.{err_from_is_err_and}
 use Rattle.client_core.specs.declared.input.Input.TheVariants as inputs
 use Rattle.node_history.specs.declared.power.Power.TheVariants.{On}
+use Rattle.node_history.specs.ClientKind.{client_kind}
 use Rattle.node_history.specs.Moves.{StepEnds}
+use Rattle.node_history.proofs.StepLemmas.{off_ends}
 use Rattle.client_cell.specs.Stands.{reply_and_frames, ways}
-use Rattle.client_cell.proofs.PowerLemmas.{deliver_ends, off_ends, sent_counts}
+use Rattle.client_cell.proofs.PowerLemmas.{sent_ends, sent_counts}
 use Rattle.client_cell.proofs.power.deliver.Goals as goal
 
-pub returns-then-on-clause-ends : goal.returns-then-on-clause-ends
-returns-then-on-clause-ends g c o past s =
-    let note = g.N.Notes.note in
-    let stands = rw c.in-On.is at s in
-    subst (λ result. StepEnds (ways note o) past (inputs.Deliver c.args.frame) (On c.deliver.new.self) (reply_and_frames result)) (sym c.plainly.ensures)
-    (deliver_ends note o past c.args.frame c.in-On.client c.deliver.new.self c.deliver.result (sym (c.on.ensures o past stands) ∙ c.if-on.true) (c.deliver.ensures.ends o past stands) (c.deliver.ensures.ranges o past stands))
+pub returns-in_err-on-clause-ends : goal.returns-in_err-on-clause-ends
+returns-in_err-on-clause-ends g c o past s =
+    let p = err_from_is_err_and c.from_residual.result c.from_residual.ensures.1 in
+    rw p.1 (off_ends (client_kind g.N.Notes.note o) past (inputs.Deliver c.args.frame) c.args.power.now p.0 (rw p.2 (c.in_err-on.ensures.lent o past s)) s)
 
-pub returns-else-on-clause-ends : goal.returns-else-on-clause-ends
-returns-else-on-clause-ends g c o past s =
-    let stands = rw c.in-On.is at s in
-    off_ends g.N.Notes.note o past (inputs.Deliver c.args.frame) (On c.in-On.client) (sym (c.on.ensures o past stands) ∙ c.if-on.false) stands
+pub returns-clause-ends : goal.returns-clause-ends
+returns-clause-ends g c o past s =
+    let lent = c.in_ok-on.ensures.lent o past s in
+    rw c.plainly.ensures
+    (sent_ends g.N.Notes.note o past (inputs.Deliver c.args.frame) c.in_ok-on.field-0.now c.deliver.new.self c.deliver.result lent.2 refl (c.deliver.ensures.ranges o past lent.1) (c.deliver.ensures.ends o past lent.1))
 
-pub returns-then-on-clause-count : goal.returns-then-on-clause-count
-returns-then-on-clause-count g c o past s =
-    let stands = rw c.in-On.is at s in
-    rw c.in-On.is (sent_counts g.N.Notes.note o past (inputs.Deliver c.args.frame) c.in-On.client c.deliver.new.self c.deliver.result c.plainly.result c.plainly.ensures (c.deliver.ensures.ends o past stands))
+pub returns-clause-count : goal.returns-clause-count
+returns-clause-count g c o past s =
+    let lent = c.in_ok-on.ensures.lent o past s in
+    rw (lent.0, c.plainly.ensures) (sent_counts g.N.Notes.note o past (inputs.Deliver c.args.frame) c.in_ok-on.field-0.now c.deliver.new.self c.deliver.result (c.deliver.ensures.ends o past lent.1))

@@ -1,20 +1,20 @@
-use Rattle.std.proofs.Common.{sym, ◌∙◌}
-use Rattle.node_history.specs.declared.power.Power.TheVariants.{On}
+use Rattle.std.proofs.lemmas.Result.{err_from_is_err_and}
+use Rattle.node_history.specs.ClientKind.{client_kind}
+use Rattle.node_history.proofs.StepLemmas.{off_ends}
 use Rattle.client_cell.specs.Tasks.{input_of}
-use Rattle.client_cell.proofs.PowerLemmas.{off_ends}
 use Rattle.client_cell.proofs.power.take.Goals as goal
 
-pub returns-then-on-clause-ends : goal.returns-then-on-clause-ends
-returns-then-on-clause-ends g c o past s =
-    let stands = rw c.in-On.is at s in
-    c.ask.ensures.ends o past (sym (c.on.ensures o past stands) ∙ c.if-on.true) stands
+pub returns-in_err-on-clause-ends : goal.returns-in_err-on-clause-ends
+returns-in_err-on-clause-ends g c o past s =
+    let p = err_from_is_err_and c.from_residual.result c.from_residual.ensures.1 in
+    rw p.1 (off_ends (client_kind g.N.Notes.note o) past (input_of c.args.request.now) c.args.power.now p.0 (rw p.2 (c.in_err-on.ensures.lent o past s)) s)
 
-pub returns-else-on-clause-ends : goal.returns-else-on-clause-ends
-returns-else-on-clause-ends g c o past s =
-    let stands = rw c.in-On.is at s in
-    off_ends g.N.Notes.note o past (input_of c.args.request.now) (On c.in-On.client) (sym (c.on.ensures o past stands) ∙ c.if-on.false) stands
+pub returns-clause-ends : goal.returns-clause-ends
+returns-clause-ends g c o past s =
+    let lent = c.in_ok-on.ensures.lent o past s in
+    c.ask.ensures.ends o past lent.2 lent.1
 
-pub returns-then-on-clause-count : goal.returns-then-on-clause-count
-returns-then-on-clause-count g c o past s =
-    let stands = rw c.in-On.is at s in
-    rw c.in-On.is (c.ask.ensures.count o past stands)
+pub returns-clause-count : goal.returns-clause-count
+returns-clause-count g c o past s =
+    let lent = c.in_ok-on.ensures.lent o past s in
+    rw lent.0 (c.ask.ensures.count o past lent.1)

@@ -1,27 +1,21 @@
-use Rattle.std.proofs.Common.{refl, sym, subst, ◌∙◌}
+use Rattle.std.proofs.Common.{refl}
 use Rattle.client_core.specs.declared.input.Input.TheVariants as inputs
-use Rattle.node_history.specs.declared.power.Power.TheVariants.{On}
-use Rattle.node_history.specs.Moves.{StepEnds}
-use Rattle.client_cell.specs.Stands.{reply_and_frames, ways}
-use Rattle.client_cell.proofs.PowerLemmas.{plain_ends, off_ends, sent_counts}
+use Rattle.node_history.specs.ClientKind.{client_kind}
+use Rattle.node_history.proofs.StepLemmas.{off_ends}
+use Rattle.client_cell.proofs.PowerLemmas.{heard, sent_ends, sent_counts}
 use Rattle.client_cell.proofs.power.tick.Goals as goal
 
-pub returns-then-on-clause-ends : goal.returns-then-on-clause-ends
-returns-then-on-clause-ends g c o past s =
-    let note = g.N.Notes.note in
-    let stands = rw c.in-On.is at s in
-    let client = c.in-On.client in
-    rw c.in-On.is
-    (subst (λ result. StepEnds (ways note o) past inputs.Tick (On client) (reply_and_frames result)) (sym c.plainly.ensures)
-    (plain_ends note o past inputs.Tick client client c.tick.result (sym (c.on.ensures o past stands) ∙ c.if-on.true) tt refl (c.tick.ensures o past stands)))
+pub returns-in-None-clause-ends : goal.returns-in-None-clause-ends
+returns-in-None-clause-ends g c o past s = off_ends (client_kind g.N.Notes.note o) past inputs.Tick c.args.power.now _ (refl, c.in-None.ensures o past s) s
 
-pub returns-else-on-clause-ends : goal.returns-else-on-clause-ends
-returns-else-on-clause-ends g c o past s =
-    let stands = rw c.in-On.is at s in
-    off_ends g.N.Notes.note o past inputs.Tick c.args.power.now (sym (c.on.ensures o past stands) ∙ c.if-on.false) s
+pub returns-in-Some-clause-ends : goal.returns-in-Some-clause-ends
+returns-in-Some-clause-ends g c o past s =
+    let shown = c.in-Some.ensures o past s in
+    let client = c.in-Some.client.now in
+    rw (shown.0, c.plainly.ensures) (sent_ends g.N.Notes.note o past inputs.Tick client client c.tick.result shown.2 refl (heard o past inputs.Tick c.tick.result tt) (c.tick.ensures o past shown.1))
 
-pub returns-then-on-clause-count : goal.returns-then-on-clause-count
-returns-then-on-clause-count g c o past s =
-    let stands = rw c.in-On.is at s in
-    let client = c.in-On.client in
-    rw c.in-On.is (sent_counts g.N.Notes.note o past inputs.Tick client client c.tick.result c.plainly.result c.plainly.ensures (c.tick.ensures o past stands))
+pub returns-in-Some-clause-count : goal.returns-in-Some-clause-count
+returns-in-Some-clause-count g c o past s =
+    let shown = c.in-Some.ensures o past s in
+    let client = c.in-Some.client.now in
+    rw (shown.0, c.plainly.ensures) (sent_counts g.N.Notes.note o past inputs.Tick client client c.tick.result (c.tick.ensures o past shown.1))

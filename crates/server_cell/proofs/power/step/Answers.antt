@@ -1,19 +1,20 @@
-use Rattle.std.proofs.Common.{sym, ◌∙◌}
-use Rattle.node_history.specs.declared.power.Power.TheVariants.{On}
-use Rattle.server_cell.proofs.PowerLemmas.{step_ends, off_ends, step_counts}
+use Rattle.std.proofs.lemmas.Result.{err_from_is_err_and}
+use Rattle.node_history.specs.ServerKind.{server_kind}
+use Rattle.node_history.proofs.StepLemmas.{off_ends}
+use Rattle.server_cell.proofs.PowerLemmas.{step_ends, step_counts}
 use Rattle.server_cell.proofs.power.step.Goals as goal
 
-pub returns-then-on-clause-ends : goal.returns-then-on-clause-ends
-returns-then-on-clause-ends g c o past s =
-    let stands = rw c.in-On.is at s in
-    step_ends g.N.Notes.note o past c.args.input c.in-On.server c.step.new.self c.step.result (sym (c.on.ensures o past stands) ∙ c.if-on.true) (c.step.ensures.ends o past stands) (c.step.ensures.ranges o past stands)
+pub returns-in_err-on-clause-ends : goal.returns-in_err-on-clause-ends
+returns-in_err-on-clause-ends g c o past s =
+    let p = err_from_is_err_and c.from_residual.result c.from_residual.ensures.1 in
+    rw p.1 (off_ends (server_kind g.N.Notes.note o) past c.args.input c.args.power.now p.0 (rw p.2 (c.in_err-on.ensures.lent o past s)) s)
 
-pub returns-else-on-clause-ends : goal.returns-else-on-clause-ends
-returns-else-on-clause-ends g c o past s =
-    let stands = rw c.in-On.is at s in
-    off_ends g.N.Notes.note o past c.args.input (On c.in-On.server) (sym (c.on.ensures o past stands) ∙ c.if-on.false) stands
+pub returns-clause-ends : goal.returns-clause-ends
+returns-clause-ends g c o past s =
+    let lent = c.in_ok-on.ensures.lent o past s in
+    step_ends g.N.Notes.note o past c.args.input c.in_ok-on.field-0.now c.step.new.self c.step.result lent.2 (c.step.ensures.ends o past lent.1) (c.step.ensures.ranges o past lent.1)
 
-pub returns-then-on-clause-count : goal.returns-then-on-clause-count
-returns-then-on-clause-count g c o past s =
-    let stands = rw c.in-On.is at s in
-    rw c.in-On.is (step_counts g.N.Notes.note o past c.args.input c.in-On.server c.step.new.self c.step.result (c.step.ensures.ends o past stands))
+pub returns-clause-count : goal.returns-clause-count
+returns-clause-count g c o past s =
+    let lent = c.in_ok-on.ensures.lent o past s in
+    rw lent.0 (step_counts g.N.Notes.note o past c.args.input c.in_ok-on.field-0.now c.step.new.self c.step.result (c.step.ensures.ends o past lent.1))

@@ -49,7 +49,7 @@ returns-clause-why g c =
     let cell = c.self.invariant.0 in
     let o = opening_of c.self.inside.servers c.self.inside.opened.value in
     let ends = c.deliver.ensures.ends o cell.kept.past cell.kept.stands in
-    told_why g.N.Notes.note _ c.self.inside.power c.deliver.new.power cell (Deliver c.args.frame) c.deliver.result _ _ c.enter.result c.args.self.now (there (client_kind g.N.Notes.note o) cell.kept.past c.core.result (c.core.ensures o cell.kept.past cell.kept.stands) c.if-is_none.ensures) ends (rw c.outcome-done.ensures at c.enter.ensures.told) c.self.view_is
+    told_why g.N.Notes.note _ c.self.inside.power c.deliver.new.power cell (Deliver c.args.frame) c.deliver.result _ _ c.enter.result c.args.self.now (there (client_kind g.N.Notes.note o) cell.kept.past c.self.inside.power c.core.result (c.core.ensures o cell.kept.past cell.kept.stands) c.if-is_none.ensures) ends (rw c.outcome-done.ensures at c.enter.ensures.told) c.self.view_is
 
 pub returns-clause-replay : goal.returns-clause-replay
 returns-clause-replay g c =
@@ -66,13 +66,13 @@ pub returns-then-is_none-clause-why : goal.returns-then-is_none-clause-why
 returns-then-is_none-clause-why g c =
     let cell = c.self.invariant.0 in
     let o = opening_of c.self.inside.servers c.self.inside.opened.value in
-    off_why g.N.Notes.note _ c.self.inside.power cell (Deliver c.args.frame) c.args.self.now (hidden (client_kind g.N.Notes.note o) cell.kept.past c.core.result (c.core.ensures o cell.kept.past cell.kept.stands) c.if-is_none.ensures) c.self.view_is
+    off_why g.N.Notes.note _ c.self.inside.power cell (Deliver c.args.frame) c.args.self.now (hidden (client_kind g.N.Notes.note o) cell.kept.past c.self.inside.power c.core.result (c.core.ensures o cell.kept.past cell.kept.stands) c.if-is_none.ensures) c.self.view_is
 
 pub returns-then-is_err-clause-why : goal.returns-then-is_err-clause-why
 returns-then-is_err-clause-why g c =
     let cell = c.self.invariant.0 in
     let o = opening_of c.self.inside.servers c.self.inside.opened.value in
-    lacks_why g.N.Notes.note _ c.self.inside.power cell (Deliver c.args.frame) c.args.self.now (there (client_kind g.N.Notes.note o) cell.kept.past c.core.result (c.core.ensures o cell.kept.past cell.kept.stands) c.if-is_none.ensures) c.self.view_is
+    lacks_why g.N.Notes.note _ c.self.inside.power cell (Deliver c.args.frame) c.args.self.now (there (client_kind g.N.Notes.note o) cell.kept.past c.self.inside.power c.core.result (c.core.ensures o cell.kept.past cell.kept.stands) c.if-is_none.ensures) c.self.view_is
 
 pub returns-clause-failures : goal.returns-clause-failures
 returns-clause-failures g c =

@@ -7,11 +7,11 @@ use Rattle.node_history.proofs.power.Power.restart.Goals as goal
 pub returns-then-not-is_none-clause-ends : goal.returns-then-not-is_none-clause-ends
 returns-then-not-is_none-clause-ends g c o past of s =
     let k = g.C.NodeCore.kind o in
-    on_refuses k past c.args.self.now (g.met.C.NodeCore.has_power o past) (there k past c.core.result (c.core.ensures o past s) c.if-not-is_none.ensures) s
+    on_refuses k past c.args.self.now (there k past c.args.self.now c.core.result (c.core.ensures o past s) c.if-not-is_none.ensures) s
 
 pub returns-in-Some-clause-ends : goal.returns-in-Some-clause-ends
 returns-in-Some-clause-ends g c o past of s =
-    c.start.ensures.ends o past of (hidden (g.C.NodeCore.kind o) past c.core.result (c.core.ensures o past s) c.if-not-is_none.ensures) (c.in-Some.ensures.some o past s)
+    c.start.ensures.ends o past of (hidden (g.C.NodeCore.kind o) past c.args.self.now c.core.result (c.core.ensures o past s) c.if-not-is_none.ensures) (c.in-Some.ensures.some o past s)
 
 pub returns-in-None-clause-ends : goal.returns-in-None-clause-ends
 returns-in-None-clause-ends g c o past of s = absurd (c.in-None.ensures.none o past s)

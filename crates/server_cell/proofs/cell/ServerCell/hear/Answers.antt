@@ -28,7 +28,7 @@ returns-then-is_none-clause-why g c =
     let note = g.N.Notes.note in
     let cell = c.self.invariant in
     let o = opening_with c.self.inside.me c.self.inside.boot c.self.inside.last_run in
-    let off = hidden (server_kind note o) cell.kept.past c.core.result (c.core.ensures o cell.kept.past cell.kept.stands) c.if-is_none.ensures in
+    let off = hidden (server_kind note o) cell.kept.past c.self.inside.power c.core.result (c.core.ensures o cell.kept.past cell.kept.stands) c.if-is_none.ensures in
     subst (λ (log : ServerLog). HasWhy (rules log.opening) log.history (Meets c.args.input) NodeOff) c.self.view_is
     (off_why (ways note o) _ c.self.inside.power cell.kept (Meets c.args.input) (is_off_as o cell.kept.past false off))
 
@@ -42,7 +42,7 @@ returns-then-is_err-clause-why g c =
     let note = g.N.Notes.note in
     let cell = c.self.invariant in
     let o = opening_with c.self.inside.me c.self.inside.boot c.self.inside.last_run in
-    let on = there (server_kind note o) cell.kept.past c.core.result (c.core.ensures o cell.kept.past cell.kept.stands) c.if-is_none.ensures in
+    let on = there (server_kind note o) cell.kept.past c.self.inside.power c.core.result (c.core.ensures o cell.kept.past cell.kept.stands) c.if-is_none.ensures in
     subst (λ (log : ServerLog). HasWhy (rules log.opening) log.history (Meets c.args.input) NoMemory) c.self.view_is
     (lack_why (ways note o) _ c.self.inside.power cell.kept (Meets c.args.input) (is_off_as o cell.kept.past true on))
 
@@ -87,7 +87,7 @@ returns-clause-why g c =
     let note = g.N.Notes.note in
     let cell = c.self.invariant in
     let o = opening_with c.self.inside.me c.self.inside.boot c.self.inside.last_run in
-    let on = there (server_kind note o) cell.kept.past c.core.result (c.core.ensures o cell.kept.past cell.kept.stands) c.if-is_none.ensures in
+    let on = there (server_kind note o) cell.kept.past c.self.inside.power c.core.result (c.core.ensures o cell.kept.past cell.kept.stands) c.if-is_none.ensures in
     subst (λ (log : ServerLog). IfErr c.enter.result (HasWhy (rules log.opening) log.history (Meets c.args.input))) c.self.view_is
     (step_why (ways note o) _ c.self.inside.power c.step.new.power cell.kept c.args.input (reply_and_frames c.step.result) _ _ c.enter.result (is_off_as o cell.kept.past true on) refl (c.step.ensures.ends o cell.kept.past cell.kept.stands) (rw c.outcome-done.ensures at c.enter.ensures.told))
 

@@ -1,5 +1,6 @@
 use Rattle.std.proofs.Common.{◌≡◌, refl, subst, ℕ, ◌<◌, length, Some}
 use Rattle.std.specs.Prelude.{slice_get}
+use Rattle.std.proofs.lemmas.Result.{err_from_is_err_and}
 use Rattle.fc_base.specs.declared.fault.Fault.TheVariants.{NodeOff}
 use Rattle.messages.specs.declared.node.Node.TheVariants.{Server}
 use Rattle.node_history.proofs.CallLemmas.{not_delivered, not_there, within}
@@ -14,7 +15,9 @@ same m n h = cc
 
 pub hear-requires-clause-taken : goal.hear-requires-clause-taken
 hear-requires-clause-taken g c x is =
-    subst (λ n. n < length c.args.hub.now.net.frames) (same c.args.position x is) (within c.args.hub.now.net c.args.position _ c.in-Ok.ensures)
+    subst (λ n. n < length c.args.hub.now.net.frames) (same c.args.position x is) (within c.args.hub.now.net c.args.position _ c.in_ok-came.ensures)
 
-pub returns-in-Err-clause-ends : goal.returns-in-Err-clause-ends
-returns-in-Err-clause-ends g c = not_there (Server c.args.self.now.opening.me) c.args.hub.now.net c.args.position c.args.self.now.history c.in-Err.fault c.in-Err.ensures
+pub returns-in_err-came-clause-ends : goal.returns-in_err-came-clause-ends
+returns-in_err-came-clause-ends g c =
+    let p = err_from_is_err_and c.from_residual.result c.from_residual.ensures.1 in
+    rw (p.1, p.2) (not_there (Server c.args.self.now.opening.me) c.args.hub.now.net c.args.position c.args.self.now.history c.in_err-came.field-0.0 c.in_err-came.ensures)
