@@ -1,6 +1,6 @@
 -- What comes to the client at the hub is entered, or left out.
 use Rattle.std.proofs.Common.{◌≡◌, refl, sym, ◌∙◌, ap, subst, ℕ, ◌+◌, arith, Bool, true, false, List, [], ◌∷◌, ◌++◌, length, take, Option, Some, None, Result, Ok, Err}
-use Rattle.std.specs.Prelude.{map, not, slice_get, is_some, All, IfErr, IfSome}
+use Rattle.std.specs.Prelude.{map, slice_get, is_some, All, IfErr, IfSome}
 use Rattle.std.specs.Borrow.{Bor}
 use Rattle.std.specs.List.{sum_by}
 use Rattle.std.proofs.lemmas.List.{take_more}
@@ -8,7 +8,6 @@ use Rattle.std.proofs.lemmas.List.Elements.{All-nil}
 use Rattle.std.proofs.lemmas.List.Sums.{sum_by-append, sum_by-cons}
 use Rattle.std.proofs.lemmas.Option.{slice_get_within, get_or_from_slice_get}
 use Rattle.fc_base.specs.declared.fault.Fault.{Fault}
-use Rattle.fc_base.specs.declared.fault.Fault.TheVariants.{NoMemory, NodeOff}
 use Rattle.disk_model.specs.Notes.{Note}
 use Rattle.messages.specs.declared.node.Node.TheVariants as nodes
 use Rattle.messages.specs.FrameBytes.{frame_spelling}
@@ -30,10 +29,12 @@ use Rattle.node_history.specs.declared.answer.CallerAnswer.{CallerAnswer}
 use Rattle.node_history.specs.declared.came.Came.{Came}
 use Rattle.node_history.specs.declared.logged.Logged.{Logged}
 use Rattle.node_history.specs.Rules.{Meets}
-use Rattle.node_history.specs.ClientRules.{ask_of, rules, is_up}
+use Rattle.node_history.specs.ClientRules.{ask_of, core, rules, is_up}
 use Rattle.node_history.specs.AtHub.{is_left_out, told_at, Hears, Comes}
-use Rattle.node_history.specs.Calls.{is_off, HasWhy, IsWhyNot}
+use Rattle.node_history.specs.Calls.{HasWhy, IsWhyNot}
+use Rattle.node_history.specs.ClientKind.{client_kind}
 use Rattle.node_history.specs.Moves.{StepEnds, outcome_of}
+use Rattle.node_history.specs.Powers.{IsReady}
 use Rattle.node_history.proofs.CallLemmas.{why_not_there}
 use Rattle.node_history.proofs.HubLemmas as hub
 use Rattle.node_history.proofs.MoveLemmas.{off_where}
@@ -116,22 +117,15 @@ replayed note log power cell = (cell.kept.past, cell.kept.made)
 
 -- ---- why it was refused
 
-is_off_as : (o : Opening) (past : List FrameEntry) (up : Bool) → is_up o past ≡ up → is_off (rules o) past ≡ not up
-is_off_as o past up h = off_where (rules o) past (is_up o past) up refl h
-
-pub lacks_why : {T : Type 0} (note : T → Note) (log : ClientLog) (power : Power (Client T) T) (cell : IsCell note log power) (e : Input) (shown : ClientLog) → is_up log.opening cell.kept.past ≡ true → log ≡ shown → HasWhy (rules shown.opening) shown.history (Meets e) NoMemory
-lacks_why note log power cell e shown up view =
-    subst (λ (l : ClientLog). HasWhy (rules l.opening) l.history (Meets e) NoMemory) view (hub.lack_why (ways note log.opening) log.history power cell.kept (Meets e) (is_off_as log.opening cell.kept.past true up))
-
-pub off_why : {T : Type 0} (note : T → Note) (log : ClientLog) (power : Power (Client T) T) (cell : IsCell note log power) (e : Input) (shown : ClientLog) → is_up log.opening cell.kept.past ≡ false → log ≡ shown → HasWhy (rules shown.opening) shown.history (Meets e) NodeOff
-off_why note log power cell e shown down view =
-    subst (λ (l : ClientLog). HasWhy (rules l.opening) l.history (Meets e) NodeOff) view (hub.off_why (ways note log.opening) log.history power cell.kept (Meets e) (is_off_as log.opening cell.kept.past false down))
+pub unready_why : {T : Type 0} (note : T → Note) (log : ClientLog) (power : Power (Client T) T) (cell : IsCell note log power) (e : Input) (fault : Fault) (shown : ClientLog) → IsReady (is_up log.opening cell.kept.past) (Err fault) → log ≡ shown → HasWhy (rules shown.opening) shown.history (Meets e) fault
+unready_why note log power cell e fault shown h view =
+    subst (λ (l : ClientLog). HasWhy (rules l.opening) l.history (Meets e) fault) view (hub.unready_why (client_kind note log.opening) log.history power cell.kept (Meets e) fault h)
 
 pub told_why : {T : Type 0} (note : T → Note) (log : ClientLog) (power new : Power (Client T) T) (cell : IsCell note log power) (e : Input) (step : Result Outs Fault) (first sent : ℕ) (result : Result CallerAnswer Fault) (shown : ClientLog) → is_up log.opening cell.kept.past ≡ true → StepEnds (ways note log.opening) cell.kept.past e new (reply_and_frames step) → result ≡ told_at first sent (outcome_of (reply_and_frames step)).0 → log ≡ shown
     → IfErr result (HasWhy (rules shown.opening) shown.history (Meets e))
 told_why note log power new cell e step first sent result shown up f is view =
     subst (λ (l : ClientLog). IfErr result (HasWhy (rules l.opening) l.history (Meets e))) view
-    (hub.step_why (ways note log.opening) log.history power new cell.kept e (reply_and_frames step) first sent result (is_off_as log.opening cell.kept.past true up) refl f is)
+    (hub.step_why (client_kind note log.opening) log.history power new cell.kept e (reply_and_frames step) first sent result up f is)
 
 -- ---- a delivery
 
@@ -144,4 +138,4 @@ is_there note log None h some = cc
 is_there note log (Some client) (past, replay, stands, up) some = (past, replay, up)
 
 pub deliver_none : (log : ClientLog) (net : Network) (position : ℕ) (fault : Fault) → IsUp log true → Comes net position (Err fault) → IsWhyNot (rules log.opening) log.history (slice_get net.frames position) fault
-deliver_none log net position fault (past, replay, up) h = why_not_there (rules log.opening) log.history past net position fault replay (is_off_as log.opening past true up) h
+deliver_none log net position fault (past, replay, up) h = why_not_there (rules log.opening) log.history past net position fault replay (off_where (core log.opening) past true up) h

@@ -28,7 +28,7 @@ use Rattle.node_history.specs.ClientKind.{client_kind}
 use Rattle.node_history.specs.ClientRules.{is_up, answer_to}
 use Rattle.node_history.specs.Failures.{Counts}
 use Rattle.node_history.specs.Moves.{StepEnds}
-use Rattle.node_history.proofs.StepLemmas.{Fits, Unless, answered_ends, unanswered_ends, faults_count}
+use Rattle.node_history.proofs.StepLemmas.{Fits, answered_ends, unanswered_ends, faults_count}
 use Rattle.client_cell.specs.declared.outs.Outs.{Outs}
 use Rattle.client_cell.specs.Stands.{reply_and_frames, outs_of, ways}
 
@@ -60,7 +60,7 @@ no_drop o past (Drops q) fault h k = absurd (k (same FrameBadField fault h))
     same x y h = cc
 no_drop o past Misses fault h k = refl
 
-fits : {T : Type 0} (note : T → Note) (o : Opening) (past : List FrameEntry) (e : Input) → Fits (client_kind note o) (ends.steps note o) past e (SenseInRange (sense o past e))
+fits : {T : Type 0} (note : T → Note) (o : Opening) (past : List FrameEntry) (e : Input) → Fits (client_kind note o) (ends.steps note o) past e (λ sort. UnlessMemory sort (sense o past e))
 fits note o past e = record {
   refusal_is = refl;
   answered_is = refl;
@@ -68,13 +68,9 @@ fits note o past e = record {
   unsaved_is = λ left. refl;
   stands = λ after client h. h;
   stays = λ fault client why other h. h (no_drop o past (sense o past e) fault why other);
+  alike = λ h. h;
   ranges = λ h left. came_after o past e left h;
 }
-
-unless : (sort : FaultSort) (s : Sense) → UnlessMemory sort s → Unless sort (SenseInRange s)
-unless sorts.Memory s h = tt
-unless sorts.Save s h = h
-unless sorts.Refusal s h = h
 
 -- What its caller asks is heard for sure.
 pub unasked : (o : Opening) (past : List FrameEntry) (e : Input) (fault : Fault) → SenseInRange (sense o past e) → UnlessMemory (sort_of fault) (sense o past e)
@@ -99,7 +95,7 @@ answered note o past e old client outs on said h a =
 pub unanswered : {T : Type 0} (note : T → Note) (o : Opening) (past : List FrameEntry) (e : Input) (old client : Client T) (fault : Fault) → is_up o past ≡ true
     → UnlessMemory (sort_of fault) (sense o past e) → steps.Faults (ends.steps note o) past e (sort_of fault) fault old client → StepEnds (ways note o) past e (On client) (Err fault)
 unanswered note o past e old client fault on h f =
-    unanswered_ends (client_kind note o) (ends.steps note o) past e (fits note o past e) on old client fault (sort_of fault) f (unless (sort_of fault) (sense o past e) h) refl
+    unanswered_ends (client_kind note o) (ends.steps note o) past e (fits note o past e) on old client fault (sort_of fault) f h refl
 
 -- What has no number ends so.
 pub sent_ends : {T : Type 0} (note : T → Note) (o : Opening) (past : List FrameEntry) (e : Input) (old client : Client T) (sent : Result (List (List ℕ)) Fault) → is_up o past ≡ true

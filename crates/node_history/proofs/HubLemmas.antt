@@ -20,12 +20,15 @@ use Rattle.node_history.specs.declared.came.Came.{Came}
 use Rattle.node_history.specs.declared.logged.Logged.{Logged}
 use Rattle.node_history.specs.declared.logged.Turn.{Turn}
 use Rattle.node_history.specs.AtHub.{is_left_out, told_at, Hears, Posts}
-use Rattle.node_history.specs.Calls.{is_off, HasWhy}
+use Rattle.node_history.specs.Calls.{HasWhy}
+use Rattle.node_history.specs.CoreRules.{rules_of}
 use Rattle.node_history.specs.Failures.{Counts}
 use Rattle.node_history.specs.Moves.{Ways, Moves, StepEnds, IsKept, outcome_of}
+use Rattle.node_history.specs.Powers.{Kind, IsReady, ways}
 use Rattle.node_history.specs.Rules.{Ask, Meets}
+use Rattle.node_history.specs.declared.power.Power.{Power}
 use Rattle.node_history.proofs.CallLemmas.{why_off, why_on}
-use Rattle.node_history.proofs.MoveLemmas.{unmoved, moved, refused_for}
+use Rattle.node_history.proofs.MoveLemmas.{off_where, unmoved, moved, refused_for}
 
 -- The newest entry is the last of the items.
 pub pushed : (items : List Logged) (l : Logged) → reverse (items ++ l ∷ []) ≡ l ∷ reverse items
@@ -33,8 +36,11 @@ pushed items l = reverse-append items (l ∷ [])
 
 -- ---- how it ends
 
+left_out : (node : Node) (came : Came) (taken : Option ℕ) (old new : Network) (before after : List Logged) (fault : Fault) → is_left_out (Err fault) ≡ true → new ≡ old → after ≡ before → Posts node came taken old new before after (Err fault)
+left_out node came taken old new before after fault out net same = (Err fault, [], refl, subst (λ b. Hears b node came taken (Err fault) [] old new before after) (sym out) (record { net = net; history = same }))
+
 pub lacking : (node : Node) (came : Came) (taken : Option ℕ) (old new : Network) (before after : List Logged) → new ≡ old → after ≡ before → Posts node came taken old new before after (Err NoMemory)
-lacking node came taken old new before after net same = (Err NoMemory, [], refl, record { net = net; history = same })
+lacking node came taken old new before after net same = left_out node came taken old new before after NoMemory refl net same
 
 -- ---- what a node keeps
 
@@ -63,20 +69,32 @@ heard w before after old new k e step node came taken net net' asks f h = by_tes
 
 -- ---- why it isn't done
 
-pub off_why : {E X S : Type 0} (w : Ways E X S) (history : List Logged) (state : S) (k : IsKept w history state) (ask : Ask E) → is_off w.rules k.past ≡ true → HasWhy w.rules history ask NodeOff
-off_why w history state k ask off = why_off w.rules history k.past ask k.made off
+-- A node that isn't ready leaves out what comes,
+pub unready : (up : Bool) (node : Node) (came : Came) (taken : Option ℕ) (old new : Network) (before after : List Logged) (fault : Fault) → IsReady up (Err fault) → new ≡ old → after ≡ before → Posts node came taken old new before after (Err fault)
+unready up node came taken old new before after NodeOff h net same = left_out node came taken old new before after NodeOff refl net same
+unready up node came taken old new before after NoMemory h net same = left_out node came taken old new before after NoMemory refl net same
+unready up node came taken old new before after _ h net same = absurd h
 
-pub lack_why : {E X S : Type 0} (w : Ways E X S) (history : List Logged) (state : S) (k : IsKept w history state) (ask : Ask E) → is_off w.rules k.past ≡ false → HasWhy w.rules history ask NoMemory
-lack_why w history state k ask on = why_on w.rules history k.past ask NoMemory k.made on refl
+-- counts no failure of its device,
+pub unready_counts : (up : Bool) (old new : ℕ) (fault : Fault) → IsReady up (Err fault) → new ≡ old → Counts {X = CallerAnswer} false old new (Err fault)
+unready_counts up old new NodeOff h same = same
+unready_counts up old new NoMemory h same = same
+unready_counts up old new _ h same = absurd h
+
+-- and says why.
+pub unready_why : {E X C N : Type 0} (k : Kind E X C N) (history : List Logged) (state : Power C N) (kept : IsKept (ways k) history state) (ask : Ask E) (fault : Fault) → IsReady (k.core.is_up kept.past) (Err fault) → HasWhy (rules_of k.core) history ask fault
+unready_why k history state kept ask NodeOff h = why_off (rules_of k.core) history kept.past ask kept.made (off_where k.core kept.past false h)
+unready_why k history state kept ask NoMemory h = why_on (rules_of k.core) history kept.past ask NoMemory kept.made (off_where k.core kept.past true h) refl
+unready_why k history state kept ask _ h = absurd h
 
 -- What a step is refused for is by the rules.
-pub step_why : {E X S : Type 0} (w : Ways E X S) (history : List Logged) (old new : S) (k : IsKept w history old) (e : E) (step : Result (Said × List (List ℕ)) Fault) (first sent : ℕ) (result : Result CallerAnswer Fault) → is_off w.rules k.past ≡ false → w.rules.loads k.past (Meets e) ≡ false → StepEnds w k.past e new step
-    → result ≡ told_at first sent (outcome_of step).0 → IfErr result (HasWhy w.rules history (Meets e))
-step_why w history old new k e step first sent result on loads f is = subst (λ (r : Result CallerAnswer Fault). IfErr r (HasWhy w.rules history (Meets e))) (sym is) (by_step step f)
+pub step_why : {E X C N : Type 0} (k : Kind E X C N) (history : List Logged) (old new : Power C N) (kept : IsKept (ways k) history old) (e : E) (step : Result (Said × List (List ℕ)) Fault) (first sent : ℕ) (result : Result CallerAnswer Fault) → k.core.is_up kept.past ≡ true → StepEnds (ways k) kept.past e new step
+    → result ≡ told_at first sent (outcome_of step).0 → IfErr result (HasWhy (rules_of k.core) history (Meets e))
+step_why k history old new kept e step first sent result up f is = subst (λ (r : Result CallerAnswer Fault). IfErr r (HasWhy (rules_of k.core) history (Meets e))) (sym is) (by_step step f)
   where
-    by_step : (step : Result (Said × List (List ℕ)) Fault) → StepEnds w k.past e new step → IfErr (told_at first sent (outcome_of step).0) (HasWhy w.rules history (Meets e))
+    by_step : (step : Result (Said × List (List ℕ)) Fault) → StepEnds (ways k) kept.past e new step → IfErr (told_at first sent (outcome_of step).0) (HasWhy (rules_of k.core) history (Meets e))
     by_step (Ok outs) f = tt
-    by_step (Err fault) f = why_on w.rules history k.past (Meets e) fault k.made on (refused_for w k.past e fault new loads f)
+    by_step (Err fault) f = why_on (rules_of k.core) history kept.past (Meets e) fault kept.made (off_where k.core kept.past true up) (refused_for (ways k) kept.past e fault new refl f)
 
 -- ---- the device's failures
 

@@ -17,7 +17,7 @@ use Rattle.node_history.specs.Failures.{is_load, CountsBy, Counts}
 use Rattle.node_history.specs.Moves.{Ways, Moves, Refuses, Faults, StepEnds, Fails, TaskEnds, answer_of, outcome_of}
 use Rattle.node_history.specs.Replay.{Stops}
 use Rattle.node_history.specs.Rules.{Ask, Meets, Cuts, Rules}
-use Rattle.node_history.specs.CoreRules.{left_by}
+use Rattle.node_history.specs.CoreRules.{CoreRules, left_by, rules_of}
 
 clash : true ≡ false → ⊥
 clash h = cc
@@ -176,8 +176,8 @@ silent w past e x new (Err fault) is none f = by_sort (sort_of fault) f
 
 -- ---- whether it is on
 
-pub off_where : {E X : Type 0} (rules : Rules E X) (past : List X) (on is : Bool) → rules.refusal past Cuts ≡ (if on then None else Some NodeOff) → on ≡ is → is_off rules past ≡ not is
-off_where rules past on is cuts h = ap says_off cuts ∙ ap (λ b. says_off (if b then None else Some NodeOff)) h ∙ by_test is
+pub off_where : {E X : Type 0} (c : CoreRules E X) (past : List X) (is : Bool) → c.is_up past ≡ is → is_off (rules_of c) past ≡ not is
+off_where c past is h = ap (λ b. says_off (if b then None else Some NodeOff)) h ∙ by_test is
   where
     by_test : (b : Bool) → says_off (if b then None else Some NodeOff) ≡ not b
     by_test true = refl

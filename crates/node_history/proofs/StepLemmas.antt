@@ -25,31 +25,26 @@ use Rattle.node_history.specs.Rules.{Meets}
 use Rattle.node_history.proofs.MoveLemmas as moves
 use Rattle.node_history.proofs.MoveLemmas.{up, refused_step, lost, left_is, no_load}
 
--- What an input is to a core by its steps is what it is by the rules of its kind; and where it was heard, the
--- list behind it is within its ranges.
-pub record Fits {E X C N D O : Type 0} (k : Kind E X C N) (s : Steps C E X D O) (past : List X) (e : E) (Heard : Type 0) : Type 0 where
+-- What an input is to a core by its steps is what it is by the rules of its kind; and where it was heard, which
+-- the sort of a fault tells, the list behind it is within its ranges.
+pub record Fits {E X C N D O : Type 0} (k : Kind E X C N) (s : Steps C E X D O) (past : List X) (e : E) (Heard : FaultSort → Type 0) : Type 0 where
   pub refusal_is : s.refusal past e ≡ k.core.refusal past e
   pub answered_is : answered s past e ≡ k.core.answered past e
   pub dropped_is : s.met e NoSave ≡ k.core.dropped e
   pub unsaved_is : (left : Left) → option_map (λ due. s.met e left) (s.due past e) ≡ k.core.unsaved past e left
   pub stands : (after : List X) (core : C) → s.StandsFor after core → k.StandsFor after core
   pub stays : (fault : Fault) (core : C) → s.refusal past e ≡ Some fault → (fault ≡ FrameBadField → ⊥) → s.Stays past e core → k.StandsFor past core
-  pub ranges : Heard → (left : Left) → k.InRange past → k.InRange (s.met e left ∷ past)
-
--- It was heard, but where memory ran out before it was known what came.
-abbrev pub Unless : FaultSort → Type 0 → Type 0
-Unless sorts.Memory Heard = Unit {0}
-Unless sorts.Save Heard = Heard
-Unless sorts.Refusal Heard = Heard
+  pub alike : Heard sorts.Refusal → Heard sorts.Save
+  pub ranges : Heard sorts.Save → (left : Left) → k.InRange past → k.InRange (s.met e left ∷ past)
 
 -- What comes to a node that isn't on is refused, and nothing changes.
 pub off_ends : {E X C N : Type 0} (k : Kind E X C N) (past : List X) (e : E) (power : Power C N) (fault : Fault) → (fault ≡ NodeOff) × (k.core.is_up past ≡ false) → Stands k past power → StepEnds (ways k) past e power (Err fault)
 off_ends k past e power fault off s =
     rw off.0 (moves.off_ends (ways k) past e power (ap (λ b. if b then k.core.refusal past e else Some NodeOff) off.1) refl s)
 
-module _ {E X C N D O Heard : Type 0} (k : Kind E X C N) (s : Steps C E X D O) (past : List X) (e : E) (fits : Fits k s past e Heard) (on : k.core.is_up past ≡ true) (old new : C) where
+module _ {E X C N D O : Type 0} {Heard : FaultSort → Type 0} (k : Kind E X C N) (s : Steps C E X D O) (past : List X) (e : E) (fits : Fits k s past e Heard) (on : k.core.is_up past ≡ true) (old new : C) where
   -- By one that is on, it is answered,
-  pub answered_ends : (outs : O) (said : Said) (sent : List (List ℕ)) → steps.Answers s past e old new outs → Heard → said ≡ k.core.said past e → sent ≡ map frame_spelling (k.core.frames past (k.core.answered past e)) → k.SendsFew past e sent
+  pub answered_ends : (outs : O) (said : Said) (sent : List (List ℕ)) → steps.Answers s past e old new outs → Heard sorts.Save → said ≡ k.core.said past e → sent ≡ map frame_spelling (k.core.frames past (k.core.answered past e)) → k.SendsFew past e sent
       → StepEnds (ways k) past e (On new) (Ok (said, sent))
   answered_ends outs said sent a heard said_is sent_are short = record {
     moves = record {
@@ -69,7 +64,7 @@ module _ {E X C N D O Heard : Type 0} (k : Kind E X C N) (s : Steps C E X D O) (
   }
 
   -- or it isn't.
-  pub unanswered_ends : (fault : Fault) (sort : FaultSort) → steps.Faults s past e sort fault old new → Unless sort Heard → sort_of fault ≡ sort → Faults (ways k) past e sort fault (On new)
+  pub unanswered_ends : (fault : Fault) (sort : FaultSort) → steps.Faults s past e sort fault old new → Heard sort → sort_of fault ≡ sort → Faults (ways k) past e sort fault (On new)
   unanswered_ends fault sorts.Memory f heard is = (f.why, fits.stands past new f.unchanged)
   unanswered_ends fault sorts.Save f heard is =
       let l = left_is f.left f.lost in
@@ -79,7 +74,7 @@ module _ {E X C N D O Heard : Type 0} (k : Kind E X C N) (s : Steps C E X D O) (
   unanswered_ends fault sorts.Refusal f heard is =
       refused_step (ways k) past e (s.met e NoSave) fault (On new) is (up (k.core.is_up past) (k.core.refusal past e) (Some NodeOff) on ∙ sym fits.refusal_is ∙ f.why)
       (ap (λ x. if is_drop fault then x ∷ past else past) (sym fits.dropped_is))
-      (fits.stands (s.met e NoSave ∷ past) new f.stands) (λ other. fits.stays fault new f.why other f.unchanged) (fits.ranges heard NoSave)
+      (fits.stands (s.met e NoSave ∷ past) new f.stands) (λ other. fits.stays fault new f.why other f.unchanged) (fits.ranges (fits.alike heard) NoSave)
 
 -- ---- the device's failures
 

@@ -1,8 +1,8 @@
 -- Which lists a node that may have no power stands for, whichever node it is.
-use Rattle.std.specs.Prelude.{◌≡◌, ℕ, true, false, List, [], ◌∷◌, Option, Some, None, Result, Ok, Err}
+use Rattle.std.specs.Prelude.{◌≡◌, ℕ, Bool, true, false, List, [], ◌∷◌, Option, Some, None, Result, Ok, Err}
 use Rattle.std.specs.Borrow.{LendsIfOk, Fml, RattleType, MutBor}
 use Rattle.fc_base.specs.declared.fault.Fault.{Fault}
-use Rattle.fc_base.specs.declared.fault.Fault.TheVariants.{NodeOff}
+use Rattle.fc_base.specs.declared.fault.Fault.TheVariants.{NodeOff, NoMemory}
 use Rattle.node_history.specs.declared.answer.Said.{Said}
 use Rattle.node_history.specs.declared.power.Power.{Power}
 use Rattle.node_history.specs.declared.power.Power.TheVariants.{On, Off, Lent}
@@ -51,6 +51,13 @@ IsLent k past power (Err fault) = (fault ≡ NodeOff) × Shows k past power None
 -- The node then has the core as it is left; where none is lent, nothing changes.
 abbrev pub LendsCore : (C N : RattleType) → MutBor (Power C.Denot N.Denot) → Result (MutBor C.Denot) Fault → Fml
 LendsCore C N power lent = LendsIfOk (the_row C N) C power lent (λ core. On core) power.now
+
+-- A node is ready where it is on, and there is room for what comes; else it is off, or memory ran out.
+abbrev pub IsReady : Bool → Result (Unit {0}) Fault → Type 0
+IsReady up (Ok done) = up ≡ true
+IsReady up (Err NodeOff) = up ≡ false
+IsReady up (Err NoMemory) = up ≡ true
+IsReady up (Err _) = ⊥
 
 -- What a start leaves: a core, or the notes.
 abbrev pub left_by : {C N : Type 0} → Result C (N × Fault) → Power C N

@@ -1,23 +1,51 @@
 //! What came to a node at the hub is entered.
 
-ghost use Rattle.std.specs.Prelude.{◌≡◌, ◌<◌, ◌≤◌, length, sum_by, reverse, All, OnOk};
+ghost use Rattle.std.specs.Prelude.{◌≡◌, ◌<◌, ◌≤◌, List, length, sum_by, reverse, All, OnOk};
 ghost use Rattle.std.specs.Option.{ForSome};
 ghost use Rattle.hub.specs.Network.{HasRoom, IsSpelled};
 ghost use Rattle.node_history.specs.AtHub.{is_left_out, told_at, Hears};
+ghost use Rattle.node_history.specs.Powers.{IsReady, Stands};
 
 use crate::answer::{CallerAnswer, Said};
 use crate::at_hub::{is_left_out, told_at};
 use crate::came::Came;
 use crate::history::History;
 use crate::logged::Logged;
+use crate::node_core::NodeCore;
+use crate::power::Power;
 use fc_base::Fault;
 use hub::Hub;
 use messages::{Frames, Node};
 use std::alloc::AllocError;
 
-/// Makes room for one more entry of a history, and at the hub for so many frames of so many bytes
-/// together. Where memory runs out nothing changes.
-pub fn make_room(
+/// Makes room for what comes to a node that is on: for one more entry of its history, and at the hub for so
+/// many frames of so many bytes together.
+///
+/// `NodeOff`, it isn't on; `NoMemory`: nothing changes.
+pub fn make_room<N: Drop, C: NodeCore<N>>(
+    power: &Power<C, N>,
+    history: &mut History,
+    hub: &mut Hub,
+    frames: usize,
+    bytes: usize,
+) -> Result<(), Fault>
+    ensures ready { (o : C.Opening) (past : List C.Past) → Stands (C.kind o) past power.now →
+        IsReady ((C.kind o).core.is_up past) result }
+    ensures place { OnOk result (1 ≤ history.new.room) }
+    ensures room { OnOk result (HasRoom hub.new.room frames bytes) }
+    ensures items { history.new.items ≡ history.old.items }
+    ensures net { hub.new.net ≡ hub.old.net }
+{
+    if power.core().is_none() {
+        return Err(Fault::NodeOff);
+    }
+    match reserve(history, hub, frames, bytes) {
+        Ok(()) => Ok(()),
+        Err(_) => Err(Fault::NoMemory),
+    }
+}
+
+fn reserve(
     history: &mut History,
     hub: &mut Hub,
     frames: usize,

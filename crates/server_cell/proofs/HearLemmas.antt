@@ -1,6 +1,6 @@
 -- What comes to a server at the hub is entered, or left out.
 use Rattle.std.proofs.Common.{◌≡◌, refl, subst, ℕ, ◌≤◌, arith, Bool, true, false, List, [], ◌∷◌, length, Option, Some, None, Result, Ok, Err}
-use Rattle.std.specs.Prelude.{map, not, All}
+use Rattle.std.specs.Prelude.{map, All}
 use Rattle.std.specs.List.{sum_by}
 use Rattle.std.proofs.lemmas.List.Elements.{All-nil}
 use Rattle.std.proofs.lemmas.List.Sums.{sum_by-le}
@@ -24,12 +24,10 @@ use Rattle.server_core.specs.FrameAnswers.{answered_entry, entry_heard, frames_b
 use Rattle.node_history.specs.declared.came.Came.{Came}
 use Rattle.node_history.specs.declared.logged.Logged.{Logged}
 use Rattle.node_history.specs.AtHub.{is_left_out, Hears}
-use Rattle.node_history.specs.Calls.{is_off}
 use Rattle.node_history.specs.Moves.{IsKept, StepEnds, outcome_of}
 use Rattle.node_history.specs.Rules.{Meets}
-use Rattle.node_history.specs.ServerRules.{ask_of, rules, is_up}
+use Rattle.node_history.specs.ServerRules.{ask_of}
 use Rattle.node_history.proofs.HubLemmas.{heard, packets_spelled, sent_spelled as spelled_by}
-use Rattle.node_history.proofs.MoveLemmas.{off_where}
 use Rattle.node_history.specs.declared.power.Power.{Power}
 use Rattle.server_cell.specs.Cells.{Replays, IsCell}
 use Rattle.server_cell.specs.Stands.{reply_and_frames, ways}
@@ -84,8 +82,3 @@ heard_cell note o power new before after applied cell e step node came taken net
 
 pub replayed : {T : Type 0} (note : T → Note) (o : Opening) (power : Power (Server T) T) (history : List Logged) (applied : List ℕ) → IsCell note o power history applied → (past : List FrameEntry) × Replays o history past
 replayed note o power history applied cell = (cell.kept.past, record { numbered = cell.numbered; made = cell.kept.made })
-
--- ---- whether it is on
-
-pub is_off_as : (o : Opening) (past : List FrameEntry) (up : Bool) → is_up o past ≡ up → is_off (rules o) past ≡ not up
-is_off_as o past up h = off_where (rules o) past (is_up o past) up refl h

@@ -40,7 +40,7 @@ use Rattle.node_history.specs.Rules.{Meets}
 use Rattle.node_history.specs.ServerKind.{server_kind}
 use Rattle.node_history.specs.ServerRules.{is_up}
 use Rattle.node_history.proofs.MoveLemmas.{silent}
-use Rattle.node_history.proofs.StepLemmas.{Fits, Unless, answered_ends, unanswered_ends, faults_count}
+use Rattle.node_history.proofs.StepLemmas.{Fits, answered_ends, unanswered_ends, faults_count}
 use Rattle.server_cell.specs.Stands.{reply_and_frames, ways}
 
 -- ---- what came stays within its ranges
@@ -69,7 +69,7 @@ no_drop o past (Drops q) fault h k = absurd (k (same FrameBadField fault h))
     same x y h = cc
 no_drop o past Misses fault h k = refl
 
-fits : {T : Type 0} (note : T → Note) (o : Opening) (past : List FrameEntry) (e : Input) → Fits (server_kind note o) (ends.steps note o) past e (SenseInRange (sense o past e))
+fits : {T : Type 0} (note : T → Note) (o : Opening) (past : List FrameEntry) (e : Input) → Fits (server_kind note o) (ends.steps note o) past e (λ sort. UnlessMemory sort (sense o past e))
 fits note o past e = record {
   refusal_is = refl;
   answered_is = refl;
@@ -77,13 +77,9 @@ fits note o past e = record {
   unsaved_is = λ left. refl;
   stands = λ after server h. h;
   stays = λ fault server why other h. h (no_drop o past (sense o past e) fault why other);
+  alike = λ h. h;
   ranges = λ h left. came_after o past e left h;
 }
-
-unless : (sort : FaultSort) (s : Sense) → UnlessMemory sort s → Unless sort (SenseInRange s)
-unless sorts.Memory s h = tt
-unless sorts.Save s h = h
-unless sorts.Refusal s h = h
 
 -- A server that is on takes what comes.
 pub step_ends : {T : Type 0} (note : T → Note) (o : Opening) (past : List FrameEntry) (e : Input) (old server : Server T) (result : Result Outs Fault) → is_up o past ≡ true
@@ -91,7 +87,7 @@ pub step_ends : {T : Type 0} (note : T → Note) (o : Opening) (past : List Fram
 step_ends note o past e old server (Ok outs) on a h =
     answered_ends (server_kind note o) (ends.steps note o) past e (fits note o past e) on old server outs _ outs.frames a h (rw (a.sends.issue_is, a.sends.act_is) refl) a.sends.frames_are a.sends.short
 step_ends note o past e old server (Err fault) on f h =
-    unanswered_ends (server_kind note o) (ends.steps note o) past e (fits note o past e) on old server fault (sort_of fault) f (unless (sort_of fault) (sense o past e) h) refl
+    unanswered_ends (server_kind note o) (ends.steps note o) past e (fits note o past e) on old server fault (sort_of fault) f h refl
 
 -- ---- what a seat asks
 

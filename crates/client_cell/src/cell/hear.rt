@@ -51,12 +51,7 @@ impl<N: Notes + Drop> ClientCell<N> {
     {
         packets_are_in_range();
         frames_are_spelled();
-        if self.power.core().is_none() {
-            return Err(Fault::NodeOff);
-        }
-        if make_room(&mut self.history, hub, FRAMES, BYTES).is_err() {
-            return Err(Fault::NoMemory);
-        }
+        make_room(&self.power, &mut self.history, hub, FRAMES, BYTES)?;
         let done = outcome(self.alloc, deliver(&mut self.power, frame));
         enter(
             &mut self.history,
@@ -87,12 +82,7 @@ impl<N: Notes + Drop> ClientCell<N> {
     {
         packets_are_in_range();
         frames_are_spelled();
-        if self.power.core().is_none() {
-            return Err(Fault::NodeOff);
-        }
-        if make_room(&mut self.history, hub, FRAMES, BYTES).is_err() {
-            return Err(Fault::NoMemory);
-        }
+        make_room(&self.power, &mut self.history, hub, FRAMES, BYTES)?;
         let done = outcome(self.alloc, take(&mut self.power, &request));
         enter(
             &mut self.history,
@@ -123,9 +113,7 @@ impl<N: Notes + Drop> ClientCell<N> {
         let Some(bytes) = bytes_of(&done.1) else {
             return Err(Fault::NoMemory);
         };
-        if make_room(&mut self.history, hub, done.1.len(), bytes).is_err() {
-            return Err(Fault::NoMemory);
-        }
+        make_room(&self.power, &mut self.history, hub, done.1.len(), bytes)?;
         enter(&mut self.history, hub, Node::Client, Came::Tick, None, done)
     }
 }

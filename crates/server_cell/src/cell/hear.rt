@@ -55,12 +55,7 @@ impl<N: Notes + Drop> ServerCell<N> {
     {
         packets_are_in_range();
         frames_are_spelled();
-        if self.power.core().is_none() {
-            return Err(Fault::NodeOff);
-        }
-        if make_room(&mut self.history, hub, FRAMES, FRAMES * MAX_FRAME).is_err() {
-            return Err(Fault::NoMemory);
-        }
+        make_room(&self.power, &mut self.history, hub, FRAMES, FRAMES * MAX_FRAME)?;
         let done = outcome(self.alloc, step(&mut self.power, input));
         let me = Node::Server(self.me);
         enter(&mut self.history, hub, me, came, taken, done)

@@ -1,25 +1,40 @@
 use Rattle.std.proofs.Common.{refl, sym, ap, subst, ℕ, List, None}
+use Rattle.std.proofs.lemmas.Result.{err_from_is_err_and}
 use Rattle.std.specs.Prelude.{All, Result}
 use Rattle.fc_base.specs.declared.fault.Fault.{Fault}
 use Rattle.hub.specs.Network.{IsSpelled}
 use Rattle.client_cell.specs.Tasks.{came_of, input_of}
 use Rattle.node_history.specs.declared.answer.Said.{Said}
-use Rattle.fc_base.specs.declared.fault.Fault.TheVariants.{NodeOff}
 use Rattle.messages.specs.declared.node.Node.TheVariants.{Client}
-use Rattle.node_history.proofs.CallLemmas.{left_out_posts}
-use Rattle.node_history.proofs.HubLemmas.{lacking, hear_counts}
-use Rattle.node_history.proofs.MoveLemmas.{where_ok}
+use Rattle.node_history.proofs.HubLemmas.{unready, unready_counts, hear_counts}
 use Rattle.client_cell.specs.Cells.{ClientLog, opening_of}
 use Rattle.client_cell.specs.Stands.{failures_of, reply_and_frames}
-use Rattle.node_history.specs.ClientKind.{client_kind}
-use Rattle.node_history.proofs.PowerLemmas.{hidden, there}
-use Rattle.client_cell.proofs.HearLemmas.{lacks_why, off_why, has_room, sent_spelled, heard_cell, told_why, replayed, requests_eight, request_asks}
+use Rattle.client_cell.proofs.HearLemmas.{unready_why, has_room, sent_spelled, heard_cell, told_why, replayed, requests_eight, request_asks}
 use Rattle.client_cell.proofs.cell.ClientCell.ask.Goals as goal
 
-pub returns-then-is_err-clause-ends : goal.returns-then-is_err-clause-ends
-returns-then-is_err-clause-ends g c =
-    lacking Client (came_of c.args.request) None c.args.hub.now.net c.make_room.new.hub.net c.args.self.now.history _ c.make_room.ensures.net
-    (rw c.make_room.ensures.items (ap (λ (log : ClientLog). log.history) c.self.view_is))
+pub returns-in_err-make_room-clause-ends : goal.returns-in_err-make_room-clause-ends
+returns-in_err-make_room-clause-ends g c =
+    let cell = c.self.invariant.0 in
+    let o = opening_of c.self.inside.servers c.self.inside.opened.value in
+    let p = err_from_is_err_and c.from_residual.result c.from_residual.ensures.1 in
+    rw (p.1, p.2)
+    (unready _ Client (came_of c.args.request) None c.args.hub.now.net c.make_room.new.hub.net c.args.self.now.history _ c.in_err-make_room.field-0.0 (c.in_err-make_room.ensures.ready o cell.kept.past cell.kept.stands) c.make_room.ensures.net
+    (rw c.make_room.ensures.items (ap (λ (log : ClientLog). log.history) c.self.view_is)))
+
+pub returns-in_err-make_room-clause-why : goal.returns-in_err-make_room-clause-why
+returns-in_err-make_room-clause-why g c =
+    let cell = c.self.invariant.0 in
+    let o = opening_of c.self.inside.servers c.self.inside.opened.value in
+    let p = err_from_is_err_and c.from_residual.result c.from_residual.ensures.1 in
+    rw (p.1, p.2) (unready_why g.N.Notes.note _ c.self.inside.power cell (input_of c.args.request) c.in_err-make_room.field-0.0 c.args.self.now (c.in_err-make_room.ensures.ready o cell.kept.past cell.kept.stands) c.self.view_is)
+
+pub returns-in_err-make_room-clause-failures : goal.returns-in_err-make_room-clause-failures
+returns-in_err-make_room-clause-failures g c =
+    let cell = c.self.invariant.0 in
+    let o = opening_of c.self.inside.servers c.self.inside.opened.value in
+    let p = err_from_is_err_and c.from_residual.result c.from_residual.ensures.1 in
+    rw (p.1, p.2)
+    (unready_counts _ c.args.self.now.failures _ c.in_err-make_room.field-0.0 (c.in_err-make_room.ensures.ready o cell.kept.past cell.kept.stands) (ap (λ (log : ClientLog). log.failures) c.self.view_is))
 
 pub enter-requires-clause-room : goal.enter-requires-clause-room
 enter-requires-clause-room g c =
@@ -27,7 +42,7 @@ enter-requires-clause-room g c =
     let o = opening_of c.self.inside.servers c.self.inside.opened.value in
     rw c.outcome-done.ensures
     (has_room g.N.Notes.note _ c.self.inside.power cell (input_of c.args.request) c.take.new.power c.take.result c.make_room.new.hub.room (requests_eight o cell.kept.past c.args.request) (c.take.ensures.ends o cell.kept.past cell.kept.stands)
-    (where_ok c.make_room.result c.make_room.ensures.room c.if-is_err.ensures.negation))
+    c.in_ok-make_room.ensures.room)
 
 pub enter-requires-clause-spelled : goal.enter-requires-clause-spelled
 enter-requires-clause-spelled g c =
@@ -49,7 +64,7 @@ returns-clause-why g c =
     let cell = c.self.invariant.0 in
     let o = opening_of c.self.inside.servers c.self.inside.opened.value in
     let ends = c.take.ensures.ends o cell.kept.past cell.kept.stands in
-    told_why g.N.Notes.note _ c.self.inside.power c.take.new.power cell (input_of c.args.request) c.take.result _ _ c.enter.result c.args.self.now (there (client_kind g.N.Notes.note o) cell.kept.past c.self.inside.power c.core.result (c.core.ensures o cell.kept.past cell.kept.stands) c.if-is_none.ensures) ends (rw c.outcome-done.ensures at c.enter.ensures.told) c.self.view_is
+    told_why g.N.Notes.note _ c.self.inside.power c.take.new.power cell (input_of c.args.request) c.take.result _ _ c.enter.result c.args.self.now (c.in_ok-make_room.ensures.ready o cell.kept.past cell.kept.stands) ends (rw c.outcome-done.ensures at c.enter.ensures.told) c.self.view_is
 
 pub returns-clause-replay : goal.returns-clause-replay
 returns-clause-replay g c =
@@ -58,21 +73,6 @@ returns-clause-replay g c =
     let ends = c.take.ensures.ends o cell.kept.past cell.kept.stands in
     replayed g.N.Notes.note _ c.take.new.power
     (heard_cell g.N.Notes.note _ c.self.inside.power c.take.new.power cell (input_of c.args.request) c.take.result (came_of c.args.request) None c.make_room.new.hub.net c.enter.new.hub.net _ (failures_of g.N.Notes.note c.take.new.power) (request_asks c.args.request) ends (rw (c.into_came.ensures, c.outcome-done.ensures, c.make_room.ensures.items) at c.enter.ensures.heard))
-
-pub returns-then-is_none-clause-ends : goal.returns-then-is_none-clause-ends
-returns-then-is_none-clause-ends g c = left_out_posts Client (came_of c.args.request) None c.args.hub.now.net c.args.self.now.history NodeOff refl
-
-pub returns-then-is_none-clause-why : goal.returns-then-is_none-clause-why
-returns-then-is_none-clause-why g c =
-    let cell = c.self.invariant.0 in
-    let o = opening_of c.self.inside.servers c.self.inside.opened.value in
-    off_why g.N.Notes.note _ c.self.inside.power cell (input_of c.args.request) c.args.self.now (hidden (client_kind g.N.Notes.note o) cell.kept.past c.self.inside.power c.core.result (c.core.ensures o cell.kept.past cell.kept.stands) c.if-is_none.ensures) c.self.view_is
-
-pub returns-then-is_err-clause-why : goal.returns-then-is_err-clause-why
-returns-then-is_err-clause-why g c =
-    let cell = c.self.invariant.0 in
-    let o = opening_of c.self.inside.servers c.self.inside.opened.value in
-    lacks_why g.N.Notes.note _ c.self.inside.power cell (input_of c.args.request) c.args.self.now (there (client_kind g.N.Notes.note o) cell.kept.past c.self.inside.power c.core.result (c.core.ensures o cell.kept.past cell.kept.stands) c.if-is_none.ensures) c.self.view_is
 
 pub returns-clause-failures : goal.returns-clause-failures
 returns-clause-failures g c =

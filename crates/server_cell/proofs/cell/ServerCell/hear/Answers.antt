@@ -1,7 +1,7 @@
-use Rattle.std.proofs.Common.{refl, sym, ap, subst, ℕ, true, false, List}
+use Rattle.std.proofs.Common.{sym, ap, subst, ℕ, List}
 use Rattle.std.specs.Prelude.{All, IfErr, Result}
+use Rattle.std.proofs.lemmas.Result.{err_from_is_err_and}
 use Rattle.fc_base.specs.declared.fault.Fault.{Fault}
-use Rattle.fc_base.specs.declared.fault.Fault.TheVariants.{NoMemory, NodeOff}
 use Rattle.hub.specs.Network.{IsSpelled}
 use Rattle.messages.specs.declared.node.Node.TheVariants.{Server as ServerNode}
 use Rattle.node_history.specs.declared.answer.Said.{Said}
@@ -9,42 +9,39 @@ use Rattle.node_history.specs.Calls.{HasWhy}
 use Rattle.node_history.specs.Rules.{Meets}
 use Rattle.node_history.specs.ServerKind.{server_kind}
 use Rattle.node_history.specs.ServerRules.{rules}
-use Rattle.node_history.proofs.CallLemmas.{left_out_posts}
-use Rattle.node_history.proofs.HubLemmas.{lacking, off_why, lack_why, step_why, hear_counts}
-use Rattle.node_history.proofs.MoveLemmas.{where_ok}
-use Rattle.node_history.proofs.PowerLemmas.{hidden, there}
+use Rattle.node_history.proofs.HubLemmas.{unready, unready_counts, unready_why, step_why, hear_counts}
 use Rattle.server_cell.specs.Cells.{ServerLog}
-use Rattle.server_cell.specs.Stands.{failures_of, reply_and_frames, ways}
+use Rattle.server_cell.specs.Stands.{failures_of, reply_and_frames}
 use Rattle.server_cell.proofs.CellLemmas.{opening_with}
-use Rattle.server_cell.proofs.HearLemmas.{short, has_room, sent_spelled, heard_cell, replayed, is_off_as}
+use Rattle.server_cell.proofs.HearLemmas.{short, has_room, sent_spelled, heard_cell, replayed}
 use Rattle.server_cell.proofs.cell.ServerCell.hear.Goals as goal
 
-pub returns-then-is_none-clause-ends : goal.returns-then-is_none-clause-ends
-returns-then-is_none-clause-ends g c =
-    left_out_posts (ServerNode c.args.self.now.opening.me) c.args.came c.args.taken c.args.hub.now.net c.args.self.now.history NodeOff refl
-
-pub returns-then-is_none-clause-why : goal.returns-then-is_none-clause-why
-returns-then-is_none-clause-why g c =
-    let note = g.N.Notes.note in
+pub returns-in_err-make_room-clause-ends : goal.returns-in_err-make_room-clause-ends
+returns-in_err-make_room-clause-ends g c =
     let cell = c.self.invariant in
     let o = opening_with c.self.inside.me c.self.inside.boot c.self.inside.last_run in
-    let off = hidden (server_kind note o) cell.kept.past c.self.inside.power c.core.result (c.core.ensures o cell.kept.past cell.kept.stands) c.if-is_none.ensures in
-    subst (λ (log : ServerLog). HasWhy (rules log.opening) log.history (Meets c.args.input) NodeOff) c.self.view_is
-    (off_why (ways note o) _ c.self.inside.power cell.kept (Meets c.args.input) (is_off_as o cell.kept.past false off))
+    let p = err_from_is_err_and c.from_residual.result c.from_residual.ensures.1 in
+    rw (p.1, p.2)
+    (unready _ (ServerNode c.args.self.now.opening.me) c.args.came c.args.taken c.args.hub.now.net c.make_room.new.hub.net c.args.self.now.history _ c.in_err-make_room.field-0.0 (c.in_err-make_room.ensures.ready o cell.kept.past cell.kept.stands) c.make_room.ensures.net
+    (rw c.make_room.ensures.items (ap (λ (log : ServerLog). log.history) c.self.view_is)))
 
-pub returns-then-is_err-clause-ends : goal.returns-then-is_err-clause-ends
-returns-then-is_err-clause-ends g c =
-    lacking (ServerNode c.args.self.now.opening.me) c.args.came c.args.taken c.args.hub.now.net c.make_room.new.hub.net c.args.self.now.history _ c.make_room.ensures.net
-    (rw c.make_room.ensures.items (ap (λ (log : ServerLog). log.history) c.self.view_is))
-
-pub returns-then-is_err-clause-why : goal.returns-then-is_err-clause-why
-returns-then-is_err-clause-why g c =
-    let note = g.N.Notes.note in
+pub returns-in_err-make_room-clause-why : goal.returns-in_err-make_room-clause-why
+returns-in_err-make_room-clause-why g c =
     let cell = c.self.invariant in
     let o = opening_with c.self.inside.me c.self.inside.boot c.self.inside.last_run in
-    let on = there (server_kind note o) cell.kept.past c.self.inside.power c.core.result (c.core.ensures o cell.kept.past cell.kept.stands) c.if-is_none.ensures in
-    subst (λ (log : ServerLog). HasWhy (rules log.opening) log.history (Meets c.args.input) NoMemory) c.self.view_is
-    (lack_why (ways note o) _ c.self.inside.power cell.kept (Meets c.args.input) (is_off_as o cell.kept.past true on))
+    let fault = c.in_err-make_room.field-0.0 in
+    let p = err_from_is_err_and c.from_residual.result c.from_residual.ensures.1 in
+    rw (p.1, p.2)
+    (subst (λ (log : ServerLog). HasWhy (rules log.opening) log.history (Meets c.args.input) fault) c.self.view_is
+    (unready_why (server_kind g.N.Notes.note o) _ c.self.inside.power cell.kept (Meets c.args.input) fault (c.in_err-make_room.ensures.ready o cell.kept.past cell.kept.stands)))
+
+pub returns-in_err-make_room-clause-failures : goal.returns-in_err-make_room-clause-failures
+returns-in_err-make_room-clause-failures g c =
+    let cell = c.self.invariant in
+    let o = opening_with c.self.inside.me c.self.inside.boot c.self.inside.last_run in
+    let p = err_from_is_err_and c.from_residual.result c.from_residual.ensures.1 in
+    rw (p.1, p.2)
+    (unready_counts _ c.args.self.now.failures _ c.in_err-make_room.field-0.0 (c.in_err-make_room.ensures.ready o cell.kept.past cell.kept.stands) (ap (λ (log : ServerLog). log.failures) c.self.view_is))
 
 pub enter-requires-clause-room : goal.enter-requires-clause-room
 enter-requires-clause-room g c =
@@ -53,7 +50,7 @@ enter-requires-clause-room g c =
     let o = opening_with c.self.inside.me c.self.inside.boot c.self.inside.last_run in
     let ends = c.step.ensures.ends o cell.kept.past cell.kept.stands in
     rw c.outcome-done.ensures
-    (has_room c.make_room.new.hub.room _ (where_ok c.make_room.result c.make_room.ensures.room c.if-is_err.ensures.negation)
+    (has_room c.make_room.new.hub.room _ c.in_ok-make_room.ensures.room
     (short note o cell.kept.past c.args.input c.step.new.power c.step.result cell.opens cell.kept.ranges ends))
 
 pub enter-requires-clause-spelled : goal.enter-requires-clause-spelled
@@ -87,9 +84,8 @@ returns-clause-why g c =
     let note = g.N.Notes.note in
     let cell = c.self.invariant in
     let o = opening_with c.self.inside.me c.self.inside.boot c.self.inside.last_run in
-    let on = there (server_kind note o) cell.kept.past c.self.inside.power c.core.result (c.core.ensures o cell.kept.past cell.kept.stands) c.if-is_none.ensures in
     subst (λ (log : ServerLog). IfErr c.enter.result (HasWhy (rules log.opening) log.history (Meets c.args.input))) c.self.view_is
-    (step_why (ways note o) _ c.self.inside.power c.step.new.power cell.kept c.args.input (reply_and_frames c.step.result) _ _ c.enter.result (is_off_as o cell.kept.past true on) refl (c.step.ensures.ends o cell.kept.past cell.kept.stands) (rw c.outcome-done.ensures at c.enter.ensures.told))
+    (step_why (server_kind note o) _ c.self.inside.power c.step.new.power cell.kept c.args.input (reply_and_frames c.step.result) _ _ c.enter.result (c.in_ok-make_room.ensures.ready o cell.kept.past cell.kept.stands) (c.step.ensures.ends o cell.kept.past cell.kept.stands) (rw c.outcome-done.ensures at c.enter.ensures.told))
 
 pub returns-clause-failures : goal.returns-clause-failures
 returns-clause-failures g c =
