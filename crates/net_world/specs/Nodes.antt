@@ -1,5 +1,5 @@
--- What a node of a world is, whichever core it has: a core that runs, or a note of one that is off. It
--- stands for lists of what came to it, the newest first.
+-- What a node of a world is, whichever core it has: a core that runs, or a note of one that is off.
+-- It stands for lists of what came to it, the newest first.
 use Rattle.std.specs.Prelude.{◌≡◌, ◌⊎◌, Bool, true, false, not, List, ◌∷◌}
 use Rattle.std.specs.Prelude.{Option, Some, None, is_some, Result, Ok, Err}
 use Rattle.fc_base.specs.declared.fault.Fault.{Fault}
@@ -12,8 +12,8 @@ use Rattle.disk_model.specs.declared.left.Left.TheVariants.{NoSave}
 use Rattle.disk_model.specs.Steps.{Steps, answered}
 use Rattle.net_world.specs.Outcomes.{lost_by}
 
--- What has to be known of a node N over a core of states S, to which inputs E come, whose lists have
--- entries X, which adds D to its note, and answers O.
+-- What has to be known of a node N over a core of states S, to which inputs E come, whose lists
+-- have entries X, which adds D to its note, and answers O.
 pub record Nodes (N S E X D O : Type 0) : Type 1 where
   pub core : Steps S E X D O  -- what has to be known of its core
   pub is_up : List X → Bool  -- whether it is on, by the list
@@ -64,8 +64,8 @@ abbrev pub Ends : {N S E X D O : Type 0} → Nodes N S E X D O →
 Ends n past e new (Ok outs) = Answers n past e new outs
 Ends n past e new (Err fault) = Faults n past e (sort_of fault) fault new
 
--- How a cut within the save of an input ends: it is due to make one, and stands in the list with what
--- is left. Else nothing changes: the node is off, nothing is due, or memory ran out.
+-- How a cut within the save of an input ends: it is due to make one, and stands in the list with
+-- what is left. Else nothing changes: the node is off, nothing is due, or memory ran out.
 abbrev pub CutsIn : {N S E X D O : Type 0} → Nodes N S E X D O →
     List X → Bool → E → N → Result (Unit {0}) Fault → Type 0
 CutsIn n past landed e new (Ok _) =
@@ -77,8 +77,8 @@ CutsIn n past landed e new (Err faults.NoSave) =
 CutsIn n past landed e new (Err NoMemory) = (n.is_up past ≡ true) × n.Stands past new
 CutsIn n past landed e new (Err _) = ⊥
 
--- How a start of a node ends, for which a fact has to be as needed: the start is added. Else nothing
--- changes: the node was on, this fault says that the fact isn't so, or memory ran out.
+-- How a start of a node ends, for which a fact has to be as needed: the start is added. Else
+-- nothing changes: the node was on, this fault says that the fact isn't so, or memory ran out.
 abbrev pub Starts : {N S E X D O : Type 0} → Nodes N S E X D O →
     List X → Bool → Bool → Fault → X → N → Result (Unit {0}) Fault → Type 0
 Starts n past fact needed why start new (Ok _) =

@@ -36,8 +36,8 @@ Stands o past (On server) = StandsFor note_of server o past × (is_up o past ≡
 Stands o past (Off notes) =
     Says (note_of notes).bytes (words_noted o (packets_heard o past)) × (is_up o past ≡ false)
 
--- What has to be known of a server of a world. What is refused leaves it as it was, but where it drops
--- a tag: that alone changes.
+-- What has to be known of a server of a world. What is refused leaves it as it was, but where it
+-- drops a tag: that alone changes.
 abbrev pub server_nodes : Opening → Nodes ServerNode (Server Kept) Input FrameEntry Staged Outs
 server_nodes o = record {
   core = steps note_of o;

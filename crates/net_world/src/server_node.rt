@@ -29,7 +29,8 @@ pub enum ServerNode {
 impl ServerNode {
     ghost use Rattle.net_world.specs.declared.server_node.ServerNode.TheVariants.{Off};
     ghost use Rattle.net_world.specs.Nodes.{Shows, Ends, CutsIn};
-    ghost use Rattle.net_world.specs.ServerNodes.{server_nodes, is_up, Stands, Restarts, CutsInRestart};
+    ghost use Rattle.net_world.specs.ServerNodes.{server_nodes, is_up, Stands};
+    ghost use Rattle.net_world.specs.ServerNodes.{Restarts, CutsInRestart};
     ghost use Rattle.server_core.specs.declared.input.Input.TheVariants.{Deliver};
     ghost use Rattle.server_core.specs.FrameAnswers.{would_save};
 
