@@ -40,11 +40,13 @@ use Rattle.node_history.proofs.HubLemmas as hub
 use Rattle.node_history.proofs.MoveLemmas.{off_where}
 use Rattle.client_cell.specs.declared.outs.Outs.{Outs}
 use Rattle.node_history.specs.declared.power.Power.{Power}
+use Rattle.client_cell.specs.declared.incoming.Incoming.{Incoming}
+use Rattle.client_cell.specs.declared.incoming.Incoming.TheVariants as incoming
 use Rattle.client_cell.specs.declared.request.ClientRequest.{ClientRequest}
 use Rattle.client_cell.specs.declared.request.ClientRequest.TheVariants as requests
 use Rattle.client_cell.specs.Stands.{reply_and_frames, ways}
 use Rattle.client_cell.specs.Cells.{ClientLog, IsReplay, IsCell}
-use Rattle.client_cell.specs.Tasks.{came_of, input_of}
+use Rattle.client_cell.specs.Tasks.{came_of, input_in, input_of}
 use Rattle.client_cell.proofs.CellLemmas.{with_history}
 
 -- ---- the room for its frames
@@ -63,12 +65,13 @@ has_room note log power cell e new step room eight f has =
       line_fits = has.line_fits;
     }
 
--- A request sends at most 8 packets.
-pub requests_eight : (o : Opening) (past : List FrameEntry) (r : ClientRequest) → most_packets o past (input_of r) ≡ 8
-requests_eight o past (requests.Begin text) = refl
-requests_eight o past (requests.Trigger run act) = refl
-requests_eight o past (requests.Stop run) = refl
-requests_eight o past (requests.Verify run text) = refl
+-- What comes, but for a tick, sends at most 8 packets.
+pub most_eight : (o : Opening) (past : List FrameEntry) (i : Incoming) → most_packets o past (input_in i) ≡ 8
+most_eight o past (incoming.Frame came frame) = refl
+most_eight o past (incoming.Request (requests.Begin text)) = refl
+most_eight o past (incoming.Request (requests.Trigger run act)) = refl
+most_eight o past (incoming.Request (requests.Stop run)) = refl
+most_eight o past (incoming.Request (requests.Verify run text)) = refl
 
 pub request_asks : (r : ClientRequest) → ask_of (came_of r) ≡ Meets (input_of r)
 request_asks (requests.Begin text) = refl

@@ -8,6 +8,8 @@ use Rattle.client_cell.specs.declared.task.ClientTask.{ClientTask}
 use Rattle.client_cell.specs.declared.task.ClientTask.TheVariants.{Cut, Restart}
 use Rattle.client_cell.specs.declared.request.ClientRequest.{ClientRequest}
 use Rattle.client_cell.specs.declared.request.ClientRequest.TheVariants.{Begin, Trigger, Stop, Verify}
+use Rattle.client_cell.specs.declared.incoming.Incoming.{Incoming}
+use Rattle.client_cell.specs.declared.incoming.Incoming.TheVariants.{Frame, Request}
 
 -- What comes to the client by a task.
 abbrev pub came_by : ClientTask → Came
@@ -32,3 +34,13 @@ input_of (Begin text) = inputs.Begin text
 input_of (Trigger run act) = inputs.Trigger run act
 input_of (Stop run) = inputs.Stop run
 input_of (Verify run text) = inputs.Verify run text
+
+-- What comes to the client at the hub.
+abbrev pub came_in : Incoming → Came
+came_in (Frame came frame) = came
+came_in (Request request) = came_of request
+
+-- What its core meets of that.
+abbrev pub input_in : Incoming → Input
+input_in (Frame came frame) = inputs.Deliver frame
+input_in (Request request) = input_of request

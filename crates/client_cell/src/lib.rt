@@ -12,6 +12,7 @@
 
 mod cell;
 mod command;
+mod incoming;
 mod outs;
 mod power;
 mod request;

@@ -9,9 +9,10 @@ ghost use Rattle.node_history.specs.declared.power.Power.TheVariants.{On};
 ghost use Rattle.node_history.specs.ClientRules.{ask_of, is_up};
 ghost use Rattle.node_history.specs.Failures.{Counts};
 ghost use Rattle.node_history.specs.Moves.{StepEnds, TaskEnds};
-ghost use Rattle.client_cell.specs.Tasks.{came_by, input_of, loads_note};
+ghost use Rattle.client_cell.specs.Tasks.{came_by, came_in, input_in, input_of, loads_note};
 ghost use Rattle.client_cell.specs.Stands.{reply_and_frames, outs_of, failures_of, ways, Stands};
 
+use crate::incoming::Incoming;
 use crate::outs::Outs;
 use crate::request::ClientRequest;
 use crate::task::ClientTask;
@@ -19,7 +20,7 @@ use client_core::Client;
 use disk_model::Notes;
 use fc_base::{Fault, MAX_SERVERS};
 use messages::{Frame, Frames};
-use node_history::{Answer, Power, Said};
+use node_history::{Answer, Came, Power, Said};
 use std::alloc::Global;
 
 /// Does what is asked without the network.
@@ -46,7 +47,7 @@ pub(crate) fn perform<N: Notes + Drop>(
 }
 
 /// Takes a request. `NodeOff`: it isn't on, and nothing changes. Any other fault is the client's.
-pub(crate) fn take<N: Notes + Drop>(
+fn take<N: Notes + Drop>(
     power: &mut Power<Client<N>, N>,
     request: &ClientRequest,
 ) -> Result<Outs, Fault>
@@ -60,7 +61,7 @@ pub(crate) fn take<N: Notes + Drop>(
 }
 
 /// Takes a frame. `NodeOff`: it isn't on, and nothing changes. Any other fault is the client's.
-pub(crate) fn deliver<N: Notes + Drop>(
+fn deliver<N: Notes + Drop>(
     power: &mut Power<Client<N>, N>,
     frame: Frame,
 ) -> Result<Outs, Fault>
@@ -71,6 +72,27 @@ pub(crate) fn deliver<N: Notes + Drop>(
         (reply_and_frames result) }
 {
     plainly(power.on()?.deliver(frame))
+}
+
+/// Takes what comes, a frame or a request; and as what it comes.
+pub(crate) fn hear<N: Notes + Drop>(
+    power: &mut Power<Client<N>, N>,
+    incoming: Incoming,
+) -> (Result<Outs, Fault>, Came)
+    ensures came { result.1 ≡ came_in incoming }
+    ensures ends { (o : Opening) (past : List FrameEntry) → Stands N.note o past power.old →
+        StepEnds (ways N.note o) past (input_in incoming) power.new (reply_and_frames result.0) }
+    ensures count { (o : Opening) (past : List FrameEntry) → Stands N.note o past power.old →
+        Counts false (failures_of N.note power.old) (failures_of N.note power.new)
+        (reply_and_frames result.0) }
+{
+    match incoming {
+        Incoming::Frame(came, frame) => (deliver(power, frame), came),
+        Incoming::Request(request) => {
+            let step = take(power, &request);
+            (step, request.into_came())
+        }
+    }
 }
 
 /// Asks again for all that isn't answered, and changes nothing. `NodeOff`: it isn't on. `NoMemory`.

@@ -1,6 +1,7 @@
 -- How a call of a node ends that was left out, and why, whichever node it is.
 use Rattle.std.proofs.Common.{◌≡◌, refl, sym, subst, ℕ, ◌<◌, true, false, List, [], length, Option, Some, None, Ok, Err}
 use Rattle.std.specs.Prelude.{if◌then◌else◌, slice_get}
+use Rattle.std.specs.Option.{ForSome}
 use Rattle.std.proofs.lemmas.Option.{slice_get_within}
 use Rattle.fc_base.specs.declared.fault.Fault.{Fault}
 use Rattle.fc_base.specs.declared.fault.Fault.TheVariants.{NoMemory, NoFrame, NodeOff}
@@ -33,8 +34,11 @@ not_there node net position history NoMemory h = not_delivered node position (sl
 not_there node net position history _ h = absurd h
 
 -- A frame that comes is within the hub's.
-pub within : (net : Network) (position : ℕ) (it : Came × Frame) → Comes net position (Ok it) → position < length net.frames
-within net position it (bytes, is, came, frame) = slice_get_within net.frames position bytes is
+pub within : (net : Network) (position : ℕ) (it : Came × Frame) → Comes net position (Ok it) → ForSome (Some position) (λ i. i < length net.frames)
+within net position it (bytes, is, came, frame) i e = subst (λ n. n < length net.frames) (same position i e) (slice_get_within net.frames position bytes is)
+  where
+    same : (m n : ℕ) → Some m ≡ Some n → m ≡ n
+    same m n h = cc
 
 -- ---- why
 

@@ -34,6 +34,7 @@ impl<N: Notes + Drop> NodeCore<N> for Client<N> {
 
     ghost is_cut = { client_is_cut N.note };
 
+    #[inline(always)]
     fn is_up(&self) -> bool {
         self.on()
     }

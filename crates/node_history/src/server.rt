@@ -34,6 +34,7 @@ impl<N: Notes + Drop> NodeCore<N> for Server<N> {
 
     ghost is_cut = { server_is_cut N.note };
 
+    #[inline(always)]
     fn is_up(&self) -> bool {
         self.on()
     }

@@ -1,8 +1,9 @@
 //! What comes to the client at the hub.
 
-ghost use Rattle.std.specs.Prelude.{◌≡◌, ◌<◌, false, List, length, None, Some, IfErr};
+ghost use Rattle.std.specs.Prelude.{◌≡◌, ◌<◌, false, List, length, None, IfErr};
+ghost use Rattle.std.specs.Option.{ForSome};
 ghost use Rattle.messages.specs.declared.node.Node.TheVariants.{Client};
-ghost use Rattle.client_core.specs.declared.input.Input.TheVariants.{Deliver, Tick};
+ghost use Rattle.client_core.specs.declared.input.Input.TheVariants.{Tick};
 ghost use Rattle.client_core.specs.Hearing.{FrameEntry};
 ghost use Rattle.node_history.specs.Rules.{Meets};
 ghost use Rattle.node_history.specs.declared.came.Came.TheVariants as kinds;
@@ -11,17 +12,17 @@ ghost use Rattle.node_history.specs.AtHub.{Posts};
 ghost use Rattle.node_history.specs.Calls.{HasWhy};
 ghost use Rattle.node_history.specs.Failures.{Counts};
 ghost use Rattle.client_cell.specs.Cells.{IsReplay};
-ghost use Rattle.client_cell.specs.Tasks.{came_of, input_of};
+ghost use Rattle.client_cell.specs.Tasks.{came_in, input_in};
 
 use super::ClientCell;
 use super::sent::{bytes_of, outcome};
-use crate::power::{deliver, take, tick};
-use crate::request::ClientRequest;
+use crate::incoming::Incoming;
+use crate::power::{hear, tick};
 use client_core::packets_are_in_range;
 use disk_model::Notes;
 use fc_base::{Fault, MAX_SERVERS};
 use hub::{Hub, frames_are_spelled};
-use messages::{Frame, MAX_FRAMED, MAX_FRAMES, Node};
+use messages::{MAX_FRAMED, MAX_FRAMES, Node};
 use node_history::{CallerAnswer, Came, enter, make_room};
 
 /// The most frames that the client sends at once, but for a tick: those of a packet to each server; and the
@@ -31,67 +32,32 @@ const FRAMES: usize = MAX_SERVERS as usize * MAX_FRAMES;
 const BYTES: usize = MAX_SERVERS as usize * MAX_FRAMED;
 
 impl<N: Notes + Drop> ClientCell<N> {
-    /// Takes a frame that came from this position of the hub.
-    pub(super) fn hear(
-        &mut self,
-        hub: &mut Hub,
-        came: Came,
-        position: u64,
-        frame: Frame,
-    ) -> Result<CallerAnswer, Fault>
-        requires taken { position < length hub.old.net.frames }
-        requires asks { ask_of came ≡ Meets (Deliver frame) }
-        ensures opening { self.new.opening ≡ self.old.opening }
-        ensures failures { Counts false self.old.failures self.new.failures result }
-        ensures why { IfErr result
-            (HasWhy (rules self.old.opening) self.old.history (Meets (Deliver frame))) }
-        ensures ends { Posts Client came
-            (Some position) hub.old.net hub.new.net self.old.history self.new.history result }
-        ensures replay { (past : List FrameEntry) × IsReplay self.new past }
-    {
-        packets_are_in_range();
-        frames_are_spelled();
-        make_room(&self.power, &mut self.history, hub, FRAMES, BYTES)?;
-        let done = outcome(self.alloc, deliver(&mut self.power, frame));
-        enter(
-            &mut self.history,
-            hub,
-            Node::Client,
-            came,
-            Some(position),
-            done,
-        )
-    }
-
-    /// Asks this of the client, whose frames go to the hub.
+    /// Takes what comes, from this position of the hub where it is a frame.
     ///
     /// `NodeOff`, it isn't on; the client's own. A save that fails is entered in the history, as what is
     /// answered is; any other refusal, and `NoMemory`, changes nothing.
-    pub(super) fn ask(
+    pub(super) fn hear(
         &mut self,
         hub: &mut Hub,
-        request: ClientRequest,
+        incoming: Incoming,
+        taken: Option<u64>,
     ) -> Result<CallerAnswer, Fault>
+        requires taken { ForSome taken (λ i. i < length hub.old.net.frames) }
+        requires asks { ask_of (came_in incoming) ≡ Meets (input_in incoming) }
         ensures opening { self.new.opening ≡ self.old.opening }
         ensures failures { Counts false self.old.failures self.new.failures result }
         ensures why { IfErr result
-            (HasWhy (rules self.old.opening) self.old.history (Meets (input_of request))) }
+            (HasWhy (rules self.old.opening) self.old.history (Meets (input_in incoming))) }
         ensures ends { Posts Client
-            (came_of request) None hub.old.net hub.new.net self.old.history self.new.history result }
+            (came_in incoming) taken hub.old.net hub.new.net self.old.history self.new.history result }
         ensures replay { (past : List FrameEntry) × IsReplay self.new past }
     {
         packets_are_in_range();
         frames_are_spelled();
         make_room(&self.power, &mut self.history, hub, FRAMES, BYTES)?;
-        let done = outcome(self.alloc, take(&mut self.power, &request));
-        enter(
-            &mut self.history,
-            hub,
-            Node::Client,
-            request.into_came(),
-            None,
-            done,
-        )
+        let (step, came) = hear(&mut self.power, incoming);
+        let done = outcome(self.alloc, step);
+        enter(&mut self.history, hub, Node::Client, came, taken, done)
     }
 
     /// Has the client ask again for all that isn't answered.

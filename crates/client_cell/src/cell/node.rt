@@ -9,6 +9,7 @@ ghost use Rattle.client_cell.specs.Asks.{asks_of};
 
 use super::ClientCell;
 use crate::command::ClientCommand;
+use crate::incoming::Incoming;
 use disk_model::Notes;
 use fc_base::Fault;
 use hub::Hub;
@@ -49,12 +50,12 @@ impl<N: Notes + Drop> Node for ClientCell<N> {
             return Err(Fault::NodeOff);
         }
         let (came, frame) = frame_came(self.alloc, hub, position)?;
-        self.hear(hub, came, position, frame)
+        self.hear(hub, Incoming::Frame(came, frame), Some(position))
     }
 
     fn post(&mut self, hub: &mut Hub, command: ClientCommand) -> Result<CallerAnswer, Fault> {
         match command {
-            ClientCommand::Request(request) => self.ask(hub, request),
+            ClientCommand::Request(request) => self.hear(hub, Incoming::Request(request), None),
             ClientCommand::Tick => self.tick(hub),
         }
     }

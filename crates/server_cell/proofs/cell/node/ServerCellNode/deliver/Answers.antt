@@ -1,4 +1,4 @@
-use Rattle.std.proofs.Common.{◌≡◌, refl, subst, ℕ, ◌<◌, length, Some}
+use Rattle.std.proofs.Common.{refl}
 use Rattle.std.specs.Prelude.{slice_get}
 use Rattle.std.proofs.lemmas.Result.{err_from_is_err_and}
 use Rattle.fc_base.specs.declared.fault.Fault.TheVariants.{NodeOff}
@@ -10,12 +10,8 @@ pub returns-then-not-is_on-clause-ends : goal.returns-then-not-is_on-clause-ends
 returns-then-not-is_on-clause-ends g c =
     not_delivered (Server c.args.self.now.opening.me) c.args.position (slice_get c.args.hub.now.net.frames c.args.position) c.args.hub.now.net c.args.self.now.history NodeOff refl
 
-same : (m n : ℕ) → Some m ≡ Some n → m ≡ n
-same m n h = cc
-
 pub hear-requires-clause-taken : goal.hear-requires-clause-taken
-hear-requires-clause-taken g c x is =
-    subst (λ n. n < length c.args.hub.now.net.frames) (same c.args.position x is) (within c.args.hub.now.net c.args.position _ c.in_ok-came.ensures)
+hear-requires-clause-taken g c = within c.args.hub.now.net c.args.position _ c.in_ok-came.ensures
 
 pub returns-in_err-came-clause-ends : goal.returns-in_err-came-clause-ends
 returns-in_err-came-clause-ends g c =
