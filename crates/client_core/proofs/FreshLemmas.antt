@@ -19,7 +19,7 @@ use Rattle.state_table.specs.Kept.{kept_of}
 use Rattle.client_core.specs.declared.noted.Noted.{Noted}
 use Rattle.client_core.specs.History.{Opening, Entry, Met, Cut, Restart, Renew, Lose}
 use Rattle.client_core.specs.Refusals.{refusal_by}
-use Rattle.client_core.specs.Saves.{unless_kept, addition_by, addition_of, unless_refused, noted_after, is_answer}
+use Rattle.client_core.specs.Saves.{Addition, unless_kept, addition_by, addition_of, unless_refused, noted_after, is_answer}
 use Rattle.client_core.specs.Words.{is_on, words_noted, peers, may_renew}
 use Rattle.client_core.specs.Note.{is_blank, new_note}
 use Rattle.client_core.specs.Life.{Deed, Triggers, Stops, Hears, deeds_of, deeds_done}
@@ -115,8 +115,8 @@ run_step first n (Begin text) None NoSave ds k = k
 run_step first n (Begin text) None Saved ds k = given first n.runs (runs_in ds) k
 run_step first n (Begin text) None LostNew ds k = weaker first n.runs (runs_in ds) k
 run_step first n (Begin text) None LostOld ds k = k
-run_step first n (Trigger run act) None left ds k = same runs_in (is_answer None left) first n.runs (Triggers run act ∷ ds) ds k k
-run_step first n (Stop run) None left ds k = same runs_in (is_answer None left) first n.runs (Stops run ∷ ds) ds k k
+run_step first n (Trigger run act) None left ds k = same runs_in (is_answer {D = Addition} None left) first n.runs (Triggers run act ∷ ds) ds k k
+run_step first n (Stop run) None left ds k = same runs_in (is_answer {D = Addition} None left) first n.runs (Stops run ∷ ds) ds k k
 run_step first n (Verify run text) None NoSave ds k = k
 run_step first n (Verify run text) None Saved ds k = k
 run_step first n (Verify run text) None LostNew ds k = k
@@ -125,7 +125,7 @@ run_step first n (Deliver p) None left ds k =
     let e = (body_only (has_new left) n p.body).0 in
     let b = is_answer (addition_by n p.body) left in
     subst (λ m. Known first m (runs_in (if b then Hears (node_number p.from) p.body ∷ ds else ds))) (sym e) (same runs_in b first n.runs (Hears (node_number p.from) p.body ∷ ds) ds k k)
-run_step first n Tick None left ds k = same runs_in (is_answer None left) first n.runs ds ds k k
+run_step first n Tick None left ds k = same runs_in (is_answer {D = Addition} None left) first n.runs ds ds k k
 
 known_runs : (o : Opening) (past : List Entry) → IsTrue (loses_nothing past) → Known o.noted.runs (words_noted o past).runs (runs_in (deeds_done o past))
 known_runs o [] h = record { rises = omega arith; fresh = record { distinct = refl; above = tt; below = tt } }
@@ -145,8 +145,8 @@ attempt_step first n (Verify run text) None NoSave ds k = k
 attempt_step first n (Verify run text) None Saved ds k = given first n.attempts (attempts_in ds) k
 attempt_step first n (Verify run text) None LostNew ds k = weaker first n.attempts (attempts_in ds) k
 attempt_step first n (Verify run text) None LostOld ds k = k
-attempt_step first n (Trigger run act) None left ds k = same attempts_in (is_answer None left) first n.attempts (Triggers run act ∷ ds) ds k k
-attempt_step first n (Stop run) None left ds k = same attempts_in (is_answer None left) first n.attempts (Stops run ∷ ds) ds k k
+attempt_step first n (Trigger run act) None left ds k = same attempts_in (is_answer {D = Addition} None left) first n.attempts (Triggers run act ∷ ds) ds k k
+attempt_step first n (Stop run) None left ds k = same attempts_in (is_answer {D = Addition} None left) first n.attempts (Stops run ∷ ds) ds k k
 attempt_step first n (Begin text) None NoSave ds k = k
 attempt_step first n (Begin text) None Saved ds k = k
 attempt_step first n (Begin text) None LostNew ds k = k
@@ -155,7 +155,7 @@ attempt_step first n (Deliver p) None left ds k =
     let e = (body_only (has_new left) n p.body).1 in
     let b = is_answer (addition_by n p.body) left in
     subst (λ m. Known first m (attempts_in (if b then Hears (node_number p.from) p.body ∷ ds else ds))) (sym e) (same attempts_in b first n.attempts (Hears (node_number p.from) p.body ∷ ds) ds k k)
-attempt_step first n Tick None left ds k = same attempts_in (is_answer None left) first n.attempts ds ds k k
+attempt_step first n Tick None left ds k = same attempts_in (is_answer {D = Addition} None left) first n.attempts ds ds k k
 
 known_attempts : (o : Opening) (past : List Entry) → IsTrue (loses_nothing past) → Known o.noted.attempts (words_noted o past).attempts (attempts_in (deeds_done o past))
 known_attempts o [] h = record { rises = omega arith; fresh = record { distinct = refl; above = tt; below = tt } }

@@ -69,8 +69,8 @@ run_step gs on peers n (Begin text) None Saved ds e g k =
     give gs n.generation n.runs (runs_in ds) one (of_own peers n.generation n.runs one ((begin_faults on (is_text text) (has_next peers n.generation n.runs) (sym e)).1)) k
 run_step gs on peers n (Begin text) None LostNew ds e g k = pass gs n.generation n.runs (runs_in ds) k
 run_step gs on peers n (Begin text) None LostOld ds e g k = k
-run_step gs on peers n (Trigger run act) None left ds e g k = either gs runs_in (is_answer None left) n.generation n.runs (Triggers run act ∷ ds) ds k k
-run_step gs on peers n (Stop run) None left ds e g k = either gs runs_in (is_answer None left) n.generation n.runs (Stops run ∷ ds) ds k k
+run_step gs on peers n (Trigger run act) None left ds e g k = either gs runs_in (is_answer {D = Addition} None left) n.generation n.runs (Triggers run act ∷ ds) ds k k
+run_step gs on peers n (Stop run) None left ds e g k = either gs runs_in (is_answer {D = Addition} None left) n.generation n.runs (Stops run ∷ ds) ds k k
 run_step gs on peers n (Verify run text) None NoSave ds e g k = k
 run_step gs on peers n (Verify run text) None Saved ds e g k = k
 run_step gs on peers n (Verify run text) None LostNew ds e g k = k
@@ -79,7 +79,7 @@ run_step gs on peers n (Deliver p) None left ds e g k =
     let same = (body_only (has_new left) n p.body).0 in
     let b = is_answer (addition_by n p.body) left in
     subst (λ m. Apart gs n.generation m (runs_in (if b then Hears (node_number p.from) p.body ∷ ds else ds))) (sym same) (either gs runs_in b n.generation n.runs (Hears (node_number p.from) p.body ∷ ds) ds k k)
-run_step gs on peers n Tick None left ds e g k = either gs runs_in (is_answer None left) n.generation n.runs ds ds k k
+run_step gs on peers n Tick None left ds e g k = either gs runs_in (is_answer {D = Addition} None left) n.generation n.runs ds ds k k
 
 attempt_step : (gs : List ℕ) (on : Bool) (peers : Peers) (n : Noted) (c : Call) (r : Option Fault) (left : Left) (ds : List Deed) → r ≡ refusal_by on peers n c → (on ≡ true → 1 ≤ n.generation) → Apart gs n.generation n.attempts (attempts_in ds)
     → Apart gs n.generation (noted_after (has_new left) (unless_refused r (addition_of n c)) n).attempts (attempts_in (if is_none r && is_answer (unless_refused r (addition_of n c)) left then deeds_of n c ++ ds else ds))
@@ -90,8 +90,8 @@ attempt_step gs on peers n (Verify run text) None Saved ds e g k =
     give gs n.generation n.attempts (attempts_in ds) one (of_own peers n.generation n.attempts one ((verify_faults on (is_begun n run) (is_text text) (has_next peers n.generation n.attempts) (sym e)).2)) k
 attempt_step gs on peers n (Verify run text) None LostNew ds e g k = pass gs n.generation n.attempts (attempts_in ds) k
 attempt_step gs on peers n (Verify run text) None LostOld ds e g k = k
-attempt_step gs on peers n (Trigger run act) None left ds e g k = either gs attempts_in (is_answer None left) n.generation n.attempts (Triggers run act ∷ ds) ds k k
-attempt_step gs on peers n (Stop run) None left ds e g k = either gs attempts_in (is_answer None left) n.generation n.attempts (Stops run ∷ ds) ds k k
+attempt_step gs on peers n (Trigger run act) None left ds e g k = either gs attempts_in (is_answer {D = Addition} None left) n.generation n.attempts (Triggers run act ∷ ds) ds k k
+attempt_step gs on peers n (Stop run) None left ds e g k = either gs attempts_in (is_answer {D = Addition} None left) n.generation n.attempts (Stops run ∷ ds) ds k k
 attempt_step gs on peers n (Begin text) None NoSave ds e g k = k
 attempt_step gs on peers n (Begin text) None Saved ds e g k = k
 attempt_step gs on peers n (Begin text) None LostNew ds e g k = k
@@ -100,7 +100,7 @@ attempt_step gs on peers n (Deliver p) None left ds e g k =
     let same = (body_only (has_new left) n p.body).1 in
     let b = is_answer (addition_by n p.body) left in
     subst (λ m. Apart gs n.generation m (attempts_in (if b then Hears (node_number p.from) p.body ∷ ds else ds))) (sym same) (either gs attempts_in b n.generation n.attempts (Hears (node_number p.from) p.body ∷ ds) ds k k)
-attempt_step gs on peers n Tick None left ds e g k = either gs attempts_in (is_answer None left) n.generation n.attempts ds ds k k
+attempt_step gs on peers n Tick None left ds e g k = either gs attempts_in (is_answer {D = Addition} None left) n.generation n.attempts ds ds k k
 
 -- what holds of each list of a client with a mirror
 record Holds (o : Opening) (past : List Entry) : Type 0 where

@@ -27,7 +27,7 @@ use Rattle.client_core.specs.declared.noted.Noted.{Noted}
 use Rattle.client_core.specs.declared.peers.Peers.{Peers}
 use Rattle.client_core.specs.History.{Opening, Entry, Met, Cut, Restart, Renew, Lose}
 use Rattle.client_core.specs.Refusals.{is_for_client, refusal_by}
-use Rattle.client_core.specs.Saves.{unless_kept, addition_by, addition_of, unless_refused, noted_after, is_answer}
+use Rattle.client_core.specs.Saves.{Addition, unless_kept, addition_by, addition_of, unless_refused, noted_after, is_answer}
 use Rattle.client_core.specs.Words.{is_on, words_noted, peers}
 use Rattle.client_core.specs.Life.{Deed, Begins, Triggers, Stops, Verifies, Hears, deeds_of, life}
 use Rattle.client_core.specs.Requests.{Telling, Request, jobs_told, tells_of, tells_all, has_misfit, when_one_tells, when_refused, trigger_refused, trigger_heard, trigger_at}
@@ -185,12 +185,12 @@ called last on servers n (Begin text) left before run server deeds None e k = sa
     same : (b : Bool) → Known (noted_after (has_new left) (addition_of n (Begin text)) n) before run server (trigger_at run server (if b then Begins (n.runs + 1) text ∷ deeds else deeds))
     same true = k
     same false = k
-called last on servers n (Trigger r act) left before run server deeds None e k = same (is_answer None left)
+called last on servers n (Trigger r act) left before run server deeds None e k = same (is_answer {D = Addition} None left)
   where
     same : (b : Bool) → Known n before run server (trigger_at run server (if b then Triggers r act ∷ deeds else deeds))
     same true = either n before run server (r == run) (requests.Open []) (trigger_at run server deeds) (λ e. tt) k
     same false = k
-called last on servers n (Stop r) left before run server deeds None e k = same (is_answer None left)
+called last on servers n (Stop r) left before run server deeds None e k = same (is_answer {D = Addition} None left)
   where
     same : (b : Bool) → Known n before run server (trigger_at run server (if b then Stops r ∷ deeds else deeds))
     same true = k
@@ -207,7 +207,7 @@ called last on servers n (Deliver p) left before run server deeds None e k = sam
         either (noted_after (has_new left) (addition_by n p.body) n) (p ∷ before) run server (node_number p.from == server) (trigger_heard run p.body (trigger_at run server deeds)) (trigger_at run server deeds)
         (λ here. heard last servers n run server p.from p.to p.body left before (trigger_at run server deeds) ((taken_in on servers n p (sym e)).1) a (eqb-true (node_number p.from) server here) k) k
     same false a = k
-called last on servers n Tick left before run server deeds None e k = same (is_answer None left)
+called last on servers n Tick left before run server deeds None e k = same (is_answer {D = Addition} None left)
   where
     same : (b : Bool) → Known n before run server (trigger_at run server (if b then deeds else deeds))
     same true = k

@@ -16,7 +16,7 @@ use Rattle.client_core.specs.History.{Opening, Entry, Met, Cut, Restart, Renew, 
 use Rattle.client_core.specs.Life.{Deed, Begins, Triggers, Stops, Verifies, Hears, deeds_of, life}
 use Rattle.client_core.specs.Asked.{runs_of}
 use Rattle.client_core.specs.Refusals.{is_begun, refusal_by}
-use Rattle.client_core.specs.Saves.{addition_by, addition_of, unless_refused, noted_after, is_answer}
+use Rattle.client_core.specs.Saves.{Addition, addition_by, addition_of, unless_refused, noted_after, is_answer}
 use Rattle.client_core.specs.Words.{is_on, words_noted, refusal, peers}
 use Rattle.client_core.proofs.RefusalLemmas.{run_free}
 use Rattle.client_core.proofs.FreshLemmas.{body_only}
@@ -81,14 +81,14 @@ step n (Verify run text) None NoSave ds o k = k
 step n (Verify run text) None Saved ds o k = (omega arith, weaker n.runs n.attempts n.runs (n.attempts + 1) ds (omega arith) (omega arith) k)
 step n (Verify run text) None LostNew ds o k = weaker n.runs n.attempts n.runs (n.attempts + 1) ds (omega arith) (omega arith) k
 step n (Verify run text) None LostOld ds o k = k
-step n (Trigger run act) None left ds o k = either n.runs n.attempts (is_answer None left) (Triggers run act) ds (o refl) k
-step n (Stop run) None left ds o k = either n.runs n.attempts (is_answer None left) (Stops run) ds (o refl) k
+step n (Trigger run act) None left ds o k = either n.runs n.attempts (is_answer {D = Addition} None left) (Triggers run act) ds (o refl) k
+step n (Stop run) None left ds o k = either n.runs n.attempts (is_answer {D = Addition} None left) (Stops run) ds (o refl) k
 step n (Deliver p) None left ds o k =
     let e = body_only (has_new left) n p.body in
     let b = is_answer (addition_by n p.body) left in
     subst (λ m. AllByRecursion (Within m (noted_after (has_new left) (addition_by n p.body) n).attempts) (if b then Hears (node_number p.from) p.body ∷ ds else ds)) (sym e.0)
     (subst (λ m. AllByRecursion (Within n.runs m) (if b then Hears (node_number p.from) p.body ∷ ds else ds)) (sym e.1) (either n.runs n.attempts b (Hears (node_number p.from) p.body) ds tt k))
-step n Tick None left ds o k = same n.runs n.attempts (is_answer None left) ds k
+step n Tick None left ds o k = same n.runs n.attempts (is_answer {D = Addition} None left) ds k
 
 life_within : (o : Opening) (past : List Entry) → AllByRecursion (Within (words_noted o past).runs (words_noted o past).attempts) (life o past)
 life_within o [] = tt

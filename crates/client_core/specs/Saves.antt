@@ -1,8 +1,6 @@
 -- What a call adds to the note.
-use Rattle.std.specs.Prelude.{◌+◌, Bool, true, false, if◌then◌else◌, [], ◌∷◌, ◌++◌, Option, Some, None}
-use Rattle.fc_base.specs.declared.fault.Fault.{Fault}
-use Rattle.disk_model.specs.declared.left.Left.{Left}
-use Rattle.disk_model.specs.declared.left.Left.TheVariants.{NoSave, Saved}
+use Rattle.std.specs.Prelude.{◌+◌, Bool, if◌then◌else◌, [], ◌∷◌, ◌++◌, Option, Some, None}
+pub use Rattle.disk_model.specs.Steps.{unless_refused, is_answer}
 use Rattle.verify_state.specs.State.{State}
 use Rattle.messages.specs.declared.body.Body.{Body}
 use Rattle.messages.specs.declared.body.Body.TheVariants as bodies
@@ -45,11 +43,6 @@ addition_of n (Verify run text) = Some NextAttempt
 addition_of n (Deliver p) = addition_by n p.body
 addition_of n Tick = None
 
--- Nothing is added for a call that is refused.
-abbrev pub unless_refused : Option Fault → Option Addition → Option Addition
-unless_refused None addition = addition
-unless_refused (Some fault) addition = None
-
 -- What a call is due to add to the note.
 abbrev pub due_by : Bool → Peers → Noted → Call → Option Addition
 due_by on peers n c = unless_refused (refusal_by on peers n c) (addition_of n c)
@@ -58,9 +51,3 @@ due_by on peers n c = unless_refused (refusal_by on peers n c) (addition_of n c)
 abbrev pub noted_after : Bool → Option Addition → Noted → Noted
 noted_after new None n = n
 noted_after new (Some addition) n = if new then with_addition addition n else n
-
--- The call left what an answered call leaves.
-abbrev pub is_answer : Option Addition → Left → Bool
-is_answer None NoSave = true
-is_answer (Some addition) Saved = true
-is_answer _ _ = false

@@ -1,6 +1,6 @@
 -- How a step of a core ends, whichever core it is: a core has a note, and stands for lists of what
 -- came to it, the newest first.
-use Rattle.std.specs.Prelude.{◌≡◌, ◌<◌, ℕ, ◌+◌, true, List, ◌∷◌}
+use Rattle.std.specs.Prelude.{◌≡◌, ◌<◌, ℕ, ◌+◌, Bool, true, false, List, ◌∷◌}
 use Rattle.std.specs.Prelude.{Option, Some, None, Result, Ok, Err}
 use Rattle.fc_base.specs.declared.fault.Fault.{Fault}
 use Rattle.fc_base.specs.declared.fault.Fault.TheVariants.{NoMemory}
@@ -8,9 +8,20 @@ use Rattle.fc_base.specs.declared.fault.FaultSort.{FaultSort}
 use Rattle.fc_base.specs.declared.fault.FaultSort.TheVariants as sorts
 use Rattle.fc_base.specs.Fault.{sort_of}
 use Rattle.disk_model.specs.declared.left.Left.{Left}
-use Rattle.disk_model.specs.declared.left.Left.TheVariants.{NoSave}
+use Rattle.disk_model.specs.declared.left.Left.TheVariants.{NoSave, Saved}
 use Rattle.disk_model.specs.Left.{saved_for, is_lost, bytes_left}
 use Rattle.disk_model.specs.Notes.{Note}
+
+-- Nothing is due for an input that is refused.
+abbrev pub unless_refused : {D : Type 0} → Option Fault → Option D → Option D
+unless_refused None addition = addition
+unless_refused (Some fault) addition = None
+
+-- The input left what an answered input leaves.
+abbrev pub is_answer : {D : Type 0} → Option D → Left → Bool
+is_answer None NoSave = true
+is_answer (Some addition) Saved = true
+is_answer _ _ = false
 
 -- What has to be known of a core of states S, to which inputs E come, whose lists have entries X,
 -- which adds D to its note, and answers O.

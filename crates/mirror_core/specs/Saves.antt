@@ -1,8 +1,6 @@
 -- What a frame adds to the note.
-use Rattle.std.specs.Prelude.{ℕ, Bool, true, false, if◌then◌else◌, nat_lt, [], ◌∷◌, ◌++◌, Option, Some, None}
-use Rattle.fc_base.specs.declared.fault.Fault.{Fault}
-use Rattle.disk_model.specs.declared.left.Left.{Left}
-use Rattle.disk_model.specs.declared.left.Left.TheVariants.{NoSave, Saved}
+use Rattle.std.specs.Prelude.{ℕ, Bool, if◌then◌else◌, nat_lt, [], ◌∷◌, ◌++◌, Option, Some, None}
+pub use Rattle.disk_model.specs.Steps.{unless_refused, is_answer}
 use Rattle.verify_state.specs.State.{State}
 use Rattle.messages.specs.declared.frame.Frame.{Frame}
 use Rattle.state_table.specs.Kept.{kept_of}
@@ -38,11 +36,6 @@ abbrev pub addition_of : Noted → Option Request → Option Addition
 addition_of n None = None
 addition_of n (Some request) = addition_by n request
 
--- Nothing is added for a frame that is refused.
-abbrev pub unless_refused : Option Fault → Option Addition → Option Addition
-unless_refused None addition = addition
-unless_refused (Some fault) addition = None
-
 -- What a frame is due to add to the note.
 abbrev pub due_by : Bool → Noted → Frame → Option Addition
 due_by on n f = unless_refused (refusal_by on n f) (addition_of n (request_in f))
@@ -51,9 +44,3 @@ due_by on n f = unless_refused (refusal_by on n f) (addition_of n (request_in f)
 abbrev pub noted_after : Bool → Option Addition → Noted → Noted
 noted_after new None n = n
 noted_after new (Some addition) n = if new then with_addition addition n else n
-
--- The frame left what an answered frame leaves.
-abbrev pub is_answer : Option Addition → Left → Bool
-is_answer None NoSave = true
-is_answer (Some addition) Saved = true
-is_answer _ _ = false
