@@ -1,8 +1,7 @@
 -- A packet that is delivered.
 use Rattle.std.proofs.Common.{◌≡◌, refl, sym, ap, subst, ◌∙◌, ℕ, ◌<◌, ◌≤◌, arith, Bool, true, false, ◌&&◌, List, [], length, Option, None, Some}
-use Rattle.std.specs.Prelude.{if◌then◌else◌, nat_le, not}
+use Rattle.std.specs.Prelude.{if◌then◌else◌, not}
 use Rattle.std.proofs.lemmas.Bool.{and_parts}
-use Rattle.std.proofs.lemmas.Bool.Decides.{nat_tests}
 use Rattle.fc_base.specs.declared.limits.TheConstants.{MAX_SERVERS}
 use Rattle.verify_state.specs.State.{State}
 use Rattle.messages.specs.declared.packet.PacketParts.{PacketParts}
@@ -26,7 +25,7 @@ use Rattle.client_core.specs.Words.{granted_in, granted_by}
 use Rattle.fc_base.specs.declared.numbers.Key.{Key}
 use Rattle.state_table.specs.declared.kept.TheConstants.{KEPT_LIMIT}
 use Rattle.client_core.proofs.HeardLemmas.{taken_in, server_below, mirror_parts}
-use Rattle.client_core.proofs.NotedLemmas.{room_fault}
+use Rattle.state_table.proofs.RefusalLemmas.{has_room}
 
 -- A state that is added is of a key of which none is kept, and there is room for it.
 pub record IsNew (n : Noted) (body : Body) (s : State) : Type 0 where
@@ -38,19 +37,13 @@ state_new : (n : Noted) (jobs : ℕ) (state s : State) (x : Option State) → ke
 state_new n jobs state s (Some kept) is e free = cc
 state_new n jobs state s None is e free =
     let same : state ≡ s = cc in
-    subst (IsNew n (bodies.State jobs state)) same (record { new = is; room = below (room_fault false (nat_le KEPT_LIMIT (length n.kept)) (rw is at free)).1; no_report = tt })
-  where
-    below : nat_le KEPT_LIMIT (length n.kept) ≡ false → length n.kept < KEPT_LIMIT
-    below h = grind (arith, nat_tests)
+    subst (IsNew n (bodies.State jobs state)) same (record { new = is; room = has_room n.kept state is free; no_report = tt })
 
 copy_new : (n : Noted) (state s : State) (x : Option State) → kept_of state.key n.kept ≡ x → unless_kept x state ≡ Some (Keep s) → faults_of_body n (bodies.Copy state) ≡ [] → IsNew n (bodies.Copy state) s
 copy_new n state s (Some kept) is e free = cc
 copy_new n state s None is e free =
     let same : state ≡ s = cc in
-    subst (IsNew n (bodies.Copy state)) same (record { new = is; room = below (room_fault false (nat_le KEPT_LIMIT (length n.kept)) (rw is at free)).1; no_report = tt })
-  where
-    below : nat_le KEPT_LIMIT (length n.kept) ≡ false → length n.kept < KEPT_LIMIT
-    below h = grind (arith, nat_tests)
+    subst (IsNew n (bodies.Copy state)) same (record { new = is; room = has_room n.kept state is free; no_report = tt })
 
 pub adds_new : (n : Noted) (body : Body) (s : State) → addition_by n body ≡ Some (Keep s) → faults_of_body n body ≡ [] → IsNew n body s
 adds_new n (bodies.State jobs state) s e free = state_new n jobs state s (kept_of state.key n.kept) refl e free

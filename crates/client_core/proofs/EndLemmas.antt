@@ -11,7 +11,9 @@ use Rattle.disk_model.specs.declared.left.Left.{Left}
 use Rattle.disk_model.specs.declared.left.Left.TheVariants.{NoSave, LostNew, LostOld}
 use Rattle.disk_model.specs.Left.{saved_for, is_lost, has_new, bytes_left}
 use Rattle.disk_model.specs.Notes.{Note}
+use Rattle.disk_model.specs.Saving.{Unsaved}
 use Rattle.disk_model.specs.Steps.{LeavesNote, Fails, Faults}
+use Rattle.disk_model.proofs.StepLemmas.{and_true, is_own_answer, not_lost, lost_off}
 use Rattle.client_core.specs.declared.call.Call.{Call}
 use Rattle.client_core.specs.declared.packet_client.PacketClient.{PacketClient}
 use Rattle.client_core.specs.declared.life.Life.{Life}
@@ -27,7 +29,7 @@ use Rattle.client_core.specs.declared.peers.Peers.{Peers}
 use Rattle.client_core.specs.Words.{is_on, granted_by, words_noted, shown_entries, refusal, due, is_answered, peers}
 use Rattle.client_core.specs.Packets.{packets, packets_for}
 use Rattle.client_core.specs.Stands.{StandsFor}
-use Rattle.client_core.specs.Ends.{answered_entry, steps, Unsaved, Stores}
+use Rattle.client_core.specs.Ends.{answered_entry, steps, save_of, Stores}
 use Rattle.client_core.proofs.Looked.{looks_at_all}
 use Rattle.client_core.proofs.PeersLemmas.{peers_stay, refused_peers}
 use Rattle.client_core.proofs.RefusalLemmas.{refusal_is, refusal_sort}
@@ -62,10 +64,6 @@ after_none new None n e = refl
 after_none true (Some a) n e = cc
 after_none false (Some a) n e = refl
 
-and_true : (b : Bool) → (b && true) ≡ b
-and_true true = refl
-and_true false = refl
-
 not_answered : (r : Option Fault) (fault : Fault) (b : Bool) → r ≡ Some fault → (is_none r && b) ≡ false
 not_answered None fault b e = cc
 not_answered (Some g) fault b e = refl
@@ -90,14 +88,6 @@ refused_stands note client o past c fault r s = record {
     by_on : {A : Type 0} (b : Bool) (f : List Entry → A) (y : List Entry) → (b ≡ true → f (Met c NoSave ∷ past) ≡ f y) → f (if b then Met c NoSave ∷ past else y) ≡ f y
     by_on true f y e = e refl
     by_on false f y e = refl
-
-is_own_answer : (d : Option Addition) → is_answer d (saved_for d) ≡ true
-is_own_answer None = refl
-is_own_answer (Some a) = refl
-
-not_lost : (d : Option Addition) → is_lost (saved_for d) ≡ false
-not_lost None = refl
-not_lost (Some a) = refl
 
 pub is_answered_now : (o : Opening) (past : List Entry) (c : Call) → refusal o past c ≡ None → is_answered o past c (saved_for (due o past c)) ≡ true
 is_answered_now o past c free = ap (λ r. is_none r && is_answer (due o past c) (saved_for (due o past c))) free ∙ is_own_answer (due o past c)
@@ -154,10 +144,6 @@ lacks note client kept o past c same s = record { why = refl; same_note = refl; 
 
 -- ---- a save
 
-lost_off : (on : Bool) (left : Left) → is_lost left ≡ true → true ≡ not (on && not (is_lost left))
-lost_off true left e = ap (λ b. not (true && not b)) (sym e)
-lost_off false left e = refl
-
 -- A client that is down at a failed save stands for the list with what was lost.
 lost_stands : {T : Type 0} (note : T → Note) (client : PacketClient T) (notes : T) (o : Opening) (past : List Entry) (c : Call) (left : Left) → is_on past ≡ true → is_lost left ≡ true → StandsFor note client o past
     → Says (note notes).bytes (noted_after (has_new left) (due o past c) (words_noted o past)) → StandsFor note (record client { notes = notes; down = true }) o (Met c left ∷ past)
@@ -175,7 +161,7 @@ lost_stands note client notes o past c left on lost s says = record {
 
 -- A call whose save isn't answered.
 pub unsaved : {T : Type 0} (note : T → Note) (old new : PacketClient T) (kept : Life) (a : Addition) (fault : Fault) (o : Opening) (past : List Entry) (c : Call) → SaysWhatIsWritten → old.down ≡ false → StandsFor note old o past → refusal o past c ≡ None
-    → addition_of (words_noted o past) c ≡ Some a → IsNoted (with_addition a (words_noted o past)) → EachLife old.life (LifeIs kept) → (t : FaultSort) → Unsaved note a t fault (record old { life = kept }) new → Faults (steps note o) past c t fault old new
+    → addition_of (words_noted o past) c ≡ Some a → IsNoted (with_addition a (words_noted o past)) → EachLife old.life (LifeIs kept) → (t : FaultSort) → Unsaved (λ k. note k.notes) (save_of (with_addition a old.noted) (record old { life = kept }) new) t fault (record old { life = kept }) new → Faults (steps note o) past c t fault old new
 unsaved note old new kept a fault o past c read up s free adds fits same sorts.Memory u = record {
   why = u.0;
   same_note = u.1;

@@ -1,7 +1,7 @@
 -- A packet that isn't refused is for the client, and from one of the servers, and has no state but its own,
 -- or from the mirror.
-use Rattle.std.proofs.Common.{◌≡◌, refl, ℕ, ◌<◌, arith, Bool, true, false, ◌&&◌, ◌||◌, ◌==◌, List, [], ◌∷◌, ◌++◌, Option, None, Some}
-use Rattle.std.specs.Prelude.{not, is_none, nat_lt, Contains, slice_get}
+use Rattle.std.proofs.Common.{◌≡◌, refl, ℕ, ◌<◌, Bool, true, false, ◌&&◌, ◌||◌, ◌==◌, List, [], ◌∷◌, ◌++◌, Option, None, Some}
+use Rattle.std.specs.Prelude.{not, is_none, nat_lt, slice_get}
 use Rattle.std.proofs.lemmas.Bool.{and_parts, eqb-true, ltb-true}
 use Rattle.fc_base.specs.declared.fault.Fault.{Fault}
 use Rattle.fc_base.specs.declared.fault.Fault.TheVariants.{Down, Misdirected}
@@ -121,9 +121,6 @@ sender_below peers from to body other h = by_sender (is_mirror from) refl
     by_sender : (b : Bool) → is_mirror from ≡ b → node_number from < peers.servers
     by_sender true m = absurd (clash (is_of_mirror (kind_of body)) other (mirror_parts peers from to body m h).1)
     by_sender false m = server_below peers from to body m h
-
-pub one : {X : Type 0} (p x : X) → p ≡ x → Contains (p ∷ []) x
-one p x e = (0, omega arith, e)
 
 pub none_or : (r : Option Fault) (b : Bool) → (is_none r && b) ≡ true → r ≡ None
 none_or None b h = refl

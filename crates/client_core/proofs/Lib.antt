@@ -16,7 +16,6 @@ mod HeardRangeLemmas
 mod HearingLemmas
 mod KeptLemmas
 mod LifeLemmas
-mod ListLemmas
 mod Looked
 mod LossLemmas
 mod MirrorLifeLemmas

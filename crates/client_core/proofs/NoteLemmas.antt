@@ -1,24 +1,24 @@
 -- What the bytes of a note say.
 use Rattle.std.proofs.Common.{◌≡◌, refl, sym, ◌∙◌, ap, subst, ◌⊎◌, inl, inr, ℕ, ◌+◌, ◌-◌, ◌<◌, ◌≤◌, arith, true, false, ◌==◌, List, [], ◌∷◌, ◌++◌, length, None, Some, take, drop, get_or}
 use Rattle.std.specs.Prelude.{◌^◌, Bool, Option, Result, Ok, Err, IfOk, OnErr, if◌then◌else◌, nat_le, map, bytes_eq, codes}
-use Rattle.std.specs.List.{AllByRecursion, flat_map}
+use Rattle.std.specs.List.{flat_map}
 use Rattle.std.specs.Int.{w32, w64}
-use Rattle.std.proofs.lemmas.Bool.{cases_lt}
-use Rattle.std.proofs.lemmas.List.{drop-drop, length-map, take-append-drop, length-take-le, length-drop, get_or-drop, get_or-take, get_or_past}
-use Rattle.std.proofs.lemmas.List.Elements.{All-from_get_or, recursion_from_All}
-use Rattle.std.proofs.lemmas.Nat.{from_be_bytes-to_be_bytes_4, from_be_bytes-to_be_bytes_8, be_bytes_8, be_bytes_4}
+use Rattle.std.proofs.lemmas.List.{drop-drop, take-append-drop, length-drop}
+use Rattle.std.proofs.lemmas.Nat.{from_be_bytes-to_be_bytes_8}
 use Rattle.std.proofs.lemmas.Slice.Eq.{bytes_eq-Decides}
 use Rattle.fc_base.specs.Layouts.{bytes_of, number_in}
-use Rattle.verify_state.specs.State.{State, IsState}
-use Rattle.state_table.specs.Counted.{counted_bytes, SayStates}
+use Rattle.verify_state.specs.State.{State}
+use Rattle.state_table.specs.Counted.{counted_bytes, counted_states, SayStates}
 use Rattle.state_table.specs.Kept.{has_distinct_keys}
 use Rattle.state_table.specs.Laws.{SpelledAreRead, ReadWereSpelled}
 use Rattle.state_table.specs.Reading.{states_at, ReadsStates}
+use Rattle.state_table.proofs.CountedLemmas.{AreCounted, spelled_counted, same_states, too_many_states, no_states_read, counted_spelled, written, put_counted}
+use Rattle.verify_state.specs.Reading.{field}
+use Rattle.verify_state.proofs.FieldLemmas.{IsBytes, bytes_drop, piece64}
 use Rattle.client_core.specs.declared.noted.Noted.{Noted}
 use Rattle.client_core.specs.Note.{blank, numbers_of, note_of, old_note_of, spelling, IsNoted, IsNote, Numbers, Spells, Says, ReadsNumbers, Reads, TellsStates, BeginsStates, SaysOneThing, SaysWhatIsWritten}
 use Rattle.std.proofs.lemmas.Bool.Decides.{nat_tests}
 use Rattle.fc_base.specs.declared.limits.TheConstants.{MAX_GENERATION}
-use Rattle.std.proofs.lemmas.List.Folds.{flat_map-map}
 use Rattle.state_table.specs.declared.kept.TheConstants.{KEPT_LIMIT}
 use Rattle.verify_state.specs.Spelling.{spelling as state_bytes}
 use Rattle.verify_state.specs.Laws.{ReadsBack}
@@ -37,23 +37,16 @@ pub record AreRead (bytes : List ℕ) (n : Noted) : Type 0 where
   pub long : 20 ≤ length bytes
   pub runs : number_in w64 bytes ≡ n.runs
   pub attempts : number_in w64 (after_runs bytes) ≡ n.attempts
-  pub count : number_in w32 (after_attempts bytes) ≡ length n.kept
-  pub states : states_at (length n.kept) (drop 4 (after_attempts bytes)) ≡ Some n.kept
+  pub kept : AreCounted (after_attempts bytes) n.kept
 
 spelled_read : SpelledAreRead → (n : Noted) (parts : List (List ℕ)) → IsNoted n → SayStates parts n.kept → AreRead (numbers_of n.runs n.attempts parts) n
 unfolding numbers_of bytes_of number_in
-spelled_read reads n parts k h =
-    let r = reads parts n.kept h in
-    let l : length parts ≡ length n.kept = r.0 in
-    let few : length n.kept ≤ KEPT_LIMIT = k.count in
-    let small : length parts < 2 ^ 32 = omega arith in
-    record {
-      long = omega arith;
-      runs = from_be_bytes-to_be_bytes_8 n.runs k.runs;
-      attempts = from_be_bytes-to_be_bytes_8 n.attempts k.attempts;
-      count = from_be_bytes-to_be_bytes_4 (length parts) small ∙ l;
-      states = subst (λ m. states_at m (flat_map counted_bytes parts) ≡ Some n.kept) l r.1;
-    }
+spelled_read reads n parts k h = record {
+  long = omega arith;
+  runs = from_be_bytes-to_be_bytes_8 n.runs k.runs;
+  attempts = from_be_bytes-to_be_bytes_8 n.attempts k.attempts;
+  kept = spelled_counted reads parts n.kept h k.count;
+}
 
 numbers_read : SpelledAreRead → (bytes : List ℕ) (n : Noted) → IsNoted n → Numbers bytes n → AreRead bytes n
 numbers_read reads bytes n k a = subst (λ l. AreRead l n) (sym a.spelled) (spelled_read reads n a.parts k a.states)
@@ -62,9 +55,7 @@ same_noted : (bytes : List ℕ) (n m : Noted) → n.generation ≡ m.generation 
 same_noted bytes n m g a b =
     let r : n.runs ≡ m.runs = sym a.runs ∙ b.runs in
     let t : n.attempts ≡ m.attempts = sym a.attempts ∙ b.attempts in
-    let c : length n.kept ≡ length m.kept = sym a.count ∙ b.count in
-    let s : Some n.kept ≡ Some m.kept = sym a.states ∙ (ap (λ k. states_at k (drop 4 (after_attempts bytes))) c ∙ b.states) in
-    let k : n.kept ≡ m.kept = cc in
+    let k : n.kept ≡ m.kept = same_states (after_attempts bytes) n.kept m.kept a.kept b.kept in
     λ i. record { generation = g i; runs = r i; attempts = t i; kept = k i }
 
 -- ---- the magic and the generation
@@ -136,67 +127,31 @@ pub one_note : SpelledAreRead → SaysOneThing
 one_note reads [] n m s t = says_blank n s ∙ sym (says_blank m t)
 one_note reads (b ∷ bytes) n m s t = same_by reads (b ∷ bytes) n m s.note t.note (says_parts (b ∷ bytes) n s (λ e. cc)) (says_parts (b ∷ bytes) m t (λ e. cc))
 
--- what is written says what it was written of
-written : ReadsBack → (states : List State) → AllByRecursion IsState states → SayStates (map state_bytes states) states
-written back [] h = tt
-written back (s ∷ states) h =
-    let r = back s h.0 in
-    let l : length (state_bytes s) ≡ 136 = r.long in
-    (record { short = omega arith; sound = r.sound; said = r.said }, written back states h.1)
-
 pub says_what_is_written : ReadsBack → SaysWhatIsWritten
 says_what_is_written back n k = record {
   note = k;
   spelled = inl (record { parts = map state_bytes n.kept; spelled = inl refl; states = written back n.kept k.states });
 }
 
--- the bytes of a part are bytes
-abbrev pub AreBytes : List ℕ → Type 0
-AreBytes bytes = (i : ℕ) → get_or bytes i 0 < 256
-
-dropped : (n : ℕ) (bytes : List ℕ) → AreBytes bytes → AreBytes (drop n bytes)
-dropped n bytes h = λ i. subst (λ x. x < 256) (sym (get_or-drop n bytes i 0)) (h (n + i))
-
-taken : (n : ℕ) (bytes : List ℕ) → length (take n bytes) ≤ n → AreBytes bytes → AreBytes (take n bytes)
-taken n bytes few h = λ i. elim (cases_lt i n) [
-  | inl a ↦ subst (λ x. x < 256) (sym (get_or-take n bytes i 0 a)) (h i)
-  | inr b ↦ subst (λ x. x < 256) (sym (get_or_past (take n bytes) i 0 (omega arith))) (omega arith)
-]
-
-each_byte : (bytes : List ℕ) → AreBytes bytes → AllByRecursion (λ byte. byte < 256) bytes
-each_byte bytes h = recursion_from_All (λ byte. byte < 256) bytes (All-from_get_or (λ byte. byte < 256) bytes 0 (λ i l. h i))
-
 -- ---- what is read
 
 -- what is read behind the generation
-pub numbers_say : SpelledAreRead → ReadWereSpelled → (bytes : List ℕ) (generation runs attempts count : ℕ) (kept : List State) → AreBytes bytes → 20 ≤ length bytes
+pub numbers_say : SpelledAreRead → ReadWereSpelled → (bytes : List ℕ) (generation runs attempts count : ℕ) (kept : List State) → IsBytes bytes → 20 ≤ length bytes
     → generation ≤ MAX_GENERATION → runs ≡ number_in w64 bytes → attempts ≡ number_in w64 (after_runs bytes) → count ≡ number_in w32 (after_attempts bytes)
     → runs < 2 ^ 64 → attempts < 2 ^ 64 → count ≤ KEPT_LIMIT → states_at count (drop 4 (after_attempts bytes)) ≡ Some kept → has_distinct_keys kept ≡ true
     → IsNoted (record { generation = generation; runs = runs; attempts = attempts; kept = kept }) × Numbers bytes (record { generation = generation; runs = runs; attempts = attempts; kept = kept })
-unfolding numbers_of bytes_of number_in
+unfolding numbers_of bytes_of number_in field
 numbers_say reads spelled bytes generation runs attempts count kept h long low r a c low_runs low_attempts few states keys =
-    let two = dropped 8 bytes h in
-    let three = dropped 8 (after_runs bytes) two in
-    let behind = drop 4 (after_attempts bytes) in
-    let s = spelled count behind kept (each_byte behind (dropped 4 (after_attempts bytes) three)) states in
-    let many : length s.parts ≡ length kept = (reads s.parts kept s.says).0 in
-    let counts : length s.parts ≡ count = s.count in
     let less : length (after_runs bytes) ≡ length bytes - 8 = length-drop 8 bytes in
     let least : length (after_attempts bytes) ≡ length (after_runs bytes) - 8 = length-drop 8 (after_runs bytes) in
-    let eight : length (take 8 bytes) ≡ 8 = length-take-le 8 bytes (omega arith) in
-    let again : length (take 8 (after_runs bytes)) ≡ 8 = length-take-le 8 (after_runs bytes) (omega arith) in
-    let four : length (take 4 (after_attempts bytes)) ≡ 4 = length-take-le 4 (after_attempts bytes) (omega arith) in
-    let x : bytes_of w64 runs ≡ take 8 bytes = be_bytes_8 (take 8 bytes) runs eight (taken 8 bytes (omega arith) h) r in
-    let y : bytes_of w64 attempts ≡ take 8 (after_runs bytes) = be_bytes_8 (take 8 (after_runs bytes)) attempts again (taken 8 (after_runs bytes) (omega arith) two) a in
-    let z : bytes_of w32 (length s.parts) ≡ take 4 (after_attempts bytes) = ap (bytes_of w32) counts ∙ be_bytes_4 (take 4 (after_attempts bytes)) count four (taken 4 (after_attempts bytes) (omega arith) three) c in
-    let tail : bytes_of w32 (length s.parts) ++ flat_map counted_bytes s.parts ≡ after_attempts bytes =
-    ap (λ l. l ++ flat_map counted_bytes s.parts) z ∙ (ap (λ l. take 4 (after_attempts bytes) ++ l) (sym s.spelled) ∙ take-append-drop 4 (after_attempts bytes)) in
-    let middle : bytes_of w64 attempts ++ after_attempts bytes ≡ after_runs bytes = ap (λ l. l ++ after_attempts bytes) y ∙ take-append-drop 8 (after_runs bytes) in
-    let front : bytes_of w64 runs ++ after_runs bytes ≡ bytes = ap (λ l. l ++ after_runs bytes) x ∙ take-append-drop 8 bytes in
-    let whole : bytes ≡ bytes_of w64 runs ++ (bytes_of w64 attempts ++ (bytes_of w32 (length s.parts) ++ flat_map counted_bytes s.parts)) =
-    sym front ∙ ap (λ l. bytes_of w64 runs ++ l) (sym middle ∙ ap (λ l. bytes_of w64 attempts ++ l) (sym tail)) in (
-      record { generation = low; runs = low_runs; attempts = low_attempts; count = omega arith; states = s.ranges; keys = keys },
-      record { parts = s.parts; spelled = whole; states = s.says },
+    let two = bytes_drop 8 bytes h in
+    let s = counted_spelled reads spelled (after_attempts bytes) count kept (bytes_drop 8 (after_runs bytes) two) (omega arith) c states in
+    let middle : bytes_of w64 attempts ++ after_attempts bytes ≡ after_runs bytes = ap (λ m. bytes_of w64 m ++ after_attempts bytes) a ∙ piece64 0 (after_runs bytes) two (omega arith) in
+    let front : bytes_of w64 runs ++ after_runs bytes ≡ bytes = ap (λ m. bytes_of w64 m ++ after_runs bytes) r ∙ piece64 0 bytes h (omega arith) in
+    let whole : bytes ≡ bytes_of w64 runs ++ (bytes_of w64 attempts ++ counted_states s.0.parts) =
+    sym front ∙ ap (λ l. bytes_of w64 runs ++ l) (sym middle ∙ ap (λ l. bytes_of w64 attempts ++ l) (sym s.1)) in (
+      record { generation = low; runs = low_runs; attempts = low_attempts; count = subst (λ m. m ≤ KEPT_LIMIT) (sym s.2) few; states = s.0.ranges; keys = keys },
+      record { parts = s.0.parts; spelled = whole; states = s.0.says },
     )
 
 -- an old note
@@ -207,14 +162,12 @@ old_says bytes n mark g k numbers =
     record { note = k; spelled = inl (record { parts = numbers.parts; spelled = inr (g, whole); states = numbers.states }) }
 
 -- a note of this layout
-pub new_says : (bytes : List ℕ) (generation : ℕ) (n : Noted) → AreBytes bytes → take 4 bytes ≡ codes "FCC2" → 8 ≤ length (drop 4 bytes) → generation ≡ number_in w64 (drop 4 bytes) → n.generation ≡ generation → IsNoted n → Numbers (drop 8 (drop 4 bytes)) n → Says bytes n
-unfolding note_of bytes_of number_in
+pub new_says : (bytes : List ℕ) (generation : ℕ) (n : Noted) → IsBytes bytes → take 4 bytes ≡ codes "FCC2" → 8 ≤ length (drop 4 bytes) → generation ≡ number_in w64 (drop 4 bytes) → n.generation ≡ generation → IsNoted n → Numbers (drop 8 (drop 4 bytes)) n → Says bytes n
+unfolding note_of bytes_of number_in field
 new_says bytes generation n h mark long g same k numbers =
-    let one = dropped 4 bytes h in
-    let eight : length (take 8 (drop 4 bytes)) ≡ 8 = length-take-le 8 (drop 4 bytes) long in
-    let x : bytes_of w64 n.generation ≡ take 8 (drop 4 bytes) = be_bytes_8 (take 8 (drop 4 bytes)) n.generation eight (taken 8 (drop 4 bytes) (omega arith) one) (same ∙ g) in
     let front : bytes_of w64 n.generation ++ numbers_of n.runs n.attempts numbers.parts ≡ drop 4 bytes =
-    ap (λ l. l ++ numbers_of n.runs n.attempts numbers.parts) x ∙ (ap (λ l. take 8 (drop 4 bytes) ++ l) (sym numbers.spelled) ∙ take-append-drop 8 (drop 4 bytes)) in
+    ap (λ m. bytes_of w64 m ++ numbers_of n.runs n.attempts numbers.parts) (same ∙ g)
+    ∙ (ap (λ l. bytes_of w64 (number_in w64 (drop 4 bytes)) ++ l) (sym numbers.spelled) ∙ piece64 0 (drop 4 bytes) (bytes_drop 4 bytes h) long) in
     let whole : bytes ≡ codes "FCC2" ++ (bytes_of w64 n.generation ++ numbers_of n.runs n.attempts numbers.parts) =
     sym (take-append-drop 4 bytes) ∙ (ap (λ l. l ++ drop 4 bytes) mark ∙ ap (λ l. codes "FCC2" ++ l) (sym front)) in
     record { note = k; spelled = inl (record { parts = numbers.parts; spelled = inl whole; states = numbers.states }) }
@@ -224,15 +177,9 @@ pub encoded : (n : Noted) (count : ℕ) (states : List State) (a b c d e f g : L
     → f ≡ e ++ bytes_of w32 count → g ≡ f ++ flat_map (λ s. counted_bytes (state_bytes s)) states → g ≡ spelling n
 unfolding note_of numbers_of bytes_of number_in
 encoded n count states a b c d e f g many all a_is b_is c_is d_is e_is f_is g_is =
-    let start : d ≡ (([] ++ codes "FCC2") ++ bytes_of w64 n.generation) ++ bytes_of w64 n.runs =
-    d_is ∙ ap (λ l. l ++ bytes_of w64 n.runs) (c_is ∙ ap (λ l. l ++ bytes_of w64 n.generation) (b_is ∙ ap (λ l. l ++ codes "FCC2") a_is)) in
-    let front : f ≡ (((([] ++ codes "FCC2") ++ bytes_of w64 n.generation) ++ bytes_of w64 n.runs) ++ bytes_of w64 n.attempts) ++ bytes_of w32 count =
-    f_is ∙ ap (λ l. l ++ bytes_of w32 count) (e_is ∙ ap (λ l. l ++ bytes_of w64 n.attempts) start) in
-    let number : count ≡ length (map state_bytes n.kept) = many ∙ sym (length-map n.kept state_bytes) in
-    let tail : flat_map (λ s. counted_bytes (state_bytes s)) states ≡ flat_map counted_bytes (map state_bytes n.kept) = ap (λ l. flat_map (λ s. counted_bytes (state_bytes s)) l) all ∙ sym (flat_map-map counted_bytes state_bytes n.kept) in
-    g_is ∙ (ap (λ l. l ++ flat_map (λ s. counted_bytes (state_bytes s)) states) front
-    ∙ (ap (λ l. ((((([] ++ codes "FCC2") ++ bytes_of w64 n.generation) ++ bytes_of w64 n.runs) ++ bytes_of w64 n.attempts) ++ bytes_of w32 count) ++ l) tail
-    ∙ ap (λ k. ((((([] ++ codes "FCC2") ++ bytes_of w64 n.generation) ++ bytes_of w64 n.runs) ++ bytes_of w64 n.attempts) ++ bytes_of w32 k) ++ flat_map counted_bytes (map state_bytes n.kept)) number))
+    put_counted n.kept states count e f g many all f_is g_is
+    ∙ ap (λ l. l ++ counted_states (map state_bytes n.kept))
+    (e_is ∙ ap (λ l. l ++ bytes_of w64 n.attempts) (d_is ∙ ap (λ l. l ++ bytes_of w64 n.runs) (c_is ∙ ap (λ l. l ++ bytes_of w64 n.generation) (b_is ∙ ap (λ l. l ++ codes "FCC2") a_is))))
 
 -- ---- where nothing is said
 
@@ -269,16 +216,10 @@ pub too_short : SpelledAreRead → (bytes : List ℕ) (n : Noted) → length byt
 too_short reads bytes n h k a = let l : 20 ≤ length bytes = (numbers_read reads bytes n k a).long in absurd (omega arith)
 
 pub too_many : SpelledAreRead → (bytes : List ℕ) (n : Noted) (count : ℕ) → count ≡ number_in w32 (after_attempts bytes) → KEPT_LIMIT < count → IsNoted n → Numbers bytes n → ⊥
-too_many reads bytes n count c h k a =
-    let e : count ≡ length n.kept = c ∙ (numbers_read reads bytes n k a).count in
-    let few : length n.kept ≤ KEPT_LIMIT = k.count in
-    absurd (omega arith)
+too_many reads bytes n count c h k a = too_many_states (after_attempts bytes) n.kept count c h (numbers_read reads bytes n k a).kept k.count
 
 pub no_states : SpelledAreRead → (bytes : List ℕ) (n : Noted) (count : ℕ) → count ≡ number_in w32 (after_attempts bytes) → ReadsStates count (drop 4 (after_attempts bytes)) None → IsNoted n → Numbers bytes n → ⊥
-no_states reads bytes n count c h k a =
-    let r = numbers_read reads bytes n k a in
-    let e : length n.kept ≡ count = sym r.count ∙ sym c in
-    h n.kept (subst (λ m. states_at m (drop 4 (after_attempts bytes)) ≡ Some n.kept) e r.states) k.keys
+no_states reads bytes n count c h k a = no_states_read (after_attempts bytes) n.kept count c h (numbers_read reads bytes n k a).kept k.keys
 
 -- ---- a reader of notes, by one of what stands behind the generation
 
@@ -294,7 +235,7 @@ pub reads_old : (bytes rest : List ℕ) → (bytes ≡ [] → ⊥) → take 4 by
 reads_old bytes rest some mark is (Some n) h = old_says bytes n mark h.0 h.1 (subst (λ l. Numbers l n) is h.2)
 reads_old bytes rest some mark is None h = λ n s. h n s.note (subst (λ l. Numbers l n) (sym is) (is_old bytes n some mark s).numbers)
 
-pub reads_new : (bytes rest : List ℕ) (generation : ℕ) → (bytes ≡ [] → ⊥) → AreBytes bytes → bytes_eq (take 4 bytes) (codes "FCC1") ≡ false → take 4 bytes ≡ codes "FCC2" → 8 ≤ length (drop 4 bytes) → generation ≡ number_in w64 (drop 4 bytes) → rest ≡ drop 8 (drop 4 bytes)
+pub reads_new : (bytes rest : List ℕ) (generation : ℕ) → (bytes ≡ [] → ⊥) → IsBytes bytes → bytes_eq (take 4 bytes) (codes "FCC1") ≡ false → take 4 bytes ≡ codes "FCC2" → 8 ≤ length (drop 4 bytes) → generation ≡ number_in w64 (drop 4 bytes) → rest ≡ drop 8 (drop 4 bytes)
     → (x : Option Noted) → ReadsNumbers generation rest x → Reads bytes x
 reads_new bytes rest generation some h other mark long g is (Some n) r = new_says bytes generation n h mark long g r.0 r.1 (subst (λ l. Numbers l n) is r.2)
 reads_new bytes rest generation some h other mark long g is None r = λ n s. r n s.note (subst (λ l. Numbers l n) (sym is) (is_new bytes n some other s).numbers)

@@ -1,11 +1,10 @@
 -- A note stays within its ranges.
-use Rattle.std.proofs.Common.{◌≡◌, refl, sym, ℕ, ◌+◌, ◌<◌, ◌≤◌, arith, Bool, true, false, List, [], ◌∷◌, ◌++◌, length, Option, None, Some, length-append}
+use Rattle.std.proofs.Common.{◌≡◌, refl, sym, ℕ, ◌+◌, ◌<◌, ◌≤◌, arith, Bool, true, false, List, [], ◌∷◌, ◌++◌, Option, None, Some, length-append}
 use Rattle.std.specs.Prelude.{not, nat_le, nat_lt, ◌*◌, ◌^◌, ◌&&◌, if◌then◌else◌, slice_get}
 use Rattle.std.specs.List.{AllByRecursion}
 use Rattle.std.proofs.lemmas.Bool.{ltb-true, leb-true, and_parts}
-use Rattle.std.proofs.lemmas.Bool.Decides.{nat_tests}
 use Rattle.fc_base.specs.declared.fault.Fault.{Fault}
-use Rattle.fc_base.specs.declared.fault.Fault.TheVariants.{Down, JobTooLong, NumbersSpent, NoSuchRun, Conflict, TableFull}
+use Rattle.fc_base.specs.declared.fault.Fault.TheVariants.{Down, JobTooLong, NumbersSpent, NoSuchRun}
 use Rattle.fc_base.specs.Faults.{when}
 use Rattle.verify_state.specs.State.{State, IsState}
 use Rattle.messages.specs.declared.body.Body.{Body}
@@ -17,20 +16,20 @@ use Rattle.disk_model.specs.Left.{has_new}
 use Rattle.client_core.specs.declared.call.Call.{Call}
 use Rattle.client_core.specs.declared.call.Call.TheVariants.{Begin, Trigger, Stop, Verify, Deliver, Tick}
 use Rattle.fc_base.specs.declared.limits.TheConstants.{MAX_GENERATION}
-use Rattle.state_table.specs.declared.kept.TheConstants.{KEPT_LIMIT}
 use Rattle.state_table.specs.Kept.{kept_of}
 use Rattle.state_table.specs.Laws.{KeysStayApart}
 use Rattle.client_core.specs.declared.noted.Noted.{Noted}
 use Rattle.client_core.specs.declared.peers.Peers.{Peers}
 use Rattle.client_core.specs.Note.{IsNoted, blank, is_blank, new_note}
 use Rattle.client_core.specs.History.{Entry, Met, Cut, Restart, Renew, Lose}
-use Rattle.client_core.specs.Refusals.{is_begun, has_next, differs, lacks_room, faults_of_body, refusal_by}
+use Rattle.client_core.specs.Refusals.{is_begun, has_next, faults_of_state, faults_of_body, refusal_by}
 use Rattle.client_core.specs.Saves.{NextRun, NextAttempt, unless_kept, addition_by, addition_of, unless_refused, noted_after}
 use Rattle.client_core.specs.Words.{is_on, words_noted, kept_state, peers, may_renew}
 use Rattle.client_core.specs.Ranges.{packet_in, packets_come}
 use Rattle.client_core.specs.Laws.{NotesKeepRanges}
+use Rattle.state_table.proofs.RefusalLemmas.{has_room}
 use Rattle.client_core.proofs.HeardLemmas.{taken_in}
-use Rattle.client_core.proofs.ListLemmas.{all_append}
+use Rattle.disk_model.proofs.ListLemmas.{all_append}
 
 pub next_left : (peers : Peers) (g used : ℕ) → has_next peers g used ≡ true → used + 1 < 2 ^ 64
 unfolding has_next
@@ -63,17 +62,6 @@ verify_faults true true false d h = cc
 verify_faults true false c d h = cc
 verify_faults false b c d h = cc
 
-pub room_fault : (d full : Bool) → when d Conflict ++ when full TableFull ≡ [] → (d ≡ false) × (full ≡ false)
-room_fault false false h = (refl, refl)
-room_fault false true h = cc
-room_fault true full h = cc
-
-more_room : (kept : List State) (s : State) → nat_le KEPT_LIMIT (length kept) ≡ false → length (kept ++ s ∷ []) ≤ KEPT_LIMIT
-more_room kept s h =
-    let e : length (kept ++ s ∷ []) ≡ length kept + 1 = length-append kept (s ∷ []) in
-    let l : length kept < KEPT_LIMIT = grind (arith, nat_tests) in
-    omega arith
-
 pub one_run : (new : Bool) (n : Noted) → n.runs + 1 < 2 ^ 64 → IsNoted n → IsNoted (noted_after new (Some NextRun) n)
 one_run true n h k = record { generation = k.generation; runs = h; attempts = k.attempts; count = k.count; states = k.states; keys = k.keys }
 one_run false n h k = k
@@ -82,27 +70,21 @@ pub one_attempt : (new : Bool) (n : Noted) → n.attempts + 1 < 2 ^ 64 → IsNot
 one_attempt true n h k = record { generation = k.generation; runs = k.runs; attempts = h; count = k.count; states = k.states; keys = k.keys }
 one_attempt false n h k = k
 
-pub one_state : KeysStayApart → (new : Bool) (n : Noted) (x : Option State) (s : State) → kept_of s.key n.kept ≡ x → differs s x ≡ false → lacks_room n.kept x ≡ false → IsState s → IsNoted n → IsNoted (noted_after new (unless_kept x s) n)
-one_state apart new n (Some kept) s e d f h k = k
-one_state apart true n None s e d f h k = record {
+one_state : KeysStayApart → (new : Bool) (n : Noted) (x : Option State) (s : State) → kept_of s.key n.kept ≡ x → faults_of_state n.kept s ≡ [] → IsState s → IsNoted n → IsNoted (noted_after new (unless_kept x s) n)
+one_state apart new n (Some kept) s e free h k = k
+one_state apart true n None s e free h k = record {
   generation = k.generation;
   runs = k.runs;
   attempts = k.attempts;
-  count = more_room n.kept s f;
+  count = omega (arith, length-append n.kept (s ∷ []), has_room n.kept s e free);
   states = all_append IsState n.kept (s ∷ []) k.states (h, tt);
   keys = apart n.kept s e k.keys;
 }
-one_state apart false n None s e d f h k = k
+one_state apart false n None s e free h k = k
 
 pub body_step : KeysStayApart → (new : Bool) (n : Noted) (body : Body) → faults_of_body n body ≡ [] → KeepsState body → IsNoted n → IsNoted (noted_after new (addition_by n body) n)
-body_step apart new n (bodies.State jobs s) e h k =
-    let x = kept_of s.key n.kept in
-    let f = room_fault (differs s x) (lacks_room n.kept x) e in
-    one_state apart new n x s refl f.0 f.1 h k
-body_step apart new n (bodies.Copy s) e h k =
-    let x = kept_of s.key n.kept in
-    let f = room_fault (differs s x) (lacks_room n.kept x) e in
-    one_state apart new n x s refl f.0 f.1 h k
+body_step apart new n (bodies.State jobs s) e h k = one_state apart new n (kept_of s.key n.kept) s refl e h k
+body_step apart new n (bodies.Copy s) e h k = one_state apart new n (kept_of s.key n.kept) s refl e h k
 body_step apart new n _ e h k = k
 
 step : KeysStayApart → (on : Bool) (peers : Peers) (n : Noted) (c : Call) (left : Left) (r : Option Fault) → r ≡ refusal_by on peers n c → AllByRecursion IsPacket (packet_in (Met c left)) → IsNoted n → IsNoted (noted_after (has_new left) (unless_refused r (addition_of n c)) n)

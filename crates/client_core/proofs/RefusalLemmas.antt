@@ -1,11 +1,9 @@
 -- Why a client refuses a call.
-use Rattle.std.proofs.Common.{◌≡◌, refl, ap, subst, ◌∙◌, Bool, true, false, List, [], ◌∷◌, ◌++◌, None, Some}
+use Rattle.std.proofs.Common.{◌≡◌, refl, ap, ◌∙◌, Bool, true, false, List, ◌++◌, None, Some}
 use Rattle.std.specs.Prelude.{not, slice_get}
 use Rattle.std.specs.List.{AllByRecursion}
 use Rattle.fc_base.specs.declared.fault.Fault.{Fault}
-use Rattle.fc_base.specs.declared.fault.Fault.TheVariants.{Down, JobTooLong, Misdirected, NoSuchRun, Conflict, NumbersSpent, TableFull}
-use Rattle.fc_base.specs.declared.fault.FaultSort.TheVariants as sorts
-use Rattle.fc_base.specs.Fault.{sort_of}
+use Rattle.fc_base.specs.declared.fault.Fault.TheVariants.{Down, JobTooLong, Misdirected, NoSuchRun, NumbersSpent}
 use Rattle.fc_base.specs.Faults.{when}
 use Rattle.disk_model.specs.Notes.{Note}
 use Rattle.messages.specs.declared.body.Body.{Body}
@@ -17,8 +15,8 @@ use Rattle.client_core.specs.declared.packet_client.PacketClient.{PacketClient}
 use Rattle.client_core.specs.declared.noted.Noted.{Noted}
 use Rattle.client_core.specs.declared.peers.Peers.{Peers}
 use Rattle.client_core.specs.History.{Opening, Entry}
-use Rattle.state_table.specs.Kept.{kept_of}
-use Rattle.client_core.specs.Refusals.{is_for_client, is_begun, has_next, differs, lacks_room, faults_of, faults_of_body, refusal_by}
+use Rattle.state_table.proofs.RefusalLemmas.{IsRefusal, one_refusal, more_refusals, first_refusal, state_refusals}
+use Rattle.client_core.specs.Refusals.{is_for_client, is_begun, has_next, faults_of, faults_of_body, refusal_by}
 use Rattle.client_core.specs.Words.{is_on, words_noted, refusal, peers}
 use Rattle.client_core.specs.Stands.{StandsFor}
 use Rattle.client_core.proofs.Looked.{looks_at_all}
@@ -39,31 +37,9 @@ refusal_is note client o past c s =
     ap (λ on. refusal_by on client.peers client.noted c) (on_of client.down (is_on past) s.on)
     ∙ same_refusal (is_on past) client.peers (peers o past) (words_noted o past) client.noted c (λ on. s.peers ∙ ap (peers o) (looks_at_all past on)) (λ on. s.knows ∙ ap (words_noted o) (looks_at_all past on))
 
-abbrev pub IsRefusal : Fault → Type 0
-IsRefusal fault = sort_of fault ≡ sorts.Refusal
-
-one_refusal : (b : Bool) (f : Fault) → IsRefusal f → AllByRecursion IsRefusal (when b f)
-one_refusal true f r = (r, tt)
-one_refusal false f r = tt
-
-more_refusals : (b : Bool) (f : Fault) (fs : List Fault) → IsRefusal f → AllByRecursion IsRefusal fs → AllByRecursion IsRefusal (when b f ++ fs)
-more_refusals true f fs r all = (r, all)
-more_refusals false f fs r all = all
-
-first_refusal : (fs : List Fault) (fault : Fault) → AllByRecursion IsRefusal fs → slice_get fs 0 ≡ Some fault → IsRefusal fault
-first_refusal [] fault all e = cc
-first_refusal (f ∷ fs) fault all e = subst IsRefusal (some_is e) all.0
-  where
-    some_is : Some f ≡ Some fault → f ≡ fault
-    some_is e = cc
-
 body_refusals : (n : Noted) (body : Body) → AllByRecursion IsRefusal (faults_of_body n body)
-body_refusals n (bodies.State jobs state) =
-    let full = lacks_room n.kept (kept_of state.key n.kept) in
-    more_refusals (differs state (kept_of state.key n.kept)) Conflict (when full TableFull) refl (one_refusal full TableFull refl)
-body_refusals n (bodies.Copy state) =
-    let full = lacks_room n.kept (kept_of state.key n.kept) in
-    more_refusals (differs state (kept_of state.key n.kept)) Conflict (when full TableFull) refl (one_refusal full TableFull refl)
+body_refusals n (bodies.State jobs state) = state_refusals n.kept state
+body_refusals n (bodies.Copy state) = state_refusals n.kept state
 body_refusals n _ = tt
 
 call_refusals : (servers : Peers) (n : Noted) (c : Call) → AllByRecursion IsRefusal (faults_of servers n c)

@@ -26,8 +26,8 @@ use Rattle.client_core.specs.Reports.{counts_for, has_report, with_report, repor
 use Rattle.client_core.specs.Packets.{packets}
 use Rattle.client_core.specs.Ranges.{packet_in, packets_come}
 use Rattle.client_core.specs.Laws.{from_server, ReportsCame, has_distinct_reports, OneReportEach}
-use Rattle.client_core.proofs.HeardLemmas.{from_own, one, taken_in}
-use Rattle.client_core.proofs.ListLemmas.{all_append, all_weaker}
+use Rattle.client_core.proofs.HeardLemmas.{from_own, taken_in}
+use Rattle.disk_model.proofs.ListLemmas.{all_append, all_weaker, one}
 
 -- a report came in one of these packets
 abbrev Came : List PacketParts → Received → Type 0

@@ -35,8 +35,8 @@ use Rattle.client_core.specs.Requests as requests
 use Rattle.client_core.specs.Packets.{packets}
 use Rattle.client_core.specs.Ranges.{packet_in, packets_come}
 use Rattle.client_core.specs.Laws.{from_server, FirstKeptStays, HasAnswer, TellsJobs, EndsWell, TriggersEndWell}
-use Rattle.client_core.proofs.HeardLemmas.{from_own, has_one, one, own_state, taken_in}
-use Rattle.client_core.proofs.ListLemmas.{all_weaker}
+use Rattle.client_core.proofs.HeardLemmas.{from_own, has_one, own_state, taken_in}
+use Rattle.disk_model.proofs.ListLemmas.{all_weaker, one}
 
 -- what is known of what was told
 abbrev Told : Noted → List PacketParts → ℕ → ℕ → Telling → Type 0

@@ -1,13 +1,13 @@
 -- The durable note of a client: what it says, and its bytes.
 use Rattle.std.specs.Prelude.{◌≡◌, ◌⊎◌, ℕ, Bool, ◌&&◌, ◌==◌, ◌*◌, ◌^◌, ◌<◌, ◌≤◌, List, [], ◌++◌, length, take, drop, map, codes, Option, Some, None, IsTrue}
-use Rattle.std.specs.List.{flat_map, AllByRecursion}
+use Rattle.std.specs.List.{AllByRecursion}
 use Rattle.std.specs.Int.{w32, w64}
 use Rattle.fc_base.specs.declared.limits.TheConstants.{MAX_GENERATION}
 use Rattle.fc_base.specs.Layouts.{bytes_of, number_in}
 use Rattle.state_table.specs.declared.kept.TheConstants.{KEPT_LIMIT}
 use Rattle.verify_state.specs.State.{IsState}
 use Rattle.verify_state.specs.Spelling.{spelling as state_bytes}
-use Rattle.state_table.specs.Counted.{counted_bytes, SayStates}
+use Rattle.state_table.specs.Counted.{counted_states, SayStates}
 use Rattle.state_table.specs.Kept.{has_distinct_keys}
 use Rattle.state_table.specs.Reading.{HasFirst}
 use Rattle.client_core.specs.declared.noted.Noted.{Noted}
@@ -29,8 +29,7 @@ is_blank n =
 -- of states, and the states in their order.
 unfoldable pub numbers_of : ℕ → ℕ → List (List ℕ) → List ℕ
 numbers_of runs attempts states =
-    bytes_of w64 runs ++ (bytes_of w64 attempts
-    ++ (bytes_of w32 (length states) ++ flat_map counted_bytes states))
+    bytes_of w64 runs ++ (bytes_of w64 attempts ++ counted_states states)
 
 -- A note: the magic, the generation, and the rest.
 unfoldable pub note_of : ℕ → ℕ → ℕ → List (List ℕ) → List ℕ

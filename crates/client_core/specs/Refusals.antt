@@ -1,11 +1,8 @@
 -- Why a client refuses a call, by what its note says.
-use Rattle.std.specs.Prelude.{ℕ, ◌+◌, ◌*◌, ◌^◌, Bool, true, false, ◌&&◌, ◌||◌, ◌==◌, not, nat_lt, nat_le, List, [], ◌++◌, length, Option, Some, None, slice_get}
+use Rattle.std.specs.Prelude.{ℕ, ◌+◌, ◌*◌, ◌^◌, Bool, true, false, ◌&&◌, ◌||◌, ◌==◌, not, nat_lt, nat_le, List, [], ◌++◌, Option, slice_get}
 use Rattle.fc_base.specs.declared.fault.Fault.{Fault}
-use Rattle.fc_base.specs.declared.fault.Fault.TheVariants.{JobTooLong, Down, Misdirected, NoSuchRun, Conflict, NumbersSpent, TableFull}
+use Rattle.fc_base.specs.declared.fault.Fault.TheVariants.{JobTooLong, Down, Misdirected, NoSuchRun, NumbersSpent}
 use Rattle.fc_base.specs.Faults.{when}
-use Rattle.state_table.specs.declared.kept.TheConstants.{KEPT_LIMIT}
-use Rattle.verify_state.specs.State.{State}
-use Rattle.verify_state.specs.Same.{is_same}
 use Rattle.messages.specs.declared.packet.PacketParts.{PacketParts}
 use Rattle.messages.specs.declared.body.Body.{Body}
 use Rattle.messages.specs.declared.body.Body.TheVariants as bodies
@@ -17,7 +14,7 @@ use Rattle.messages.specs.Bodies.{kind_of}
 use Rattle.messages.specs.Ranges.{is_text}
 use Rattle.client_core.specs.declared.call.Call.{Call}
 use Rattle.client_core.specs.declared.call.Call.TheVariants.{Begin, Trigger, Stop, Verify, Deliver, Tick}
-use Rattle.state_table.specs.Kept.{kept_of}
+pub use Rattle.state_table.specs.Refusals.{differs, lacks_room, faults_of_state}
 use Rattle.client_core.specs.declared.noted.Noted.{Noted}
 use Rattle.client_core.specs.declared.peers.Peers.{Peers}
 
@@ -68,22 +65,6 @@ has_next peers generation used =
     nat_lt (used + 1) (2 ^ 64)
     && (is_of_generation peers.mirror generation (used + 1)
     && is_free_to_number peers.granted generation)
-
--- Another state is kept.
-abbrev pub differs : State → Option State → Bool
-differs state None = false
-differs state (Some kept) = not (is_same kept state)
-
--- None is kept, and there is no room for one more.
-abbrev pub lacks_room : List State → Option State → Bool
-lacks_room states None = nat_le KEPT_LIMIT (length states)
-lacks_room states (Some kept) = false
-
--- Why a state that comes is refused.
-abbrev pub faults_of_state : List State → State → List Fault
-faults_of_state states state =
-    when (differs state (kept_of state.key states)) Conflict
-    ++ when (lacks_room states (kept_of state.key states)) TableFull
 
 -- Why what a server or the mirror says is refused.
 abbrev pub faults_of_body : Noted → Body → List Fault

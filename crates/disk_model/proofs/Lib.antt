@@ -2,3 +2,5 @@ pub mod SectorLemmas
 pub mod PickLemmas
 pub mod ContentLemmas
 pub mod LawLemmas
+pub mod ListLemmas
+pub mod StepLemmas

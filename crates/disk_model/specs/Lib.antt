@@ -11,5 +11,6 @@ pub mod Countdown
 pub mod Laws
 pub mod Left
 pub mod Steps
+pub mod Saving
 pub mod FaultNotes
 pub mod FaultDisk

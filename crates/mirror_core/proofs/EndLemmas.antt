@@ -11,7 +11,9 @@ use Rattle.disk_model.specs.declared.left.Left.{Left}
 use Rattle.disk_model.specs.declared.left.Left.TheVariants.{NoSave, LostNew, LostOld}
 use Rattle.disk_model.specs.Left.{saved_for, is_lost, has_new, bytes_left}
 use Rattle.disk_model.specs.Notes.{Note}
+use Rattle.disk_model.specs.Saving.{Unsaved}
 use Rattle.disk_model.specs.Steps.{LeavesNote, Answers, Fails, Faults}
+use Rattle.disk_model.proofs.StepLemmas.{and_true, is_own_answer, not_lost, lost_off}
 use Rattle.messages.specs.declared.frame.Frame.{Frame}
 use Rattle.mirror_core.specs.declared.mirror.Mirror.{Mirror}
 use Rattle.mirror_core.specs.declared.noted.Noted.{Noted}
@@ -24,7 +26,7 @@ use Rattle.mirror_core.specs.Saves.{Addition, with_addition, addition_by, additi
 use Rattle.mirror_core.specs.Words.{is_on, words_noted, shown_entries, refusal, due, would_save, is_answered}
 use Rattle.mirror_core.specs.Packets.{replies, packets, packets_for, frame_bytes}
 use Rattle.mirror_core.specs.Stands.{StandsFor}
-use Rattle.mirror_core.specs.Ends.{answered_entry, steps, Unsaved, Stores}
+use Rattle.mirror_core.specs.Ends.{answered_entry, steps, save_of, Stores}
 use Rattle.mirror_core.proofs.Looked.{looks_at_all}
 use Rattle.mirror_core.proofs.RequestLemmas.{refusal_sort}
 
@@ -57,10 +59,6 @@ record Free {T : Type 0} (mirror : Mirror T) (o : Noted) (past : List Entry) (f 
   due_is : due o past f ≡ addition_by mirror.noted r
   sends : frame_bytes (replies mirror.noted r) ≡ frame_bytes (packets o past (answered_entry o past f))
 
-is_own_answer : (d : Option Addition) → is_answer d (saved_for d) ≡ true
-is_own_answer None = refl
-is_own_answer (Some a) = refl
-
 free_now : {T : Type 0} (note : T → Note) (mirror : Mirror T) (o : Noted) (past : List Entry) (f : Frame) (r : Request) → mirror.down ≡ false → faults_of_request mirror.noted r ≡ [] → request_in f ≡ Some r → StandsFor note mirror o past → Free mirror o past f r
 free_now note mirror o past f r up none asked s =
     let on : is_on past ≡ true = sym (stands_on note mirror o past s) ∙ ap not up in
@@ -82,10 +80,6 @@ after_none : (new : Bool) (d : Option Addition) (n : Noted) → new ≡ false �
 after_none new None n e = refl
 after_none true (Some a) n e = cc
 after_none false (Some a) n e = refl
-
-and_true : (b : Bool) → (b && true) ≡ b
-and_true true = refl
-and_true false = refl
 
 -- A refused frame in the list changes none of its words.
 refused_stands : {T : Type 0} (note : T → Note) (mirror : Mirror T) (o : Noted) (past : List Entry) (f : Frame) → StandsFor note mirror o past → StandsFor note mirror o (Met f NoSave ∷ past)
@@ -110,10 +104,6 @@ refuses note mirror o past f fault r s =
     (record { why = why; same_note = refl; unchanged = s; stands = refused_stands note mirror o past f s })
 
 -- ---- a frame that is answered
-
-not_lost : (d : Option Addition) → is_lost (saved_for d) ≡ false
-not_lost None = refl
-not_lost (Some a) = refl
 
 new_noted : (d : Option Addition) (n : Noted) → noted_after (has_new (saved_for d)) d n ≡ noted_after true d n
 new_noted None n = refl
@@ -171,10 +161,6 @@ answers_stored note old new a o past f r frames read up none asked adds fits u s
 
 -- ---- a frame whose save isn't answered
 
-lost_off : (on : Bool) (left : Left) → is_lost left ≡ true → true ≡ not (on && not (is_lost left))
-lost_off true left e = ap (λ b. not (true && not b)) (sym e)
-lost_off false left e = refl
-
 -- A mirror that is down at a failed save stands for the list with what was lost.
 lost_stands : {T : Type 0} (note : T → Note) (mirror : Mirror T) (notes : T) (o : Noted) (past : List Entry) (f : Frame) (left : Left) → is_on past ≡ true → is_lost left ≡ true → StandsFor note mirror o past
     → Says (note notes).bytes (noted_after (has_new left) (due o past f) (words_noted o past)) → StandsFor note (record mirror { notes = notes; down = true }) o (Met f left ∷ past)
@@ -188,7 +174,7 @@ lost_stands note mirror notes o past f left on lost s says = record {
     look = ap (λ b. if b then (if is_lost left then past else Met f left ∷ past) else shown_entries past) on ∙ ap (λ b. if b then past else Met f left ∷ past) lost
 
 unsaved : {T : Type 0} (note : T → Note) (old new : Mirror T) (a : Addition) (fault : Fault) (o : Noted) (past : List Entry) (f : Frame) (r : Request) → SaysWhatIsWritten → StandsFor note old o past → Free old o past f r
-    → addition_by old.noted r ≡ Some a → IsNoted (with_addition a (words_noted o past)) → (t : FaultSort) → Unsaved note a t fault old new → Faults (steps note o) past f t fault old new
+    → addition_by old.noted r ≡ Some a → IsNoted (with_addition a (words_noted o past)) → (t : FaultSort) → Unsaved (λ m. note m.notes) (save_of (with_addition a old.noted) old new) t fault old new → Faults (steps note o) past f t fault old new
 unsaved note old new a fault o past f r read s k adds fits sorts.Memory u = record {
   why = u.0;
   same_note = u.1;

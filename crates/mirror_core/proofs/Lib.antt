@@ -2,7 +2,6 @@ mod EndLemmas
 mod ExampleLemmas
 mod FrameLemmas
 mod KeptLemmas
-mod ListLemmas
 mod Looked
 mod NoteLemmas
 mod NotedLemmas

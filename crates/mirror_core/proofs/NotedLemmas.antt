@@ -20,12 +20,13 @@ use Rattle.mirror_core.specs.declared.request.Request.TheVariants.{Copy, Fetch}
 use Rattle.mirror_core.specs.Note.{IsNoted}
 use Rattle.mirror_core.specs.History.{Entry, Met, Cut, Restart}
 use Rattle.mirror_core.specs.Requests.{request_in, IsRequest}
-use Rattle.mirror_core.specs.Refusals.{differs, lacks_room, faults_of_request, refusal_by}
+use Rattle.mirror_core.specs.Refusals.{faults_of_request, refusal_by}
 use Rattle.mirror_core.specs.Saves.{Grant, Keep, with_addition, unless_kept, unless_refused, addition_by, addition_of, noted_after}
 use Rattle.mirror_core.specs.Words.{is_on, words_noted}
 use Rattle.mirror_core.specs.Laws.{packet_in, packets_come, NotesKeepRanges}
-use Rattle.mirror_core.proofs.ListLemmas.{all_append}
-use Rattle.mirror_core.proofs.RequestLemmas.{asked_range, room_fault, taken_in}
+use Rattle.disk_model.proofs.ListLemmas.{all_append}
+use Rattle.state_table.proofs.RefusalLemmas.{has_room}
+use Rattle.mirror_core.proofs.RequestLemmas.{asked_range, taken_in}
 
 -- ---- an addition fits
 
@@ -64,20 +65,11 @@ granted_already n g h = let e : nat_lt n.generation g ≡ false = grind (arith, 
 pub granted_newly : (n : Noted) (g : ℕ) → n.generation < g → addition_by n (Fetch g) ≡ Some (Grant g)
 granted_newly n g h = let e : nat_lt n.generation g ≡ true = grind (arith, nat_tests) in rw e refl
 
-room_left : (n : Noted) (s : State) (x : Option State) → x ≡ None → lacks_room n.kept x ≡ false → length n.kept < KEPT_LIMIT
-room_left n s None e h = grind (arith, nat_tests)
-room_left n s (Some k) e h = cc
-
-pub has_room : (n : Noted) (s : State) → kept_of s.key n.kept ≡ None → faults_of_request n (Copy s) ≡ [] → length n.kept < KEPT_LIMIT
-has_room n s none free =
-    let x = kept_of s.key n.kept in
-    room_left n s x none (room_fault (differs s x) (lacks_room n.kept x) free).1
-
 -- ---- a note keeps its ranges
 
 copy_step : KeysStayApart → (new : Bool) (n : Noted) (s : State) (x : Option State) → kept_of s.key n.kept ≡ x → faults_of_request n (Copy s) ≡ [] → IsState s → IsNoted n → IsNoted (noted_after new (unless_kept x s) n)
 copy_step apart new n s (Some k) e free h i = i
-copy_step apart true n s None e free h i = kept_fits apart n s e (has_room n s e free) h i
+copy_step apart true n s None e free h i = kept_fits apart n s e (has_room n.kept s e free) h i
 copy_step apart false n s None e free h i = i
 
 fetch_step : (new b : Bool) (n : Noted) (g : ℕ) → is_generation g ≡ true → IsNoted n → IsNoted (noted_after new (if b then Some (Grant g) else None) n)

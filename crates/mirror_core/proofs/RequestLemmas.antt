@@ -4,9 +4,7 @@ use Rattle.std.specs.Prelude.{if◌then◌else◌, not, is_none, slice_get}
 use Rattle.std.specs.List.{AllByRecursion}
 use Rattle.std.proofs.lemmas.Bool.{and_parts}
 use Rattle.fc_base.specs.declared.fault.Fault.{Fault}
-use Rattle.fc_base.specs.declared.fault.Fault.TheVariants.{Old, Down, Conflict, TableFull}
-use Rattle.fc_base.specs.declared.fault.FaultSort.TheVariants as sorts
-use Rattle.fc_base.specs.Fault.{sort_of}
+use Rattle.fc_base.specs.declared.fault.Fault.TheVariants.{Old, Down}
 use Rattle.fc_base.specs.Faults.{when}
 use Rattle.verify_state.specs.State.{State}
 use Rattle.messages.specs.declared.body.Body.{Body}
@@ -19,12 +17,12 @@ use Rattle.messages.specs.Nodes.{is_node}
 use Rattle.messages.specs.Ranges.{is_body, KeepsState}
 use Rattle.messages.specs.Laws.{IsPacket}
 use Rattle.disk_model.specs.declared.left.Left.{Left}
-use Rattle.state_table.specs.Kept.{kept_of}
+use Rattle.state_table.proofs.RefusalLemmas.{IsRefusal, one_refusal, more_refusals, first_refusal, state_refusals}
 use Rattle.mirror_core.specs.declared.noted.Noted.{Noted}
 use Rattle.mirror_core.specs.declared.request.Request.{Request}
 use Rattle.mirror_core.specs.declared.request.Request.TheVariants.{Copy, Fetch}
 use Rattle.mirror_core.specs.History.{Met}
-use Rattle.mirror_core.specs.Refusals.{differs, lacks_room, faults_of, faults_of_request}
+use Rattle.mirror_core.specs.Refusals.{faults_of, faults_of_request}
 use Rattle.mirror_core.specs.Requests.{asked_by, is_for_mirror, request_in, IsRequest}
 use Rattle.mirror_core.specs.Saves.{Addition, unless_refused, is_answer}
 use Rattle.mirror_core.specs.Laws.{packet_in, from_client}
@@ -72,11 +70,6 @@ taken_in on n q r h e =
     let p = no_fault on (faults_of n q) h in
     (p.0, sym (ap (faults_of n) e) ∙ p.1)
 
-pub room_fault : (d full : Bool) → when d Conflict ++ when full TableFull ≡ [] → (d ≡ false) × (full ≡ false)
-room_fault false false h = (refl, refl)
-room_fault false true h = cc
-room_fault true full h = cc
-
 pub not_when : (b : Bool) (f : Fault) → when b f ≡ [] → b ≡ false
 not_when true f h = cc
 not_when false f h = refl
@@ -87,29 +80,9 @@ answered_due (Some f) d left h = cc
 
 -- ---- what is refused
 
-abbrev IsRefusal : Fault → Type 0
-IsRefusal fault = sort_of fault ≡ sorts.Refusal
-
-one_refusal : (b : Bool) (f : Fault) → IsRefusal f → AllByRecursion IsRefusal (when b f)
-one_refusal true f r = (r, tt)
-one_refusal false f r = tt
-
-more_refusals : (b : Bool) (f : Fault) (fs : List Fault) → IsRefusal f → AllByRecursion IsRefusal fs → AllByRecursion IsRefusal (when b f ++ fs)
-more_refusals true f fs r all = (r, all)
-more_refusals false f fs r all = all
-
-first_refusal : (fs : List Fault) (fault : Fault) → AllByRecursion IsRefusal fs → slice_get fs 0 ≡ Some fault → IsRefusal fault
-first_refusal [] fault all e = cc
-first_refusal (f ∷ fs) fault all e = subst IsRefusal (some_is e) all.0
-  where
-    some_is : Some f ≡ Some fault → f ≡ fault
-    some_is e = cc
-
 asked_refusals : (n : Noted) (q : Option Request) → AllByRecursion IsRefusal (faults_of n q)
 asked_refusals n None = (refl, tt)
-asked_refusals n (Some (Copy state)) =
-    let full = lacks_room n.kept (kept_of state.key n.kept) in
-    more_refusals (differs state (kept_of state.key n.kept)) Conflict (when full TableFull) refl (one_refusal full TableFull refl)
+asked_refusals n (Some (Copy state)) = state_refusals n.kept state
 asked_refusals n (Some (Fetch generation)) = one_refusal _ Old refl
 
 pub refusal_sort : (on : Bool) (n : Noted) (q : Option Request) (fault : Fault) → slice_get (when (not on) Down ++ faults_of n q) 0 ≡ Some fault → IsRefusal fault

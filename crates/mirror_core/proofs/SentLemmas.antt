@@ -15,7 +15,6 @@ use Rattle.messages.specs.declared.packet.PacketParts.{PacketParts}
 use Rattle.messages.specs.declared.body.Body.{Body}
 use Rattle.messages.specs.declared.body.Body.TheVariants as bodies
 use Rattle.messages.specs.declared.frame.Frame.{Frame}
-use Rattle.messages.specs.declared.node.Node.TheVariants as nodes
 use Rattle.state_table.specs.Kept.{kept_of, has_distinct_keys}
 use Rattle.state_table.specs.Laws.{FoundHasItsKey, LastIsFound, KeysStayApart}
 use Rattle.mirror_core.specs.declared.noted.Noted.{Noted}
@@ -28,7 +27,7 @@ use Rattle.mirror_core.specs.Saves.{Grant, unless_kept, unless_refused, addition
 use Rattle.mirror_core.specs.Words.{is_on, words_noted, refusal, is_answered}
 use Rattle.mirror_core.specs.Packets.{to_client, copy_of, replies, packets, packets_for}
 use Rattle.mirror_core.specs.Laws.{GoesToClient, PacketsGoToTheClient, CopiesAreKept, CopiesAreNoted, CopyOksAreFor, GrantsAreNoted}
-use Rattle.mirror_core.proofs.ListLemmas.{all_map, all_where, none_in, behind_one, first_or_behind, where_so}
+use Rattle.disk_model.proofs.ListLemmas.{all_map, all_where, none_in, behind_one, first_or_behind, where_so}
 use Rattle.mirror_core.proofs.NotedLemmas.{keys_apart}
 use Rattle.mirror_core.proofs.RequestLemmas.{answered_due, not_when, taken_in}
 

@@ -1,13 +1,13 @@
 -- The durable note of a mirror: what it says, and its bytes.
 use Rattle.std.specs.Prelude.{◌≡◌, ◌⊎◌, ℕ, ◌≤◌, List, [], ◌++◌, length, map, codes, Option, Some, None, IsTrue}
-use Rattle.std.specs.List.{flat_map, AllByRecursion}
-use Rattle.std.specs.Int.{w32, w64}
+use Rattle.std.specs.List.{AllByRecursion}
+use Rattle.std.specs.Int.{w64}
 use Rattle.fc_base.specs.Layouts.{bytes_of}
 use Rattle.fc_base.specs.declared.limits.TheConstants.{MAX_GENERATION}
 use Rattle.state_table.specs.declared.kept.TheConstants.{KEPT_LIMIT}
 use Rattle.verify_state.specs.State.{IsState}
 use Rattle.verify_state.specs.Spelling.{spelling as state_bytes}
-use Rattle.state_table.specs.Counted.{counted_bytes, SayStates}
+use Rattle.state_table.specs.Counted.{counted_states, SayStates}
 use Rattle.state_table.specs.Kept.{has_distinct_keys}
 use Rattle.mirror_core.specs.declared.noted.Noted.{Noted}
 
@@ -19,8 +19,7 @@ blank = record { generation = 0; kept = [] }
 -- their order.
 unfoldable pub note_of : ℕ → List (List ℕ) → List ℕ
 note_of generation states =
-    codes "FCM1" ++ (bytes_of w64 generation
-    ++ (bytes_of w32 (length states) ++ flat_map counted_bytes states))
+    codes "FCM1" ++ (bytes_of w64 generation ++ counted_states states)
 
 -- How a note is written: with each state in its one spelling.
 abbrev pub spelling : Noted → List ℕ

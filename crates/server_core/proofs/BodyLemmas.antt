@@ -1,5 +1,5 @@
 -- What is known of bodies and numbers that are in their ranges.
-use Rattle.std.proofs.Common.{◌≡◌, refl, sym, subst, ℕ, ◌^◌, ◌<◌, arith, Bool, true, false, List, [], ◌∷◌, ◌++◌, length, Option, None, Some}
+use Rattle.std.proofs.Common.{◌≡◌, refl, sym, subst, ℕ, ◌^◌, ◌<◌, arith, Bool, true, false, List, length, Option, None, Some}
 use Rattle.std.specs.Prelude.{if◌then◌else◌, nat_le}
 use Rattle.std.specs.List.{AllByRecursion}
 use Rattle.std.proofs.lemmas.Bool.{and_from, le-leb, lt-ltb}
@@ -53,10 +53,6 @@ BodyFits b = (is_body b ≡ true) × KeepsState b
 
 abbrev pub Fit : List Body → Type 0
 Fit bs = AllByRecursion BodyFits bs
-
-pub all_append : {X : Type 0} (P : X → Type 0) (xs ys : List X) → AllByRecursion P xs → AllByRecursion P ys → AllByRecursion P (xs ++ ys)
-all_append P [] ys a b = b
-all_append P (x ∷ xs) ys a b = (a.0, all_append P xs ys a.1 b)
 
 pub fit_if : (b : Bool) (xs ys : List Body) → Fit xs → Fit ys → Fit (if b then xs else ys)
 fit_if true xs ys h k = h

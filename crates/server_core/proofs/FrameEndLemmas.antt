@@ -1,5 +1,5 @@
 -- A server takes what comes over a network of frames as its list does.
-use Rattle.std.proofs.Common.{◌≡◌, refl, sym, ◌∙◌, ap, subst, ℕ, ◌≤◌, arith, length, Bool, true, false, ◌&&◌, List, [], ◌∷◌, ◌++◌, Option, Some, None, Result, Ok, Err}
+use Rattle.std.proofs.Common.{◌≡◌, refl, sym, ◌∙◌, ap, subst, ℕ, ◌≤◌, arith, length, true, false, ◌&&◌, List, [], ◌∷◌, ◌++◌, Option, Some, None, Result, Ok, Err}
 use Rattle.std.specs.Prelude.{if◌then◌else◌, map, not, is_some}
 use Rattle.std.specs.List.{flat_map}
 use Rattle.std.specs.Result.{is_ok}
@@ -16,6 +16,7 @@ use Rattle.disk_model.specs.declared.left.Left.TheVariants.{NoSave}
 use Rattle.disk_model.specs.Left.{saved_for, is_lost, bytes_left}
 use Rattle.disk_model.specs.Notes.{Note}
 use Rattle.disk_model.specs.Steps.{LeavesNote, Answers, Faults, Ends}
+use Rattle.disk_model.proofs.StepLemmas.{on_before, off_lost}
 use Rattle.messages.specs.declared.packet.PacketParts.{PacketParts}
 use Rattle.messages.specs.declared.piece.PieceParts.{PieceParts}
 use Rattle.messages.specs.declared.frame.Frame.TheVariants.{Piece}
@@ -50,15 +51,6 @@ spelled [] = refl
 spelled (p ∷ ps) = ap (λ fs. spelled_frames p ++ fs) (spelled ps) ∙ sym (map-append frame_spelling (frames_of p) (flat_map frames_of ps))
 
 -- ---- whether the server is on
-
-on_before : (on lost : Bool) → (on && not lost) ≡ true → on ≡ true
-on_before true lost h = refl
-on_before false lost h = cc
-
-off_lost : (on lost : Bool) → lost ≡ true → (on && not lost) ≡ true → ⊥
-off_lost true true l h = cc
-off_lost false true l h = cc
-off_lost on false l h = cc
 
 on_is : (o : Opening) (past : List FrameEntry) (e : Input) (x : Event) (left : Left) → sense o past e ≡ Hears x → words.is_on (packets_heard o (Met e left ∷ past)) ≡ (words.is_on (packets_heard o past) && not (is_lost left))
 on_is o past e x left is = ap words.is_on (heard_is o past e left (Hears x) is)

@@ -13,7 +13,6 @@ pub mod HeardRangeLemmas
 pub mod HeldLemmas
 pub mod KeyLemmas
 pub mod LegalLemmas
-pub mod ListLemmas
 pub mod Looked
 pub mod NoteLemmas
 pub mod QuietLemmas

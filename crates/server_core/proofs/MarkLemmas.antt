@@ -8,6 +8,7 @@ use Rattle.fc_base.specs.Counted.{has, numbers_below}
 use Rattle.job_file.specs.declared.job.Job.{Job}
 use Rattle.messages.specs.declared.refusal.Act.{Act}
 use Rattle.messages.specs.declared.refusal.Act.TheVariants as acts
+use Rattle.disk_model.proofs.StepLemmas.{and_true}
 use Rattle.server_core.specs.declared.job_run.JobRun.{JobRun}
 use Rattle.server_core.specs.Request.{Request, ToMark}
 use Rattle.server_core.specs.Run.{Work, Halt, Triggered, Stopped, halt_of, origin_of, history}
@@ -22,10 +23,6 @@ use Rattle.server_core.proofs.RunLemmas.{no_job}
 abbrev all_in : (ℕ → Bool) → ℕ → ℕ → Bool
 all_in p j zero = true
 all_in p j (suc n) = p j && all_in p (j + 1) n
-
-and_true : (b : Bool) → (b && true) ≡ b
-and_true true = refl
-and_true false = refl
 
 and_more : (a b c : Bool) → (a && (b && c)) ≡ ((a && b) && c)
 and_more true b c = refl

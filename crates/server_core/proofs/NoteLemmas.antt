@@ -1,30 +1,18 @@
 -- The bytes behind the magic, cut in two, are the two numbers of a note.
-use Rattle.std.proofs.Common.{◌≡◌, sym, ◌∙◌, ap, subst, inl, inr, ℕ, ◌+◌, ◌^◌, ◌<◌, ◌≤◌, arith, true, List, ◌++◌, length, get_or, take, drop}
+use Rattle.std.proofs.Common.{◌≡◌, sym, ◌∙◌, ap, subst, inl, ℕ, ◌+◌, ◌^◌, ◌<◌, arith, true, List, ◌++◌, length, take, drop}
 use Rattle.std.specs.Prelude.{bytes_eq, codes}
 use Rattle.std.specs.Int.{w64, to_be_bytes, from_be_bytes}
-use Rattle.std.proofs.lemmas.Bool.{cases_lt}
-use Rattle.std.proofs.lemmas.List.{get_or-drop, get_or-take, get_or_past, take-append-drop, length-take, length-drop, take_all}
+use Rattle.std.proofs.lemmas.List.{take-append-drop, length-take, length-drop, take_all}
 use Rattle.std.proofs.lemmas.Nat.{be_bytes_8}
 use Rattle.std.proofs.lemmas.Slice.Eq.{bytes_eq-Decides}
 use Rattle.fc_base.specs.Layouts.{number_in}
+use Rattle.verify_state.proofs.FieldLemmas.{IsBytes, bytes_drop, bytes_take}
 use Rattle.server_core.specs.Note.{Says}
-
-abbrev IsBytes : List ℕ → Type 0
-IsBytes bytes = (i : ℕ) → get_or bytes i 0 < 256
-
-dropped : (n : ℕ) (bytes : List ℕ) → IsBytes bytes → IsBytes (drop n bytes)
-dropped n bytes h = λ i. subst (λ x. x < 256) (sym (get_or-drop n bytes i 0)) (h (n + i))
-
-taken : (n : ℕ) (bytes : List ℕ) → length (take n bytes) ≤ n → IsBytes bytes → IsBytes (take n bytes)
-taken n bytes few h = λ i. elim (cases_lt i n) [
-  | inl a ↦ subst (λ x. x < 256) (sym (get_or-take n bytes i 0 a)) (h i)
-  | inr b ↦ subst (λ x. x < 256) (sym (get_or_past (take n bytes) i 0 (omega arith))) (omega arith)
-]
 
 below : (bytes : List ℕ) → IsBytes bytes → number_in w64 bytes < 2 ^ 64
 unfolding number_in
 below bytes h =
-    let eight = taken 8 bytes (omega (arith, length-take 8 bytes)) h in
+    let eight = bytes_take 8 bytes h in
     omega (arith, eight 0, eight 1, eight 2, eight 3, eight 4, eight 5, eight 6, eight 7)
 
 pub note_said : (bytes numbers : List ℕ) (x y : ℕ) → IsBytes bytes → bytes_eq (take 4 bytes) (codes "FCN1") ≡ true → numbers ≡ drop 4 bytes
@@ -32,16 +20,16 @@ pub note_said : (bytes numbers : List ℕ) (x y : ℕ) → IsBytes bytes → byt
 unfolding number_in
 note_said bytes numbers x y h e n len f g =
     let magic : take 4 bytes ≡ codes "FCN1" = (bytes_eq-Decides (take 4 bytes) (codes "FCN1")).0 e in
-    let fits : IsBytes numbers = subst IsBytes (sym n) (dropped 4 bytes h) in
+    let fits : IsBytes numbers = subst IsBytes (sym n) (bytes_drop 4 bytes h) in
     let a : length (take 8 numbers) ≡ 8 = omega (arith, length-take 8 numbers, len) in
     let b : length (drop 8 numbers) ≡ 8 = omega (arith, length-drop 8 numbers, len) in
     let all : take 8 (drop 8 numbers) ≡ drop 8 numbers = take_all 8 (drop 8 numbers) (omega (arith, b)) in
-    let first : to_be_bytes w64 x ≡ take 8 numbers = be_bytes_8 (take 8 numbers) x a (taken 8 numbers (omega arith) fits) f in
-    let last : to_be_bytes w64 y ≡ drop 8 numbers = be_bytes_8 (drop 8 numbers) y b (dropped 8 numbers fits) (g ∙ ap (from_be_bytes w64) all) in
+    let first : to_be_bytes w64 x ≡ take 8 numbers = be_bytes_8 (take 8 numbers) x a (bytes_take 8 numbers fits) f in
+    let last : to_be_bytes w64 y ≡ drop 8 numbers = be_bytes_8 (drop 8 numbers) y b (bytes_drop 8 numbers fits) (g ∙ ap (from_be_bytes w64) all) in
     let back : to_be_bytes w64 x ++ to_be_bytes w64 y ≡ drop 4 bytes =
     ap (λ l. l ++ to_be_bytes w64 y) first ∙ ap (λ l. take 8 numbers ++ l) last ∙ take-append-drop 8 numbers ∙ n in
     record {
       boot_range = subst (λ m. m < 2 ^ 64) (sym f) (below numbers fits);
-      last_range = subst (λ m. m < 2 ^ 64) (sym g) (below (drop 8 numbers) (dropped 8 numbers fits));
+      last_range = subst (λ m. m < 2 ^ 64) (sym g) (below (drop 8 numbers) (bytes_drop 8 numbers fits));
       spelled = inl (sym (ap (λ l. codes "FCN1" ++ l) back ∙ ap (λ l. l ++ drop 4 bytes) (sym magic) ∙ take-append-drop 4 bytes));
     }

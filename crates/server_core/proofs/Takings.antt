@@ -6,6 +6,7 @@ use Rattle.std.proofs.lemmas.Bool.{eqb-true}
 use Rattle.verify_state.specs.State.{State}
 use Rattle.disk_model.specs.declared.left.Left.{Left}
 use Rattle.disk_model.specs.declared.left.Left.TheVariants.{NoSave, Saved, LostNew, LostOld}
+use Rattle.disk_model.proofs.StepLemmas.{and_true}
 use Rattle.server_core.specs.History.{Opening, Entry, Met, Cut, Restart}
 use Rattle.server_core.specs.Request.{Request, ToStage, ToStart, ToTrigger, ToMark, ToStop, ToVerify, ToHold, ToPassFully, ToIssue, ToEnd, ToReport, ToNobody, request_of}
 use Rattle.server_core.specs.Run.{Work, Halt, Triggered, Stopped, halt_by, halt_of, goes_on}
@@ -64,10 +65,6 @@ never : (u : Bool) (w : Work) (j : ℕ) (b : Option Halt) → takes_now (u && fa
 never true w j None = refl
 never false w j None = refl
 never u w j (Some halt) = refl
-
-and_true : (u : Bool) → (u && true) ≡ u
-and_true true = refl
-and_true false = refl
 
 -- A request of the present run, or of another.
 stepped : (r j last : ℕ) (states : List State) (x : Request) (w : Work) (t : Bool) → (t ≡ true → w.run ≡ r)

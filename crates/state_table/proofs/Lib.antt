@@ -1,3 +1,5 @@
 mod PlaceLemmas
 mod ReadingLemmas
 mod TableLemmas
+pub mod CountedLemmas
+pub mod RefusalLemmas

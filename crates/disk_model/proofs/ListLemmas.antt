@@ -1,4 +1,4 @@
--- What holds of each element of a list.
+-- What holds of each element of a list, for the cores above.
 use Rattle.std.proofs.Common.{◌≡◌, refl, ◌⊎◌, inl, inr, ℕ, zero, suc, ◌<◌, ◌≤◌, arith, Bool, true, false, List, [], ◌∷◌, ◌++◌}
 use Rattle.std.specs.Prelude.{if◌then◌else◌, map, Contains}
 use Rattle.std.specs.List.{AllByRecursion, flat_map}
@@ -44,18 +44,25 @@ each_of P xs x a h = All-contains P xs x (All-from_recursion P xs a) h
 pub none_in : {X : Type 0} (x : X) → Contains [] x → ⊥
 none_in x h = omega (arith, h.1)
 
+pub one : {X : Type 0} (p x : X) → p ≡ x → Contains (p ∷ []) x
+one p x e = (0, omega arith, e)
+
 pub behind_one : {X : Type 0} (y : X) (xs : List X) (x : X) → Contains xs x → Contains (y ∷ xs) x
 behind_one y xs x h = Contains-append_right (y ∷ []) xs x h
 
 pub first_of : {X : Type 0} (x : X) (xs : List X) → Contains (x ∷ xs) x
 first_of x xs = (0, omega arith, refl)
 
+pub only_in : {X : Type 0} (y x : X) → Contains (y ∷ []) x → y ≡ x
+only_in y x h = elim (Contains-push_cases [] y x h) [ inl i ↦ absurd (none_in x i) | inr e ↦ e ]
+
 pub first_or_behind : {X : Type 0} (y : X) (xs : List X) (x : X) → Contains (y ∷ xs) x → (y ≡ x) ⊎ Contains xs x
-first_or_behind y xs x h = elim (Contains-append_cases (y ∷ []) xs x h) [ inl a ↦ inl (only y x a) | inr b ↦ inr b ]
-  where
-    only : {X : Type 0} (y x : X) → Contains (y ∷ []) x → y ≡ x
-    only y x h = elim (Contains-push_cases [] y x h) [ inl i ↦ absurd (none_in x i) | inr e ↦ e ]
+first_or_behind y xs x h = elim (Contains-append_cases (y ∷ []) xs x h) [ inl a ↦ inl (only_in y x a) | inr b ↦ inr b ]
 
 pub each_is_there : {X : Type 0} (xs : List X) → AllByRecursion (λ x. Contains xs x) xs
 each_is_there [] = tt
 each_is_there (x ∷ xs) = (first_of x xs, all_weaker (λ y. Contains xs y) (λ y. Contains (x ∷ xs) y) xs (λ y h. behind_one x xs y h) (each_is_there xs))
+
+pub where_so : {X : Type 0} (b : Bool) (xs : List X) (x : X) → Contains (if b then xs else []) x → (b ≡ true) × Contains xs x
+where_so true xs x h = (refl, h)
+where_so false xs x h = absurd (none_in x h)
