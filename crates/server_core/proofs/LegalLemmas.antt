@@ -2,6 +2,7 @@
 use Rattle.std.proofs.Common.{◌≡◌, refl, ◌≤◌, arith, Bool, true, false, ◌&&◌, ◌==◌, List, [], ◌∷◌}
 use Rattle.std.specs.Prelude.{if◌then◌else◌, nat_le, is_some, Result, Ok, Err}
 use Rattle.std.proofs.lemmas.Bool.{and_parts, leb-true}
+use Rattle.fc_base.specs.declared.limits.TheConstants.{MAX_DEPTH, MAX_WINDOW}
 use Rattle.fc_base.specs.declared.fault.Fault.{Fault}
 use Rattle.fc_base.specs.declared.record.JobParts.{JobParts}
 use Rattle.fc_base.specs.JobParts.{is_within_limits, has_block_size, has_region, has_queue, has_pattern}
@@ -59,7 +60,7 @@ pub some_window : (job : JobParts) → is_within_limits job ≡ true → 1 ≤ j
 some_window job h =
     let most = and_parts (has_block_size job && has_region job && has_queue job) (has_pattern job) h in
     let queue = and_parts (has_block_size job && has_region job) (has_queue job) most.0 in
-    let parts = and_parts (nat_le 1 job.depth && nat_le job.depth 64) (nat_le job.depth job.window && nat_le job.window 256) queue.1 in
-    let one = leb-true 1 job.depth (and_parts (nat_le 1 job.depth) (nat_le job.depth 64) parts.0).0 in
-    let wide = leb-true job.depth job.window (and_parts (nat_le job.depth job.window) (nat_le job.window 256) parts.1).0 in
+    let parts = and_parts (nat_le 1 job.depth && nat_le job.depth MAX_DEPTH) (nat_le job.depth job.window && nat_le job.window MAX_WINDOW) queue.1 in
+    let one = leb-true 1 job.depth (and_parts (nat_le 1 job.depth) (nat_le job.depth MAX_DEPTH) parts.0).0 in
+    let wide = leb-true job.depth job.window (and_parts (nat_le job.depth job.window) (nat_le job.window MAX_WINDOW) parts.1).0 in
     omega arith

@@ -3,7 +3,7 @@ use Rattle.std.proofs.Common.{◌≡◌, refl, sym, ℕ, ◌+◌, ◌^◌, ◌<�
 use Rattle.std.specs.Prelude.{nat_le}
 use Rattle.std.proofs.lemmas.Bool.{and_parts, and_from, ltb-true, le-leb, lt-ltb, leb-true}
 use Rattle.std.proofs.lemmas.List.{length-append}
-use Rattle.fc_base.specs.declared.limits.TheConstants.{MAX_JOBS, MAX_SERVERS}
+use Rattle.fc_base.specs.declared.limits.TheConstants.{MAX_DEPTH, MAX_JOBS, MAX_SERVERS, MAX_WINDOW}
 use Rattle.fc_base.specs.declared.record.JobParts.{JobParts}
 use Rattle.fc_base.specs.JobParts.{is_within_limits, has_block_size, has_region, has_queue, has_pattern}
 use Rattle.fc_base.specs.Counted.{is_possible}
@@ -26,12 +26,12 @@ word_below : (seed n : ℕ) → word seed n < 2 ^ 64
 unfolding word
 word_below seed n = mod-lt _ (omega arith)
 
-narrow : (job : JobParts) → is_within_limits job ≡ true → job.window ≤ 256
+narrow : (job : JobParts) → is_within_limits job ≡ true → job.window ≤ MAX_WINDOW
 narrow job h =
     let most = and_parts (has_block_size job && has_region job && has_queue job) (has_pattern job) h in
     let queue = and_parts (has_block_size job && has_region job) (has_queue job) most.0 in
-    let parts = and_parts (nat_le 1 job.depth && nat_le job.depth 64) (nat_le job.depth job.window && nat_le job.window 256) queue.1 in
-    leb-true job.window 256 (and_parts (nat_le job.depth job.window) (nat_le job.window 256) parts.1).1
+    let parts = and_parts (nat_le 1 job.depth && nat_le job.depth MAX_DEPTH) (nat_le job.depth job.window && nat_le job.window MAX_WINDOW) queue.1 in
+    leb-true job.window MAX_WINDOW (and_parts (nat_le job.depth job.window) (nat_le job.window MAX_WINDOW) parts.1).1
 
 one_more : (k : ℕ) (h : List window.Event) → window.issued (window.issue k ∷ h) ≡ window.issued h + 1
 one_more k h = length-append (window.issues h) (k ∷ [])
