@@ -1,7 +1,6 @@
 -- Tags that pass the test are the same.
 use Rattle.std.proofs.Common.{◌≡◌, refl, sym, ◌∙◌, ap, ℕ, arith, true, ◌==◌, Some}
-use Rattle.std.proofs.lemmas.Bool.{eqb-true}
-use Rattle.std.proofs.lemmas.Bool.Decides.{nat_tests}
+use Rattle.std.proofs.lemmas.Bool.{eq-eqb, eqb-true}
 use Rattle.messages.specs.declared.kind.PacketKind.{PacketKind}
 use Rattle.messages.specs.Kinds.{number_of, kind_numbered}
 use Rattle.messages.proofs.ChoiceLemmas.{kind_again}
@@ -9,12 +8,16 @@ use Rattle.messages.proofs.TestLemmas.{both}
 use Rattle.messages.specs.declared.piece.Tag.{Tag}
 use Rattle.messages.specs.Tags.{is_tag}
 
-same_number : (x : ℕ) → (x == x) ≡ true
-same_number x = grind (arith, nat_tests)
-
 pub is_tag_self : (t : Tag) → is_tag t t ≡ true
 is_tag_self t =
-    rw (same_number (number_of t.whole), same_number t.run, same_number t.number, same_number t.server, same_number t.job, same_number t.length) refl
+    rw (
+      eq-eqb (number_of t.whole) (number_of t.whole) refl,
+      eq-eqb t.run t.run refl,
+      eq-eqb t.number t.number refl,
+      eq-eqb t.server t.server refl,
+      eq-eqb t.job t.job refl,
+      eq-eqb t.length t.length refl,
+    ) refl
 
 some_kind : (a b : PacketKind) → Some a ≡ Some b → a ≡ b
 some_kind a b h = cc

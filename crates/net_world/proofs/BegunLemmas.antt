@@ -1,13 +1,14 @@
 -- A run is begun once, with one set of jobs, and what is taken is of these.
 use Rattle.std.proofs.Common.{◌≡◌, refl, sym, ◌∙◌, ap, subst, inl, inr, ℕ, ◌<◌, ◌≤◌, arith, Bool, true, false, ◌&&◌, ◌==◌, List, [], ◌∷◌, length, Option, None, Some}
 use Rattle.std.specs.Prelude.{if◌then◌else◌, slice_get, Contains}
-use Rattle.std.proofs.lemmas.Bool.{eqb-true, and_parts}
+use Rattle.std.proofs.lemmas.Bool.{eqb-true, and_parts, eq-eqb}
 use Rattle.std.proofs.lemmas.Bool.Decides.{nat_tests}
 use Rattle.std.proofs.lemmas.Option.{slice_get_within}
 use Rattle.job_file.specs.declared.job.Job.{Job}
 use Rattle.verify_state.specs.State.{State}
 use Rattle.disk_model.specs.declared.left.Left.{Left}
 use Rattle.disk_model.specs.declared.left.Left.TheVariants.{NoSave, Saved, LostNew, LostOld}
+use Rattle.disk_model.proofs.ListLemmas.{none_in, first_or_behind}
 use Rattle.server_core.specs.declared.event.Event.{Event}
 use Rattle.server_core.specs.History.{Opening, Entry, Met, Cut, Restart}
 use Rattle.server_core.specs.Request.{Request, request_of}
@@ -15,14 +16,7 @@ use Rattle.server_core.specs.Run.{Work, Halt, halt_of, goes_on}
 use Rattle.server_core.specs.Words.{Staged, boot, last_run, work, due, work_after}
 use Rattle.server_core.specs.Taken.{saved_state, state_of_job, triggers, takes_now, takes, and_those, takings}
 use Rattle.server_core.specs.Laws.{NumbersGrow}
-use Rattle.net_world.proofs.ListLemmas.{none_in, first_or_rest}
 use Rattle.net_world.proofs.StartLemmas.{due_above, recorded_now}
-
-same_number : (x : ℕ) → (x == x) ≡ true
-same_number x = grind (arith, nat_tests)
-
-some_jobs : (x y : List Job) → Some x ≡ Some y → x ≡ y
-some_jobs x y h = cc
 
 -- The jobs with which a run was begun, in whichever life: those of a Start whose save answered Ok.
 
@@ -62,7 +56,7 @@ begun_next : (o : Opening) (past : List Entry) (e : Event) (left : Left) (d : Op
 unfolding IsBegun
 begun_next o past e NoSave d w is h = same_jobs o past (Met e NoSave ∷ past) (request_of o.me e) w (λ r. refl) h
 begun_next o past e Saved None w is h = same_jobs o past (Met e Saved ∷ past) (request_of o.me e) w (λ r. sym (ap (λ x. begun_by r x (begun o r past)) is)) h
-begun_next o past e Saved (Some s) w is h = ap (λ x. begun_by s.run x (begun o s.run past)) is ∙ if_same s.run s.jobs (begun o s.run past) (s.run == s.run) (same_number s.run)
+begun_next o past e Saved (Some s) w is h = ap (λ x. begun_by s.run x (begun o s.run past)) is ∙ if_same s.run s.jobs (begun o s.run past) (s.run == s.run) (eq-eqb s.run s.run refl)
 begun_next o past e LostNew d w is h = tt
 begun_next o past e LostOld d w is h = tt
 
@@ -155,7 +149,7 @@ takes_of o past run j x (Some w) s is h =
 taking_of : (o : Opening) (past : List Entry) (e : Event) (run j : ℕ) (x : Option State) (s : State) → takes run j (request_of o.me e) (work o past) ≡ x
     → (Contains (takings o run j past) s → IsOfSet o run j past) → Contains (and_those x (takings o run j past)) s → IsOfSet o run j past
 taking_of o past e run j None s is f h = f h
-taking_of o past e run j (Some y) s is f h = elim (first_or_rest y (takings o run j past) s h) [ inl same ↦ takes_of o past run j (request_of o.me e) (work o past) y refl is | inr i ↦ f i ]
+taking_of o past e run j (Some y) s is f h = elim (first_or_behind y (takings o run j past) s h) [ inl same ↦ takes_of o past run j (request_of o.me e) (work o past) y refl is | inr i ↦ f i ]
 
 pub taken_of_set : NumbersGrow → (o : Opening) (run j : ℕ) (past : List Entry) (s : State) → Contains (takings o run j past) s → IsOfSet o run j past
 taken_of_set grow o run j [] s h = absurd (none_in s h)

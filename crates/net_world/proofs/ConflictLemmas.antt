@@ -3,6 +3,7 @@
 use Rattle.std.proofs.Common.{◌≡◌, refl, sym, ◌∙◌, ap, subst, ℕ, arith, Bool, true, false, ◌==◌, List, [], ◌∷◌, ◌++◌, Option, Some, None}
 use Rattle.std.specs.Prelude.{nat_lt, not, Contains, slice_get, bytes_eq, if◌then◌else◌}
 use Rattle.std.proofs.lemmas.Bool.Decides.{nat_tests}
+use Rattle.std.proofs.lemmas.Bool.{eq-eqb}
 use Rattle.fc_base.specs.declared.fault.Fault.{Fault}
 use Rattle.fc_base.specs.declared.fault.Fault.TheVariants.{Old, Down, Misdirected, Conflict, TableFull}
 use Rattle.fc_base.specs.Faults.{when}
@@ -54,16 +55,13 @@ pub record Conflicts : Type 0 where
 
 -- ---- a state is the same as itself
 
-same_number : (x : ℕ) → (x == x) ≡ true
-same_number x = grind (arith, nat_tests)
-
 same_list : (xs : List ℕ) → bytes_eq xs xs ≡ true
 same_list [] = refl
-same_list (x ∷ xs) = rw (same_number x) (same_list xs)
+same_list (x ∷ xs) = rw (eq-eqb x x refl) (same_list xs)
 
 is_same_self : (a : State) → is_same a a ≡ true
 unfolding is_same
-is_same_self a = rw (same_number a.key.run, same_number a.key.server, same_number a.key.job, same_number (kind_code a.job.kind), same_number (verify_code a.job.verify), same_number a.job.pattern, same_number a.job.bs, same_number a.job.blocks, same_number a.job.total, same_number a.job.seed, same_number a.job.depth, same_number a.job.window, same_number a.issued, same_list a.place, same_list a.counted) refl
+is_same_self a = rw (eq-eqb a.key.run a.key.run refl, eq-eqb a.key.server a.key.server refl, eq-eqb a.key.job a.key.job refl, eq-eqb (kind_code a.job.kind) (kind_code a.job.kind) refl, eq-eqb (verify_code a.job.verify) (verify_code a.job.verify) refl, eq-eqb a.job.pattern a.job.pattern refl, eq-eqb a.job.bs a.job.bs refl, eq-eqb a.job.blocks a.job.blocks refl, eq-eqb a.job.total a.job.total refl, eq-eqb a.job.seed a.job.seed refl, eq-eqb a.job.depth a.job.depth refl, eq-eqb a.job.window a.job.window refl, eq-eqb a.issued a.issued refl, same_list a.place, same_list a.counted) refl
 
 -- ---- no conflict
 

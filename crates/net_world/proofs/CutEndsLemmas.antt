@@ -3,6 +3,7 @@ use Rattle.std.proofs.Common.{◌≡◌, refl, sym, ◌∙◌, ap, ℕ, ◌<◌,
 use Rattle.std.specs.Prelude.{if◌then◌else◌, is_some, slice_get}
 use Rattle.std.specs.List.{flat_map}
 use Rattle.std.specs.Option.{option_map}
+use Rattle.std.proofs.lemmas.Bool.{false≢true}
 use Rattle.fc_base.specs.declared.fault.Fault.{Fault}
 use Rattle.fc_base.specs.declared.fault.Fault.TheVariants.{NoMemory, NodeOff, NodeOn, NoSave}
 use Rattle.disk_model.specs.declared.left.Left.{Left}
@@ -52,9 +53,6 @@ use Rattle.net_world.proofs.EndsLemmas.{GoesTo, goes, stops, refuses, some_save,
 use Rattle.net_world.proofs.OutcomeLemmas.{said_is}
 use Rattle.net_world.proofs.PlainLemmas.{IsPlain, boot_is, may_restart, runs_on}
 
-false_true : false ≡ true → ⊥
-false_true e = cc
-
 lost : (landed : Bool) → is_lost (lost_by landed) ≡ true
 lost true = refl
 lost false = refl
@@ -96,9 +94,9 @@ says_none t s landed f p list is h =
 piece_cut : (t : List Step) (s : ℕ) (landed : Bool) (q : PieceParts) (list : List server.Entry) → list ≡ of_server s t → (m : Meaning) → is_some (due_of_sense (opening_of s) list (sense_of q m)) ≡ true
     → server_frame_cut t s landed (Piece q) m ≡ Ok (step_of s (hearing.Met (inputs.Deliver (Piece q)) (lost_by landed)))
 piece_cut t s landed q list is (Says p) h = says_cut t s landed (Piece q) p list is h
-piece_cut t s landed q list is Waits h = absurd (false_true h)
-piece_cut t s landed q list is Spoils h = absurd (false_true h)
-piece_cut t s landed q list is Strays h = absurd (false_true h)
+piece_cut t s landed q list is Waits h = absurd (false≢true h)
+piece_cut t s landed q list is Spoils h = absurd (false≢true h)
+piece_cut t s landed q list is Strays h = absurd (false≢true h)
 
 piece_none : (t : List Step) (s : ℕ) (landed : Bool) (q : PieceParts) (list : List server.Entry) → list ≡ of_server s t → (m : Meaning) → is_some (due_of_sense (opening_of s) list (sense_of q m)) ≡ false
     → server_frame_cut t s landed (Piece q) m ≡ Err NoSave

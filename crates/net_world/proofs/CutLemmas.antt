@@ -2,6 +2,7 @@
 use Rattle.std.proofs.Common.{◌≡◌, refl, sym, ◌∙◌, ap, subst, ℕ, ◌+◌, ◌-◌, ◌^◌, ◌<◌, ◌≤◌, arith, Bool, true, false, ◌&&◌, List, ◌∷◌, Option, Some, None, Result, Ok, Err}
 use Rattle.std.specs.Prelude.{if◌then◌else◌, is_some, nat_lt}
 use Rattle.std.proofs.lemmas.Bool.Decides.{nat_tests}
+use Rattle.std.proofs.lemmas.Bool.{false≢true}
 use Rattle.fc_base.specs.declared.fault.Fault.{Fault}
 use Rattle.fc_base.specs.declared.fault.Fault.TheVariants.{NoMemory, NodeOn, NoSave, NumbersSpent, Down}
 use Rattle.disk_model.specs.MemNotes.{Saved as Kept, note_of}
@@ -33,12 +34,9 @@ use Rattle.net_world.specs.declared.server_node.ServerNode.TheVariants.{On, Off}
 use Rattle.net_world.specs.ServerNodes.{server_nodes, words_noted, is_up, has_boot, Stands, Restarts, CutsInRestart, no_save, boots}
 use Rattle.net_world.proofs.NodeLemmas.{Saves}
 
-false_true : false ≡ true → ⊥
-false_true e = cc
-
 -- A node that is off stands for each list that is off and says the same.
 relabel : (o : Opening) (old new : List FrameEntry) (node : ServerNode) → Stands o old node → is_up o old ≡ false → is_up o new ≡ false → words_noted o (packets_heard o old) ≡ words_noted o (packets_heard o new) → Stands o new node
-relabel o old new (On server) s off down same = absurd (false_true (sym off ∙ s.1))
+relabel o old new (On server) s off down same = absurd (false≢true (sym off ∙ s.1))
 relabel o old new (Off notes) s off down same = (subst (λ x. NoteSays (note_of notes).bytes x) same s.0, down)
 
 -- ---- what is noted of an event, by what its save left
@@ -96,9 +94,9 @@ lost_piece o list q (Says p) h = record {
   new = same_new o list (events.Deliver p) Saved LostNew refl;
   old = same_old o list (events.Deliver p);
 }
-lost_piece o list q Waits h = absurd (false_true h)
-lost_piece o list q Spoils h = absurd (false_true h)
-lost_piece o list q Strays h = absurd (false_true h)
+lost_piece o list q Waits h = absurd (false≢true h)
+lost_piece o list q Spoils h = absurd (false≢true h)
+lost_piece o list q Strays h = absurd (false≢true h)
 
 is_lost_in : (o : Opening) (past : List FrameEntry) (f : Frame) → would_save o past f ≡ true → IsLost o past f
 unfolding heard_list
@@ -116,8 +114,8 @@ is_lost_in o past (Piece q) h =
 
 due_free : (on : Bool) (w : Now) (last : ℕ) (s : Option Staged) (x : Option Work) (r : Request) → is_some (due_by on last s x r) ≡ true → (if on then refusal_of w r else Some Down) ≡ None
 due_free true w last s x (ToStart run) h = refl
-due_free false w last s x (ToStart run) h = absurd (false_true h)
-due_free on w last s x _ h = absurd (false_true h)
+due_free false w last s x (ToStart run) h = absurd (false≢true h)
+due_free on w last s x _ h = absurd (false≢true h)
 
 event_free : (o : Opening) (list : List server.Entry) (e : Event) → is_some (words.due o list e) ≡ true → answers.refusal o list e ≡ None
 event_free o list e h = due_free (is_on list) (now o list) (last_run o list) (staged_run o list) (work o list) (request_of o.me e) h
@@ -125,15 +123,15 @@ event_free o list e h = due_free (is_on list) (now o list) (last_run o list) (st
 piece_free : (o : Opening) (list : List server.Entry) (q : PieceParts) (m : Meaning) → is_some (due_of_sense o list (sense_of q m)) ≡ true → refusal_of_sense o list (sense_of q m) ≡ None
 piece_free o list q (Says p) h = event_free o list (events.Deliver p) h
 piece_free o list q Waits h = refl
-piece_free o list q Spoils h = absurd (false_true h)
-piece_free o list q Strays h = absurd (false_true h)
+piece_free o list q Spoils h = absurd (false≢true h)
+piece_free o list q Strays h = absurd (false≢true h)
 
 save_free : (o : Opening) (past : List FrameEntry) (f : Frame) → would_save o past f ≡ true → refusal o past (inputs.Deliver f) ≡ None
 save_free o past (Whole p) h = event_free o (packets_heard o past) (events.Deliver p) h
 save_free o past (Piece q) h = piece_free o (packets_heard o past) q (meaning (rules o) (heard_at o past) (Piece q)) h
 
 saved_by : (x : Option Staged) → is_some x ≡ true → saved_for x ≡ Saved
-saved_by None h = absurd (false_true h)
+saved_by None h = absurd (false≢true h)
 saved_by (Some s) h = refl
 
 -- What an answered frame that makes a save leaves.

@@ -21,6 +21,7 @@ use Rattle.net_world.specs.WorldLaws.{SentFramesAreRead}
 use Rattle.net_world.specs.Sending.{sent_in}
 use Rattle.net_world.specs.Stands.{StandsFor}
 use Rattle.net_world.proofs.ServeLemmas.{first_is}
+use Rattle.net_world.proofs.ListLemmas.{same_some}
 
 pub no_frame : (w : Setup) (past : List Change) (now : World) (number : ℕ) → StandsFor w past now → length (sent_in now.sent) ≤ number → slice_get (frames_sent w (steps past)) number ≡ None
 no_frame w past now number stands h = slice_get_past (frames_sent w (steps past)) number (omega (arith, first_is w past now stands, h))
@@ -30,9 +31,6 @@ record HasBytes (x : Option Frame) (bytes : List ℕ) : Type 0 where
   frame : Frame
   is : x ≡ Some frame
   bytes_are : frame_spelling frame ≡ bytes
-
-same_some : {X : Type 0} (x y : X) → Some x ≡ Some y → x ≡ y
-same_some x y e = cc
 
 of_bytes : (x : Option Frame) (bytes : List ℕ) → option_map frame_spelling x ≡ Some bytes → HasBytes x bytes
 of_bytes None bytes h = absurd (none_some h)

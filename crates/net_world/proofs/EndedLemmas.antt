@@ -24,13 +24,14 @@ use Rattle.net_world.specs.Holders.{taken_of, key_at}
 use Rattle.net_world.specs.Passes.{SentStatesWereTaken, KeptStatesWereSent, WasKept}
 use Rattle.net_world.specs.Claims.{OfEachList, OfEachTrace}
 use Rattle.net_world.specs.Headline.{OneTaking, KeptWhereServed, KeptWhereCut}
-use Rattle.net_world.proofs.ListLemmas.{none_in, first_or_rest}
 use Rattle.net_world.proofs.TraceLemmas.{front_is_trace, taken_stays_so, sent_cases, sent_none, sent_stays, taken_was_sent, came_was_sent, heard_was_sent}
 use Rattle.net_world.proofs.BegunLemmas.{begun, work_begun, taken_of_set}
 use Rattle.net_world.proofs.SaidLemmas.{Sayings, SaysJobs, SaysNone, sent_by, state_says, none_says, same_count}
 use Rattle.net_world.proofs.ConflictLemmas.{same_two}
 use Rattle.net_world.proofs.MirrorLemmas.{sent_by_mirror}
 use Rattle.net_world.proofs.PassLemmas.{kept_before, kept_was_taken}
+use Rattle.net_world.proofs.ListLemmas.{same_some}
+use Rattle.disk_model.proofs.ListLemmas.{none_in, first_or_behind}
 
 -- The laws on which this rests.
 pub record Ending : Type 0 where
@@ -144,19 +145,13 @@ acked_kept laws law w (step ∷ past) key trace h = elim (sent_cases w step past
 -- What came to a server, this event with it.
 heard_with_sent : (w : Setup) (s : ℕ) (e : Event) (left : _) (t : List Step) (p : PacketParts) → IsTrace w (AtServer s (Met e left) ∷ t) → Contains (heard_with e (heard_packets (of_server s t))) p → Contains (sent_packets w t) p
 heard_with_sent w s (events.Deliver q) left t p trace h =
-    elim (first_or_rest q (heard_packets (of_server s t)) p h) [
+    elim (first_or_behind q (heard_packets (of_server s t)) p h) [
       | inl now ↦ subst (Contains (sent_packets w t)) now (trace.1.0.0)
       | inr before ↦ heard_was_sent w s t p trace.0 before
     ]
 heard_with_sent w s (events.Issue j) left t p trace h = heard_was_sent w s t p trace.0 h
 heard_with_sent w s (events.WriteDone ticket end) left t p trace h = heard_was_sent w s t p trace.0 h
 heard_with_sent w s (events.CheckDone boot a j report) left t p trace h = heard_was_sent w s t p trace.0 h
-
-some_jobs : (x y : List Job) → Some x ≡ Some y → x ≡ y
-some_jobs x y h = cc
-
-some_work : (x y : Work) → Some x ≡ Some y → x ≡ y
-some_work x y h = cc
 
 pub kept_where_cut : Ending → AcksAreFor → served.CutsWhenKept → OfEachTrace KeptWhereCut
 unfolding ack
@@ -165,9 +160,9 @@ kept_where_cut laws acks law w whole whole_is_trace later t s e left now j state
     let o = opening_of s in
     let list = of_server s t in
     let k = law o list e cut in
-    let same : k.now ≡ now = some_work k.now now (sym k.works ∙ is) in
+    let same : k.now ≡ now = same_some k.now now (sym k.works ∙ is) in
     let set = taken_of_set laws.sayings.grow o now.run j list state taken in
-    let jobs : set.jobs ≡ now.jobs = some_jobs set.jobs now.jobs (sym set.is ∙ work_begun o list now is) in
+    let jobs : set.jobs ≡ now.jobs = same_some set.jobs now.jobs (sym set.is ∙ work_begun o list now is) in
     let less : j < length k.now.jobs = subst (λ (v : Work). j < length v.jobs) (sym same) (subst (λ (l : List Job). j < length l) jobs set.within) in
     let came_in : Contains (heard_with e (heard_packets list)) (to_server (bodies.StateAck now.run j) s) = subst (λ (v : Work). Contains (heard_with e (heard_packets list)) (to_server (bodies.StateAck v.run j) s)) same (k.kept j less) in
     kept_of laws w t (key_at now.run s j) state trace.0 taken (acked_kept laws acks w t (key_at now.run s j) trace.0 (heard_with_sent w s e left t (to_server (bodies.StateAck now.run j) s) trace came_in))

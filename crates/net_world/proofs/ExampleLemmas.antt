@@ -26,6 +26,7 @@ use Rattle.server_core.specs.Texts.{jobs_for}
 use Rattle.server_core.specs.Run.{has_open, have_ended}
 use Rattle.server_core.specs.Taken.{job_state}
 use Rattle.net_world.specs.Examples.{one, after_start, IsHonestlyMade, RefusesByNumber, StartsOnceAfterACut, KeepsBehindACut, ChecksInAFullPass, ChecksByItsState, ComesTogether}
+use Rattle.net_world.proofs.ListLemmas.{some_is}
 
 pub refuses_by_number : RefusesByNumber
 unfolding frames_sent has_next is_of_generation is_free_to_number is_begun
@@ -52,9 +53,6 @@ unfolding frames_sent has_next is_of_generation is_free_to_number is_begun is_fo
 comes_together = record { begins = refl; waits = refl; frames = refl; mixed = refl }
 
 -- ---- the disks were honest
-
-some_is : {X : Type 0} {x y : X} → ◌≡◌ {A = Option X} (Some x) (Some y) → x ≡ y
-some_is h = cc
 
 the_origin : Origin
 the_origin = record {

@@ -24,15 +24,13 @@ use Rattle.verify_state.specs.Same.{is_of_kind, is_of_region}
 use Rattle.verify_state.specs.Misfit.{is_of_job, misfit}
 use Rattle.recheck.specs.Expected.{Expected, greatest_below}
 use Rattle.recheck.specs.Faults.{last_write, is_checked, is_write, is_expected, is_fault}
+use Rattle.net_world.proofs.ListLemmas.{some_is}
 
 -- The greatest number below n that passes.
 pub record IsGreatest (test : ℕ → Bool) (n k : ℕ) : Type 0 where
   pub passes : test k ≡ true
   pub within : k < n
   pub last : (i : ℕ) → i < n → test i ≡ true → i ≤ k
-
-pub some_is : {X : Type 0} {x y : X} → ◌≡◌ {A = Option X} (Some x) (Some y) → x ≡ y
-some_is h = cc
 
 greatest_step : (test : ℕ → Bool) (n k : ℕ) (b : Bool) → test n ≡ b → (greatest_below test n ≡ Some k → IsGreatest test n k) → (if b then Some n else greatest_below test n) ≡ Some k → IsGreatest test (suc n) k
 greatest_step test n k true is f h =

@@ -3,7 +3,7 @@ use Rattle.std.proofs.Common.{◌≡◌, refl, sym, ◌∙◌, ap, subst, ℕ, �
 use Rattle.std.specs.Prelude.{if◌then◌else◌, get_or, map, nat_le, nat_lt, set, slice_get, IsTrue, Vec}
 use Rattle.std.specs.declared.alloc.Global.{Global}
 use Rattle.std.proofs.Math.ListN.{length-set}
-use Rattle.std.proofs.lemmas.Bool.{eqb-true, eq-eqb, and_parts}
+use Rattle.std.proofs.lemmas.Bool.{eqb-true, eq-eqb, and_parts, ltb-true, ltb-false, lt-ltb, le-ltb}
 use Rattle.fc_base.specs.declared.limits.TheConstants.{MAX_BLOCKS, MAX_BLOCK_SIZE, MAX_JOBS, MAX_WRITES}
 use Rattle.fc_base.specs.declared.record.JobParts.{JobParts}
 use Rattle.fc_base.specs.JobParts.{has_block_size, has_region, has_queue, has_pattern, is_within_limits}
@@ -42,7 +42,7 @@ use Rattle.net_world.specs.ClientNodes.{handed_in}
 use Rattle.net_world.specs.Stands.{IsMirror, IsGreatest, StandsFor, file}
 use Rattle.net_world.specs.Ends.{Ends}
 use Rattle.net_world.proofs.SlotLemmas.{is_set, set_there}
-use Rattle.net_world.proofs.ServeLemmas.{first_is, lt_of, le_of, lt_true, lt_false, node_at}
+use Rattle.net_world.proofs.ServeLemmas.{first_is, node_at}
 use Rattle.net_world.proofs.EndsLemmas.{does}
 
 -- A file with this content, in a disk that is never off.
@@ -148,29 +148,29 @@ lands w past s j k mask = record { steps_are = refl; content_is = λ t i. by_fil
 -- ---- where there is no such file
 
 pub has_slot : (s j len : ℕ) → (nat_lt j MAX_JOBS && nat_lt (MAX_JOBS * s + j) len) ≡ true → (j < MAX_JOBS) × (MAX_JOBS * s + j < len)
-has_slot s j len h = let p = and_parts (nat_lt j MAX_JOBS) (nat_lt (MAX_JOBS * s + j) len) h in (lt_of j MAX_JOBS p.0, lt_of (MAX_JOBS * s + j) len p.1)
+has_slot s j len h = let p = and_parts (nat_lt j MAX_JOBS) (nat_lt (MAX_JOBS * s + j) len) h in (ltb-true j MAX_JOBS p.0, ltb-true (MAX_JOBS * s + j) len p.1)
 
 pub no_slot : (w : Setup) (s j len : ℕ) → (nat_lt j MAX_JOBS && nat_lt (MAX_JOBS * s + j) len) ≡ false → len ≡ MAX_JOBS * w.servers → s < w.servers → MAX_JOBS ≤ j
 no_slot w s j len h e l = by_test (nat_lt j MAX_JOBS) refl
   where
     by_test : (b : Bool) → nat_lt j MAX_JOBS ≡ b → MAX_JOBS ≤ j
-    by_test false f = le_of j MAX_JOBS f
-    by_test true f = absurd (omega (arith, le_of (MAX_JOBS * s + j) len (ap (λ x. x && nat_lt (MAX_JOBS * s + j) len) (sym f) ∙ h), e, l, lt_of j MAX_JOBS f))
+    by_test false f = ltb-false j MAX_JOBS f
+    by_test true f = absurd (omega (arith, ltb-false (MAX_JOBS * s + j) len (ap (λ x. x && nat_lt (MAX_JOBS * s + j) len) (sym f) ∙ h), e, l, ltb-true j MAX_JOBS f))
 
 pub rot_free : (w : Setup) (s j : ℕ) → s < w.servers → j < MAX_JOBS → no_file w s j ≡ None
-rot_free w s j l m = both (nat_lt s w.servers) (nat_lt j MAX_JOBS) (lt_true s w.servers l) (lt_true j MAX_JOBS m)
+rot_free w s j l m = both (nat_lt s w.servers) (nat_lt j MAX_JOBS) (lt-ltb s w.servers l) (lt-ltb j MAX_JOBS m)
   where
     both : (a b : Bool) → a ≡ true → b ≡ true → option_or (unless a NoServer) (unless b NoWrite) ≡ None
     both a b h k = rw (h, k) refl
 
 pub rot_none : (w : Setup) (s j : ℕ) → w.servers ≤ s → no_file w s j ≡ Some NoServer
-rot_none w s j h = first (nat_lt s w.servers) (nat_lt j MAX_JOBS) (lt_false s w.servers h)
+rot_none w s j h = first (nat_lt s w.servers) (nat_lt j MAX_JOBS) (le-ltb s w.servers h)
   where
     first : (a b : Bool) → a ≡ false → option_or (unless a NoServer) (unless b NoWrite) ≡ Some NoServer
     first a b h = rw h refl
 
 pub rot_past : (w : Setup) (s j : ℕ) → s < w.servers → MAX_JOBS ≤ j → no_file w s j ≡ Some NoWrite
-rot_past w s j l h = second (nat_lt s w.servers) (nat_lt j MAX_JOBS) (lt_true s w.servers l) (lt_false j MAX_JOBS h)
+rot_past w s j l h = second (nat_lt s w.servers) (nat_lt j MAX_JOBS) (lt-ltb s w.servers l) (le-ltb j MAX_JOBS h)
   where
     second : (a b : Bool) → a ≡ true → b ≡ false → option_or (unless a NoServer) (unless b NoWrite) ≡ Some NoWrite
     second a b h k = rw (h, k) refl

@@ -3,6 +3,7 @@ use Rattle.std.proofs.Common.{◌≡◌, refl, sym, ◌∙◌, ap, subst, inl, i
 use Rattle.std.specs.Prelude.{slice_get, is_some}
 use Rattle.std.specs.Option.{option_map, option_or}
 use Rattle.std.proofs.lemmas.Option.{slice_get_within}
+use Rattle.std.proofs.lemmas.Bool.{false≢true}
 use Rattle.fc_base.specs.declared.limits.TheConstants.{MAX_JOBS}
 use Rattle.fc_base.specs.declared.fault.Fault.{Fault}
 use Rattle.fc_base.specs.declared.fault.Fault.TheVariants.{NoServer, NodeOff, NoWrite}
@@ -42,6 +43,7 @@ use Rattle.net_world.specs.Stands.{StandsFor}
 use Rattle.net_world.specs.Serving.{entries}
 use Rattle.net_world.specs.Finding.{IsOpen, IsMadeBy, IsReady, state_of}
 use Rattle.net_world.proofs.ServeLemmas.{heard_is, none_there, is_off, is_there}
+use Rattle.net_world.proofs.ListLemmas.{same_some}
 
 -- ---- a server that is found
 
@@ -109,10 +111,7 @@ ticket_told None origin ticket k h e = absurd cc
 ticket_told (Some o) origin ticket k h e = same o origin ticket h e
   where
     same : (o origin : Origin) (ticket : Ticket) → Some o ≡ Some origin → Some (ticket_of o k) ≡ Some ticket → ticket ≡ ticket_of origin k
-    same o origin ticket h e = let i : o ≡ origin = some_is o origin h in let t : ticket_of o k ≡ ticket = some_is (ticket_of o k) ticket e in sym t ∙ ap (λ (x : Origin). ticket_of x k) i
-      where
-        some_is : {X : Type 0} (x y : X) → Some x ≡ Some y → x ≡ y
-        some_is x y e = cc
+    same o origin ticket h e = let i : o ≡ origin = same_some o origin h in let t : ticket_of o k ≡ ticket = same_some (ticket_of o k) ticket e in sym t ∙ ap (λ (x : Origin). ticket_of x k) i
 
 -- A ticket and its job are there.
 pub is_open : TicketsTellOrigins → RunsHaveSets → (w : Setup) (past : List Change) (s j k : ℕ) (ticket : Ticket) (job : Job) → unless_on w (trace w past) (nodes.Server s) ≡ None
@@ -162,12 +161,9 @@ unready c j job held (With state) h = absurd (true_false h)
 unready c j job held (Refused value) h = refl
 unready c j job held (Done r) h = refl
 
-some_is : {X : Type 0} (x y : X) → Some x ≡ Some y → x ≡ y
-some_is x y e = cc
-
 -- How far the job of the open check is.
 progress_here : (o : Opening) (list : List server.Entry) (j : ℕ) (job : Job) (c : Check) (p : Progress) → check o list ≡ Some c → slice_get c.jobs j ≡ Some job → Some p ≡ progress o list j → progress_after c j job c.since ≡ p
-progress_here o list j job c p is at h = some_is (progress_after c j job c.since) p (sym (h ∙ ap (λ x. progress_in x j) is ∙ ap (progress_at c j) at))
+progress_here o list j job c p is at h = same_some (progress_after c j job c.since) p (sym (h ∙ ap (λ x. progress_in x j) is ∙ ap (progress_at c j) at))
 
 pub not_ready : (w : Setup) (past : List Change) (s j : ℕ) (job : Job) (p : Progress) → check_job (opening_of s) (of_server s (trace w past)) j ≡ Some job → Some p ≡ progress (opening_of s) (of_server s (trace w past)) j
     → is_ready (Some p) ≡ false → end_of_check w past s j ≡ None
@@ -196,18 +192,9 @@ no_progress w past s j job is at =
 made_by : (c : Check) (j : ℕ) (job : Job) (p : Progress) → progress_after c j job c.since ≡ p → is_ready (Some p) ≡ true → IsMadeBy c j job (state_of p)
 made_by c j job Full h r = h
 made_by c j job (With state) h r = h
-made_by c j job Wanting h r = absurd (false_true r)
-  where
-    false_true : false ≡ true → ⊥
-    false_true e = cc
-made_by c j job (Refused value) h r = absurd (false_true r)
-  where
-    false_true : false ≡ true → ⊥
-    false_true e = cc
-made_by c j job (Done report) h r = absurd (false_true r)
-  where
-    false_true : false ≡ true → ⊥
-    false_true e = cc
+made_by c j job Wanting h r = absurd (false≢true r)
+made_by c j job (Refused value) h r = absurd (false≢true r)
+made_by c j job (Done report) h r = absurd (false≢true r)
 
 key_same : (run r s t j : ℕ) → r ≡ run → t ≡ s → key_at run s j ≡ key_at r t j
 key_same run r s t j e f = rw (e, f) refl

@@ -6,6 +6,7 @@ use Rattle.fc_base.specs.JobParts.{is_within_limits}
 use Rattle.job_file.specs.declared.job.Job.{Job}
 use Rattle.write_order.specs.Laws.{WritesFillTheirBlocks, WritesStayInTheRegion}
 use Rattle.disk_model.specs.Laws.{LandsWhole, KeepsOtherBlocks}
+use Rattle.disk_model.proofs.ListLemmas.{each_of}
 use Rattle.window.specs.Sets.{InFlightIsNotDone, OpenIsNotFailed, DoneWasIssued}
 use Rattle.engine.specs.Legal.{IsLegal}
 use Rattle.engine.specs.Laws.{StatesCountTheDone, LaterWaits}
@@ -13,7 +14,6 @@ use Rattle.server_core.specs.History.{Opening, Entry}
 use Rattle.server_core.specs.Run.{Work, origin_of, history}
 use Rattle.server_core.specs.Words.{work}
 use Rattle.server_core.specs.Laws.{CountsTheDone, StartsOnce, PresentIsLast, RunsHaveSets, HistoriesAreLegal}
-use Rattle.net_world.proofs.ListLemmas.{each_of}
 
 pub record Ground : Type 0 where
   pub takings : CountsTheDone

@@ -30,6 +30,7 @@ use Rattle.net_world.proofs.LastWriteLemmas.{Any, last_survives}
 use Rattle.net_world.proofs.CurrentWriteLemmas.{current_survives}
 use Rattle.net_world.proofs.ExpectedLemmas.{WriteTheSame, fits_job}
 use Rattle.net_world.proofs.FaultLemmas.{few, none}
+use Rattle.net_world.proofs.ListLemmas.{some_is}
 
 -- The laws on which this rests.
 pub record Rests : Type 0 where
@@ -54,9 +55,6 @@ whole_lands w (Rotted s j sector bytes ∷ past) whole = whole_lands w past whol
 
 abbrev make_key : ℕ → ℕ → ℕ → Key
 make_key r s j = record { run = r; server = s; job = j }
-
-some_is : {X : Type 0} {x y : X} → ◌≡◌ {A = Option X} (Some x) (Some y) → x ≡ y
-some_is h = cc
 
 -- What is known of the state that a job is checked with.
 record Found (P : Notion) (w : Setup) (past : List Change) (s j : ℕ) (c : Check) (job : Job) (state : State) : Type 0 where

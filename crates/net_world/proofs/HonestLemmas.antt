@@ -15,6 +15,7 @@ use Rattle.server_core.specs.declared.event.Event.TheVariants.{Deliver, Issue as
 use Rattle.server_core.specs.declared.event.WriteEnd.{WriteEnd}
 use Rattle.server_core.specs.declared.event.WriteEnd.TheVariants.{Done, Failed}
 use Rattle.disk_model.specs.declared.left.Left.{Left}
+use Rattle.disk_model.proofs.ListLemmas.{none_in}
 use Rattle.server_core.specs.History.{Entry, Met, Cut, Restart}
 use Rattle.messages.specs.Nodes.{is_client, is_server}
 use Rattle.server_core.specs.Request.{ToEnd, ToNobody, request_in}
@@ -33,7 +34,6 @@ use Rattle.server_core.specs.OpenWrites.{open_origin_of, open_origin}
 use Rattle.net_world.specs.Writes.{open_at}
 use Rattle.net_world.specs.Contents.{with_write, is_file, content}
 use Rattle.net_world.specs.Honest.{HoldsWrite, IsInFile, AreHonest}
-use Rattle.net_world.proofs.ListLemmas.{none_in}
 use Rattle.net_world.proofs.GroundLemmas.{Ground}
 use Rattle.net_world.proofs.NotionLemmas.{Notion, Survives, Kept, TellsAt, kept_met, kept_cut, kept_restart}
 use Rattle.net_world.proofs.LandingLemmas.{Lands, Same, One, kept_landed}

@@ -17,6 +17,7 @@ use Rattle.net_world.specs.Contents.{with_block}
 use Rattle.net_world.proofs.GroundLemmas.{Ground, job_within, job_legal}
 use Rattle.net_world.proofs.LinkLemmas.{LinkOf, Linked, linked}
 use Rattle.net_world.proofs.NotionLemmas.{Notion, Survives, Of, OfState, Kept}
+use Rattle.net_world.proofs.ListLemmas.{some_is}
 
 -- An open write of a job lands in its file.
 pub record LandsOne (May : ℕ → JobParts → Type 0) (o : Opening) (list : List Entry) (j : ℕ) (old new : ℕ → List ℕ) : Type 0 where
@@ -34,9 +35,6 @@ pub record LandsOne (May : ℕ → JobParts → Type 0) (o : Opening) (list : Li
 pub data Lands (May : ℕ → JobParts → Type 0) (o : Opening) (list : List Entry) (j : ℕ) (old new : ℕ → List ℕ) : Type 0 where
   Same : new ≡ old → Lands May o list j old new
   One : LandsOne May o list j old new → Lands May o list j old new
-
-some_is : {X : Type 0} {x y : X} → ◌≡◌ {A = Option X} (Some x) (Some y) → x ≡ y
-some_is h = cc
 
 -- The present run after an open write of it has landed.
 run_lands : {P : Notion} {May : ℕ → JobParts → Type 0} → Ground → Survives May P → (o : Opening) (list : List Entry) (j : ℕ) (old new : ℕ → List ℕ) → (l : LandsOne May o list j old new)

@@ -19,6 +19,7 @@ use Rattle.server_core.specs.declared.event.WriteEnd.{WriteEnd}
 use Rattle.server_core.specs.declared.event.WriteEnd.TheVariants.{Done, Failed}
 use Rattle.disk_model.specs.declared.left.Left.{Left}
 use Rattle.disk_model.specs.declared.left.Left.TheVariants.{NoSave, Saved, LostNew, LostOld}
+use Rattle.disk_model.proofs.ListLemmas.{only_in}
 use Rattle.server_core.specs.History.{Opening, Entry, Met, Cut, Restart}
 use Rattle.server_core.specs.Request.{Request, ToStage, ToStart, ToTrigger, ToMark, ToStop, ToVerify, ToHold, ToPassFully, ToIssue, ToEnd, ToReport, ToNobody, request_of}
 use Rattle.server_core.specs.Run.{Work, Halt, Triggered, halt_by, halt_of, origin_of, with_ticket, with_request, history, goes_on}
@@ -26,7 +27,6 @@ use Rattle.server_core.specs.Words.{Staged, boot, work_after, work, due}
 use Rattle.server_core.specs.Taken.{job_state, saved_state, triggers, takes_now, takes, and_those, takings}
 use Rattle.server_core.specs.Accepted.{IsTaking}
 use Rattle.server_core.specs.Laws.{StartsOnce}
-use Rattle.net_world.proofs.ListLemmas.{only_in}
 use Rattle.net_world.proofs.GroundLemmas.{Ground, job_legal}
 
 -- The run was halted, has issued no more writes than when the state was taken, and what the state counts is done.

@@ -7,25 +7,14 @@ use Rattle.fc_base.specs.declared.numbers.Key.{Key}
 use Rattle.fc_base.specs.Keys.{is_same_key}
 use Rattle.verify_state.specs.State.{State}
 use Rattle.state_table.specs.Kept.{kept_of}
+use Rattle.disk_model.proofs.ListLemmas.{none_in, only_in, first_or_behind, first_of, behind_one}
 
-pub none_in : {X : Type 0} (x : X) → Contains [] x → ⊥
-none_in x h = omega (arith, h.1)
+-- Two that Some holds alike are the same.
+pub some_is : {X : Type 0} {x y : X} → ◌≡◌ {A = Option X} (Some x) (Some y) → x ≡ y
+some_is h = cc
 
-pub only_in : {X : Type 0} (y x : X) → Contains (y ∷ []) x → y ≡ x
-only_in y x h = elim (Contains-push_cases [] y x h) [ inl i ↦ absurd (none_in x i) | inr e ↦ e ]
-
-pub first_or_rest : {X : Type 0} (y : X) (ys : List X) (x : X) → Contains (y ∷ ys) x → (y ≡ x) ⊎ Contains ys x
-first_or_rest y ys x h = elim (Contains-append_cases (y ∷ []) ys x h) [ inl i ↦ inl (only_in y x i) | inr i ↦ inr i ]
-
-pub first_in : {X : Type 0} (x : X) (xs : List X) → Contains (x ∷ xs) x
-first_in x xs = Contains-append_left (x ∷ []) xs x (zero, omega arith, refl)
-
-pub later_in : {X : Type 0} (y : X) (xs : List X) (x : X) → Contains xs x → Contains (y ∷ xs) x
-later_in y xs x h = Contains-append_right (y ∷ []) xs x h
-
--- What holds of each holds of those in the list.
-pub each_of : {X : Type 0} (P : X → Type 0) (xs : List X) (x : X) → AllByRecursion P xs → Contains xs x → P x
-each_of P xs x a h = All-contains P xs x (All-from_recursion P xs a) h
+pub same_some : {X : Type 0} (x y : X) → Some x ≡ Some y → x ≡ y
+same_some x y h = cc
 
 -- A list with one element at most is that element alone.
 pub single : {X : Type 0} (xs : List X) (x : X) → length xs ≤ 1 → Contains xs x → xs ≡ x ∷ []
@@ -36,14 +25,14 @@ single (y ∷ z ∷ zs) x h c = absurd (omega (arith, h))
 -- What is in the list of images is the image of something in the list.
 pub of_map : {X Y : Type 0} (f : X → Y) (xs : List X) (y : Y) → Contains (map f xs) y → (x : X) × Contains xs x × (f x ≡ y)
 of_map f [] y h = absurd (none_in y h)
-of_map f (x ∷ xs) y h = elim (first_or_rest (f x) (map f xs) y h) [
-  | inl e ↦ (x, first_in x xs, e)
-  | inr i ↦ let s = of_map f xs y i in (s.0, later_in x xs s.0 s.1, s.2)
+of_map f (x ∷ xs) y h = elim (first_or_behind (f x) (map f xs) y h) [
+  | inl e ↦ (x, first_of x xs, e)
+  | inr i ↦ let s = of_map f xs y i in (s.0, behind_one x xs s.0 s.1, s.2)
 ]
 
 found_if : (b : Bool) (here : State) (states : List State) (rest : Option State) (state : State) → (rest ≡ Some state → Contains states state) → (if b then Some here else rest) ≡ Some state → Contains (here ∷ states) state
-found_if true here states rest state f h = let same : here ≡ state = cc in subst (Contains (here ∷ states)) same (first_in here states)
-found_if false here states rest state f h = later_in here states state (f h)
+found_if true here states rest state f h = let same : here ≡ state = cc in subst (Contains (here ∷ states)) same (first_of here states)
+found_if false here states rest state f h = behind_one here states state (f h)
 
 -- The state that is found of a key is one of the table.
 pub found_in : (key : Key) (states : List State) (state : State) → kept_of key states ≡ Some state → Contains states state

@@ -1,6 +1,7 @@
 -- What a world shows.
 use Rattle.std.proofs.Common.{◌≡◌, refl, sym, ◌∙◌, ℕ, ◌<◌, ◌≤◌, Bool, true, false, ◌&&◌, List, Option, Some, None}
 use Rattle.std.specs.Prelude.{if◌then◌else◌, nat_lt}
+use Rattle.std.proofs.lemmas.Bool.{lt-ltb, le-ltb}
 use Rattle.fc_base.specs.declared.numbers.Key.{Key}
 use Rattle.messages.specs.declared.node.Node.TheVariants.{Server, Client}
 use Rattle.server_core.specs.Answers as servers
@@ -14,7 +15,7 @@ use Rattle.net_world.specs.ServerNodes.{is_up}
 use Rattle.net_world.specs.ClientNodes as client_nodes
 use Rattle.net_world.specs.Serving.{entries}
 use Rattle.net_world.specs.Asking as asking
-use Rattle.net_world.proofs.ServeLemmas.{up_is, lt_true, lt_false}
+use Rattle.net_world.proofs.ServeLemmas.{up_is}
 use Rattle.net_world.proofs.AskLemmas as asks
 
 if_both : {X : Type 0} (a b : Bool) (x : X) → a ≡ true → b ≡ true → (if a && b then Some x else None) ≡ Some x
@@ -27,13 +28,13 @@ if_second : {X : Type 0} (a b : Bool) (x : X) → a ≡ true → b ≡ false →
 if_second a b x h k = rw (h, k) refl
 
 pub no_status : (w : Setup) (past : List Change) (s : ℕ) → w.servers ≤ s → status w past s ≡ None
-no_status w past s h = if_first (nat_lt s w.servers) (is_on w (trace w past) (Server s)) (servers.status (opening_of s) (of_server s (trace w past))) (lt_false s w.servers h)
+no_status w past s h = if_first (nat_lt s w.servers) (is_on w (trace w past) (Server s)) (servers.status (opening_of s) (of_server s (trace w past))) (le-ltb s w.servers h)
 
 pub off_status : (w : Setup) (past : List Change) (s : ℕ) → s < w.servers → is_up (opening_of s) (entries past s) ≡ false → status w past s ≡ None
-off_status w past s l h = if_second (nat_lt s w.servers) (is_on w (trace w past) (Server s)) (servers.status (opening_of s) (of_server s (trace w past))) (lt_true s w.servers l) (sym (up_is w past s) ∙ h)
+off_status w past s l h = if_second (nat_lt s w.servers) (is_on w (trace w past) (Server s)) (servers.status (opening_of s) (of_server s (trace w past))) (lt-ltb s w.servers l) (sym (up_is w past s) ∙ h)
 
 pub on_status : (w : Setup) (past : List Change) (s : ℕ) → s < w.servers → is_up (opening_of s) (entries past s) ≡ true → status w past s ≡ Some (servers.status (opening_of s) (of_server s (trace w past)))
-on_status w past s l h = if_both (nat_lt s w.servers) (is_on w (trace w past) (Server s)) (servers.status (opening_of s) (of_server s (trace w past))) (lt_true s w.servers l) (sym (up_is w past s) ∙ h)
+on_status w past s l h = if_both (nat_lt s w.servers) (is_on w (trace w past) (Server s)) (servers.status (opening_of s) (of_server s (trace w past))) (lt-ltb s w.servers l) (sym (up_is w past s) ∙ h)
 
 if_on : {X : Type 0} (b : Bool) (x : Option X) → b ≡ true → (if b then x else None) ≡ x
 if_on b x h = rw h refl

@@ -1,7 +1,7 @@
 -- A world in which one server has made a step.
 use Rattle.std.proofs.Common.{◌≡◌, refl, sym, ◌∙◌, ap, subst, ℕ, ◌<◌, ◌==◌, ◌*◌, ◌+◌, Bool, true, false, List, [], ◌∷◌, ◌++◌, length, Some, append-nil}
 use Rattle.std.specs.Prelude.{if◌then◌else◌, map, set, slice_get}
-use Rattle.std.proofs.lemmas.Bool.{eqb-true, eq-eqb}
+use Rattle.std.proofs.lemmas.Bool.{eqb-true, eq-eqb, false≢true}
 use Rattle.std.proofs.Math.ListN.{length-set}
 use Rattle.std.proofs.lemmas.List.{map-append}
 use Rattle.fc_base.specs.declared.limits.TheConstants.{MAX_JOBS}
@@ -64,9 +64,6 @@ frames_more w past step = map-append frame_spelling (frames_sent w (steps past))
 
 -- ---- the world
 
-false_true : false ≡ true → ⊥
-false_true e = cc
-
 -- The nodes once that of server s was set: each of the others stands for its list as it did, and so does that.
 record AreSet (s : ℕ) (node : ServerNode) (items now : List ServerNode) (was is : ℕ → List FrameEntry) : Type 0 where
   there : s < length items
@@ -82,7 +79,7 @@ set_by s node items now was is h r x at true eq back =
     let here : slice_get (set items s node) s ≡ Some x = ap (λ xs. slice_get xs s) (sym h.set_is) ∙ ap (λ k. slice_get now k) e ∙ at in
     subst (λ k. servers.Stands (opening_of k) (is k) x) e (subst (λ y. servers.Stands (opening_of s) (is s) y) (is_set items s node x h.there here) h.node_is)
 set_by s node items now was is h r x at false eq back =
-    let ne : s ≡ r → ⊥ = λ e. false_true (back e) in
+    let ne : s ≡ r → ⊥ = λ e. false≢true (back e) in
     let there : slice_get items r ≡ Some x = sym (set_there items s r node ne) ∙ ap (λ xs. slice_get xs r) (sym h.set_is) ∙ at in
     subst (λ list. servers.Stands (opening_of r) list x) (sym (h.others r ne)) (h.each r x there)
 

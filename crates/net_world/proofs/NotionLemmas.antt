@@ -37,6 +37,7 @@ use Rattle.net_world.specs.Honest.{HoldsWrite}
 use Rattle.net_world.proofs.KeyLemmas.{same_key}
 use Rattle.net_world.proofs.GroundLemmas.{Ground, job_legal}
 use Rattle.net_world.proofs.LinkLemmas.{hit, IsStateOf, state_is_of, now_or_before, none_taken_yet}
+use Rattle.net_world.proofs.ListLemmas.{some_is}
 
 -- What a file holds of a job's writes, of which so many were issued, and these are done.
 abbrev pub Notion : Type 1
@@ -64,9 +65,6 @@ OfState P held state = P held state.key state.job state.issued (has state.counte
 pub record Kept (P : Notion) (o : Opening) (held : ℕ → ℕ → List ℕ) (list : List Entry) : Type 0 where
   pub works : (w : Work) → work o list ≡ Some w → (j : ℕ) (job : Job) → slice_get w.jobs j ≡ Some job → Of P (held j) (origin_of w j job) (history (origin_of w j job) w.since)
   pub states : (j : ℕ) (state : State) → Contains (takings o (last_run o list) j list) state → OfState P (held j) state
-
-some_is : {X : Type 0} {x y : X} → ◌≡◌ {A = Option X} (Some x) (Some y) → x ≡ y
-some_is h = cc
 
 -- ---- a write that is accepted as ended was open
 

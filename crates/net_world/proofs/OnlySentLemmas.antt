@@ -22,6 +22,7 @@ use Rattle.messages.specs.Assemblies.{Row, Look, look_at_piece, rows_after_piece
 use Rattle.messages.specs.PieceLaws.{ArePackets, OneBodyOfEachTag, AreCut, WasSent, IsPieceOf, OnlySentComesTogether}
 use Rattle.messages.specs.Hearing.{Rules, Heard, Coming, Comes, Happens, Meaning, Says, Waits, Spoils, Strays, said_by, meaning, heard_by, entry_of, rows_by, rows_of, with_entry, heard}
 use Rattle.disk_model.specs.declared.left.Left.{Left}
+use Rattle.disk_model.proofs.ListLemmas.{none_in, only_in, first_of, behind_one}
 use Rattle.server_core.specs.History as server
 use Rattle.client_core.specs.History as client
 use Rattle.mirror_core.specs.History as mirror
@@ -30,8 +31,9 @@ use Rattle.net_world.specs.Trace.{Step, AtServer, AtClient, AtMirror, IsTrace, W
 use Rattle.net_world.specs.Frames.{FrameStep, OfServer, OfClient, OfMirror, of_server, of_client, at_server, at_client, frames_sent, to_of, MayHappen, is_allowed, IsFrameTrace, step_heard, trace_heard}
 use Rattle.net_world.specs.InRange.{EntryFits, StepFits, FrameStepFits, Fits, FitsFrames, SentAreInRange}
 use Rattle.net_world.specs.FrameLaws.{FramesAreOfPackets, TagsNameOneBody, OnlySentIsHeard}
-use Rattle.net_world.proofs.ListLemmas.{none_in, only_in, first_in, later_in, of_map}
+use Rattle.net_world.proofs.ListLemmas.{of_map}
 use Rattle.net_world.proofs.HearingLemmas.{packets_by, sent_with}
+use Rattle.net_world.proofs.WorldLemmas.{either_way}
 
 -- ---- what was sent stays sent
 
@@ -65,8 +67,8 @@ of_frames : (ps : List PacketParts) (f : Frame) → Contains (flat_map frames_of
 of_frames [] f h all in_it = absurd (none_in f h)
 of_frames (p ∷ ps) f h all in_it =
     elim (Contains-append_cases (frames_of p) (flat_map frames_of ps) f (subst (λ fs. Contains fs f) (flat_map-cons frames_of p ps) h)) [
-      | inl i ↦ of_cut p (is_cut p.body) refl f i all (in_it p (first_in p ps))
-      | inr i ↦ of_frames ps f i all (λ q j. in_it q (later_in p ps q j))
+      | inl i ↦ of_cut p (is_cut p.body) refl f i all (in_it p (first_of p ps))
+      | inr i ↦ of_frames ps f i all (λ q j. in_it q (behind_one p ps q j))
     ]
 
 pub frame_is : FramesAreOfPackets → (w : Setup) (past : List FrameStep) (f : Frame) → Contains (frames_sent w past) f → IsFrameOf (sent_packets w (trace_heard w past)) f
@@ -130,10 +132,6 @@ server_says w s t left (Says p) h i = (h, (i, tt), refl)
 server_says w s t left Waits h i = h
 server_says w s t left Spoils h i = h
 server_says w s t left Strays h i = h
-
-either_way : (b : Bool) → (if b then true else true) ≡ true
-either_way true = refl
-either_way false = refl
 
 client_says : (w : Setup) (t : List Step) (left : Left) (m : Meaning) → IsTrace w t → SaysSent (sent_packets w t) Client m → IsTrace w (with_entry (option_map AtClient (heard_by (at_client w) left m)) t)
 client_says w t left (Says p) h i = (h, (i, tt), either_way w.mirror)

@@ -25,13 +25,11 @@ use Rattle.net_world.specs.ClientNodes as clients
 use Rattle.net_world.specs.Opened.{AreOpened, AreBlank, OpensMirror, HasOpened, blank}
 use Rattle.net_world.specs.ClientNodes.{handed_in}
 use Rattle.net_world.specs.Stands.{IsMirror, IsGreatest, StandsFor}
-
-some_is : {X : Type 0} (x y : X) → Some x ≡ Some y → x ≡ y
-some_is x y e = cc
+use Rattle.net_world.proofs.ListLemmas.{same_some}
 
 -- One more at the end of a list.
 pushed : {X : Type 0} (xs : List X) (x y : X) (i : ℕ) → slice_get (xs ++ x ∷ []) i ≡ Some y → (slice_get xs i ≡ Some y) ⊎ ((i ≡ length xs) × (x ≡ y))
-pushed [] x y zero h = inr (refl, some_is x y h)
+pushed [] x y zero h = inr (refl, same_some x y h)
 pushed [] x y (suc i) h = absurd (none_some h)
   where
     none_some : None ≡ Some y → ⊥

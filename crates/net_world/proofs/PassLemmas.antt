@@ -34,9 +34,10 @@ use Rattle.net_world.specs.Trace.{Step, AtServer, AtClient, AtMirror, IsTrace, o
 use Rattle.net_world.specs.Holders.{taken_of, carried_state}
 use Rattle.net_world.specs.Passes.{SentStatesWereTaken, WasSent, CarriedStatesWereSent, KeptStatesWereSent, CopiedStatesWereSent, SavedStatesWereKept, WasKept, CheckedStatesWereSent}
 use Rattle.net_world.specs.Claims.{OfEachList, OfEachTrace}
-use Rattle.net_world.proofs.ListLemmas.{none_in, first_in, found_in}
+use Rattle.net_world.proofs.ListLemmas.{found_in}
 use Rattle.net_world.proofs.MirrorLemmas.{sent_by_mirror, mirror_copies}
 use Rattle.net_world.proofs.TraceLemmas.{own_step, taken_stays, sent_cases, sent_none, sent_stays, taken_was_sent, came_was_sent, copied_was_sent, heard_was_sent, same_packet}
+use Rattle.disk_model.proofs.ListLemmas.{none_in, first_of}
 
 -- ---- what is sent in a State was taken
 
@@ -46,7 +47,7 @@ taken_at_key o r j past state key one =
     let run : state.key.run ≡ r = ap (λ (k : Key). k.run) key in
     let job : state.key.job ≡ j = ap (λ (k : Key). k.job) key in
     let here : takings o state.key.run state.key.job past ≡ state ∷ [] = ap (λ n. takings o n state.key.job past) run ∙ ap (λ n. takings o r n past) job ∙ one in
-    (ap (λ (k : Key). k.server) key, subst (λ l. Contains l state) (sym here) (first_in state []))
+    (ap (λ (k : Key). k.server) key, subst (λ l. Contains l state) (sym here) (first_of state []))
 
 sends_taken : served.SendsTheTaken → (o : Opening) (past : List server.Entry) (e : server.Entry) (p : PacketParts) (jobs : ℕ) (state : State) → Contains (servers.packets o past e) p → p.body ≡ bodies.State jobs state
     → (state.key.server ≡ o.me) × Contains (takings o state.key.run state.key.job (e ∷ past)) state

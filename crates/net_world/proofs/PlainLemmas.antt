@@ -3,6 +3,7 @@ use Rattle.std.proofs.Common.{◌≡◌, refl, sym, ◌∙◌, ap, ℕ, ◌+◌,
 use Rattle.std.specs.Prelude.{if◌then◌else◌, map, not, nat_lt}
 use Rattle.std.specs.Option.{option_or}
 use Rattle.std.proofs.lemmas.Bool.Decides.{nat_tests}
+use Rattle.std.proofs.lemmas.Bool.{lt-ltb, le-ltb}
 use Rattle.fc_base.specs.declared.fault.Fault.{Fault}
 use Rattle.fc_base.specs.declared.fault.Fault.TheVariants.{NoServer, NodeOn, NoMemory, NumbersSpent}
 use Rattle.disk_model.specs.declared.left.Left.TheVariants as lefts
@@ -34,7 +35,7 @@ use Rattle.net_world.specs.Stands.{StandsFor}
 use Rattle.net_world.specs.Ends.{Ends}
 use Rattle.net_world.specs.Serving.{entries, step_of}
 use Rattle.net_world.proofs.MetLemmas.{HasMoved, server_stepped, server_kept}
-use Rattle.net_world.proofs.ServeLemmas.{heard_is, up_is, frames_are, first_is}
+use Rattle.net_world.proofs.ServeLemmas.{heard_is, up_is, frames_are, first_is, first_fails}
 use Rattle.net_world.proofs.EndsLemmas.{does, goes, stops, refuses}
 
 -- ---- a step that sends nothing and is told plainly
@@ -76,29 +77,20 @@ restart_silent w past s = sym (frames_are w past s (hearing.Restart lefts.Saved)
 pub boot_is : (w : Setup) (past : List Change) (s : ℕ) → servers.has_boot (opening_of s) (entries past s) ≡ has_boot (trace w past) s
 boot_is w past s = ap (λ list. nat_lt (words.boot (opening_of s) list + 1) (2 ^ 64)) (heard_is w past s)
 
-first_fails : (a b : Bool) (f g : Fault) → a ≡ false → option_or (unless a f) (unless b g) ≡ Some f
-first_fails a b f g h = rw h refl
-
 on_test : (a b : Bool) (f g : Fault) → a ≡ true → b ≡ false → option_or (unless a f) (unless (not b) g) ≡ None
 on_test a b f g h k = rw (h, k) refl
 
 on_fails : (a b : Bool) (f g : Fault) → a ≡ true → b ≡ true → option_or (unless a f) (unless (not b) g) ≡ Some g
 on_fails a b f g h k = rw (h, k) refl
 
-lt_true : (a b : ℕ) → a < b → nat_lt a b ≡ true
-lt_true a b h = grind (arith, nat_tests)
-
-lt_false : (a b : ℕ) → b ≤ a → nat_lt a b ≡ false
-lt_false a b h = grind (arith, nat_tests)
-
 pub none_on : (w : Setup) (past : List Change) (s : ℕ) → w.servers ≤ s → unless_off w (trace w past) (nodes.Server s) ≡ Some NoServer
-none_on w past s h = first_fails (nat_lt s w.servers) (not (is_on w (trace w past) (nodes.Server s))) NoServer NodeOn (lt_false s w.servers h)
+none_on w past s h = first_fails (nat_lt s w.servers) (not (is_on w (trace w past) (nodes.Server s))) NoServer NodeOn (le-ltb s w.servers h)
 
 pub may_restart : (w : Setup) (past : List Change) (s : ℕ) → s < w.servers → is_up (opening_of s) (entries past s) ≡ false → unless_off w (trace w past) (nodes.Server s) ≡ None
-may_restart w past s l h = on_test (nat_lt s w.servers) (is_on w (trace w past) (nodes.Server s)) NoServer NodeOn (lt_true s w.servers l) (sym (up_is w past s) ∙ h)
+may_restart w past s l h = on_test (nat_lt s w.servers) (is_on w (trace w past) (nodes.Server s)) NoServer NodeOn (lt-ltb s w.servers l) (sym (up_is w past s) ∙ h)
 
 pub runs_on : (w : Setup) (past : List Change) (s : ℕ) → s < w.servers → is_up (opening_of s) (entries past s) ≡ true → unless_off w (trace w past) (nodes.Server s) ≡ Some NodeOn
-runs_on w past s l h = on_fails (nat_lt s w.servers) (is_on w (trace w past) (nodes.Server s)) NoServer NodeOn (lt_true s w.servers l) (sym (up_is w past s) ∙ h)
+runs_on w past s l h = on_fails (nat_lt s w.servers) (is_on w (trace w past) (nodes.Server s)) NoServer NodeOn (lt-ltb s w.servers l) (sym (up_is w past s) ∙ h)
 
 pub restart_plain : (w : Setup) (past : List Change) (s : ℕ) → unless_off w (trace w past) (nodes.Server s) ≡ None → servers.has_boot (opening_of s) (entries past s) ≡ true
     → IsPlain w past (Restart (nodes.Server s)) (step_of s (hearing.Restart lefts.Saved))

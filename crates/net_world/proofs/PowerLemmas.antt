@@ -2,6 +2,7 @@
 use Rattle.std.proofs.Common.{◌≡◌, refl, sym, subst, ℕ, ◌+◌, ◌-◌, ◌^◌, ◌<◌, arith, true, false, List, Ok, Err}
 use Rattle.std.specs.Prelude.{nat_lt}
 use Rattle.std.proofs.lemmas.Bool.Decides.{nat_tests}
+use Rattle.std.proofs.lemmas.Bool.{lt-ltb}
 use Rattle.fc_base.specs.declared.fault.Fault.{Fault}
 use Rattle.fc_base.specs.declared.fault.Fault.TheVariants.{NoMemory, LoadFault, SaveFault, BadNote, NumbersSpent}
 use Rattle.disk_model.specs.MemNotes.{Saved as Kept, note_of}
@@ -20,16 +21,13 @@ use Rattle.net_world.specs.ServerNodes.{words_noted, Stands, Restarts}
 says_same : (old new : Note) (n : Noted) → new ≡ old → Says old.bytes n → Says new.bytes n
 says_same old new n h s = subst (λ (x : Note). Says x.bytes n) (sym h) s
 
-lt_true : (a b : ℕ) → a < b → nat_lt a b ≡ true
-lt_true a b h = grind (arith, nat_tests)
-
 spent : (b : ℕ) → b ≡ 2 ^ 64 - 1 → nat_lt (b + 1) (2 ^ 64) ≡ false
 spent b h = rw h refl
 
 pub restart_ok : (o : Opening) (past : List FrameEntry) (notes : Kept) (server : Server Kept) (me : ℕ) → o.me ≡ me → Stands o past (Off notes) → Opened note_of me notes server → Restarts o past (On server) (Ok tt)
 restart_ok o past notes server me is s h =
     let stands = h.stands o past is s.0 in
-    (s.1, lt_true (boot o (packets_heard o past) + 1) (2 ^ 64) stands.core.durable.boot_range, (stands, refl))
+    (s.1, lt-ltb (boot o (packets_heard o past) + 1) (2 ^ 64) stands.core.durable.boot_range, (stands, refl))
 
 pub restart_err : (o : Opening) (past : List FrameEntry) (notes back : Kept) (fault : Fault) → Stands o past (Off notes) → NotOpened (note_of notes) (note_of back) fault → Restarts o past (Off back) (Err fault)
 restart_err o past notes back LoadFault s h = absurd (omega (arith, h.0))

@@ -9,6 +9,7 @@ use Rattle.messages.specs.declared.frame.Frame.TheVariants.{Whole, Piece}
 use Rattle.messages.specs.Laws.{IsPacket}
 use Rattle.messages.specs.PieceLaws.{ArePackets}
 use Rattle.disk_model.specs.declared.left.Left.{Left}
+use Rattle.disk_model.proofs.ListLemmas.{none_in, each_of}
 use Rattle.server_core.specs.declared.event.Event.{Event}
 use Rattle.server_core.specs.declared.event.Event.TheVariants as events
 use Rattle.server_core.specs.History as history
@@ -26,7 +27,6 @@ use Rattle.mirror_core.specs.Laws as mirrors
 use Rattle.net_world.specs.Setup.{Setup}
 use Rattle.net_world.specs.Trace.{Step, AtServer, AtClient, AtMirror, IsTrace, WasSentTo, taken_by, node_of, sent_packets, packets_of, of_server, of_client, of_mirror, opening_of, client_opening, mirror_opening, first_entry}
 use Rattle.net_world.specs.InRange.{ReportFits, EntryFits, StepFits, SentAreInRange}
-use Rattle.net_world.proofs.ListLemmas.{none_in, each_of}
 
 AllSent : List PacketParts → Step → Type 0
 AllSent ps step = AllByRecursion (WasSentTo ps (node_of step)) (taken_by step)

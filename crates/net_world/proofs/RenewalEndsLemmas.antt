@@ -4,6 +4,7 @@ use Rattle.std.specs.Prelude.{if◌then◌else◌, not, map, nat_lt}
 use Rattle.std.specs.List.{list_all}
 use Rattle.std.specs.Option.{option_or}
 use Rattle.std.proofs.lemmas.Bool.Decides.{nat_tests}
+use Rattle.std.proofs.lemmas.Bool.{ltb-true, lt-ltb}
 use Rattle.fc_base.specs.declared.fault.Fault.{Fault}
 use Rattle.fc_base.specs.declared.fault.FaultSort.TheVariants as sorts
 use Rattle.fc_base.specs.Fault.{sort_of}
@@ -39,7 +40,7 @@ use Rattle.net_world.specs.ClientNodes.{is_up, handed_in, lacks_note}
 use Rattle.net_world.specs.Stands.{IsGreatest, StandsFor}
 use Rattle.net_world.specs.Ends.{Ends}
 use Rattle.net_world.specs.Asking.{entries, step_of}
-use Rattle.net_world.proofs.ServeLemmas.{first_is, lt_of, lt_true}
+use Rattle.net_world.proofs.ServeLemmas.{first_is}
 use Rattle.net_world.proofs.EndsLemmas.{does, goes, refuses}
 use Rattle.net_world.proofs.PlainLemmas.{IsPlain, told_plainly}
 use Rattle.net_world.proofs.ClientHeardLemmas.{heard_is, frames_are}
@@ -75,7 +76,7 @@ greater old g handed h l k fits = ap (λ x. nat_lt g k && x) (h k fits) ∙ by_t
   where
     by_test : (b : Bool) → nat_lt g k ≡ b → (b && nat_lt old k) ≡ b
     by_test false e = refl
-    by_test true e = lt_true old k (omega (arith, lt_of old g l, lt_of g k e))
+    by_test true e = lt-ltb old k (omega (arith, ltb-true old g l, ltb-true g k e))
 
 -- ---- why the world refuses one
 

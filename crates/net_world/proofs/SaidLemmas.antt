@@ -22,6 +22,7 @@ use Rattle.net_world.specs.Trace.{Step, AtServer, AtClient, AtMirror, opening_of
 use Rattle.net_world.proofs.MirrorLemmas.{sent_by_mirror}
 use Rattle.net_world.proofs.TraceLemmas.{own_step, sent_cases, sent_none}
 use Rattle.net_world.proofs.BegunLemmas.{begun, work_begun, begun_stays}
+use Rattle.net_world.proofs.ListLemmas.{same_some}
 
 -- The laws of the nodes on which this rests.
 pub record Sayings : Type 0 where
@@ -132,8 +133,5 @@ none_says laws s list p run j jobs h is =
       none = ap (takings o run j) h.split ∙ laws.stay o run j h.newer here below (over_of run k.now (work o here) k.works k.over) ∙ k.none;
     }
 
-some_jobs : (x y : List Job) → Some x ≡ Some y → x ≡ y
-some_jobs x y h = cc
-
 pub same_count : (o : Opening) (run jobs : ℕ) (list : List Entry) (set : List Job) → begun o run list ≡ Some set → SaysJobs o list run jobs → jobs ≡ length set
-same_count o run jobs list set is k = k.count ∙ ap length (some_jobs k.set set (sym k.is ∙ is))
+same_count o run jobs list set is k = k.count ∙ ap length (same_some k.set set (sym k.is ∙ is))

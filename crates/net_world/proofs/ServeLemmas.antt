@@ -8,6 +8,7 @@ use Rattle.std.specs.Option.{option_or}
 use Rattle.std.proofs.lemmas.Bool.Decides.{nat_tests}
 use Rattle.std.proofs.lemmas.List.{length-map}
 use Rattle.std.proofs.lemmas.Option.{slice_get_read}
+use Rattle.std.proofs.lemmas.Bool.{lt-ltb, le-ltb, ltb-true, ltb-false}
 use Rattle.fc_base.specs.declared.limits.TheConstants.{MAX_JOBS}
 use Rattle.fc_base.specs.declared.fault.Fault.{Fault}
 use Rattle.fc_base.specs.declared.fault.Fault.TheVariants.{NoServer, NodeOff, NoMemory}
@@ -72,29 +73,23 @@ frames_are w past s e =
 
 -- ---- whether there is such a server, and whether it is on
 
-pub lt_true : (a b : ℕ) → a < b → nat_lt a b ≡ true
-lt_true a b h = grind (arith, nat_tests)
-
-pub lt_false : (a b : ℕ) → b ≤ a → nat_lt a b ≡ false
-lt_false a b h = grind (arith, nat_tests)
-
 tests_pass : (a b : Bool) (f g : Fault) → a ≡ true → b ≡ true → option_or (unless a f) (unless b g) ≡ None
 tests_pass a b f g h k = rw (h, k) refl
 
-first_fails : (a b : Bool) (f g : Fault) → a ≡ false → option_or (unless a f) (unless b g) ≡ Some f
+pub first_fails : (a b : Bool) (f g : Fault) → a ≡ false → option_or (unless a f) (unless b g) ≡ Some f
 first_fails a b f g h = rw h refl
 
 second_fails : (a b : Bool) (f g : Fault) → a ≡ true → b ≡ false → option_or (unless a f) (unless b g) ≡ Some g
 second_fails a b f g h k = rw (h, k) refl
 
 pub none_there : (w : Setup) (past : List Change) (s : ℕ) → w.servers ≤ s → unless_on w (trace w past) (nodes.Server s) ≡ Some NoServer
-none_there w past s h = first_fails (nat_lt s w.servers) (is_on w (trace w past) (nodes.Server s)) NoServer NodeOff (lt_false s w.servers h)
+none_there w past s h = first_fails (nat_lt s w.servers) (is_on w (trace w past) (nodes.Server s)) NoServer NodeOff (le-ltb s w.servers h)
 
 pub is_off : (w : Setup) (past : List Change) (s : ℕ) → s < w.servers → is_up (opening_of s) (entries past s) ≡ false → unless_on w (trace w past) (nodes.Server s) ≡ Some NodeOff
-is_off w past s l h = second_fails (nat_lt s w.servers) (is_on w (trace w past) (nodes.Server s)) NoServer NodeOff (lt_true s w.servers l) (sym (up_is w past s) ∙ h)
+is_off w past s l h = second_fails (nat_lt s w.servers) (is_on w (trace w past) (nodes.Server s)) NoServer NodeOff (lt-ltb s w.servers l) (sym (up_is w past s) ∙ h)
 
 pub is_there : (w : Setup) (past : List Change) (s : ℕ) → s < w.servers → is_up (opening_of s) (entries past s) ≡ true → unless_on w (trace w past) (nodes.Server s) ≡ None
-is_there w past s l h = tests_pass (nat_lt s w.servers) (is_on w (trace w past) (nodes.Server s)) NoServer NodeOff (lt_true s w.servers l) (sym (up_is w past s) ∙ h)
+is_there w past s l h = tests_pass (nat_lt s w.servers) (is_on w (trace w past) (nodes.Server s)) NoServer NodeOff (lt-ltb s w.servers l) (sym (up_is w past s) ∙ h)
 
 -- ---- frames are counted
 
@@ -191,16 +186,10 @@ serve_fails w past s e fault old new stands h =
 
 -- ---- nothing comes of it
 
-pub lt_of : (a b : ℕ) → nat_lt a b ≡ true → a < b
-lt_of a b h = grind (arith, nat_tests)
-
-pub le_of : (a b : ℕ) → nat_lt a b ≡ false → b ≤ a
-le_of a b h = grind (arith, nat_tests)
-
 -- There is no such server.
 pub none_serves : (w : Setup) (past : List Change) (s : ℕ) (e : Input) (now : World) → StandsFor w past now → nat_lt s (length now.servers.items) ≡ false → ServerEnds w past s e now (Err NoServer)
 none_serves w past s e now stands h =
-    let l : w.servers ≤ s = omega (arith, stands.number, le_of s (length now.servers.items) h) in
+    let l : w.servers ≤ s = omega (arith, stands.number, ltb-false s (length now.servers.items) h) in
     inl (record { why = none_there w past s l; unchanged = stands })
 
 -- All but the frames' places in memory is as it was.
@@ -232,7 +221,7 @@ pub on_below : (w : Setup) (past : List Change) (s : ℕ) → unless_on w (trace
 on_below w past s h = by_test (nat_lt s w.servers) refl
   where
     by_test : (b : Bool) → nat_lt s w.servers ≡ b → s < w.servers
-    by_test true e = lt_of s w.servers e
+    by_test true e = ltb-true s w.servers e
     by_test false e = absurd (some_none (sym (first_fails (nat_lt s w.servers) (is_on w (trace w past) (nodes.Server s)) NoServer NodeOff e) ∙ h))
       where
         some_none : Some NoServer ≡ None → ⊥
@@ -244,7 +233,7 @@ up_of w past s h = up_is w past s ∙ by_test (is_on w (trace w past) (nodes.Ser
   where
     by_test : (b : Bool) → is_on w (trace w past) (nodes.Server s) ≡ b → is_on w (trace w past) (nodes.Server s) ≡ true
     by_test true e = e
-    by_test false e = absurd (some_none (sym (second_fails (nat_lt s w.servers) (is_on w (trace w past) (nodes.Server s)) NoServer NodeOff (lt_true s w.servers (on_below w past s h)) e) ∙ h))
+    by_test false e = absurd (some_none (sym (second_fails (nat_lt s w.servers) (is_on w (trace w past) (nodes.Server s)) NoServer NodeOff (lt-ltb s w.servers (on_below w past s h)) e) ∙ h))
       where
         some_none : Some NodeOff ≡ None → ⊥
         some_none e = cc

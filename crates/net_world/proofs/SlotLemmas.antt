@@ -1,6 +1,7 @@
 -- One place of a list is set, and the others stay.
 use Rattle.std.proofs.Common.{◌≡◌, refl, ap, ℕ, zero, suc, ◌<◌, arith, List, [], ◌∷◌, length, Some}
 use Rattle.std.specs.Prelude.{set, slice_get}
+use Rattle.net_world.proofs.ListLemmas.{same_some}
 
 pub set_here : {X : Type 0} (xs : List X) (i : ℕ) (x : X) → i < length xs → slice_get (set xs i x) i ≡ Some x
 set_here [] i x h = absurd (omega (arith, h))
@@ -13,9 +14,6 @@ set_there (y ∷ ys) zero zero x h = absurd (h refl)
 set_there (y ∷ ys) zero (suc k) x h = refl
 set_there (y ∷ ys) (suc i) zero x h = refl
 set_there (y ∷ ys) (suc i) (suc k) x h = set_there ys i k x (λ e. h (ap suc e))
-
-same_some : {X : Type 0} (x y : X) → Some x ≡ Some y → x ≡ y
-same_some x y e = cc
 
 -- What is at the place that was set.
 pub is_set : {X : Type 0} (xs : List X) (i : ℕ) (x y : X) → i < length xs → slice_get (set xs i x) i ≡ Some y → x ≡ y

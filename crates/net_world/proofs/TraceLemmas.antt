@@ -4,6 +4,7 @@ use Rattle.std.specs.Prelude.{if◌then◌else◌, nat_lt, not, ◌&&◌, ◌++�
 use Rattle.std.specs.List.{AllByRecursion}
 use Rattle.std.proofs.lemmas.Bool.Decides.{nat_tests}
 use Rattle.std.proofs.lemmas.List.Elements.{Contains-append_cases, Contains-append_left}
+use Rattle.std.proofs.lemmas.Bool.{eq-eqb}
 use Rattle.fc_base.specs.declared.numbers.Key.{Key}
 use Rattle.fc_base.specs.Counted.{has}
 use Rattle.verify_state.specs.State.{State}
@@ -28,14 +29,11 @@ use Rattle.mirror_core.specs.Laws as mirror_laws
 use Rattle.net_world.specs.Setup.{Setup}
 use Rattle.net_world.specs.Trace.{Step, AtServer, AtClient, AtMirror, opening_of, client_opening, first_entry, of_server, of_client, of_mirror, packets_of, sent_packets, taken_by, node_of, WasSentTo, is_alone, is_with_mirror, IsTrace}
 use Rattle.net_world.specs.Holders.{taken_of}
-use Rattle.net_world.proofs.ListLemmas.{none_in, later_in, each_of}
-
-same_number : (x : ℕ) → (x == x) ≡ true
-same_number x = grind (arith, nat_tests)
+use Rattle.disk_model.proofs.ListLemmas.{none_in, behind_one, each_of}
 
 -- The list of a server behind a step of its own.
 pub own_step : (r s : ℕ) (e : server.Entry) (past : List Step) → r ≡ s → of_server s (AtServer r e ∷ past) ≡ e ∷ of_server s past
-own_step r s e past h = let t : (r == s) ≡ true = subst (λ x. (r == x) ≡ true) h (same_number r) in rw t refl
+own_step r s e past h = let t : (r == s) ≡ true = subst (λ x. (r == x) ≡ true) h (eq-eqb r r refl) in rw t refl
 
 -- ---- a client without a mirror, and one with it
 
@@ -102,7 +100,7 @@ same_packet p q a b c = ap (λ x. make_packet x p.to p.body) a ∙ ap (λ x. mak
 
 among : (x : Option State) (states : List State) (state : State) → Contains states state → Contains (and_those x states) state
 among None states state h = h
-among (Some y) states state h = later_in y states state h
+among (Some y) states state h = behind_one y states state h
 
 taking_stays : (o : Opening) (run j : ℕ) (e : server.Entry) (past : List server.Entry) (state : State) → Contains (takings o run j past) state → Contains (takings o run j (e ∷ past)) state
 taking_stays o run j (server.Met e left) past state h = among (takes run j (request_of o.me e) (work o past)) (takings o run j past) state h

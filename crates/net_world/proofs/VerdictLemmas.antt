@@ -8,6 +8,7 @@ use Rattle.messages.specs.declared.packet.PacketParts.{PacketParts}
 use Rattle.messages.specs.declared.body.Body.TheVariants as bodies
 use Rattle.disk_model.specs.declared.left.Left.TheVariants.{Saved}
 use Rattle.disk_model.specs.Left.{is_lost}
+use Rattle.disk_model.proofs.ListLemmas.{none_in, first_or_behind, first_of, behind_one}
 use Rattle.server_core.specs.History.{Opening, Entry, Met, Cut, Restart}
 use Rattle.server_core.specs.Request.{request_of}
 use Rattle.server_core.specs.Words.{work, last_run}
@@ -24,7 +25,7 @@ use Rattle.net_world.specs.Passes.{SentStatesWereTaken, CarriedStatesWereSent, K
 use Rattle.net_world.specs.Exact.{IsQuiet}
 use Rattle.net_world.specs.Claims.{OfEachList, OfEachTrace}
 use Rattle.net_world.specs.Headline.{OneTaking, HeldIsTheTaken, CountsTheCompleted, QuietUntilTheCheck}
-use Rattle.net_world.proofs.ListLemmas.{none_in, first_or_rest, first_in, later_in, single, found_in}
+use Rattle.net_world.proofs.ListLemmas.{single, found_in}
 use Rattle.net_world.proofs.PassLemmas.{was_taken, kept_was_taken}
 
 -- The passes of a verify state.
@@ -40,7 +41,7 @@ pub record Passes : Type 0 where
 taken_or : (lost : Bool) (x : Option State) (states all : List State) (state : State) → (Contains states state → Contains all state) → Contains (if lost then [] else and_those x states) state → Contains (and_those x all) state
 taken_or true x states all state f h = absurd (none_in state h)
 taken_or false None states all state f h = f h
-taken_or false (Some y) states all state f h = elim (first_or_rest y states state h) [ inl e ↦ subst (Contains (y ∷ all)) e (first_in y all) | inr i ↦ later_in y all state (f i) ]
+taken_or false (Some y) states all state f h = elim (first_or_behind y states state h) [ inl e ↦ subst (Contains (y ∷ all)) e (first_of y all) | inr i ↦ behind_one y all state (f i) ]
 
 taken_in_life_was_taken : (o : Opening) (run j : ℕ) (past : List Entry) (state : State) → Contains (taken_in_life o run j past) state → Contains (takings o run j past) state
 taken_in_life_was_taken o run j [] state h = absurd (none_in state h)

@@ -15,6 +15,7 @@ use Rattle.job_file.specs.declared.job.Job.{Job}
 use Rattle.disk_model.specs.File.{block_bytes}
 use Rattle.disk_model.specs.declared.left.Left.{Left}
 use Rattle.disk_model.specs.declared.left.Left.TheVariants as lefts
+use Rattle.disk_model.proofs.ListLemmas.{each_of}
 use Rattle.recheck.specs.Expected.{expected_by}
 use Rattle.recheck.specs.Fits.{ReportsFit}
 use Rattle.engine.specs.Running.{Origin}
@@ -52,7 +53,6 @@ use Rattle.net_world.specs.Checks.{key_of, report_by, report_for, check_end, end
 use Rattle.net_world.specs.Barred.{unless, is_on, unless_on, unless_off, unless_sent, unless_open, barring_fault}
 use Rattle.net_world.specs.Outcomes.{Outcome, Does, Refuses, Drops, outcome_of_step, unless_fault, where_saved, lost_by, met_by_server, met_by_client, comes_to_server, comes_to_client, comes_to_mirror, said_to_server, said_to_client, comes_to, delivery, end_of_write, end_of_check_met, has_boot, cut, noted_in, restart_of, client_cut_in, server_frame_cut, client_frame_cut, frame_cut, delivery_cut_in, restart_cut_in, cut_in, brings, unless_barred, outcome}
 use Rattle.net_world.specs.World.{and_outcome, world}
-use Rattle.net_world.proofs.ListLemmas.{each_of}
 
 FitBe : Result FrameStep Fault → Type 0
 FitBe (Ok step) = FrameStepFits step

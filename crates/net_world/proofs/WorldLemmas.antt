@@ -95,7 +95,7 @@ may_server : (w : Setup) (ps : List FrameStep) (t : List Step) (s : ℕ) (e : Ev
 unfolding MayBe Goes
 may_server w ps t s e m = may_unless w ps (answers.refusal (opening_of s) (of_server s t) e) _ (m, refl)
 
-either_way : (b : Bool) → (if b then true else true) ≡ true
+pub either_way : (b : Bool) → (if b then true else true) ≡ true
 either_way true = refl
 either_way false = refl
 

@@ -1,7 +1,7 @@
 -- The order that a journal gives merges the histories that agree with it.
 use Rattle.std.proofs.Common.{◌≡◌, refl, sym, ◌∙◌, ap, subst, ◌⊎◌, inl, inr, ℕ, suc, ◌+◌, ◌<◌, ◌≤◌, arith, Bool, true, false, ◌&&◌, List, [], ◌∷◌, ◌++◌, length}
 use Rattle.std.specs.Prelude.{map, filter, if◌then◌else◌, nat_le, nat_lt}
-use Rattle.std.proofs.lemmas.Bool.{eqb-true}
+use Rattle.std.proofs.lemmas.Bool.{eqb-true, ltb-true, ltb-false, lt-ltb, le-ltb, le-leb, lt-leb}
 use Rattle.std.proofs.lemmas.Bool.Decides.{nat_tests}
 use Rattle.messages.specs.declared.node.Node.{Node}
 use Rattle.messages.specs.declared.node.Node.TheVariants.{Server, Client, Mirror}
@@ -85,42 +85,24 @@ span from to xs = filter (λ at. nat_le from at && nat_lt at to) xs
 abbrev pub below : ℕ → List ℕ → List ℕ
 below to xs = filter (λ at. nat_lt at to) xs
 
-pub lt_true : (a b : ℕ) → a < b → nat_lt a b ≡ true
-lt_true a b h = grind (arith, nat_tests)
-
-pub lt_false : (a b : ℕ) → b ≤ a → nat_lt a b ≡ false
-lt_false a b h = grind (arith, nat_tests)
-
-pub le_true : (a b : ℕ) → a ≤ b → nat_le a b ≡ true
-le_true a b h = grind (arith, nat_tests)
-
-le_false : (a b : ℕ) → b < a → nat_le a b ≡ false
-le_false a b h = grind (arith, nat_tests)
-
-lt_of : (a b : ℕ) → nat_lt a b ≡ true → a < b
-lt_of a b h = grind (arith, nat_tests)
-
-ge_of : (a b : ℕ) → nat_lt a b ≡ false → b ≤ a
-ge_of a b h = grind (arith, nat_tests)
-
 pub all_below : (top to : ℕ) (xs : List ℕ) → top ≤ to → Falls top xs → below to xs ≡ xs
 all_below top to [] l h = refl
 all_below top to (x ∷ xs) l h =
-    let first : nat_lt x to ≡ true = lt_true x to (omega (arith, l, h.0)) in
+    let first : nat_lt x to ≡ true = lt-ltb x to (omega (arith, l, h.0)) in
     let rest = all_below x to xs (omega (arith, l, h.0)) h.1 in
     rw first (ap (λ ys. x ∷ ys) rest)
 
 none_below : (xs : List ℕ) → below 0 xs ≡ []
 none_below [] = refl
 none_below (x ∷ xs) =
-    let first : nat_lt x 0 ≡ false = lt_false x 0 (omega arith) in
+    let first : nat_lt x 0 ≡ false = le-ltb x 0 (omega arith) in
     rw first (none_below xs)
 
 -- Below the first number there is none from it on.
 none_from : (top from to : ℕ) (xs : List ℕ) → top ≤ from → Falls top xs → span from to xs ≡ []
 none_from top from to [] l h = refl
 none_from top from to (x ∷ xs) l h =
-    let first : nat_le from x ≡ false = le_false from x (omega (arith, l, h.0)) in
+    let first : nat_le from x ≡ false = lt-leb from x (omega (arith, l, h.0)) in
     rw first (none_from x from to xs (omega (arith, l, h.0)) h.1)
 
 -- Those from one number on and below another come before those below the one.
@@ -131,17 +113,17 @@ spans_meet top from to (x ∷ xs) l h = by_tests (spans_meet x from to xs l h.1)
     by_tests : span from to xs ++ below from xs ≡ below to xs → (a : Bool) → nat_lt x from ≡ a → (b : Bool) → nat_lt x to ≡ b
         → span from to (x ∷ xs) ++ below from (x ∷ xs) ≡ below to (x ∷ xs)
     by_tests later true e b f =
-        let less = lt_of x from e in
+        let less = ltb-true x from e in
         none_from_here less ∙ (all_below (suc x) from (x ∷ xs) (omega (arith, less)) (omega arith, h.1)
         ∙ sym (all_below (suc x) to (x ∷ xs) (omega (arith, less, l)) (omega arith, h.1)))
       where
         none_from_here : x < from → span from to (x ∷ xs) ++ below from (x ∷ xs) ≡ below from (x ∷ xs)
         none_from_here less = ap (λ ys. ys ++ below from (x ∷ xs)) (none_from (suc x) from to (x ∷ xs) (omega (arith, less)) (omega arith, h.1))
     by_tests later false e true f =
-        let there : nat_le from x ≡ true = le_true from x (ge_of x from e) in
+        let there : nat_le from x ≡ true = le-leb from x (ltb-false x from e) in
         rw (there, e, f) (ap (λ ys. x ∷ ys) later)
     by_tests later false e false f =
-        let there : nat_le from x ≡ true = le_true from x (ge_of x from e) in
+        let there : nat_le from x ≡ true = le-leb from x (ltb-false x from e) in
         rw (there, e, f) later
 
 -- ---- the places of a node in an order
@@ -250,8 +232,8 @@ first_of : (node : Node) (from at top : ℕ) (xs : List ℕ) (lines ws : List Pl
     → IsWithin (record { node = node; at = at } ∷ lines) (map (λ k. record { node = node; at = k }) (span from (at + 1) xs) ++ ws)
 first_of node from at top [] lines ws h i l w = absurd i
 first_of node from at top (x ∷ xs) lines ws h (inl e) l w =
-    let low : nat_le from x ≡ true = le_true from x (omega (arith, l, e)) in
-    let high : nat_lt x (at + 1) ≡ true = lt_true x (at + 1) (omega (arith, e)) in
+    let low : nat_le from x ≡ true = le-leb from x (omega (arith, l, e)) in
+    let high : nat_lt x (at + 1) ≡ true = lt-ltb x (at + 1) (omega (arith, e)) in
     rw (low, high) (inr (
       lines,
       ap (λ k. record { node = node; at = k } ∷ lines) (sym e),
@@ -259,8 +241,8 @@ first_of node from at top (x ∷ xs) lines ws h (inl e) l w =
     ))
 first_of node from at top (x ∷ xs) lines ws h (inr i) l w =
     let less = in_falls x at xs h.1 i in
-    let low : nat_le from x ≡ true = le_true from x (omega (arith, l, less)) in
-    let high : nat_lt x (at + 1) ≡ false = lt_false x (at + 1) (omega (arith, less)) in
+    let low : nat_le from x ≡ true = le-leb from x (omega (arith, l, less)) in
+    let high : nat_lt x (at + 1) ≡ false = le-ltb x (at + 1) (omega (arith, less)) in
     rw (low, high) (first_of node from at x xs lines ws h.1 i l w)
 
 pub in_order : (ran : Node → List Logged) (journal : List Line) → AreNoted ran journal → IsWithin (map place_of journal) (up_to_last ran journal)

@@ -8,12 +8,13 @@ use Rattle.std.proofs.lemmas.Option.{slice_get_within}
 use Rattle.messages.specs.declared.node.Node.{Node}
 use Rattle.node_history.specs.declared.logged.Logged.{Logged}
 use Rattle.node_history.specs.AtHub.{is_left_out}
+use Rattle.std.proofs.lemmas.Bool.{le-leb, le-ltb, lt-ltb}
 use Rattle.node_traces.specs.declared.place.Place.{Place}
 use Rattle.node_traces.specs.Marks.{Mark, frame_of, mark_of, marks_if, marks_of}
 use Rattle.node_traces.specs.Orders.{places_between, standing_places}
 use Rattle.node_traces.specs.Rising.{PlacesRise, MarksRise, HistoriesRise, marks_before}
 use Rattle.node_traces.proofs.MarkLemmas.{HasNone, none_or_one}
-use Rattle.node_traces.proofs.PlaceLemmas.{Falls, falls_wider, span, le_true, lt_false, lt_true, standing_falls}
+use Rattle.node_traces.proofs.PlaceLemmas.{Falls, falls_wider, span, standing_falls}
 
 -- ---- the event at a place, between newer ones and older ones
 
@@ -63,8 +64,8 @@ longer (e ∷ es) older l = let h = longer es older l in omega (arith, h)
 one_more : (from at : ℕ) (xs : List ℕ) → Falls at xs → span from (at + 1) xs ≡ span from at xs
 one_more from at [] h = refl
 one_more from at (x ∷ xs) h =
-    let low : nat_lt x at ≡ true = lt_true x at h.0 in
-    let high : nat_lt x (at + 1) ≡ true = lt_true x (at + 1) (omega (arith, h.0)) in
+    let low : nat_lt x at ≡ true = lt-ltb x at h.0 in
+    let high : nat_lt x (at + 1) ≡ true = lt-ltb x (at + 1) (omega (arith, h.0)) in
     let rest = one_more from at xs (falls_wider x at xs (omega (arith, h.0)) h.1) in
     rw (low, high) (by_test (nat_le from x) rest)
   where
@@ -79,9 +80,9 @@ here : (from : ℕ) (l : Logged) (older : List Logged) → from ≤ length older
     else length older ∷ span from (length older) (if b then standing_places older else length older ∷ standing_places older))
 here from l older low true = one_more from (length older) (standing_places older) (standing_falls older)
 here from l older low false =
-    let there : nat_le from (length older) ≡ true = le_true from (length older) low in
-    let above : nat_lt (length older) (length older + 1) ≡ true = lt_true (length older) (length older + 1) (omega arith) in
-    let not_below : nat_lt (length older) (length older) ≡ false = lt_false (length older) (length older) (omega arith) in
+    let there : nat_le from (length older) ≡ true = le-leb from (length older) low in
+    let above : nat_lt (length older) (length older + 1) ≡ true = lt-ltb (length older) (length older + 1) (omega arith) in
+    let not_below : nat_lt (length older) (length older) ≡ false = le-ltb (length older) (length older) (omega arith) in
     rw (there, above, not_below) (ap (λ ys. length older ∷ ys) (one_more from (length older) (standing_places older) (standing_falls older)))
 
 skipped : (from at k : ℕ) (xs : List ℕ) (b : Bool) → from ≤ at → at + 1 ≤ k → (out : Bool)
@@ -89,9 +90,9 @@ skipped : (from at k : ℕ) (xs : List ℕ) (b : Bool) → from ≤ at → at + 
     → span from (at + 1) (if b then xs else k ∷ xs) ≡ (if out then span from at (if b then xs else k ∷ xs) else at ∷ span from at (if b then xs else k ∷ xs))
 skipped from at k xs true low far out h = h
 skipped from at k xs false low far out h =
-    let there : nat_le from k ≡ true = le_true from k (omega (arith, low, far)) in
-    let one : nat_lt k (at + 1) ≡ false = lt_false k (at + 1) far in
-    let two : nat_lt k at ≡ false = lt_false k at (omega (arith, far)) in
+    let there : nat_le from k ≡ true = le-leb from k (omega (arith, low, far)) in
+    let one : nat_lt k (at + 1) ≡ false = le-ltb k (at + 1) far in
+    let two : nat_lt k at ≡ false = le-ltb k at (omega (arith, far)) in
     rw (there, one, two) h
 
 rises : (from : ℕ) (newer older : List Logged) (l : Logged) → from ≤ length older →
@@ -181,27 +182,27 @@ marks_all : (h : List Logged) (to : ℕ) → length h ≤ to → below_marks to 
 unfolding below_marks
 marks_all [] to h = refl
 marks_all (l ∷ ls) to h =
-    below_both to l ls true (lt_true (length ls) to (omega (arith, h)))
+    below_both to l ls true (lt-ltb (length ls) to (omega (arith, h)))
     ∙ ap (λ ms. mark_of (length ls) l ++ ms) (marks_all ls to (omega (arith, h)))
 
 marks_none : (h : List Logged) → below_marks 0 (marks_of h) ≡ []
 unfolding below_marks
 marks_none [] = refl
-marks_none (l ∷ ls) = below_both 0 l ls false (lt_false (length ls) 0 (omega arith)) ∙ marks_none ls
+marks_none (l ∷ ls) = below_both 0 l ls false (le-ltb (length ls) 0 (omega arith)) ∙ marks_none ls
 
 marks_more : (newer older : List Logged) (l : Logged) → below_marks (length older + 1) (marks_of (newer ++ l ∷ older))
     ≡ mark_of (length older) l ++ below_marks (length older) (marks_of (newer ++ l ∷ older))
 marks_more [] older l =
     let k = length older in
-    below_both (k + 1) l older true (lt_true k (k + 1) (omega arith))
+    below_both (k + 1) l older true (lt-ltb k (k + 1) (omega arith))
     ∙ ap (λ ms. mark_of k l ++ ms) (marks_all older (k + 1) (omega arith)
-    ∙ sym (below_both k l older false (lt_false k k (omega arith)) ∙ marks_all older k (omega arith)))
+    ∙ sym (below_both k l older false (le-ltb k k (omega arith)) ∙ marks_all older k (omega arith)))
 marks_more (e ∷ es) older l =
     let k = length older in
     let far = longer es older l in
-    below_both (k + 1) e (es ++ l ∷ older) false (lt_false (length (es ++ l ∷ older)) (k + 1) far)
+    below_both (k + 1) e (es ++ l ∷ older) false (le-ltb (length (es ++ l ∷ older)) (k + 1) far)
     ∙ (marks_more es older l
-    ∙ ap (λ ms. mark_of k l ++ ms) (sym (below_both k e (es ++ l ∷ older) false (lt_false (length (es ++ l ∷ older)) k (omega (arith, far))))))
+    ∙ ap (λ ms. mark_of k l ++ ms) (sym (below_both k e (es ++ l ∷ older) false (le-ltb (length (es ++ l ∷ older)) k (omega (arith, far))))))
 
 marks_rise : (h : List Logged) → MarksRise h
 unfolding below_marks

@@ -1,5 +1,6 @@
 use Rattle.std.proofs.Common.{refl, sym, ◌∙◌, ap, ◌<◌, arith, length, append-nil, List, ℕ}
 use Rattle.std.proofs.lemmas.Result.{err_from_is_err_and}
+use Rattle.std.proofs.lemmas.Bool.{ltb-true, ltb-false}
 use Rattle.server_core.specs.declared.input.Input.TheVariants as inputs
 use Rattle.server_core.specs.Hearing as hearing
 use Rattle.net_world.specs.Trace.{opening_of}
@@ -7,7 +8,7 @@ use Rattle.net_world.specs.Happenings.{Deliver, CutIn}
 use Rattle.net_world.specs.Outcomes.{lost_by}
 use Rattle.net_world.specs.Sending.{sent_in}
 use Rattle.net_world.specs.Serving.{entries}
-use Rattle.net_world.proofs.ServeLemmas.{lt_of, le_of, node_at, settled, none_there, is_there}
+use Rattle.net_world.proofs.ServeLemmas.{node_at, settled, none_there, is_there}
 use Rattle.net_world.proofs.EndsLemmas.{refuses, stops}
 use Rattle.net_world.proofs.PlainLemmas.{plain_ends}
 use Rattle.net_world.proofs.CutEndsLemmas.{cut_bar, frame_cut_plain, frame_cut_ends}
@@ -15,7 +16,7 @@ use Rattle.net_world.proofs.world.World.cut_in_at_server.Goals as goal
 
 pub returns-then-not-has_server : goal.returns-then-not-has_server
 returns-then-not-has_server c w past number stands is goes =
-    let l = le_of c.args.server (length c.args.self.now.servers.items) (sym c.has_server.ensures ∙ c.if-not-has_server.true) in
+    let l = ltb-false c.args.server (length c.args.self.now.servers.items) (sym c.has_server.ensures ∙ c.if-not-has_server.true) in
     let e = CutIn c.args.landed (Deliver number) in
     refuses w past e _ c.args.self.now refl
     (stops w past e _ (cut_bar w past number c.args.landed c.args.frame c.args.server (record { is_sent = is; goes_to = goes }) ∙ none_there w past c.args.server (omega (arith, stands.number, l)))) stands
@@ -26,7 +27,7 @@ returns-in_default c w past number stands is goes = (refl, settled w past c.args
 pub returns : goal.returns
 returns c w past number stands is goes =
     let s = c.args.server in
-    let l = lt_of s (length c.args.self.now.servers.items) (sym c.has_server.ensures ∙ c.if-not-has_server.false) in
+    let l = ltb-true s (length c.args.self.now.servers.items) (sym c.has_server.ensures ∙ c.if-not-has_server.false) in
     let below : s < w.servers = omega (arith, stands.number, l) in
     let at = node_at c.args.self.now.servers.items s c.server.inside.0 c.index_mut.result.now c.server.view_is l c.index_mut.ensures.value in
     let h = c.in_ok-cut_in_delivery.ensures (opening_of s) (entries past s) (stands.servers_are s c.index_mut.result.now at) in
@@ -40,7 +41,7 @@ returns c w past number stands is goes =
 pub returns-in_err-cut_in_delivery : goal.returns-in_err-cut_in_delivery
 returns-in_err-cut_in_delivery c w past number stands is goes =
     let s = c.args.server in
-    let l = lt_of s (length c.args.self.now.servers.items) (sym c.has_server.ensures ∙ c.if-not-has_server.false) in
+    let l = ltb-true s (length c.args.self.now.servers.items) (sym c.has_server.ensures ∙ c.if-not-has_server.false) in
     let at = node_at c.args.self.now.servers.items s c.server.inside.0 c.index_mut.result.now c.server.view_is l c.index_mut.ensures.value in
     let p = err_from_is_err_and c.from_residual.result c.from_residual.ensures.1 in
     rw (p.1, p.2)

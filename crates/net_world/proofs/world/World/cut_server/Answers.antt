@@ -1,25 +1,26 @@
 use Rattle.std.proofs.Common.{refl, sym, ◌∙◌, ap, arith, length, append-nil, List, ℕ}
+use Rattle.std.proofs.lemmas.Bool.{ltb-true, ltb-false}
 use Rattle.net_world.specs.Trace.{opening_of}
 use Rattle.net_world.specs.Happenings.{Cut}
 use Rattle.net_world.specs.Sending.{sent_in}
 use Rattle.net_world.specs.Serving.{entries}
 use Rattle.server_core.specs.Hearing as hearing
 use Rattle.messages.specs.declared.node.Node.TheVariants as nodes
-use Rattle.net_world.proofs.ServeLemmas.{lt_of, le_of, node_at, none_there, is_off, is_there, settled}
+use Rattle.net_world.proofs.ServeLemmas.{node_at, none_there, is_off, is_there, settled}
 use Rattle.net_world.proofs.EndsLemmas.{refuses, stops}
 use Rattle.net_world.proofs.PlainLemmas.{plain_ends, cut_plain}
 use Rattle.net_world.proofs.world.World.cut_server.Goals as goal
 
 pub returns-then-not-has_server : goal.returns-then-not-has_server
 returns-then-not-has_server c w past stands =
-    let l = le_of c.args.server (length c.args.self.now.servers.items) (sym c.has_server.ensures ∙ c.if-not-has_server.true) in
+    let l = ltb-false c.args.server (length c.args.self.now.servers.items) (sym c.has_server.ensures ∙ c.if-not-has_server.true) in
     let e = Cut (nodes.Server c.args.server) in
     refuses w past e _ c.args.self.now refl (stops w past e _ (none_there w past c.args.server (omega (arith, stands.number, l)))) stands
 
 pub returns-then-not-on : goal.returns-then-not-on
 returns-then-not-on c w past stands =
     let s = c.args.server in
-    let l = lt_of s (length c.args.self.now.servers.items) (sym c.has_server.ensures ∙ c.if-not-has_server.false) in
+    let l = ltb-true s (length c.args.self.now.servers.items) (sym c.has_server.ensures ∙ c.if-not-has_server.false) in
     let at = node_at c.args.self.now.servers.items s c.server.inside.0 c.index.result.now c.server.view_is l c.index.ensures in
     let up = c.on.ensures (opening_of s) (entries past s) (stands.servers_are s c.index.result.now at) in
     let e = Cut (nodes.Server s) in
@@ -31,7 +32,7 @@ returns-in_default c w past stands = (refl, settled w past c.args.self.now _ sta
 pub returns : goal.returns
 returns c w past stands =
     let s = c.args.server in
-    let l = lt_of s (length c.args.self.now.servers.items) (sym c.has_server.ensures ∙ c.if-not-has_server.false) in
+    let l = ltb-true s (length c.args.self.now.servers.items) (sym c.has_server.ensures ∙ c.if-not-has_server.false) in
     let at = node_at c.args.self.now.servers.items s c.server.inside.0 c.index.result.now c.server.view_is l c.index.ensures in
     let up = c.on.ensures (opening_of s) (entries past s) (stands.servers_are s c.index.result.now at) in
     let again = node_at c.args.self.now.servers.items s c.server.inside.0 c.index_mut.result.now c.server.view_is l c.index_mut.ensures.value in

@@ -1,19 +1,20 @@
 use Rattle.std.proofs.Common.{refl, sym, ◌∙◌, ap, inl, inr, length}
+use Rattle.std.proofs.lemmas.Bool.{ltb-true, ltb-false}
 use Rattle.server_core.specs.Answers.{run_job}
 use Rattle.server_core.specs.OpenWrites.{open_write}
 use Rattle.net_world.specs.Trace.{opening_of}
 use Rattle.net_world.specs.Serving.{entries}
-use Rattle.net_world.proofs.ServeLemmas.{lt_of, le_of, node_at}
+use Rattle.net_world.proofs.ServeLemmas.{node_at}
 use Rattle.net_world.proofs.FindLemmas.{not_there, found_off, found_on, off_first, no_open, is_open, shown}
 use Rattle.net_world.proofs.world.World.open_write.Goals as goal
 
 pub returns-then-not-has_server : goal.returns-then-not-has_server
 returns-then-not-has_server c w past stands =
-    (off_first w past c.args.server c.args.job c.args.write _ (not_there w past c.args.server c.args.self.now stands (le_of c.args.server (length c.args.self.now.servers.items) (sym c.has_server.ensures ∙ c.if-not-has_server.true))), refl)
+    (off_first w past c.args.server c.args.job c.args.write _ (not_there w past c.args.server c.args.self.now stands (ltb-false c.args.server (length c.args.self.now.servers.items) (sym c.has_server.ensures ∙ c.if-not-has_server.true))), refl)
 
 pub returns-in_default : goal.returns-in_default
 returns-in_default c w past stands =
-    let l = lt_of c.args.server (length c.args.self.now.servers.items) (sym c.has_server.ensures ∙ c.if-not-has_server.false) in
+    let l = ltb-true c.args.server (length c.args.self.now.servers.items) (sym c.has_server.ensures ∙ c.if-not-has_server.false) in
     let off = found_off w past c.args.server c.args.self.now stands (record {
       node = c.index.result.now;
       there = l;
@@ -24,7 +25,7 @@ returns-in_default c w past stands =
 
 pub returns-in_default-open_write : goal.returns-in_default-open_write
 returns-in_default-open_write c w past stands =
-    let l = lt_of c.args.server (length c.args.self.now.servers.items) (sym c.has_server.ensures ∙ c.if-not-has_server.false) in
+    let l = ltb-true c.args.server (length c.args.self.now.servers.items) (sym c.has_server.ensures ∙ c.if-not-has_server.false) in
     let runs = found_on w past c.args.server c.args.self.now c.in-Some.core.now stands (record {
       node = c.index.result.now;
       there = l;
@@ -39,7 +40,7 @@ returns-in_default-open_write c w past stands =
 
 pub returns-in-None : goal.returns-in-None
 returns-in-None c w past stands =
-    let l = lt_of c.args.server (length c.args.self.now.servers.items) (sym c.has_server.ensures ∙ c.if-not-has_server.false) in
+    let l = ltb-true c.args.server (length c.args.self.now.servers.items) (sym c.has_server.ensures ∙ c.if-not-has_server.false) in
     let runs = found_on w past c.args.server c.args.self.now c.in-Some.core.now stands (record {
       node = c.index.result.now;
       there = l;
@@ -54,7 +55,7 @@ returns-in-None c w past stands =
 
 pub returns-in-Some-run_job : goal.returns-in-Some-run_job
 returns-in-Some-run_job c w past stands =
-    let l = lt_of c.args.server (length c.args.self.now.servers.items) (sym c.has_server.ensures ∙ c.if-not-has_server.false) in
+    let l = ltb-true c.args.server (length c.args.self.now.servers.items) (sym c.has_server.ensures ∙ c.if-not-has_server.false) in
     let runs = found_on w past c.args.server c.args.self.now c.in-Some.core.now stands (record {
       node = c.index.result.now;
       there = l;

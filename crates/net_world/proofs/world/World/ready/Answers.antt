@@ -1,20 +1,21 @@
 use Rattle.std.proofs.Common.{refl, sym, ◌∙◌, ap, inl, inr, length}
+use Rattle.std.proofs.lemmas.Bool.{ltb-true, ltb-false}
 use Rattle.server_core.specs.Answers.{check_job, status}
 use Rattle.server_core.specs.Check.{progress}
 use Rattle.server_core.specs.KeptCheck.{progress_of}
 use Rattle.net_world.specs.Trace.{opening_of}
 use Rattle.net_world.specs.Serving.{entries}
-use Rattle.net_world.proofs.ServeLemmas.{lt_of, le_of, node_at}
+use Rattle.net_world.proofs.ServeLemmas.{node_at}
 use Rattle.net_world.proofs.FindLemmas.{not_there, found_off, found_on, shown, no_job_ready, not_ready, no_progress, ready_is}
 use Rattle.net_world.proofs.world.World.ready.Goals as goal
 
 pub returns-then-not-has_server : goal.returns-then-not-has_server
 returns-then-not-has_server c w past stands =
-    inl (not_there w past c.args.server c.args.self.now stands (le_of c.args.server (length c.args.self.now.servers.items) (sym c.has_server.ensures ∙ c.if-not-has_server.true)), refl)
+    inl (not_there w past c.args.server c.args.self.now stands (ltb-false c.args.server (length c.args.self.now.servers.items) (sym c.has_server.ensures ∙ c.if-not-has_server.true)), refl)
 
 pub returns-in_default : goal.returns-in_default
 returns-in_default c w past stands =
-    let l = lt_of c.args.server (length c.args.self.now.servers.items) (sym c.has_server.ensures ∙ c.if-not-has_server.false) in
+    let l = ltb-true c.args.server (length c.args.self.now.servers.items) (sym c.has_server.ensures ∙ c.if-not-has_server.false) in
     inl (
       found_off w past c.args.server c.args.self.now stands (record {
         node = c.index.result.now;
@@ -27,7 +28,7 @@ returns-in_default c w past stands =
 
 pub returns-in_default-check_job : goal.returns-in_default-check_job
 returns-in_default-check_job c w past stands =
-    let l = lt_of c.args.server (length c.args.self.now.servers.items) (sym c.has_server.ensures ∙ c.if-not-has_server.false) in
+    let l = ltb-true c.args.server (length c.args.self.now.servers.items) (sym c.has_server.ensures ∙ c.if-not-has_server.false) in
     let runs = found_on w past c.args.server c.args.self.now c.in-Some.core.now stands (record {
       node = c.index.result.now;
       there = l;
@@ -41,7 +42,7 @@ returns-in_default-check_job c w past stands =
 
 pub returns-in_default-check_progress : goal.returns-in_default-check_progress
 returns-in_default-check_progress c w past stands =
-    let l = lt_of c.args.server (length c.args.self.now.servers.items) (sym c.has_server.ensures ∙ c.if-not-has_server.false) in
+    let l = ltb-true c.args.server (length c.args.self.now.servers.items) (sym c.has_server.ensures ∙ c.if-not-has_server.false) in
     let runs = found_on w past c.args.server c.args.self.now c.in-Some.core.now stands (record {
       node = c.index.result.now;
       there = l;
@@ -56,7 +57,7 @@ returns-in_default-check_progress c w past stands =
 
 pub returns-then-not-is_ready : goal.returns-then-not-is_ready
 returns-then-not-is_ready c w past stands =
-    let l = lt_of c.args.server (length c.args.self.now.servers.items) (sym c.has_server.ensures ∙ c.if-not-has_server.false) in
+    let l = ltb-true c.args.server (length c.args.self.now.servers.items) (sym c.has_server.ensures ∙ c.if-not-has_server.false) in
     let runs = found_on w past c.args.server c.args.self.now c.in-Some.core.now stands (record {
       node = c.index.result.now;
       there = l;
@@ -76,7 +77,7 @@ returns-then-not-is_ready c w past stands =
 
 pub returns : goal.returns
 returns c w past stands =
-    let l = lt_of c.args.server (length c.args.self.now.servers.items) (sym c.has_server.ensures ∙ c.if-not-has_server.false) in
+    let l = ltb-true c.args.server (length c.args.self.now.servers.items) (sym c.has_server.ensures ∙ c.if-not-has_server.false) in
     let runs = found_on w past c.args.server c.args.self.now c.in-Some.core.now stands (record {
       node = c.index.result.now;
       there = l;

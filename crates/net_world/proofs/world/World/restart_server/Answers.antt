@@ -1,5 +1,6 @@
 use Rattle.std.proofs.Common.{refl, sym, ◌∙◌, ap, ◌<◌, arith, length, append-nil, List, ℕ}
 use Rattle.std.proofs.lemmas.Result.{err_from_is_err_and}
+use Rattle.std.proofs.lemmas.Bool.{ltb-true, ltb-false}
 use Rattle.net_world.specs.Trace.{opening_of}
 use Rattle.net_world.specs.Happenings.{Restart}
 use Rattle.net_world.specs.Sending.{sent_in}
@@ -7,14 +8,14 @@ use Rattle.net_world.specs.Serving.{entries}
 use Rattle.server_core.specs.Hearing as hearing
 use Rattle.disk_model.specs.declared.left.Left.TheVariants.{Saved}
 use Rattle.messages.specs.declared.node.Node.TheVariants as nodes
-use Rattle.net_world.proofs.ServeLemmas.{lt_of, le_of, node_at, settled}
+use Rattle.net_world.proofs.ServeLemmas.{node_at, settled}
 use Rattle.net_world.proofs.EndsLemmas.{refuses, stops}
 use Rattle.net_world.proofs.PlainLemmas.{plain_ends, restart_plain, restart_ends, none_on, may_restart}
 use Rattle.net_world.proofs.world.World.restart_server.Goals as goal
 
 pub returns-then-not-has_server : goal.returns-then-not-has_server
 returns-then-not-has_server c w past stands =
-    let l = le_of c.args.server (length c.args.self.now.servers.items) (sym c.has_server.ensures ∙ c.if-not-has_server.true) in
+    let l = ltb-false c.args.server (length c.args.self.now.servers.items) (sym c.has_server.ensures ∙ c.if-not-has_server.true) in
     let e = Restart (nodes.Server c.args.server) in
     refuses w past e _ c.args.self.now refl (stops w past e _ (none_on w past c.args.server (omega (arith, stands.number, l)))) stands
 
@@ -24,7 +25,7 @@ returns-in_default c w past stands = (refl, settled w past c.args.self.now _ sta
 pub returns : goal.returns
 returns c w past stands =
     let s = c.args.server in
-    let l = lt_of s (length c.args.self.now.servers.items) (sym c.has_server.ensures ∙ c.if-not-has_server.false) in
+    let l = ltb-true s (length c.args.self.now.servers.items) (sym c.has_server.ensures ∙ c.if-not-has_server.false) in
     let below : s < w.servers = omega (arith, stands.number, l) in
     let at = node_at c.args.self.now.servers.items s c.server.inside.0 c.index_mut.result.now c.server.view_is l c.index_mut.ensures.value in
     let h = c.in_ok-restart.ensures (opening_of s) (entries past s) refl (stands.servers_are s c.index_mut.result.now at) in
@@ -38,7 +39,7 @@ returns c w past stands =
 pub returns-in_err-restart : goal.returns-in_err-restart
 returns-in_err-restart c w past stands =
     let s = c.args.server in
-    let l = lt_of s (length c.args.self.now.servers.items) (sym c.has_server.ensures ∙ c.if-not-has_server.false) in
+    let l = ltb-true s (length c.args.self.now.servers.items) (sym c.has_server.ensures ∙ c.if-not-has_server.false) in
     let at = node_at c.args.self.now.servers.items s c.server.inside.0 c.index_mut.result.now c.server.view_is l c.index_mut.ensures.value in
     let p = err_from_is_err_and c.from_residual.result c.from_residual.ensures.1 in
     rw (p.1, p.2)

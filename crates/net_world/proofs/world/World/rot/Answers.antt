@@ -1,9 +1,10 @@
 use Rattle.std.proofs.Common.{refl, sym, ◌∙◌, ap, ◌<◌, arith, length, List, ℕ}
+use Rattle.std.proofs.lemmas.Bool.{ltb-true, ltb-false}
 use Rattle.disk_model.specs.File.{with_sector, put}
 use Rattle.net_world.specs.Happenings.{Rot}
 use Rattle.net_world.specs.Changes.{Rotted}
 use Rattle.net_world.specs.Contents.{content}
-use Rattle.net_world.proofs.ServeLemmas.{lt_of, le_of, settled}
+use Rattle.net_world.proofs.ServeLemmas.{settled}
 use Rattle.net_world.proofs.EndsLemmas.{refuses, stops, goes}
 use Rattle.net_world.proofs.FileStepLemmas.{quiet_ends, file_kept, rots, is_read, written, no_slot, rot_none, rot_past, rot_free}
 use Rattle.net_world.proofs.world.World.rot.Goals as goal
@@ -11,14 +12,14 @@ use Rattle.net_world.proofs.world.World.rot.Goals as goal
 pub returns-then-not-has_server : goal.returns-then-not-has_server
 returns-then-not-has_server c w past stands =
     let s = c.args.server in
-    let l = le_of s (length c.args.self.now.servers.items) (sym c.has_server.ensures ∙ c.if-not-has_server.true) in
+    let l = ltb-false s (length c.args.self.now.servers.items) (sym c.has_server.ensures ∙ c.if-not-has_server.true) in
     let e = Rot s c.args.job c.args.sector c.args.bytes.now in
     refuses w past e _ c.args.self.now refl (stops w past e _ (rot_none w s c.args.job (omega (arith, stands.number, l)))) stands
 
 pub returns-then-not-has_file : goal.returns-then-not-has_file
 returns-then-not-has_file c w past stands =
     let s = c.args.server in
-    let l = lt_of s (length c.args.self.now.servers.items) (sym c.has_server.ensures ∙ c.if-not-has_server.false) in
+    let l = ltb-true s (length c.args.self.now.servers.items) (sym c.has_server.ensures ∙ c.if-not-has_server.false) in
     let below : s < w.servers = omega (arith, stands.number, l) in
     let e = Rot s c.args.job c.args.sector c.args.bytes.now in
     let far = no_slot w s c.args.job (length c.args.self.now.files.items) (sym c.has_file.ensures ∙ c.if-not-has_file.true) stands.files below in
@@ -31,7 +32,7 @@ pub returns-in-Ok-rot : goal.returns-in-Ok-rot
 returns-in-Ok-rot c w past stands =
     let s = c.args.server in
     let j = c.args.job in
-    let l = lt_of s (length c.args.self.now.servers.items) (sym c.has_server.ensures ∙ c.if-not-has_server.false) in
+    let l = ltb-true s (length c.args.self.now.servers.items) (sym c.has_server.ensures ∙ c.if-not-has_server.false) in
     let below : s < w.servers = omega (arith, stands.number, l) in
     let read = is_read w past s j c.place_of.result c.index_mut.result.now c.args.self.now stands (sym c.has_file.ensures ∙ c.if-not-has_file.false) c.place_of.ensures c.index_mut.ensures.value in
     let e = Rot s j c.args.sector c.args.bytes.now in

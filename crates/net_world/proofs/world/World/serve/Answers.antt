@@ -1,6 +1,7 @@
 use Rattle.std.proofs.Common.{refl, sym, ◌∙◌, ap, ℕ, List, ◌++◌, length, append-nil}
+use Rattle.std.proofs.lemmas.Bool.{ltb-true}
 use Rattle.net_world.specs.Sending.{sent_in}
-use Rattle.net_world.proofs.ServeLemmas.{serve_ends, serve_fails, none_serves, lacks, lt_of, node_at}
+use Rattle.net_world.proofs.ServeLemmas.{serve_ends, serve_fails, none_serves, lacks, node_at}
 use Rattle.net_world.proofs.world.World.serve.Goals as goal
 
 pub returns-then-not-has_server : goal.returns-then-not-has_server
@@ -13,7 +14,7 @@ returns-in_default c w past stands =
 
 pub returns-in-Err : goal.returns-in-Err
 returns-in-Err c w past stands =
-    let l = lt_of c.args.server (length c.args.self.now.servers.items) (sym c.has_server.ensures ∙ c.if-not-has_server.false) in
+    let l = ltb-true c.args.server (length c.args.self.now.servers.items) (sym c.has_server.ensures ∙ c.if-not-has_server.false) in
     serve_fails w past c.args.server c.args.input c.in-Err.fault c.args.self.now _ stands
     (record {
       was = c.index_mut.result.now;
@@ -25,7 +26,7 @@ returns-in-Err c w past stands =
 
 pub returns : goal.returns
 returns c w past stands =
-    let l = lt_of c.args.server (length c.args.self.now.servers.items) (sym c.has_server.ensures ∙ c.if-not-has_server.false) in
+    let l = ltb-true c.args.server (length c.args.self.now.servers.items) (sym c.has_server.ensures ∙ c.if-not-has_server.false) in
     let outs = c.in-Ok-step.outs in
     serve_ends w past c.args.server c.args.input outs _ c.args.self.now _ stands
     (record {
