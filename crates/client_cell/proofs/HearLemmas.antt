@@ -1,5 +1,5 @@
 -- What comes to the client at the hub is entered, or left out.
-use Rattle.std.proofs.Common.{◌≡◌, refl, sym, ◌∙◌, ap, subst, ℕ, ◌+◌, arith, Bool, true, false, List, [], ◌∷◌, ◌++◌, length, take, Option, Some, None, Result, Ok, Err}
+use Rattle.std.proofs.Common.{◌≡◌, refl, sym, ◌∙◌, ap, subst, ℕ, ◌+◌, arith, Bool, true, List, [], ◌∷◌, ◌++◌, length, take, Option, Some, None, Result, Ok, Err}
 use Rattle.std.specs.Prelude.{map, slice_get, is_some, All, IfErr, IfSome}
 use Rattle.std.specs.Borrow.{Bor}
 use Rattle.std.specs.List.{sum_by}
@@ -42,11 +42,10 @@ use Rattle.client_cell.specs.declared.outs.Outs.{Outs}
 use Rattle.node_history.specs.declared.power.Power.{Power}
 use Rattle.client_cell.specs.declared.incoming.Incoming.{Incoming}
 use Rattle.client_cell.specs.declared.incoming.Incoming.TheVariants as incoming
-use Rattle.client_cell.specs.declared.request.ClientRequest.{ClientRequest}
 use Rattle.client_cell.specs.declared.request.ClientRequest.TheVariants as requests
 use Rattle.client_cell.specs.Stands.{reply_and_frames, ways}
 use Rattle.client_cell.specs.Cells.{ClientLog, IsReplay, IsCell}
-use Rattle.client_cell.specs.Tasks.{came_of, input_in, input_of}
+use Rattle.client_cell.specs.Tasks.{input_in}
 use Rattle.client_cell.proofs.CellLemmas.{with_history}
 
 -- ---- the room for its frames
@@ -72,12 +71,6 @@ most_eight o past (incoming.Request (requests.Begin text)) = refl
 most_eight o past (incoming.Request (requests.Trigger run act)) = refl
 most_eight o past (incoming.Request (requests.Stop run)) = refl
 most_eight o past (incoming.Request (requests.Verify run text)) = refl
-
-pub request_asks : (r : ClientRequest) → ask_of (came_of r) ≡ Meets (input_of r)
-request_asks (requests.Begin text) = refl
-request_asks (requests.Trigger run act) = refl
-request_asks (requests.Stop run) = refl
-request_asks (requests.Verify run text) = refl
 
 -- The bytes of the first frames, and of one more.
 pub one_more : (sent : List (List ℕ)) (i : ℕ) (f : List ℕ) (bytes more : ℕ) → slice_get sent i ≡ Some f → bytes ≡ sum_by (λ (frame : List ℕ). length frame) (take i sent) → more ≡ bytes + length f

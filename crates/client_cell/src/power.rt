@@ -61,10 +61,7 @@ fn take<N: Notes + Drop>(
 }
 
 /// Takes a frame. `NodeOff`: it isn't on, and nothing changes. Any other fault is the client's.
-fn deliver<N: Notes + Drop>(
-    power: &mut Power<Client<N>, N>,
-    frame: Frame,
-) -> Result<Outs, Fault>
+fn deliver<N: Notes + Drop>(power: &mut Power<Client<N>, N>, frame: Frame) -> Result<Outs, Fault>
     ensures ends { (o : Opening) (past : List FrameEntry) → Stands N.note o past power.old →
         StepEnds (ways N.note o) past (inputs.Deliver frame) power.new (reply_and_frames result) }
     ensures count { (o : Opening) (past : List FrameEntry) → Stands N.note o past power.old →

@@ -132,10 +132,8 @@ fn deliver<R: Wait, C: Node>(
     let Some(position) = hub.pick(node.number(), word) else {
         return Ok(None);
     };
-    match node.deliver(&mut hub, position) {
-        Ok(told) => Ok(Some(told.act)),
-        Err(fault) => Err(fault),
-    }
+    let told = node.deliver(&mut hub, position)?;
+    Ok(Some(told.act))
 }
 
 /// Asks this of a node, under its lock and that of the hub.

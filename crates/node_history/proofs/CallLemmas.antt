@@ -19,13 +19,13 @@ use Rattle.node_history.specs.Rules.{Ask, Rules}
 -- ---- nothing changes
 
 -- What is refused, and left out, changes nothing.
-pub left_out_posts : (node : Node) (came : Came) (taken : Option ℕ) (net : Network) (history : List Logged) (fault : Fault) → is_left_out (Err fault) ≡ true → Posts node came taken net net history history (Err fault)
-left_out_posts node came taken net history fault out =
-    (Err fault, [], refl, subst (λ b. Hears b node came taken (Err fault) [] net net history history) (sym out) (record { net = refl; history = refl }))
+pub left_out_posts : (node : Node) (came : Came) (taken : Option ℕ) (old new : Network) (before after : List Logged) (fault : Fault) → is_left_out (Err fault) ≡ true → new ≡ old → after ≡ before → Posts node came taken old new before after (Err fault)
+left_out_posts node came taken old new before after fault out net same =
+    (Err fault, [], refl, subst (λ b. Hears b node came taken (Err fault) [] old new before after) (sym out) (record { net = net; history = same }))
 
 pub not_delivered : (node : Node) (position : ℕ) (found : Option (List ℕ)) (net : Network) (history : List Logged) (fault : Fault) → is_left_out (Err fault) ≡ true → Delivers node position found net net history history (Err fault)
 not_delivered node position None net history fault out = record { net = refl; history = refl }
-not_delivered node position (Some bytes) net history fault out = left_out_posts node (came.Frame bytes) (Some position) net history fault out
+not_delivered node position (Some bytes) net history fault out = left_out_posts node (came.Frame bytes) (Some position) net net history history fault out refl refl
 
 -- Where no frame comes, nothing changes.
 pub not_there : (node : Node) (net : Network) (position : ℕ) (history : List Logged) (fault : Fault) → Comes net position (Err fault) → Delivers node position (slice_get net.frames position) net net history history (Err fault)

@@ -1,5 +1,5 @@
 -- Rows keep the entries that they stand for where one more comes.
-use Rattle.std.proofs.Common.{◌≡◌, refl, ◌∙◌, ap, ◌+◌, List, [], ◌∷◌, ◌++◌, length}
+use Rattle.std.proofs.Common.{◌≡◌, refl, ◌∙◌, ap, List, [], ◌∷◌, ◌++◌, length}
 use Rattle.std.specs.Prelude.{map, All, slice_index_or}
 use Rattle.std.proofs.lemmas.List.{map-append, get_or_append_left, get_or_push}
 use Rattle.std.proofs.lemmas.List.Elements.{All-head, All-tail}

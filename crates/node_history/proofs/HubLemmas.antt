@@ -27,20 +27,12 @@ use Rattle.node_history.specs.Moves.{Ways, Moves, StepEnds, IsKept, outcome_of}
 use Rattle.node_history.specs.Powers.{Kind, IsReady, ways}
 use Rattle.node_history.specs.Rules.{Ask, Meets}
 use Rattle.node_history.specs.declared.power.Power.{Power}
-use Rattle.node_history.proofs.CallLemmas.{why_off, why_on}
+use Rattle.node_history.proofs.CallLemmas.{left_out_posts, why_off, why_on}
 use Rattle.node_history.proofs.MoveLemmas.{off_where, unmoved, moved, refused_for}
 
 -- The newest entry is the last of the items.
 pub pushed : (items : List Logged) (l : Logged) → reverse (items ++ l ∷ []) ≡ l ∷ reverse items
 pushed items l = reverse-append items (l ∷ [])
-
--- ---- how it ends
-
-left_out : (node : Node) (came : Came) (taken : Option ℕ) (old new : Network) (before after : List Logged) (fault : Fault) → is_left_out (Err fault) ≡ true → new ≡ old → after ≡ before → Posts node came taken old new before after (Err fault)
-left_out node came taken old new before after fault out net same = (Err fault, [], refl, subst (λ b. Hears b node came taken (Err fault) [] old new before after) (sym out) (record { net = net; history = same }))
-
-pub lacking : (node : Node) (came : Came) (taken : Option ℕ) (old new : Network) (before after : List Logged) → new ≡ old → after ≡ before → Posts node came taken old new before after (Err NoMemory)
-lacking node came taken old new before after net same = left_out node came taken old new before after NoMemory refl net same
 
 -- ---- what a node keeps
 
@@ -71,8 +63,8 @@ heard w before after old new k e step node came taken net net' asks f h = by_tes
 
 -- A node that isn't ready leaves out what comes,
 pub unready : (up : Bool) (node : Node) (came : Came) (taken : Option ℕ) (old new : Network) (before after : List Logged) (fault : Fault) → IsReady up (Err fault) → new ≡ old → after ≡ before → Posts node came taken old new before after (Err fault)
-unready up node came taken old new before after NodeOff h net same = left_out node came taken old new before after NodeOff refl net same
-unready up node came taken old new before after NoMemory h net same = left_out node came taken old new before after NoMemory refl net same
+unready up node came taken old new before after NodeOff h net same = left_out_posts node came taken old new before after NodeOff refl net same
+unready up node came taken old new before after NoMemory h net same = left_out_posts node came taken old new before after NoMemory refl net same
 unready up node came taken old new before after _ h net same = absurd h
 
 -- counts no failure of its device,

@@ -1,6 +1,6 @@
 -- How the steps and the tasks of a node end, whichever node it is.
 use Rattle.std.proofs.Common.{◌≡◌, refl, sym, ◌∙◌, ap, subst, inl, inr, ℕ, Bool, true, false, List, [], ◌∷◌, Option, Some, None, Result, Ok, Err}
-use Rattle.std.specs.Prelude.{◌⊎◌, ◌&&◌, ◌||◌, if◌then◌else◌, map, not, OnOk, is_ok}
+use Rattle.std.specs.Prelude.{◌⊎◌, ◌&&◌, ◌||◌, if◌then◌else◌, not}
 use Rattle.fc_base.specs.declared.fault.Fault.{Fault}
 use Rattle.fc_base.specs.declared.fault.Fault.TheVariants.{NoMemory, FrameBadField, LoadFault, NodeOff}
 use Rattle.fc_base.specs.declared.fault.FaultSort.{FaultSort}
@@ -9,14 +9,13 @@ use Rattle.fc_base.specs.Fault.{sort_of}
 use Rattle.disk_model.specs.declared.left.Left.{Left}
 use Rattle.disk_model.specs.declared.left.Left.TheVariants as lefts
 use Rattle.disk_model.specs.Left.{is_lost}
-use Rattle.messages.specs.FrameBytes.{frame_spelling}
 use Rattle.node_history.specs.declared.answer.Said.{Said}
 use Rattle.node_history.specs.AtHub.{is_drop, is_memory, is_save, is_left_out, lacks_memory, IsWhyBy}
 use Rattle.node_history.specs.Calls.{says_off, is_off}
 use Rattle.node_history.specs.Failures.{is_load, CountsBy, Counts}
-use Rattle.node_history.specs.Moves.{Ways, Moves, Refuses, Faults, StepEnds, Fails, TaskEnds, answer_of, outcome_of}
+use Rattle.node_history.specs.Moves.{Ways, Moves, Refuses, Faults, StepEnds, Fails, TaskEnds, outcome_of}
 use Rattle.node_history.specs.Replay.{Stops}
-use Rattle.node_history.specs.Rules.{Ask, Meets, Cuts, Rules}
+use Rattle.node_history.specs.Rules.{Ask, Meets}
 use Rattle.node_history.specs.CoreRules.{CoreRules, left_by, rules_of}
 
 clash : true ≡ false → ⊥
@@ -159,15 +158,9 @@ done w past ask new (Err fault) h e = by_sort (sort_of fault) h e
     by_sort sorts.Save h e = e
     by_sort sorts.Refusal h e = e
 
--- A step that sends nothing ends as a task.
-pub silent : {E X S : Type 0} (w : Ways E X S) (past : List X) (e : E) (x : X) (new : S) (step : Result (Said × List (List ℕ)) Fault) → w.rules.added past (Meets e) ≡ Some x → map frame_spelling (w.rules.frames past x) ≡ [] → StepEnds w past e new step → TaskEnds w past (Meets e) new (answer_of step)
-silent {X = X} w past e x new (Ok outs) is none f =
-    let m = f.moves in
-    subst (λ sent. Moves w past (Meets e) (Ok outs.0) sent new) (m.ends.sent_are ∙ ap (λ x. map frame_spelling (w.rules.frames past x)) (same m.ends.entry x (sym m.ends.entry_is ∙ is)) ∙ none) m
-  where
-    same : (x y : X) → Some x ≡ Some y → x ≡ y
-    same x y h = cc
-silent w past e x new (Err fault) is none f = by_sort (sort_of fault) f
+-- A step that isn't answered ends as a task.
+pub unanswered : {E X S : Type 0} (w : Ways E X S) (past : List X) (e : E) (fault : Fault) (new : S) → Faults w past e (sort_of fault) fault new → TaskEnds w past (Meets e) new (Err fault)
+unanswered w past e fault new f = by_sort (sort_of fault) f
   where
     by_sort : (sort : FaultSort) → Faults w past e sort fault new → Fails w past (Meets e) sort fault new
     by_sort sorts.Memory h = h
@@ -191,12 +184,3 @@ no_load fault old new h = by_load (is_load fault)
     by_load : (load : Bool) → CountsBy (load && false) old new
     by_load true = h
     by_load false = h
-
--- What is told of a step counts it, too.
-pub said_counts : (old new : ℕ) (said : Result Said Fault) (step : Result (Said × List (List ℕ)) Fault) → said ≡ answer_of step → Counts false old new step → Counts false old new said
-said_counts old new said (Ok outs) is h = subst (Counts false old new) (sym is) tt
-said_counts old new said (Err fault) is h = subst (Counts false old new) (sym is) h
-
-pub where_ok : {X E P : Type 0} (result : Result X E) → OnOk result P → is_ok result ≡ true → P
-where_ok (Ok x) h e = h
-where_ok (Err f) h e = cc

@@ -25,5 +25,11 @@ client_kind note o = record {
 }
 
 -- A cut of a client is one as of any node.
-pub client_is_cut : {T : Type 0} (note : T → Note) (o : Opening) (past : List FrameEntry) → IsCut (client_kind note o) past
-client_is_cut note o past = record { sends_none = refl; off = refl; ranges = λ h. h; says = λ notes h. h }
+pub client_is_cut : {T : Type 0} (note : T → Note) (o : Opening) (past : List FrameEntry) →
+    IsCut (client_kind note o) past
+client_is_cut note o past = record {
+  sends_none = refl;
+  off = refl;
+  ranges = λ h. h;
+  says = λ notes h. h;
+}

@@ -20,7 +20,7 @@ pub record CoreRules (E X : Type 0) : Type 0 where
   pub said : List X → E → Said  -- what it answers to an input
   pub answered : List X → E → X  -- the entry of an input that it answers
   pub dropped : E → X  -- that of a piece whose tag it drops
-  pub unsaved : List X → E → Left → Option X  -- that of an input that was due to be saved, whose save left this
+  pub unsaved : List X → E → Left → Option X  -- that of an input whose save was due, and left this
   pub cut : X  -- that of a cut
   pub started : X  -- that of a restart
   pub unstarted : Left → Option X  -- that of a restart whose save left this

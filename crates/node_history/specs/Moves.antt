@@ -65,11 +65,6 @@ TaskEnds w past ask new (Err fault) = Fails w past ask (sort_of fault) fault new
 abbrev pub plain_reply : Said
 plain_reply = record { answer = Plain; act = acts.None }
 
--- What a step is answered.
-abbrev pub answer_of : Result (Said × List (List ℕ)) Fault → Result Said Fault
-answer_of (Ok outs) = Ok outs.0
-answer_of (Err fault) = Err fault
-
 -- What a step is answered, and the frames that it sends.
 abbrev pub outcome_of : Result (Said × List (List ℕ)) Fault → (Result Said Fault × List (List ℕ))
 outcome_of (Ok outs) = (Ok outs.0, outs.1)

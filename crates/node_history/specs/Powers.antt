@@ -29,7 +29,12 @@ Stands k past Lent = ⊥
 
 -- Its ways.
 abbrev pub ways : {E X C N : Type 0} → Kind E X C N → Ways E X (Power C N)
-ways k = record { rules = rules_of k.core; Stands = Stands k; InRange = k.InRange; SendsFew = k.SendsFew }
+ways k = record {
+  rules = rules_of k.core;
+  Stands = Stands k;
+  InRange = k.InRange;
+  SendsFew = k.SendsFew;
+}
 
 -- How often the device of its notes has failed, which a core and notes tell so.
 abbrev pub failures_of : {C N : Type 0} → (C → ℕ) → (N → ℕ) → Power C N → ℕ
@@ -44,12 +49,14 @@ Shows k past power (Some core) =
 Shows k past power None = k.core.is_up past ≡ false
 
 -- It is lent where it is on; else that is refused.
-abbrev pub IsLent : {E X C N : Type 0} → Kind E X C N → List X → Power C N → Result (MutBor C) Fault → Type 0
+abbrev pub IsLent : {E X C N : Type 0} →
+    Kind E X C N → List X → Power C N → Result (MutBor C) Fault → Type 0
 IsLent k past power (Ok core) = Shows k past power (Some core.now)
 IsLent k past power (Err fault) = (fault ≡ NodeOff) × Shows k past power None
 
 -- The node then has the core as it is left; where none is lent, nothing changes.
-abbrev pub LendsCore : (C N : RattleType) → MutBor (Power C.Denot N.Denot) → Result (MutBor C.Denot) Fault → Fml
+abbrev pub LendsCore : (C N : RattleType) →
+    MutBor (Power C.Denot N.Denot) → Result (MutBor C.Denot) Fault → Fml
 LendsCore C N power lent = LendsIfOk (the_row C N) C power lent (λ core. On core) power.now
 
 -- A node is ready where it is on, and there is room for what comes; else it is off, or memory ran out.

@@ -30,5 +30,11 @@ server_kind note o = record {
 }
 
 -- A cut of a server is one as of any node.
-pub server_is_cut : {T : Type 0} (note : T → Note) (o : Opening) (past : List FrameEntry) → IsCut (server_kind note o) past
-server_is_cut note o past = record { sends_none = refl; off = refl; ranges = λ h. h; says = λ notes h. h }
+pub server_is_cut : {T : Type 0} (note : T → Note) (o : Opening) (past : List FrameEntry) →
+    IsCut (server_kind note o) past
+server_is_cut note o past = record {
+  sends_none = refl;
+  off = refl;
+  ranges = λ h. h;
+  says = λ notes h. h;
+}

@@ -6,7 +6,7 @@ ghost use Rattle.server_core.specs.Handles.{outs_of_issue, outs_of_end};
 ghost use Rattle.server_core.specs.Hearing.{FrameEntry};
 ghost use Rattle.server_core.specs.History.{Opening};
 ghost use Rattle.node_history.specs.Failures.{Counts};
-ghost use Rattle.node_history.specs.Moves.{answer_of, StepEnds, TaskEnds};
+ghost use Rattle.node_history.specs.Moves.{StepEnds, TaskEnds};
 ghost use Rattle.node_history.specs.ServerRules.{ask_of};
 ghost use Rattle.server_cell.specs.Stands.{failures_of, reply_and_frames, ways, Stands};
 ghost use Rattle.server_cell.specs.Tasks.{came_by, loads_note};
@@ -82,28 +82,16 @@ pub(crate) fn perform<N: Notes + Drop>(
         (failures_of N.note power.new) result }
 {
     match task {
-        Task::Issue(job) => issued(issue(power, *job)),
-        Task::WriteDone(ticket, end) => heard(end_write(power, *ticket, *end)),
+        Task::Issue(job) => {
+            let answer = Answer::Issued(issue(power, *job)?);
+            let act = Act::None;
+            Ok(Said { answer, act })
+        }
+        Task::WriteDone(ticket, end) => {
+            end_write(power, *ticket, *end)?;
+            Ok(Said::plain())
+        }
         Task::Cut => power.cut(),
         Task::Restart => power.restart(alloc, me),
     }
-}
-
-/// What is answered of a request for a write.
-#[inline(always)]
-fn issued(answer: Result<Issue, Fault>) -> Result<Said, Fault>
-    ensures { result ≡ answer_of (reply_and_frames (outs_of_issue answer)) }
-{
-    let answer = Answer::Issued(answer?);
-    let act = Act::None;
-    Ok(Said { answer, act })
-}
-
-/// What is answered of the end of a write.
-#[inline(always)]
-fn heard(answer: Result<(), Fault>) -> Result<Said, Fault>
-    ensures { result ≡ answer_of (reply_and_frames (outs_of_end answer)) }
-{
-    answer?;
-    Ok(Said::plain())
 }

@@ -40,8 +40,5 @@ pub fn first_answer(alloc: Global, me: ServerNo, frame: Frame) -> Result<(Frames
     };
     let answer = server.step(Input::Deliver(frame));
     let notes = server.off();
-    match answer {
-        Ok(outs) => Ok((outs.frames, notes)),
-        Err(fault) => Err(fault),
-    }
+    Ok((answer?.frames, notes))
 }

@@ -48,8 +48,8 @@ impl<N: Notes + Drop> ClientCell<N> {
         ensures failures { Counts false self.old.failures self.new.failures result }
         ensures why { IfErr result
             (HasWhy (rules self.old.opening) self.old.history (Meets (input_in incoming))) }
-        ensures ends { Posts Client
-            (came_in incoming) taken hub.old.net hub.new.net self.old.history self.new.history result }
+        ensures ends { Posts Client (came_in incoming) taken
+            hub.old.net hub.new.net self.old.history self.new.history result }
         ensures replay { (past : List FrameEntry) × IsReplay self.new past }
     {
         packets_are_in_range();

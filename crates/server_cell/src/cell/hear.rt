@@ -23,8 +23,11 @@ use node_history::{CallerAnswer, Came, Said, enter, make_room};
 use server_core::{Input, Outs, packets_are_in_range};
 use std::alloc::Global;
 
-/// The most frames that a server sends in one event: one for each job.
+/// The most frames that a server sends in one event: one for each job; and the most bytes that they have
+/// together.
 const FRAMES: usize = MAX_JOBS as usize;
+
+const BYTES: usize = FRAMES * MAX_FRAME;
 
 impl<N: Notes + Drop> ServerCell<N> {
     /// Whether the server is on: not off, and not down.
@@ -55,7 +58,7 @@ impl<N: Notes + Drop> ServerCell<N> {
     {
         packets_are_in_range();
         frames_are_spelled();
-        make_room(&self.power, &mut self.history, hub, FRAMES, FRAMES * MAX_FRAME)?;
+        make_room(&self.power, &mut self.history, hub, FRAMES, BYTES)?;
         let done = outcome(self.alloc, step(&mut self.power, input));
         let me = Node::Server(self.me);
         enter(&mut self.history, hub, me, came, taken, done)

@@ -1,11 +1,8 @@
-use Rattle.std.proofs.Common.{refl, sym, subst}
+use Rattle.std.proofs.Common.{refl}
 use Rattle.std.proofs.lemmas.Result.{err_from_is_err_and}
 use Rattle.client_core.specs.declared.input.Input.TheVariants as inputs
-use Rattle.node_history.specs.declared.power.Power.TheVariants.{On}
 use Rattle.node_history.specs.ClientKind.{client_kind}
-use Rattle.node_history.specs.Moves.{StepEnds}
 use Rattle.node_history.proofs.StepLemmas.{off_ends}
-use Rattle.client_cell.specs.Stands.{reply_and_frames, ways}
 use Rattle.client_cell.proofs.PowerLemmas.{sent_ends, sent_counts}
 use Rattle.client_cell.proofs.power.deliver.Goals as goal
 

@@ -1,16 +1,20 @@
-use Rattle.server_core.specs.Handles.{outs_of_issue, outs_of_end}
-use Rattle.node_history.proofs.MoveLemmas.{said_counts}
-use Rattle.server_cell.specs.Stands.{failures_of, reply_and_frames}
-use Rattle.server_cell.proofs.PowerLemmas.{issue_task, end_task}
+use Rattle.std.proofs.lemmas.Result.{err_from_is_err_and}
+use Rattle.server_core.specs.declared.input.Input.TheVariants as inputs
+use Rattle.node_history.proofs.MoveLemmas.{unanswered}
+use Rattle.server_cell.specs.Stands.{ways}
 use Rattle.server_cell.proofs.power.perform.Goals as goal
 
-pub returns-in-Issue-clause-ends : goal.returns-in-Issue-clause-ends
-returns-in-Issue-clause-ends g c o past me s =
-    rw (c.in-Issue.is, c.issued.ensures) (issue_task g.N.Notes.note o past c.in-Issue.job c.issue.new.power (outs_of_issue c.issue.result) (c.issue.ensures.ends o past s))
+pub returns-in_err-issue-in-Issue-clause-ends : goal.returns-in_err-issue-in-Issue-clause-ends
+returns-in_err-issue-in-Issue-clause-ends g c o past me s =
+    let p = err_from_is_err_and c.from_residual.result c.from_residual.ensures.1 in
+    rw (c.in-Issue.is, p.1, p.2) (unanswered (ways g.N.Notes.note o) past (inputs.Issue c.in-Issue.job) c.in_err-issue-in-Issue.field-0.0 c.issue.new.power (c.in_err-issue-in-Issue.ensures.ends o past s))
 
-pub returns-in-WriteDone-clause-ends : goal.returns-in-WriteDone-clause-ends
-returns-in-WriteDone-clause-ends g c o past me s =
-    rw (c.in-WriteDone.is, c.heard.ensures) (end_task g.N.Notes.note o past c.in-WriteDone.ticket c.in-WriteDone.end c.end_write.new.power (outs_of_end c.end_write.result) (c.end_write.ensures.ends o past s))
+pub returns-in_err-end_write-in-WriteDone-clause-ends : goal.returns-in_err-end_write-in-WriteDone-clause-ends
+returns-in_err-end_write-in-WriteDone-clause-ends g c o past me s =
+    let failed = c.in_err-end_write-in-WriteDone in
+    let gone = c.from_residual-in_err-end_write-in-WriteDone in
+    let p = err_from_is_err_and gone.result gone.ensures.1 in
+    rw (c.in-WriteDone.is, p.1, p.2) (unanswered (ways g.N.Notes.note o) past (inputs.WriteDone c.in-WriteDone.ticket c.in-WriteDone.end) failed.field-0.0 c.end_write.new.power (failed.ensures.ends o past s))
 
 pub returns-in-Cut-clause-ends : goal.returns-in-Cut-clause-ends
 returns-in-Cut-clause-ends g c o past me s = rw c.in-Cut.is (c.cut.ensures.ends o past s)
@@ -18,15 +22,16 @@ returns-in-Cut-clause-ends g c o past me s = rw c.in-Cut.is (c.cut.ensures.ends 
 pub returns-in-Restart-clause-ends : goal.returns-in-Restart-clause-ends
 returns-in-Restart-clause-ends g c o past me s = rw c.in-Restart.is (c.restart.ensures.ends o past me s)
 
-pub returns-in-Issue-clause-count : goal.returns-in-Issue-clause-count
-returns-in-Issue-clause-count g c o past me s =
-    let failed = failures_of g.N.Notes.note in
-    rw c.in-Issue.is (said_counts (failed c.args.power.now) (failed c.issue.new.power) c.issued.result (reply_and_frames (outs_of_issue c.issue.result)) c.issued.ensures (c.issue.ensures.count o past s))
+pub returns-in_err-issue-in-Issue-clause-count : goal.returns-in_err-issue-in-Issue-clause-count
+returns-in_err-issue-in-Issue-clause-count g c o past me s =
+    let p = err_from_is_err_and c.from_residual.result c.from_residual.ensures.1 in
+    rw (c.in-Issue.is, p.1, p.2) (c.in_err-issue-in-Issue.ensures.count o past s)
 
-pub returns-in-WriteDone-clause-count : goal.returns-in-WriteDone-clause-count
-returns-in-WriteDone-clause-count g c o past me s =
-    let failed = failures_of g.N.Notes.note in
-    rw c.in-WriteDone.is (said_counts (failed c.args.power.now) (failed c.end_write.new.power) c.heard.result (reply_and_frames (outs_of_end c.end_write.result)) c.heard.ensures (c.end_write.ensures.count o past s))
+pub returns-in_err-end_write-in-WriteDone-clause-count : goal.returns-in_err-end_write-in-WriteDone-clause-count
+returns-in_err-end_write-in-WriteDone-clause-count g c o past me s =
+    let gone = c.from_residual-in_err-end_write-in-WriteDone in
+    let p = err_from_is_err_and gone.result gone.ensures.1 in
+    rw (c.in-WriteDone.is, p.1, p.2) (c.in_err-end_write-in-WriteDone.ensures.count o past s)
 
 pub returns-in-Cut-clause-count : goal.returns-in-Cut-clause-count
 returns-in-Cut-clause-count g c o past me s = rw c.in-Cut.is (c.cut.ensures.count o past s)

@@ -4,13 +4,13 @@ use Rattle.server_core.specs.History.{Opening}
 use Rattle.server_core.specs.Note.{Says, blank}
 use Rattle.uses.proofs.servers.first_answer.Goals as goal
 
-pub returns-in-Ok-answer : goal.returns-in-Ok-answer
-returns-in-Ok-answer c =
+pub returns : goal.returns
+returns c =
     let o : Opening = record { me = c.args.me; boot = 0; last = 0 } in
     let empty : c.new-blank.result.bytes ≡ [] = ap (λ (s : Saved). s.bytes) c.new-blank.ensures ∙ c.new.ensures.items in
     let says : Says c.new-blank.result.bytes blank = record { boot_range = omega arith; last_range = omega arith; spelled = inr (empty, refl) } in
     let stood = c.in-Ok.ensures.stands o [] refl says in
-    let answers = c.in-Ok-answer.ensures.ends o _ stood in
+    let answers = c.in_ok-answer.ensures.ends o _ stood in
     record {
       free = answers.free;
       frames = answers.sends.frames_are;

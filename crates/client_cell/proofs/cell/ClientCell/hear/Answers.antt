@@ -1,4 +1,4 @@
-use Rattle.std.proofs.Common.{refl, sym, ap, subst, ℕ, List, Some}
+use Rattle.std.proofs.Common.{sym, ap, subst, ℕ, List}
 use Rattle.std.proofs.lemmas.Result.{err_from_is_err_and}
 use Rattle.std.specs.Prelude.{All, Result}
 use Rattle.fc_base.specs.declared.fault.Fault.{Fault}

@@ -9,7 +9,7 @@ use Rattle.node_history.specs.declared.answer.Said.{Said}
 use Rattle.fc_base.specs.declared.fault.Fault.TheVariants.{NoMemory, NodeOff}
 use Rattle.messages.specs.declared.node.Node.TheVariants.{Client}
 use Rattle.node_history.proofs.CallLemmas.{left_out_posts}
-use Rattle.node_history.proofs.HubLemmas.{lacking, unready, unready_counts, hear_counts}
+use Rattle.node_history.proofs.HubLemmas.{unready, unready_counts, hear_counts}
 use Rattle.client_cell.specs.Cells.{ClientLog, opening_of}
 use Rattle.client_cell.specs.Stands.{failures_of, reply_and_frames}
 use Rattle.node_history.specs.ClientKind.{client_kind}
@@ -18,7 +18,7 @@ use Rattle.client_cell.proofs.HearLemmas.{unready_why, sent_spelled, heard_cell,
 use Rattle.client_cell.proofs.cell.ClientCell.tick.Goals as goal
 
 pub returns-in_default-clause-ends : goal.returns-in_default-clause-ends
-returns-in_default-clause-ends g c = lacking Client came.Tick None c.args.hub.now.net c.args.hub.now.net c.args.self.now.history c.args.self.now.history refl refl
+returns-in_default-clause-ends g c = left_out_posts Client came.Tick None c.args.hub.now.net c.args.hub.now.net c.args.self.now.history c.args.self.now.history NoMemory refl refl refl
 
 pub returns-in_err-make_room-clause-ends : goal.returns-in_err-make_room-clause-ends
 returns-in_err-make_room-clause-ends g c =
@@ -75,7 +75,7 @@ returns-clause-replay g c =
     (heard_cell g.N.Notes.note _ c.self.inside.power c.self.inside.power cell inputs.Tick c.tick.result came.Tick None c.make_room.new.hub.net c.enter.new.hub.net _ (failures_of g.N.Notes.note c.self.inside.power) refl ends (rw (c.outcome-done.ensures, c.make_room.ensures.items) at c.enter.ensures.heard))
 
 pub returns-then-is_none-clause-ends : goal.returns-then-is_none-clause-ends
-returns-then-is_none-clause-ends g c = left_out_posts Client came.Tick None c.args.hub.now.net c.args.self.now.history NodeOff refl
+returns-then-is_none-clause-ends g c = left_out_posts Client came.Tick None c.args.hub.now.net c.args.hub.now.net c.args.self.now.history c.args.self.now.history NodeOff refl refl refl
 
 pub returns-then-is_none-clause-why : goal.returns-then-is_none-clause-why
 returns-then-is_none-clause-why g c =
