@@ -1,9 +1,7 @@
 -- A client takes what comes over a network of frames as its list does.
-use Rattle.std.proofs.Common.{◌≡◌, refl, sym, ◌∙◌, ap, subst, ℕ, arith, true, false, ◌&&◌, List, [], ◌∷◌, ◌++◌, Option, Some, None, Result, Ok, Err}
+use Rattle.std.proofs.Common.{◌≡◌, refl, sym, ◌∙◌, ap, subst, ℕ, arith, true, false, ◌&&◌, List, [], ◌∷◌, Option, Some, None, Result, Ok, Err}
 use Rattle.std.specs.Prelude.{if◌then◌else◌, map, not}
-use Rattle.std.specs.List.{flat_map}
 use Rattle.std.specs.Result.{is_ok}
-use Rattle.std.proofs.lemmas.List.{map-append}
 use Rattle.fc_base.specs.declared.limits.TheConstants.{MAX_SERVERS}
 use Rattle.fc_base.specs.declared.fault.Fault.{Fault}
 use Rattle.fc_base.specs.declared.fault.Fault.TheVariants.{Down, Misdirected, FrameBadField}
@@ -21,10 +19,9 @@ use Rattle.messages.specs.declared.piece.PieceParts.{PieceParts}
 use Rattle.messages.specs.declared.frame.Frame.TheVariants.{Whole, Piece}
 use Rattle.messages.specs.Assemblies.{Row, rows_after_piece, without_tag}
 use Rattle.messages.specs.FrameBytes.{frame_spelling}
-use Rattle.messages.specs.FramesOf.{spelled_frames}
 use Rattle.messages.specs.Laws.{IsPacket}
-use Rattle.messages.specs.Pieces.{frames_of}
 use Rattle.messages.specs.Hearing.{Meaning, Says, Waits, Spoils, Strays, meaning, with_entry}
+use Rattle.messages.proofs.HearingLemmas.{frames_spelled}
 use Rattle.client_core.specs.declared.call.Call.{Call}
 use Rattle.client_core.specs.declared.call.Call.TheVariants as calls
 use Rattle.client_core.specs.declared.input.Input.{Input}
@@ -45,12 +42,6 @@ use Rattle.client_core.specs.Hearing.{FrameEntry, Met, rules, heard_at, packets_
 use Rattle.client_core.specs.FrameAnswers.{Sense, Hears, Keeps, Drops, Misses, sense_of, sense, is_drop, refusal, refusal_in, due, due_in, answered_entry, entry_heard, frames_by}
 use Rattle.client_core.specs.FrameEnds.{StandsFor, most_packets, steps}
 use Rattle.client_core.proofs.HearingLemmas.{rows_after, entry_by, entry_is, heard_is, taken_by, same_rows, refused_rows, said_rows, dropped_rows}
-
--- ---- the frames of packets
-
-spelled : (ps : List PacketParts) → flat_map spelled_frames ps ≡ map frame_spelling (flat_map frames_of ps)
-spelled [] = refl
-spelled (p ∷ ps) = ap (λ fs. spelled_frames p ++ fs) (spelled ps) ∙ sym (map-append frame_spelling (frames_of p) (flat_map frames_of ps))
 
 -- What a call brings is within the ranges of packets.
 abbrev pub BringsInRange : Call → Type 0
@@ -111,7 +102,7 @@ heard_answers note o past e c old new sent short brings is a k =
     record {
       free = ap (refusal_in o list) is ∙ a.free;
       sends = record {
-        frames_are = a.sends ∙ spelled (packets o list (history.Met c left)) ∙ ap (λ y. map frame_spelling (frames_by o list y)) (sym says);
+        frames_are = a.sends ∙ frames_spelled (packets o list (history.Met c left)) ∙ ap (λ y. map frame_spelling (frames_by o list y)) (sym says);
         short = λ i h. subst (λ n. AreShort n sent) (sym (ap (most_in o list) is) ∙ most_is o past e)
             (subst (AreShort (bounds.most_packets o list c)) (sym a.sends) (short o list c left i (came_with c left list brings h)));
       };

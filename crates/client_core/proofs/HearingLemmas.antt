@@ -1,5 +1,5 @@
 -- What is heard of an input, and what it leaves together, by what it is to the client.
-use Rattle.std.proofs.Common.{◌≡◌, refl, sym, ◌∙◌, ap, subst, ℕ, Bool, true, false, ◌&&◌, List, ◌∷◌, Option, Some, None}
+use Rattle.std.proofs.Common.{◌≡◌, refl, ◌∙◌, ap, subst, Bool, true, false, ◌&&◌, List, ◌∷◌, Option, Some, None}
 use Rattle.std.specs.Prelude.{if◌then◌else◌, is_some}
 use Rattle.fc_base.specs.declared.fault.Fault.{Fault}
 use Rattle.disk_model.specs.declared.left.Left.{Left}
@@ -7,9 +7,9 @@ use Rattle.messages.specs.declared.packet.PacketParts.{PacketParts}
 use Rattle.messages.specs.declared.piece.PieceParts.{PieceParts}
 use Rattle.messages.specs.declared.frame.Frame.TheVariants.{Whole, Piece}
 use Rattle.messages.specs.Assemblies as looks
-use Rattle.messages.specs.Assemblies.{Row, Look, Gives, look_at_piece, look_by_body, completed_body, with_piece, rows_after_piece, rows_after_body, without_tag}
-use Rattle.messages.specs.declared.places.Filled.{Filled}
+use Rattle.messages.specs.Assemblies.{Row, Look, Gives, look_at_piece, rows_after_piece, without_tag}
 use Rattle.messages.specs.Hearing.{Meaning, Says, Waits, Spoils, Strays, meaning, said_by, heard_by, rows_by, rows_of, with_entry}
+use Rattle.messages.proofs.HearingLemmas.{given_gone, spoiled_gone, refused_piece}
 use Rattle.client_core.specs.declared.call.Call.TheVariants as calls
 use Rattle.client_core.specs.declared.input.Input.{Input}
 use Rattle.client_core.specs.declared.input.Input.TheVariants.{Begin, Trigger, Stop, Verify, Deliver, Tick}
@@ -86,13 +86,9 @@ same_rows o past (Deliver (Piece q)) one other = refl
 same_rows o past Tick one other = refl
 
 -- A refused input that drops no tag leaves what has come together.
-refused_piece : (o : Opening) (past : List FrameEntry) (q : PieceParts) (x : Option Fault) (fault : Fault) → x ≡ Some fault → (if is_some x then assembly o past else rows_after_piece (assembly o past) q) ≡ assembly o past
-refused_piece o past q None fault h = absurd cc
-refused_piece o past q (Some f) fault h = refl
-
 piece_rows : (o : Opening) (past : List FrameEntry) (q : PieceParts) (m : Meaning) (fault : Fault) → refusal_in o (packets_heard o past) (sense_of q m) ≡ Some fault → is_drop (sense_of q m) ≡ false
     → rows_by (rules o) (heard_at o past) q m ≡ assembly o past
-piece_rows o past q (Says p) fault h d = refused_piece o past q (words.refusal o (packets_heard o past) (calls.Deliver p)) fault h
+piece_rows o past q (Says p) fault h d = refused_piece (assembly o past) q (words.refusal o (packets_heard o past) (calls.Deliver p)) fault h
 piece_rows o past q Waits fault h d = absurd cc
 piece_rows o past q Spoils fault h d = absurd cc
 piece_rows o past q Strays fault h d = refl
@@ -127,23 +123,12 @@ spoiled true true q r (Gives p) e = cc
 spoiled true false q r l e = cc
 spoiled false mine q r l e = cc
 
--- A piece that fills the last place takes the tag out.
-whole_gone : (q : PieceParts) (fs : List Filled) (rows : List Row) (body : Option (List ℕ)) → (look_by_body q body ≡ looks.Waits → ⊥) → rows_after_body body q fs rows ≡ without_tag q.tag rows
-whole_gone q fs rows None ne = absurd (ne refl)
-whole_gone q fs rows (Some bytes) ne = refl
-
-gone : (rows : List Row) (q : PieceParts) → (look_at_piece rows q ≡ looks.Waits → ⊥) → rows_after_piece rows q ≡ without_tag q.tag rows
-gone rows q ne = whole_gone q (with_piece rows q) rows (completed_body rows q) ne
-
 pub said_rows : (o : Opening) (past : List FrameEntry) (q : PieceParts) (p : PacketParts) (left : Left) → sense o past (Deliver (Piece q)) ≡ Hears (calls.Deliver p) → words.refusal o (packets_heard o past) (calls.Deliver p) ≡ None
     → rows_after o past (Deliver (Piece q)) left ≡ without_tag q.tag (assembly o past)
 said_rows o past q p left is free =
     by_meaning (meaning (rules o) (heard_at o past) (Piece q)) is
-    ∙ gone (assembly o past) q (λ e. waits_no (sym (gave (is_on (packets_heard o past)) (is_piece_for o.servers q) q p (look_at_piece (assembly o past) q) is).is ∙ e))
+    ∙ given_gone (assembly o past) q p (gave (is_on (packets_heard o past)) (is_piece_for o.servers q) q p (look_at_piece (assembly o past) q) is).is
   where
-    waits_no : Gives p ≡ looks.Waits → ⊥
-    waits_no e = cc
-
     same_packet : (r : PacketParts) → Hears (calls.Deliver r) ≡ Hears (calls.Deliver p) → r ≡ p
     same_packet r e = cc
 
@@ -161,7 +146,4 @@ said_rows o past q p left is free =
 pub dropped_rows : (o : Opening) (past : List FrameEntry) (q : PieceParts) (left : Left) → sense o past (Deliver (Piece q)) ≡ Drops q → rows_after o past (Deliver (Piece q)) left ≡ without_tag q.tag (assembly o past)
 dropped_rows o past q left is =
     taken_by o past (Deliver (Piece q)) left (Drops q) is
-    ∙ gone (assembly o past) q (λ e. waits_no (sym (spoiled (is_on (packets_heard o past)) (is_piece_for o.servers q) q q (look_at_piece (assembly o past) q) is).is ∙ e))
-  where
-    waits_no : looks.NoPacket ≡ looks.Waits → ⊥
-    waits_no e = cc
+    ∙ spoiled_gone (assembly o past) q (spoiled (is_on (packets_heard o past)) (is_piece_for o.servers q) q q (look_at_piece (assembly o past) q) is).is

@@ -45,11 +45,13 @@ save_of noted old new = record {
 }
 
 -- How the save of an addition ends.
-abbrev pub Stores : {T : Type 0} → (T → Note) → Addition → PacketClient T → PacketClient T → Result (Unit {0}) Fault → Type 0
+abbrev pub Stores : {T : Type 0} → (T → Note) → Addition → PacketClient T → PacketClient T →
+    Result (Unit {0}) Fault → Type 0
 Stores note a old new result =
     Saves (λ client. note client.notes) (save_of (with_addition a old.noted) old new) old new result
 
 -- How the save of what is noted ends.
-abbrev pub Writes : {T : Type 0} → (T → Note) → PacketClient T → PacketClient T → Result (Unit {0}) Fault → Type 0
+abbrev pub Writes : {T : Type 0} → (T → Note) → PacketClient T → PacketClient T →
+    Result (Unit {0}) Fault → Type 0
 Writes note old new result =
     Saves (λ client. note client.notes) (save_of old.noted old new) old new result

@@ -14,8 +14,8 @@ pub record Save (S : Type 0) : Type 0 where
   pub same : S  -- the core where memory ran out
   pub down : S  -- the core where the device failed
 
--- How a save ends that isn't answered: memory ran out, and the note is as it was; or the device failed,
--- and the durable bytes are the old or the new.
+-- How a save ends that isn't answered: memory ran out, and the note is as it was; or the device
+-- failed, and the durable bytes are the old or the new.
 abbrev pub Unsaved : {S : Type 0} → (S → Note) → Save S → FaultSort → Fault → S → S → Type 0
 Unsaved note save sorts.Memory fault old new =
     (fault ≡ NoMemory) × (note new ≡ note old) × (new ≡ save.same)

@@ -1,9 +1,7 @@
 -- A server takes what comes over a network of frames as its list does.
-use Rattle.std.proofs.Common.{◌≡◌, refl, sym, ◌∙◌, ap, subst, ℕ, ◌≤◌, arith, length, true, false, ◌&&◌, List, [], ◌∷◌, ◌++◌, Option, Some, None, Result, Ok, Err}
+use Rattle.std.proofs.Common.{◌≡◌, refl, sym, ◌∙◌, ap, subst, ℕ, ◌≤◌, arith, length, Bool, true, false, ◌&&◌, List, [], ◌∷◌, Option, Some, None, Result, Ok, Err}
 use Rattle.std.specs.Prelude.{if◌then◌else◌, map, not, is_some}
-use Rattle.std.specs.List.{flat_map}
 use Rattle.std.specs.Result.{is_ok}
-use Rattle.std.proofs.lemmas.List.{map-append}
 use Rattle.std.proofs.lemmas.List.Elements.{All-nil}
 use Rattle.fc_base.specs.declared.fault.Fault.{Fault}
 use Rattle.fc_base.specs.declared.fault.Fault.TheVariants.{FrameBadField}
@@ -22,9 +20,8 @@ use Rattle.messages.specs.declared.piece.PieceParts.{PieceParts}
 use Rattle.messages.specs.declared.frame.Frame.TheVariants.{Piece}
 use Rattle.messages.specs.Assemblies.{Row, Look, Gives, look_at_piece, rows_after_piece, without_tag}
 use Rattle.messages.specs.FrameBytes.{frame_spelling}
-use Rattle.messages.specs.FramesOf.{spelled_frames}
-use Rattle.messages.specs.Pieces.{frames_of}
 use Rattle.messages.specs.Hearing.{Meaning, Says, Waits, Spoils, Strays, meaning, said_by, rows_by, with_entry}
+use Rattle.messages.proofs.HearingLemmas.{frames_spelled, given_gone}
 use Rattle.server_core.specs.declared.event.Event.{Event}
 use Rattle.server_core.specs.declared.event.Event.TheVariants as events
 use Rattle.server_core.specs.declared.input.Input.{Input}
@@ -42,13 +39,7 @@ use Rattle.server_core.specs.Note.{spelling}
 use Rattle.server_core.specs.Hearing.{FrameEntry, Met, is_piece_for, rules, heard_at, packets_heard, assembly}
 use Rattle.server_core.specs.FrameAnswers.{Sense, Hears, Keeps, Drops, sense_of, sense, refusal, refusal_of_sense, due, due_of_sense, issue_of_sense, act_of_sense, answered_entry, entry_heard, frames_by}
 use Rattle.server_core.specs.FrameEnds.{StandsFor, steps, is_drop}
-use Rattle.server_core.proofs.HearingLemmas.{rows_after, entry_by, entry_is, heard_is, kept_rows, dropped_rows, same_rows, refused_rows, piece_sense, given_gone}
-
--- ---- the frames of packets
-
-spelled : (ps : List PacketParts) → flat_map spelled_frames ps ≡ map frame_spelling (flat_map frames_of ps)
-spelled [] = refl
-spelled (p ∷ ps) = ap (λ fs. spelled_frames p ++ fs) (spelled ps) ∙ sym (map-append frame_spelling (frames_of p) (flat_map frames_of ps))
+use Rattle.server_core.proofs.HearingLemmas.{rows_after, entry_by, entry_is, heard_is, kept_rows, dropped_rows, same_rows, refused_rows, piece_sense}
 
 -- ---- whether the server is on
 
@@ -74,7 +65,7 @@ heard_answers note o past e x old new outs is a k =
     record {
       free = ap (refusal_of_sense o list) is ∙ a.free;
       sends = record {
-        frames_are = a.sends.frames_are ∙ spelled (answers.packets o list (history.Met x left)) ∙ ap (λ y. map frame_spelling (frames_by o list y)) (sym says);
+        frames_are = a.sends.frames_are ∙ frames_spelled (answers.packets o list (history.Met x left)) ∙ ap (λ y. map frame_spelling (frames_by o list y)) (sym says);
         issue_is = a.sends.issue_is ∙ sym (ap (issue_of_sense o list) is);
         act_is = a.sends.act_is ∙ sym (ap (act_of_sense o list) is);
         short = a.sends.short;
@@ -174,9 +165,11 @@ dropped_ends note o past e q old is w = record {
 -- ---- a piece that came
 
 -- What a piece is to a server that is on, where it is for that server.
-pub arrives : {T : Type 0} (note : T → Note) (old : Server T) (o : Opening) (past : List FrameEntry) (q : PieceParts) (me : ℕ) → StandsFor note old o past → words.is_on (packets_heard o past) ≡ true → me ≡ o.me → is_piece_for me q ≡ true
-    → (l : Look) → look_at_piece old.pieces q ≡ l → sense o past (Deliver (Piece q)) ≡ sense_of q (said_by l)
-arrives note old o past q me w on same mine l is = piece_sense o past q old.pieces l on (ap (λ n. is_piece_for n q) (sym same) ∙ mine) (w.pieces on) is
+pub arrives : {T : Type 0} (note : T → Note) (old : Server T) (o : Opening) (past : List FrameEntry) (q : PieceParts) (me : ℕ) → StandsFor note old o past → {up mine : Bool} → up ≡ words.is_on (packets_heard o past) → up ≡ true → me ≡ o.me
+    → mine ≡ is_piece_for me q → mine ≡ true → (l : Look) → look_at_piece old.pieces q ≡ l → sense o past (Deliver (Piece q)) ≡ sense_of q (said_by l)
+arrives note old o past q me w is_up up same is_mine mine l is =
+    let on : words.is_on (packets_heard o past) ≡ true = sym is_up ∙ up in
+    piece_sense o past q old.pieces l on (ap (λ n. is_piece_for n q) (sym same) ∙ (sym is_mine ∙ mine)) (w.pieces on) is
 
 -- A piece whose packet was answered is taken.
 pub given_rows : (o : Opening) (past : List FrameEntry) (q : PieceParts) (p : PacketParts) (rows : List Row) → sense o past (Deliver (Piece q)) ≡ Hears (events.Deliver p) → answers.refusal o (packets_heard o past) (events.Deliver p) ≡ None
@@ -196,12 +189,12 @@ given_rows o past q p rows is free same gives =
     says_it Strays e = cc
 
 -- The packet that a piece completes is answered, and its tag is dropped; or it is refused, and the tag stays.
-pub given_ends : {T : Type 0} (note : T → Note) (old : Server T) (core : PacketServer T) (o : Opening) (past : List FrameEntry) (q : PieceParts) (p : PacketParts) (result : Result Outs Fault) → StandsFor note old o past → words.is_on (packets_heard o past) ≡ true
+pub given_ends : {T : Type 0} (note : T → Note) (old : Server T) (core : PacketServer T) (o : Opening) (past : List FrameEntry) (q : PieceParts) (p : PacketParts) (result : Result Outs Fault) → StandsFor note old o past
     → sense o past (Deliver (Piece q)) ≡ Hears (events.Deliver p) → look_at_piece old.pieces q ≡ Gives p → Ends (whole.steps note o) (packets_heard o past) (events.Deliver p) old.core core result → is_ok result ≡ true
     → Ends (steps note o) past (Deliver (Piece q)) old (record { alloc = old.alloc; core = core; pieces = without_tag q.tag old.pieces }) result
-given_ends note old core o past q p (Ok outs) w on is gives h ok =
-    heard_ends note o past (Deliver (Piece q)) (events.Deliver p) old (record { alloc = old.alloc; core = core; pieces = without_tag q.tag old.pieces }) (Ok outs) is w h (λ up. given_rows o past q p old.pieces is h.free (w.pieces on) gives)
-given_ends note old core o past q p (Err fault) w on is gives h ok = absurd cc
+given_ends note old core o past q p (Ok outs) w is gives h ok =
+    heard_ends note o past (Deliver (Piece q)) (events.Deliver p) old (record { alloc = old.alloc; core = core; pieces = without_tag q.tag old.pieces }) (Ok outs) is w h (λ up. given_rows o past q p old.pieces is h.free (w.pieces up) gives)
+given_ends note old core o past q p (Err fault) w is gives h ok = absurd cc
 
 pub refused_ends : {T : Type 0} (note : T → Note) (old : Server T) (core : PacketServer T) (o : Opening) (past : List FrameEntry) (q : PieceParts) (p : PacketParts) (result : Result Outs Fault) → StandsFor note old o past
     → sense o past (Deliver (Piece q)) ≡ Hears (events.Deliver p) → Ends (whole.steps note o) (packets_heard o past) (events.Deliver p) old.core core result → is_ok result ≡ false

@@ -1,6 +1,6 @@
 -- What is heard of an input, and what it leaves together, by what it is to the server.
-use Rattle.std.proofs.Common.{◌≡◌, refl, sym, ◌∙◌, ap, subst, ℕ, Bool, true, false, ◌&&◌, List, ◌∷◌, Option, Some, None, Result, Ok, Err}
-use Rattle.std.specs.Prelude.{if◌then◌else◌, is_some}
+use Rattle.std.proofs.Common.{◌≡◌, refl, sym, ◌∙◌, ap, subst, Bool, true, false, ◌&&◌, List, ◌∷◌, Option, Some, None, Result, Ok, Err}
+use Rattle.std.specs.Prelude.{if◌then◌else◌}
 use Rattle.fc_base.specs.declared.fault.Fault.{Fault}
 use Rattle.fc_base.specs.declared.fault.Fault.TheVariants.{FrameBadField, NoMemory}
 use Rattle.disk_model.specs.declared.left.Left.{Left}
@@ -8,9 +8,9 @@ use Rattle.messages.specs.declared.packet.PacketParts.{PacketParts}
 use Rattle.messages.specs.declared.piece.PieceParts.{PieceParts}
 use Rattle.messages.specs.declared.frame.Frame.TheVariants.{Whole, Piece}
 use Rattle.messages.specs.Assemblies as looks
-use Rattle.messages.specs.Assemblies.{Row, Look, Gives, look_at_piece, look_by_body, completed_body, with_piece, rows_after_piece, rows_after_body, without_tag, LookAnswers}
-use Rattle.messages.specs.declared.places.Filled.{Filled}
+use Rattle.messages.specs.Assemblies.{Row, Look, Gives, look_at_piece, rows_after_piece, LookAnswers}
 use Rattle.messages.specs.Hearing.{Meaning, Says, Waits, Spoils, Strays, meaning, said_by, heard_by, rows_by, rows_of, with_entry}
+use Rattle.messages.proofs.HearingLemmas.{refused_piece}
 use Rattle.server_core.specs.declared.event.Event.TheVariants as events
 use Rattle.server_core.specs.declared.input.Input.{Input}
 use Rattle.server_core.specs.declared.input.Input.TheVariants.{Deliver, Issue, WriteDone, CheckDone}
@@ -85,13 +85,9 @@ same_rows o past (WriteDone ticket end) one other = refl
 same_rows o past (CheckDone boot a j report) one other = refl
 
 -- A refused input that drops no tag leaves what has come together.
-refused_piece : (o : Opening) (past : List FrameEntry) (q : PieceParts) (x : Option Fault) (fault : Fault) → x ≡ Some fault → (if is_some x then assembly o past else rows_after_piece (assembly o past) q) ≡ assembly o past
-refused_piece o past q None fault h = absurd cc
-refused_piece o past q (Some f) fault h = refl
-
 piece_rows : (o : Opening) (past : List FrameEntry) (q : PieceParts) (m : Meaning) (fault : Fault) → refusal_of_sense o (packets_heard o past) (sense_of q m) ≡ Some fault → is_drop (sense_of q m) ≡ false
     → rows_by (rules o) (heard_at o past) q m ≡ assembly o past
-piece_rows o past q (Says p) fault h d = refused_piece o past q (answers.refusal o (packets_heard o past) (events.Deliver p)) fault h
+piece_rows o past q (Says p) fault h d = refused_piece (assembly o past) q (answers.refusal o (packets_heard o past) (events.Deliver p)) fault h
 piece_rows o past q Waits fault h d = absurd cc
 piece_rows o past q Spoils fault h d = absurd cc
 piece_rows o past q Strays fault h d = refl
@@ -150,20 +146,3 @@ spoiled (Ok x) l a is = cc
 spoiled (Err f) looks.Waits a is = elim a [ ]
 spoiled (Err f) (looks.Gives p) a is = absurd (no_memory (sym (one_fault f FrameBadField is) ∙ a))
 spoiled (Err f) looks.NoPacket a is = refl
-
--- A piece that fills the last place takes the tag out.
-whole_gone : (q : PieceParts) (fs : List Filled) (rows : List Row) (body : Option (List ℕ)) → (look_by_body q body ≡ looks.Waits → ⊥) → rows_after_body body q fs rows ≡ without_tag q.tag rows
-whole_gone q fs rows None ne = absurd (ne refl)
-whole_gone q fs rows (Some bytes) ne = refl
-
-pub given_gone : (rows : List Row) (q : PieceParts) (p : PacketParts) → look_at_piece rows q ≡ Gives p → rows_after_piece rows q ≡ without_tag q.tag rows
-given_gone rows q p is = whole_gone q (with_piece rows q) rows (completed_body rows q) (λ e. waits_no (sym is ∙ e))
-  where
-    waits_no : Gives p ≡ looks.Waits → ⊥
-    waits_no e = cc
-
-pub spoiled_gone : (rows : List Row) (q : PieceParts) → look_at_piece rows q ≡ looks.NoPacket → rows_after_piece rows q ≡ without_tag q.tag rows
-spoiled_gone rows q is = whole_gone q (with_piece rows q) rows (completed_body rows q) (λ e. waits_no (sym is ∙ e))
-  where
-    waits_no : looks.NoPacket ≡ looks.Waits → ⊥
-    waits_no e = cc

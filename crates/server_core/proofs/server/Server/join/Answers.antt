@@ -3,13 +3,14 @@ use Rattle.std.proofs.Common.{sym, ap, subst, ◌∙◌, Ok, Err}
 use Rattle.fc_base.specs.declared.fault.Fault.TheVariants.{FrameBadField}
 use Rattle.disk_model.specs.Steps.{Ends}
 use Rattle.messages.specs.declared.frame.Frame.TheVariants.{Piece}
-use Rattle.messages.specs.Assemblies.{Row, Look, Gives, look_at_piece, without_tag, rows_after_piece}
+use Rattle.messages.specs.Assemblies.{Gives, look_at_piece, without_tag, rows_after_piece}
 use Rattle.messages.specs.Assemblies as looks
 use Rattle.server_core.specs.declared.input.Input.TheVariants.{Deliver}
 use Rattle.server_core.specs.Hearing.{packets_heard}
 use Rattle.server_core.specs.Handles.{sent_alone}
 use Rattle.server_core.specs.FrameEnds.{steps}
-use Rattle.server_core.proofs.HearingLemmas.{gave, waited, spoiled, spoiled_gone}
+use Rattle.messages.proofs.HearingLemmas.{spoiled_gone}
+use Rattle.server_core.proofs.HearingLemmas.{gave, waited, spoiled}
 use Rattle.server_core.specs.FrameAnswers.{Hears, Keeps}
 use Rattle.server_core.specs.declared.event.Event.TheVariants as events
 use Rattle.server_core.specs.HeardRange.{SenseInRange}
@@ -24,10 +25,9 @@ returns-then-is_ok-clause-ends g c o past s =
     let q = c.args.piece.now in
     let p = c.in-Ok-Some.packet in
     let gives = gave c.look.result (look_at_piece old.pieces q) p c.look.ensures (c.in-Ok-Some.is ∙ ap Ok c.in-Ok-Some.field-0-is) in
-    let on = sym (c.on.ensures o (packets_heard o past) s.core) ∙ c.if-not-on.false in
-    let is = arrives note old o past q c.me.result s on (c.me.ensures o (packets_heard o past) s.core) (sym c.is_piece_for.ensures ∙ c.if-not-is_piece_for.false) (Gives p) gives in
+    let is = arrives note old o past q c.me.result s (c.on.ensures o (packets_heard o past) s.core) c.if-not-on.false (c.me.ensures o (packets_heard o past) s.core) c.is_piece_for.ensures c.if-not-is_piece_for.false (Gives p) gives in
     subst (λ rows. Ends (steps note o) past (Deliver (Piece q)) old (record { alloc = old.alloc; core = c.step-outs.new.self; pieces = rows }) c.step-outs.result) (sym (c.drop.ensures ∙ ap (λ t. without_tag t old.pieces) c.tag.ensures))
-    (given_ends note old c.step-outs.new.self o past q p c.step-outs.result s on is gives (c.step-outs.ensures o (packets_heard o past) s.core) (sym c.is_ok.ensures.value ∙ c.if-is_ok.true))
+    (given_ends note old c.step-outs.new.self o past q p c.step-outs.result s is gives (c.step-outs.ensures o (packets_heard o past) s.core) (sym c.is_ok.ensures.value ∙ c.if-is_ok.true))
 
 pub returns-else-is_ok-clause-ends : goal.returns-else-is_ok-clause-ends
 returns-else-is_ok-clause-ends g c o past s =
@@ -36,8 +36,7 @@ returns-else-is_ok-clause-ends g c o past s =
     let q = c.args.piece.now in
     let p = c.in-Ok-Some.packet in
     let gives = gave c.look.result (look_at_piece old.pieces q) p c.look.ensures (c.in-Ok-Some.is ∙ ap Ok c.in-Ok-Some.field-0-is) in
-    let on = sym (c.on.ensures o (packets_heard o past) s.core) ∙ c.if-not-on.false in
-    let is = arrives note old o past q c.me.result s on (c.me.ensures o (packets_heard o past) s.core) (sym c.is_piece_for.ensures ∙ c.if-not-is_piece_for.false) (Gives p) gives in
+    let is = arrives note old o past q c.me.result s (c.on.ensures o (packets_heard o past) s.core) c.if-not-on.false (c.me.ensures o (packets_heard o past) s.core) c.is_piece_for.ensures c.if-not-is_piece_for.false (Gives p) gives in
     refused_ends note old c.step-outs.new.self o past q p c.step-outs.result s is (c.step-outs.ensures o (packets_heard o past) s.core) (sym c.is_ok.ensures.value ∙ c.if-is_ok.false)
 
 pub returns-in-Ok-clause-ends : goal.returns-in-Ok-clause-ends
@@ -46,8 +45,7 @@ returns-in-Ok-clause-ends g c o past s =
     let old = c.args.self.now in
     let q = c.args.piece.now in
     let waits = waited c.look.result (look_at_piece old.pieces q) c.look.ensures (c.in-Ok-None.is ∙ ap Ok c.in-Ok-None.field-0-is) in
-    let on = sym (c.on.ensures o (packets_heard o past) s.core) ∙ c.if-not-on.false in
-    let is = arrives note old o past q c.me.result s on (c.me.ensures o (packets_heard o past) s.core) (sym c.is_piece_for.ensures ∙ c.if-not-is_piece_for.false) looks.Waits waits in
+    let is = arrives note old o past q c.me.result s (c.on.ensures o (packets_heard o past) s.core) c.if-not-on.false (c.me.ensures o (packets_heard o past) s.core) c.is_piece_for.ensures c.if-not-is_piece_for.false looks.Waits waits in
     subst (λ rows. Ends (steps note o) past (Deliver (Piece q)) old (record old { pieces = rows }) (Ok c.sent.result)) (sym c.in-Ok.ensures.taken)
     (subst (λ outs. Ends (steps note o) past (Deliver (Piece q)) old (record old { pieces = rows_after_piece old.pieces q }) (Ok outs)) (sym (c.sent.ensures ∙ ap sent_alone c.new.ensures)) (kept_ends note o past (Deliver (Piece q)) q old is s))
 
@@ -57,8 +55,7 @@ returns-in-Err-FrameBadField-clause-ends g c o past s =
     let old = c.args.self.now in
     let q = c.args.piece.now in
     let spoils = spoiled c.look.result (look_at_piece old.pieces q) c.look.ensures (c.in-Err-FrameBadField.is ∙ ap Err c.in-Err-FrameBadField.field-0-is) in
-    let on = sym (c.on.ensures o (packets_heard o past) s.core) ∙ c.if-not-on.false in
-    let is = arrives note old o past q c.me.result s on (c.me.ensures o (packets_heard o past) s.core) (sym c.is_piece_for.ensures ∙ c.if-not-is_piece_for.false) looks.NoPacket spoils in
+    let is = arrives note old o past q c.me.result s (c.on.ensures o (packets_heard o past) s.core) c.if-not-on.false (c.me.ensures o (packets_heard o past) s.core) c.is_piece_for.ensures c.if-not-is_piece_for.false looks.NoPacket spoils in
     subst (λ rows. Ends (steps note o) past (Deliver (Piece q)) old (record old { pieces = rows }) (Err FrameBadField))
     (sym (c.drop-in-Err-FrameBadField.ensures ∙ ap (λ t. without_tag t old.pieces) c.tag-in-Err-FrameBadField.ensures ∙ sym (spoiled_gone old.pieces q spoils)))
     (dropped_ends note o past (Deliver (Piece q)) q old is s)
@@ -70,8 +67,7 @@ returns-then-is_ok-clause-ranges g c o past s =
     let q = c.args.piece.now in
     let p = c.in-Ok-Some.packet in
     let gives = gave c.look.result (look_at_piece old.pieces q) p c.look.ensures (c.in-Ok-Some.is ∙ ap Ok c.in-Ok-Some.field-0-is) in
-    let on = sym (c.on.ensures o (packets_heard o past) s.core) ∙ c.if-not-on.false in
-    let is = arrives note old o past q c.me.result s on (c.me.ensures o (packets_heard o past) s.core) (sym c.is_piece_for.ensures ∙ c.if-not-is_piece_for.false) (Gives p) gives in
+    let is = arrives note old o past q c.me.result s (c.on.ensures o (packets_heard o past) s.core) c.if-not-on.false (c.me.ensures o (packets_heard o past) s.core) c.is_piece_for.ensures c.if-not-is_piece_for.false (Gives p) gives in
     hears_in_range o past (Deliver (Piece q)) (Hears (events.Deliver p)) c.step-outs.result is c.keeps_its_ranges.ensures
 
 pub returns-else-is_ok-clause-ranges : goal.returns-else-is_ok-clause-ranges
@@ -81,8 +77,7 @@ returns-else-is_ok-clause-ranges g c o past s =
     let q = c.args.piece.now in
     let p = c.in-Ok-Some.packet in
     let gives = gave c.look.result (look_at_piece old.pieces q) p c.look.ensures (c.in-Ok-Some.is ∙ ap Ok c.in-Ok-Some.field-0-is) in
-    let on = sym (c.on.ensures o (packets_heard o past) s.core) ∙ c.if-not-on.false in
-    let is = arrives note old o past q c.me.result s on (c.me.ensures o (packets_heard o past) s.core) (sym c.is_piece_for.ensures ∙ c.if-not-is_piece_for.false) (Gives p) gives in
+    let is = arrives note old o past q c.me.result s (c.on.ensures o (packets_heard o past) s.core) c.if-not-on.false (c.me.ensures o (packets_heard o past) s.core) c.is_piece_for.ensures c.if-not-is_piece_for.false (Gives p) gives in
     hears_in_range o past (Deliver (Piece q)) (Hears (events.Deliver p)) c.step-outs.result is c.keeps_its_ranges.ensures
 
 pub returns-in-Ok-clause-ranges : goal.returns-in-Ok-clause-ranges
@@ -91,8 +86,7 @@ returns-in-Ok-clause-ranges g c o past s =
     let old = c.args.self.now in
     let q = c.args.piece.now in
     let waits = waited c.look.result (look_at_piece old.pieces q) c.look.ensures (c.in-Ok-None.is ∙ ap Ok c.in-Ok-None.field-0-is) in
-    let on = sym (c.on.ensures o (packets_heard o past) s.core) ∙ c.if-not-on.false in
-    let is = arrives note old o past q c.me.result s on (c.me.ensures o (packets_heard o past) s.core) (sym c.is_piece_for.ensures ∙ c.if-not-is_piece_for.false) looks.Waits waits in
+    let is = arrives note old o past q c.me.result s (c.on.ensures o (packets_heard o past) s.core) c.if-not-on.false (c.me.ensures o (packets_heard o past) s.core) c.is_piece_for.ensures c.if-not-is_piece_for.false looks.Waits waits in
     hears_in_range o past (Deliver (Piece q)) (Keeps q) (Ok c.sent.result) is tt
 
 pub returns-in-Err-FrameBadField-clause-ranges : goal.returns-in-Err-FrameBadField-clause-ranges
@@ -101,6 +95,5 @@ returns-in-Err-FrameBadField-clause-ranges g c o past s =
     let old = c.args.self.now in
     let q = c.args.piece.now in
     let spoils = spoiled c.look.result (look_at_piece old.pieces q) c.look.ensures (c.in-Err-FrameBadField.is ∙ ap Err c.in-Err-FrameBadField.field-0-is) in
-    let on = sym (c.on.ensures o (packets_heard o past) s.core) ∙ c.if-not-on.false in
-    let is = arrives note old o past q c.me.result s on (c.me.ensures o (packets_heard o past) s.core) (sym c.is_piece_for.ensures ∙ c.if-not-is_piece_for.false) looks.NoPacket spoils in
+    let is = arrives note old o past q c.me.result s (c.on.ensures o (packets_heard o past) s.core) c.if-not-on.false (c.me.ensures o (packets_heard o past) s.core) c.is_piece_for.ensures c.if-not-is_piece_for.false looks.NoPacket spoils in
     subst SenseInRange (sym is) tt
