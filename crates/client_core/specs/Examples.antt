@@ -1,8 +1,6 @@
 -- What a client answers in a few lists that can be followed by hand.
 use Rattle.std.specs.Prelude.{◌≡◌, ℕ, true, false, List, [], ◌∷◌, map, is_some, Some, None, if◌then◌else◌}
 use Rattle.fc_base.specs.declared.fault.Fault.TheVariants.{Down, Conflict, NoSuchRun, Misdirected, NumbersSpent}
-use Rattle.fc_base.specs.declared.record.Kind.TheVariants.{Sequential}
-use Rattle.fc_base.specs.declared.record.Verify.TheVariants.{Stamp}
 use Rattle.fc_base.specs.declared.report.ReportParts.{ReportParts}
 use Rattle.fc_base.specs.declared.report.ReportEnd.TheVariants.{Whole}
 use Rattle.disk_model.specs.declared.left.Left.{Left}
@@ -15,6 +13,7 @@ use Rattle.messages.specs.declared.refusal.Asked.{Asked}
 use Rattle.messages.specs.declared.refusal.Asked.TheVariants as asks
 use Rattle.messages.specs.declared.refusal.Reason.{Reason}
 use Rattle.messages.specs.declared.refusal.Reason.TheVariants as reasons
+use Rattle.state_table.specs.Examples.{state}
 use Rattle.client_core.specs.declared.call.Call.{Call}
 use Rattle.client_core.specs.declared.call.Call.TheVariants.{Begin, Trigger, Stop, Verify, Deliver, Tick}
 use Rattle.client_core.specs.declared.outcome.Outcome.TheVariants as outcomes
@@ -65,26 +64,6 @@ with_calls past (c ∷ calls) = answered_entry (with_calls past calls) c ∷ wit
 -- What is sent in answer to a call.
 abbrev pub sent_bodies : List Entry → Call → List Body
 sent_bodies past c = map (λ p. p.body) (packets opening past (answered_entry past c))
-
--- The state of a job of run 1 that has issued so many of its two writes.
-abbrev pub state : ℕ → ℕ → State
-state job issued = record {
-  key = record { run = 1; server = 0; job = job };
-  job = record {
-    kind = Sequential;
-    verify = Stamp;
-    pattern = 0;
-    bs = 512;
-    blocks = 2;
-    total = 2;
-    seed = 1;
-    depth = 2;
-    window = 2;
-  };
-  issued = issued;
-  place = 1 ∷ 2 ∷ 3 ∷ 4 ∷ [];
-  counted = 0 ∷ [];
-}
 
 -- Run 1 is begun.
 abbrev pub after_begin : List Entry
@@ -204,6 +183,7 @@ pub record KeepsWhatIsNoted : Type 0 where
 abbrev pub cut_off : List Entry
 cut_off = Restart false ∷ (Cut ∷ after_verify)
 
+-- A cut makes the client forget what it waits for, and not what its note says.
 pub record ForgetsByACut : Type 0 where
   pub quiet : sent_bodies cut_off Tick ≡ []
   pub next : sent_bodies cut_off (Begin text) ≡ bodies.Jobs 2 text ∷ []

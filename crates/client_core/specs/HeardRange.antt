@@ -28,6 +28,7 @@ UnlessMemory sorts.Memory s = Unit {0}
 UnlessMemory sorts.Save s = SenseInRange s
 UnlessMemory sorts.Refusal s = SenseInRange s
 
+-- What is heard is within its ranges, unless memory ran out.
 abbrev pub HearsInRange : {X : Type 0} → Opening → List FrameEntry → Input → Result X Fault → Type 0
 HearsInRange o past e (Ok x) = SenseInRange (sense o past e)
 HearsInRange o past e (Err fault) = UnlessMemory (sort_of fault) (sense o past e)

@@ -72,6 +72,7 @@ pub record GoesOnAsBlank (o : Opening) (newer past : List Entry) : Type 0 where
   pub life_is : life o (newer ++ Lose ∷ past) ≡ life (record o { noted = blank }) newer
   pub done_is : deeds_done o (newer ++ Lose ∷ past) ≡ deeds_done (record o { noted = blank }) newer ++ deeds_done o past
 
+-- Behind the loss of its note a client goes on as one with a blank note.
 abbrev pub LossBeginsAnew : Type 0
 LossBeginsAnew = (o : Opening) (newer past : List Entry) → GoesOnAsBlank o newer past
 
@@ -161,6 +162,7 @@ pub record AreGivenOnce (o : Opening) (past : List Entry) : Type 0 where
   pub runs : IsTrue (is_distinct (runs_in (deeds_done o past)))
   pub attempts : IsTrue (is_distinct (attempts_in (deeds_done o past)))
 
+-- Where numbers are kept apart, no run and no attempt is given twice.
 abbrev pub NumbersAreGivenOnce : Type 0
 NumbersAreGivenOnce =
     (o : Opening) (past : List Entry) → KeepsNumbersApart o past → AreGivenOnce o past

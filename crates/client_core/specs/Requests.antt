@@ -88,6 +88,7 @@ abbrev pub check_refused : Telling → Reason → Request → Request
 check_refused t reasons.Misfit q = when_one_tells t q
 check_refused t reason q = when_refused reason q
 
+-- A refusal of what a request to verify asks for; it doesn't touch the others.
 abbrev pub verify_refused : Asked → Telling → Reason → Request → Request
 verify_refused asks.Verify t reason q = check_refused t reason q
 verify_refused _ t reason q = q

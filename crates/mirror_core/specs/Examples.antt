@@ -1,8 +1,6 @@
 -- What a mirror answers in a list that can be followed by hand.
 use Rattle.std.specs.Prelude.{◌≡◌, ℕ, false, List, [], ◌∷◌, map, Some, None}
 use Rattle.fc_base.specs.declared.fault.Fault.TheVariants.{Old, Down, Misdirected, Conflict}
-use Rattle.fc_base.specs.declared.record.Kind.TheVariants.{Sequential}
-use Rattle.fc_base.specs.declared.record.Verify.TheVariants.{Stamp}
 use Rattle.disk_model.specs.declared.left.Left.{Left}
 use Rattle.disk_model.specs.declared.left.Left.TheVariants.{LostNew, LostOld}
 use Rattle.disk_model.specs.Left.{saved_for}
@@ -13,6 +11,7 @@ use Rattle.messages.specs.declared.frame.Frame.{Frame}
 use Rattle.messages.specs.declared.frame.Frame.TheVariants.{Whole, Piece}
 use Rattle.messages.specs.declared.kind.PacketKind.TheVariants as kinds
 use Rattle.messages.specs.declared.node.Node.TheVariants as nodes
+use Rattle.state_table.specs.Examples as examples
 use Rattle.mirror_core.specs.Note.{blank}
 use Rattle.mirror_core.specs.History.{Entry, Met, Cut, Restart}
 use Rattle.mirror_core.specs.Saves.{Grant, Keep}
@@ -36,25 +35,9 @@ with_frames past (f ∷ frames) = answered_entry (with_frames past frames) f ∷
 abbrev pub sent_bodies : List Entry → Frame → List Body
 sent_bodies past f = map (λ p. p.body) (packets blank past (answered_entry past f))
 
--- The state of job 1 of run 1 at server 0, which has issued so many of its two writes.
+-- The state of job 1, which has issued so many of its two writes.
 abbrev pub state : ℕ → State
-state issued = record {
-  key = record { run = 1; server = 0; job = 1 };
-  job = record {
-    kind = Sequential;
-    verify = Stamp;
-    pattern = 0;
-    bs = 512;
-    blocks = 2;
-    total = 2;
-    seed = 1;
-    depth = 2;
-    window = 2;
-  };
-  issued = issued;
-  place = 1 ∷ 2 ∷ 3 ∷ 4 ∷ [];
-  counted = 0 ∷ [];
-}
+state issued = examples.state 1 issued
 
 -- A mirror over a blank note.
 abbrev pub after_opening : List Entry

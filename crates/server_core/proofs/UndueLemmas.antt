@@ -12,7 +12,7 @@ use Rattle.server_core.specs.Answers.{marks_by, marks, is_marked, wants_cut, act
 use Rattle.fc_base.specs.declared.fault.Fault.{Fault}
 use Rattle.server_core.specs.Stands.{MachineIs}
 use Rattle.server_core.specs.WordsAfter.{words_after}
-use Rattle.server_core.specs.InnerCalls.{unless_refused}
+use Rattle.server_core.specs.InnerCalls.{ok_unless_refused}
 use Rattle.server_core.proofs.IdleLemmas.{work_elsewhere, check_elsewhere}
 
 pub start_stays : (machine : Machine) (now : Now) (r : ℕ) → MachineIs machine now → MachineIs machine (words_after now (ToStart r))
@@ -42,6 +42,6 @@ no_act (Some w) r =
     ∙ ap (λ ms. if wants_cut (halt_of w.run w.since) && (not (is_marked w) && list_all (has (ms ++ marks w.run w.since)) (numbers_below (length w.jobs))) then acts.Cut else acts.None) (sym (unmarked (halt_of w.run w.since) w.run r))
 
 -- A refusal is told for its reason.
-pub reason_told : (reason : Option Fault) (fault : Fault) → Err fault ≡ unless_refused reason → reason ≡ Some fault
+pub reason_told : (reason : Option Fault) (fault : Fault) → Err fault ≡ ok_unless_refused reason → reason ≡ Some fault
 reason_told None fault e = cc
 reason_told (Some f) fault e = cc

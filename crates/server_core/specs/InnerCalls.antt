@@ -25,9 +25,9 @@ use Rattle.server_core.specs.Answers.{refusal_of}
 use Rattle.server_core.specs.Stands.{OpenIs}
 
 -- Accepted, unless there is a reason to refuse it.
-abbrev pub unless_refused : Option Fault → Result (Unit {0}) Fault
-unless_refused None = Ok tt
-unless_refused (Some fault) = Err fault
+abbrev pub ok_unless_refused : Option Fault → Result (Unit {0}) Fault
+ok_unless_refused None = Ok tt
+ok_unless_refused (Some fault) = Err fault
 
 -- An answer to a request: it isn't refused, or memory ran out, or it is refused for that reason.
 abbrev pub IsAnswer : {A : Type 0} → Now → Request → Result A Fault → Type 0

@@ -44,7 +44,7 @@ impl Machine {
     ghost use Rattle.server_core.specs.Framed.{frames_to_client};
     ghost use Rattle.server_core.specs.Stands.{MachineIs, EachNow, blank};
     ghost use Rattle.server_core.specs.WordsAfter.{words_after};
-    ghost use Rattle.server_core.specs.InnerCalls.{unless_refused, IsOfRun, IsOfText};
+    ghost use Rattle.server_core.specs.InnerCalls.{ok_unless_refused, IsOfRun, IsOfText};
     ghost use Rattle.server_core.specs.Memory.{TakesNone};
     ghost use Rattle.messages.specs.declared.refusal.Act.{Act};
 
@@ -77,7 +77,7 @@ impl Machine {
     /// write.
     pub(crate) fn end_write(&mut self, ticket: Ticket, end: WriteEnd) -> Result<(), Fault>
         ensures answer { EachNow self.old
-            (λ now. result ≡ unless_refused (refusal_of now (ToEnd ticket end))) }
+            (λ now. result ≡ ok_unless_refused (refusal_of now (ToEnd ticket end))) }
         ensures left { EachNow self.old
             (λ now. MachineIs self.new (words_after now (ToEnd ticket end))) }
         ensures same { OnErr result (self.new ≡ self.old) }
